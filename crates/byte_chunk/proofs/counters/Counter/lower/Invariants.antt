@@ -1,0 +1,5 @@
+use Rattle.std.proofs.Common.{min}
+use Rattle.byte_chunk.proofs.counters.Counter.lower.Given as goal
+
+abbrev pub ghost-set : goal.ghost-set
+ghost-set a = min a.self.now a._at

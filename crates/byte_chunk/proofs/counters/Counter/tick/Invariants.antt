@@ -1,0 +1,5 @@
+use Rattle.std.proofs.Common.{◌+◌}
+use Rattle.byte_chunk.proofs.counters.Counter.tick.Given as goal
+
+abbrev pub ghost-set : goal.ghost-set
+ghost-set a = a.self.now + 1

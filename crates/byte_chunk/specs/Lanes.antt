@@ -1,0 +1,13 @@
+-- What a chunk is to a contract: the list of its lanes, of which each call answers one.
+use Rattle.std.specs.Prelude.{ℕ, ◌<◌, ◌≤◌, ◌==◌, if◌then◌else◌}
+
+-- 1 where the lane is the byte, else 0
+abbrev pub is_byte : ℕ → ℕ → ℕ
+is_byte byte lane = if lane == byte then 1 else 0
+
+-- the sizes that a chunk type may have: its lanes, and the greatest lane that it sums
+pub record IsLawful (size max_acc : ℕ) : Type 0 where
+  pub least : 4 ≤ size
+  pub most : size ≤ 64
+  pub room : size < max_acc
+  pub fits : max_acc ≤ 255

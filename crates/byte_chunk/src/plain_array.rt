@@ -1,0 +1,71 @@
+//! The chunk that is an array.
+ghost use Rattle.std.specs.Prelude.{◌≡◌};
+ghost use Rattle.std.proofs.Common.{lit≤, lit<};
+
+use crate::ByteChunk;
+use std::array;
+
+/// Eight bytes in an array: the plainest chunk.
+///
+/// Lane `i` is byte `i` of the array.
+#[derive(Clone, Copy)]
+pub struct Plain(pub [u8; 8]);
+
+impl Plain {
+    // A proof knows the length of an array that a call returns, and not of one behind a reference.
+    fn to_array(self) -> [u8; 8]
+        ensures { result ≡ self.0 }
+    {
+        self.0
+    }
+}
+
+impl ByteChunk for Plain {
+    ghost SIZE = { 8 };
+
+    ghost MAX_ACC = { 255 };
+
+    ghost lanes = { λ chunk. chunk.0 };
+
+    const SIZE: usize = 8;
+
+    const MAX_ACC: usize = 255;
+
+    fn load(bytes: &[u8]) -> Self {
+        Plain(array::from_fn(|i| bytes[i]))
+    }
+
+    fn zero() -> Self {
+        Plain([0; 8])
+    }
+
+    fn splat(n: u8) -> Self {
+        Plain([n; 8])
+    }
+
+    fn cmp_eq_byte(&self, byte: u8) -> Self {
+        Plain(self.to_array().map(|lane| u8::from(lane == byte)))
+    }
+
+    fn bitand(&self, other: Self) -> Self {
+        let these = self.to_array();
+        let those = other.to_array();
+        Plain(array::from_fn(|i| these[i] & those[i]))
+    }
+
+    fn add(&self, other: Self) -> Self {
+        let these = self.to_array();
+        let those = other.to_array();
+        Plain(array::from_fn(|i| these[i] + those[i]))
+    }
+
+    fn sum_bytes(&self) -> usize {
+        let mut total = 0;
+        for lane in self.to_array() {
+            total += usize::from(lane);
+        }
+        total
+    }
+
+    ghost lawful = { record { least = lit≤ tt; most = lit≤ tt; room = lit< tt; fits = lit≤ tt } };
+}

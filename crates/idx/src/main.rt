@@ -1,0 +1,46 @@
+// Answers one call of the index library for the text on standard input.
+#![tactic(auto)]
+
+mod engine;
+mod faults;
+mod input;
+mod output;
+mod requests;
+#[cfg(test)]
+mod tests;
+
+use engine::run;
+use faults::Fault;
+use std::env;
+use std::io::ErrorKind;
+use std::process::ExitCode;
+
+fn main(rt: HostRuntime) -> ExitCode {
+    match start(&rt) {
+        Ok(()) => ExitCode::SUCCESS,
+        Err(fault) => {
+            // Where standard error fails too, the status alone tells of the fault.
+            let _ = rt.eprintln(fault.line());
+            ExitCode::from(fault.status())
+        }
+    }
+}
+
+/// Runs the program on its arguments and the standard streams.
+fn start(rt: &HostRuntime) -> Result<(), Fault> {
+    let arguments = arguments(rt)?;
+    let mut words = Vec::new(rt.alloc());
+    for argument in &arguments {
+        words.push(argument.as_str()).map_err(|_| Fault::NoMemory)?;
+    }
+    run(rt.alloc(), &words, &mut rt.stdin(), &mut rt.stdout())
+}
+
+/// The arguments after the program's name.
+fn arguments(rt: &HostRuntime) -> Result<Vec<String>, Fault> {
+    match env::args(rt) {
+        Ok(all) => all.skip(1).collect(rt.alloc()).map_err(|_| Fault::NoMemory),
+        Err(error) if error.kind() == ErrorKind::OutOfMemory => Err(Fault::NoMemory),
+        Err(_) => Err(Fault::Usage),
+    }
+}

@@ -1,0 +1,89 @@
+-- The bridge from bytes to characters: numbers that are added up over the bytes of a text, against numbers of its characters.
+--     total v cs             v summed over the characters, each seen with those after it
+--     begun v cs i           the same over the characters that begin before the byte index i
+--     AddsAtFirst w v        over the bytes of a character w adds v of the character, at its first byte
+use Rattle.std.proofs.Common.{◌≡◌, ℕ, zero, suc, ◌+◌, ◌-◌, ◌<◌, ◌≤◌, inl, inr, List, [], ◌∷◌, ◌++◌, refl, arith, true, sym, ◌∙◌, ap}
+use Rattle.std.specs.Char.{len_utf8}
+use Rattle.std.proofs.Math.Utf8.{encode, encodes, scalar, scalars}
+use Rattle.std.proofs.lemmas.Bool.{cases_lt, and_parts}
+use Rattle.std.proofs.lemmas.Str.{len_utf8_bounds}
+use Rattle.str_indices.specs.Text.{size}
+use Rattle.str_indices.specs.Bytes.{sum_below}
+use Rattle.str_indices.proofs.Sizes.{size-cons}
+use Rattle.str_indices.proofs.Sums.{sum_below-add, sum_below-same}
+
+-- a sum in two parts
+sum_below_split : (f : ℕ → ℕ) (m n k : ℕ) → k ≡ m + n → sum_below f k ≡ sum_below f m + sum_below (λ j. f (m + j)) n
+sum_below_split f m n k e = rw e (sum_below-add f m n)
+
+abbrev pub total : (ℕ → List ℕ → ℕ) → List ℕ → ℕ
+total v [] = 0
+total v (c ∷ cs) = v c cs + total v cs
+
+abbrev pub begun : (ℕ → List ℕ → ℕ) → List ℕ → ℕ → ℕ
+begun v cs zero = 0
+begun v [] (suc i) = 0
+begun v (c ∷ cs) (suc i) = v c cs + begun v cs (suc i - len_utf8 c)
+
+-- before the text begins
+begun_zero : (v : ℕ → List ℕ → ℕ) (cs : List ℕ) → begun v cs 0 ≡ 0
+begun_zero v [] = refl
+begun_zero v (c ∷ cs) = refl
+
+-- behind the beginning of the first character
+begun-cons : (v : ℕ → List ℕ → ℕ) (c : ℕ) (cs : List ℕ) (i : ℕ) → 0 < i → begun v (c ∷ cs) i ≡ v c cs + begun v cs (i - len_utf8 c)
+begun-cons v c cs zero h = absurd (omega arith)
+begun-cons v c cs (suc i) h = refl
+
+-- behind the end of the text
+begun_all : (v : ℕ → List ℕ → ℕ) (cs : List ℕ) (i : ℕ) → size cs ≤ i → begun v cs i ≡ total v cs
+begun_all v [] zero h = refl
+begun_all v [] (suc i) h = refl
+begun_all v (c ∷ cs) i h =
+    let positive = len_utf8_bounds c in
+    let sizes = size-cons c cs in
+    begun-cons v c cs i (omega (arith, positive.0)) ∙ ap (λ r. v c cs + r) (begun_all v cs (i - len_utf8 c) (omega arith))
+
+-- w may read the bytes after its own, and v the characters after its own
+pub record AddsAtFirst (w : List ℕ → ℕ → ℕ) (v : ℕ → List ℕ → ℕ) : Type 0 where
+  pub shifts : (c : ℕ) (bs : List ℕ) (j : ℕ) → w (encode c ++ bs) (len_utf8 c + j) ≡ w bs j
+  pub first : (c : ℕ) (cs : List ℕ) → scalar c ≡ true → scalars cs ≡ true → w (encode c ++ encodes cs) 0 ≡ v c cs
+  pub later : (c : ℕ) (cs : List ℕ) (j : ℕ) → scalar c ≡ true → scalars cs ≡ true → 0 < j → j < len_utf8 c → w (encode c ++ encodes cs) j ≡ 0
+
+module _ (w : List ℕ → ℕ → ℕ) (v : ℕ → List ℕ → ℕ) (adds : AddsAtFirst w v) where
+  -- over some bytes of the first character
+  within_first : (c : ℕ) (cs : List ℕ) (n : ℕ) → scalar c ≡ true → scalars cs ≡ true → suc n ≤ len_utf8 c → sum_below (w (encode c ++ encodes cs)) (suc n) ≡ v c cs
+  within_first c cs zero s t h = omega (arith, adds.first c cs s t)
+  within_first c cs (suc n) s t h = omega (arith, within_first c cs n s t (omega arith), adds.later c cs (suc n) s t (omega arith) (omega arith))
+
+  -- over all of them
+  whole_first : (c : ℕ) (cs : List ℕ) (n : ℕ) → scalar c ≡ true → scalars cs ≡ true → n ≡ len_utf8 c → 0 < n → sum_below (w (encode c ++ encodes cs)) n ≡ v c cs
+  whole_first c cs zero s t e h = absurd (omega arith)
+  whole_first c cs (suc n) s t e h = within_first c cs n s t (omega arith)
+
+  -- over more bytes than those
+  beyond_first : (c : ℕ) (cs : List ℕ) (n : ℕ) → scalar c ≡ true → scalars cs ≡ true → len_utf8 c ≤ n → sum_below (w (encode c ++ encodes cs)) n ≡ v c cs + sum_below (w (encodes cs)) (n - len_utf8 c)
+  beyond_first c cs n s t le =
+      let positive = len_utf8_bounds c in
+      let split = sum_below_split (w (encode c ++ encodes cs)) (len_utf8 c) (n - len_utf8 c) n (omega arith) in
+      let first = whole_first c cs (len_utf8 c) s t refl (omega (arith, positive.0)) in
+      let rest = sum_below-same (λ j. w (encode c ++ encodes cs) (len_utf8 c + j)) (w (encodes cs)) (n - len_utf8 c) (λ j _. adds.shifts c (encodes cs) j) in
+      omega (arith, split, first, rest)
+
+  -- before any byte index: v of each character that begins before it
+  pub walk_is : (cs : List ℕ) (i : ℕ) → scalars cs ≡ true → i ≤ size cs → sum_below (w (encodes cs)) i ≡ begun v cs i
+  walk_is cs zero s h = sym (begun_zero v cs)
+  walk_is [] (suc i) s h = absurd (omega arith)
+  walk_is (c ∷ cs) (suc i) s h =
+      let parts = and_parts (scalar c) (scalars cs) s in
+      let sizes = size-cons c cs in
+      elim (cases_lt (len_utf8 c) (suc i)) [
+        | inr le ↦
+            let none : suc i - len_utf8 c ≡ 0 = omega arith in
+            within_first c cs i parts.0 parts.1 le ∙ rw (none, begun_zero v cs) (omega arith)
+        | inl lt ↦ beyond_first c cs (suc i) parts.0 parts.1 (omega arith) ∙ ap (λ r. v c cs + r) (walk_is cs (suc i - len_utf8 c) parts.1 (omega arith))
+      ]
+
+  -- over the whole text
+  pub walk_all : (cs : List ℕ) → scalars cs ≡ true → sum_below (w (encodes cs)) (size cs) ≡ total v cs
+  walk_all cs s = walk_is cs (size cs) s (omega arith) ∙ begun_all v cs (size cs) (omega arith)

@@ -1,0 +1,23 @@
+-- What the kernels count of a text's bytes.
+--     sum_below f n                    f 0 + f 1 + .. up to n, without n
+--     mark test b                      1 for a byte that passes the test, else 0
+--     passing_before test bytes n      how many of the first n bytes pass the test
+--     is_trailing b                    whether a byte doesn't begin its character
+--     is_leading b                     whether a byte begins its character
+use Rattle.std.specs.Prelude.{ℕ, zero, suc, ◌+◌, Bool, not, ◌==◌, if◌then◌else◌, List, bit_and, slice_index}
+
+abbrev pub sum_below : (ℕ → ℕ) → ℕ → ℕ
+sum_below f zero = 0
+sum_below f (suc n) = sum_below f n + f n
+
+abbrev pub mark : (ℕ → Bool) → ℕ → ℕ
+mark test b = if test b then 1 else 0
+
+abbrev pub passing_before : (ℕ → Bool) → List ℕ → ℕ → ℕ
+passing_before test bytes n = sum_below (λ j. mark test (slice_index bytes j)) n
+
+abbrev pub is_trailing : ℕ → Bool
+is_trailing b = bit_and b 0xC0 == 0x80
+
+abbrev pub is_leading : ℕ → Bool
+is_leading b = not (is_trailing b)

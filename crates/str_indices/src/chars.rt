@@ -1,0 +1,185 @@
+//! Index by chars, the Unicode scalar values of a text (the Unicode Standard, chapter 3).
+ghost use Rattle.std.specs.Prelude.{◌≡◌, ◌+◌, ◌-◌, ◌/◌, ◌<◌, ◌≤◌, ◌⊎◌, ℕ, chars, length, map, min};
+ghost use Rattle.str_indices.specs.Text.{cut};
+ghost use Rattle.str_indices.specs.Schemes.{count, from_byte_idx, to_byte_idx, Chars};
+ghost use Rattle.str_indices.specs.Relations.{IsBoundary};
+ghost use Rattle.str_indices.specs.Bytes.{mark, passing_before, is_trailing, is_leading};
+ghost use Rattle.str_indices.specs.PassBound.{PassBound, LoadsChunks, RisesWithin, leading_bytes, pass_turns, pass_loads};
+
+#[cfg(test)]
+mod tests;
+
+use crate::counting::{ByteTest, count_in_chunk, count_passing};
+use crate::places::{Position, boundary_at_or_before};
+use byte_chunk::{ByteChunk, Chunk, Probe};
+
+/// How many chars the text has.
+///
+/// Unlike the Rust crate's `str_indices::chars::count`, nothing here depends on where the text lies in memory.
+pub fn count(text: &str) -> usize
+    ensures { result ≡ count Chars (chars text.now) }
+{
+    count_impl(&mut Probe::<Chunk>::of(text), text.len(), 0)
+}
+
+/// Converts a byte index to a char index: the number of chars that end at or before the byte.
+///
+/// A byte inside a char belongs to that char. A byte past the end gives the number of chars.
+pub fn from_byte_idx(text: &str, byte_idx: usize) -> usize
+    ensures { result ≡ from_byte_idx Chars (chars text.now) byte_idx }
+{
+    from_byte_idx_impl(&mut Probe::<Chunk>::of(text), byte_idx, 0)
+}
+
+/// Converts a char index to the byte index where that char begins.
+///
+/// An index past the last char gives the length of the text in bytes.
+pub fn to_byte_idx(text: &str, char_idx: usize) -> usize
+    ensures { result ≡ to_byte_idx Chars (chars text.now) char_idx }
+{
+    to_byte_idx_impl(&mut Probe::<Chunk>::of(text), char_idx, 0)
+}
+
+/// Counts the chars of the text before `end`, over chunks of any type, after `lead` bytes that are walked one by one.
+pub fn count_impl<T: ByteChunk>(probe: &mut Probe<'_, T>, end: usize, lead: usize) -> usize
+    requires within { end ≤ length probe.old.text }
+    requires boundary { IsBoundary (chars probe.old.text) end }
+    ensures count { result ≡ count Chars (cut (chars probe.old.text) end) }
+    ensures text { probe.new.text ≡ probe.old.text }
+    ensures pass { PassBound probe.old probe.new (leading_bytes lead end)
+        (pass_turns T.SIZE lead end) (pass_loads T.SIZE lead end) 0 }
+{
+    prove!(end <= probe.len());
+    end - count_passing::<TrailingBytes, T>(probe, end, lead)
+}
+
+/// Converts a byte index to a char index, over chunks of any type, after `lead` bytes that are walked one by one.
+pub fn from_byte_idx_impl<T: ByteChunk>(
+    probe: &mut Probe<'_, T>,
+    byte_idx: usize,
+    lead: usize,
+) -> usize
+    ensures answer { result ≡ from_byte_idx Chars (chars probe.old.text) byte_idx }
+    ensures text { probe.new.text ≡ probe.old.text }
+    ensures pass { let n = min byte_idx (length probe.old.text) in
+        PassBound probe.old probe.new (leading_bytes lead n) (pass_turns T.SIZE lead n) (pass_loads T.SIZE lead n) 3 }
+{
+    let end = boundary_at_or_before(probe, byte_idx);
+    count_impl(probe, end, lead)
+}
+
+/// Converts a char index to a byte index, over chunks of any type, after `lead` bytes that are walked one by one.
+pub fn to_byte_idx_impl<T: ByteChunk>(probe: &mut Probe<'_, T>, idx: usize, lead: usize) -> usize
+    ensures answer { result ≡ to_byte_idx Chars (chars probe.old.text) idx }
+    ensures text { probe.new.text ≡ probe.old.text }
+    ensures pass { let n = length probe.old.text in
+        PassBound probe.old probe.new (leading_bytes lead n) (pass_turns T.SIZE lead n) (result / T.SIZE + 5) 3 }
+{
+    let len = probe.len();
+    let first_chunk = lead.min(len);
+    let start = Position { byte: 0, count: 0 };
+    let led = walk_to_char(probe, start, first_chunk, idx);
+    if led.byte < first_chunk {
+        return led.byte;
+    }
+    let chunked = skip_chunks(probe, led, idx);
+    walk_to_char(probe, chunked, len, idx).byte
+}
+
+/// Walks on from a position, one turn a byte, up to `to` or to the byte that begins the char after the index.
+fn walk_to_char<T: ByteChunk>(
+    probe: &mut Probe<'_, T>,
+    from: Position,
+    to: usize,
+    idx: usize,
+) -> Position
+    requires ordered { from.byte ≤ to }
+    requires within { to ≤ length probe.old.text }
+    requires counted { from.count ≡ passing_before is_leading probe.old.text from.byte }
+    requires at_most { from.count ≤ idx }
+    ensures reached { (from.byte ≤ result.byte) × (result.byte ≤ to) }
+    ensures counted { result.count ≡ passing_before is_leading probe.old.text result.byte }
+    ensures at_most { result.count ≤ idx }
+    ensures stopped { result.byte < to → idx < passing_before is_leading probe.old.text (result.byte + 1) }
+    ensures turns { (n : ℕ) × (probe.new ≡ record probe.old { turns = probe.old.turns + n })
+        × (n ≤ result.byte + 1 - from.byte) × (n ≤ to - from.byte) }
+{
+    let mut at = from;
+    while at.byte < to {
+        let count = if is_leading_byte(probe.turn(at.byte)) {
+            at.count + 1
+        } else {
+            at.count
+        };
+        if count > idx {
+            break;
+        }
+        at = Position {
+            byte: at.byte + 1,
+            count,
+        };
+    }
+    at
+}
+
+/// Skips whole chunks from a position on, while fewer chars than the index begin before their end.
+fn skip_chunks<T: ByteChunk>(probe: &mut Probe<'_, T>, from: Position, idx: usize) -> Position
+    requires within { from.byte ≤ length probe.old.text }
+    requires counted { from.count ≡ passing_before is_leading probe.old.text from.byte }
+    requires at_most { from.count ≤ idx }
+    ensures reached { (from.byte ≤ result.byte) × (result.byte ≤ length probe.old.text) }
+    ensures counted { result.count ≡ passing_before is_leading probe.old.text result.byte }
+    ensures at_most { result.count ≤ idx }
+    ensures stopped { (length probe.old.text < result.byte + T.SIZE)
+        ⊎ (idx ≤ passing_before is_leading probe.old.text (result.byte + T.SIZE)) }
+    ensures loads { (to : ℕ) × (to ≤ result.byte + T.SIZE) × LoadsChunks probe.old probe.new T.SIZE from.byte to }
+{
+    let len = probe.len();
+    let mut at = from;
+    'chunks: while T::SIZE <= len - at.byte {
+        let count = at.count + T::SIZE - count_in_chunk::<TrailingBytes, T>(probe, at.byte);
+        if count >= idx {
+            break;
+        }
+        at = Position {
+            byte: at.byte + T::SIZE,
+            count,
+        };
+    }
+    at
+}
+
+/// The bytes that do not begin their char.
+struct TrailingBytes;
+
+impl ByteTest for TrailingBytes {
+    ghost passes = { is_trailing };
+
+    fn passes_byte(byte: u8) -> bool {
+        is_trailing_byte(byte)
+    }
+
+    fn passing_lanes<T: ByteChunk>(chunk: T) -> T {
+        count_trailing_chunk(chunk)
+    }
+}
+
+fn is_leading_byte(byte: u8) -> bool
+    ensures { result ≡ is_leading byte }
+{
+    byte & 0xC0 != 0x80
+}
+
+pub(crate) fn is_trailing_byte(byte: u8) -> bool
+    ensures { result ≡ is_trailing byte }
+{
+    byte & 0xC0 == 0x80
+}
+
+/// 1 in each lane that is a trailing byte.
+fn count_trailing_chunk<T: ByteChunk>(chunk: T) -> T
+    requires { length (T.lanes chunk) ≡ T.SIZE }
+    ensures { T.lanes result ≡ map (mark is_trailing) (T.lanes chunk) }
+{
+    chunk.bitand(T::splat(0xC0)).cmp_eq_byte(0x80)
+}
