@@ -40,12 +40,17 @@ module _ {F : Type 0} {g : Mut F (ℕ × Unit {0}) ℕ} {closure : F} where
             ap (λ j. get_or ys j 0) same ∙ given.1 0 ∙ did.1 ∙ ap f (sym same)
       ]
 
+  -- `from_fn` by a closure that gives each lane of zs at its place gives zs
+  pub list_of-calls : (f : ℕ → ℕ) (n : ℕ) (zs ys : List ℕ) → ActsAs g closure f → length zs ≡ n → ((k : ℕ) → k < n → f k ≡ get_or zs k 0) → IsFromFnResult g closure ys n → ys ≡ zs
+  list_of-calls f n zs ys acts long same made =
+      ext_get_or 0 ys zs (made.long ∙ sym long) (λ k below.
+      filled f acts ys 0 n made.each k (omega arith) (omega (arith, made.long)) ∙ same k (omega (arith, made.long)))
+
   -- `from_fn` by a closure that gives f of two lists' lanes at its place joins them by f
   pub zip2_of-calls : (f : ℕ → ℕ → ℕ) (n : ℕ) (xs ys zs : List ℕ) → ActsAs g closure (λ k. f (get_or xs k 0) (get_or ys k 0)) → length xs ≡ n → length ys ≡ n → IsFromFnResult g closure zs n → zs ≡ zip2 f xs ys
   zip2_of-calls f n xs ys zs acts long long' made =
-      let same : length xs ≡ length ys = long ∙ sym long' in
-      ext_get_or 0 zs (zip2 f xs ys) (made.long ∙ sym (length-zip2 f xs ys same ∙ long)) (λ k below.
-      filled _ acts zs 0 n made.each k (omega arith) (omega (arith, made.long)) ∙ sym (get_or-zip2 f xs ys k 0 0 0 (omega (arith, made.long)) (omega (arith, made.long))))
+      list_of-calls _ n (zip2 f xs ys) zs acts (length-zip2 f xs ys (long ∙ sym long') ∙ long) (λ k below.
+      sym (get_or-zip2 f xs ys k 0 0 0 (omega arith) (omega arith))) made
 
 -- what holds of each two lanes holds of those at a place
 pub Each2-get_or : (P : ℕ → ℕ → Type 0) (xs ys : List ℕ) (k : ℕ) → k < length xs → k < length ys → Each2 P xs ys → P (get_or xs k 0) (get_or ys k 0)

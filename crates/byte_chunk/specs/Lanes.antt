@@ -1,9 +1,13 @@
 -- What a chunk is to a contract: the list of its lanes, of which each call answers one.
-use Rattle.std.specs.Prelude.{ℕ, ◌<◌, ◌≤◌, ◌==◌, if◌then◌else◌}
+use Rattle.std.specs.Prelude.{ℕ, ◌<◌, ◌≤◌, ◌==◌, ◌&&◌, nat_lt, if◌then◌else◌}
 
 -- 1 where the lane is the byte, else 0
 abbrev pub is_byte : ℕ → ℕ → ℕ
 is_byte byte lane = if lane == byte then 1 else 0
+
+-- 1 where the lane is above a and below b, else 0
+abbrev pub is_between : ℕ → ℕ → ℕ → ℕ
+is_between a b lane = if nat_lt a lane && nat_lt lane b then 1 else 0
 
 -- the sizes that a chunk type may have: its lanes, and the greatest lane that it sums
 pub record IsLawful (size max_acc : ℕ) : Type 0 where

@@ -4,9 +4,9 @@
 //! proves each call against that list; code that is generic over the trait then holds for it unchanged.
 #![tactic(auto)]
 
-ghost use Rattle.std.specs.Prelude.{◌≡◌, ℕ, ◌+◌, ◌≤◌, List, length, take, map, sum, replicate, bit_and};
+ghost use Rattle.std.specs.Prelude.{◌≡◌, ℕ, ◌+◌, ◌-◌, ◌/◌, ◌%◌, ◌^◌, ◌<◌, ◌≤◌, ◌↔◌, ◌++◌, List, IsTrue, length, take, drop, map, sum, replicate, bit_and, slice_index, slice_set};
 ghost use Rattle.std.specs.Simd.Lanes.{zip2, Each1, Each2};
-ghost use Rattle.byte_chunk.specs.Lanes.{is_byte, IsLawful};
+ghost use Rattle.byte_chunk.specs.Lanes.{is_byte, is_between, IsLawful};
 
 mod counters;
 mod plain_array;
@@ -47,9 +47,38 @@ pub trait ByteChunk: Copy + Clone {
     fn splat(n: u8) -> Self
         ensures { lanes result ≡ replicate SIZE n };
 
+    /// Whether all lanes are 0.
+    fn is_zero(&self) -> bool
+        ensures { IsTrue result ↔ (lanes self.now ≡ replicate SIZE 0) };
+
+    /// The lanes from `n` on, moved to the front, and then `n` lanes 0. At most 4 lanes go, and never all of them.
+    fn shift_back_lex(&self, n: usize) -> Self
+        requires few { n ≤ 4 }
+        requires in_range { n < SIZE }
+        ensures { lanes result ≡ drop n (lanes self.now) ++ replicate n 0 };
+
+    /// The last lane, and then all lanes of `n` but its last: the chunk that starts one byte before `n` does, where
+    /// `n` follows `self` in a text.
+    fn shift_across(&self, n: Self) -> Self
+        ensures { lanes result ≡ drop (SIZE - 1) (lanes self.now) ++ take (SIZE - 1) (lanes n) };
+
+    /// Each lane shifted right by `n` bits, at most 4, in its low `8 - n` bits. The upper `n` bits of a lane are
+    /// open: mask them before use.
+    fn shr(&self, n: usize) -> Self
+        requires { n ≤ 4 }
+        ensures { map (λ lane. lane % 2 ^ (8 - n)) (lanes result)
+            ≡ map (λ lane. lane / 2 ^ n) (lanes self.now) };
+
     /// 1 in each lane that is the byte, and 0 in the others.
     fn cmp_eq_byte(&self, byte: u8) -> Self
         ensures { lanes result ≡ map (is_byte byte) (lanes self.now) };
+
+    /// 1 in each lane above `a` and below `b`, and 0 in the others. The lanes may be any bytes; the bounds, with
+    /// `a` below `b`, are at most 127.
+    fn bytes_between_127(&self, a: u8, b: u8) -> Self
+        requires ordered { a < b }
+        requires ascii { b ≤ 127 }
+        ensures { lanes result ≡ map (is_between a b) (lanes self.now) };
 
     /// The bits that are set in both, lane by lane.
     fn bitand(&self, other: Self) -> Self
@@ -59,6 +88,24 @@ pub trait ByteChunk: Copy + Clone {
     fn add(&self, other: Self) -> Self
         requires { Each2 (λ a b. a + b ≤ 255) (lanes self.now) (lanes other) }
         ensures { lanes result ≡ zip2 (λ a b. a + b) (lanes self.now) (lanes other) };
+
+    /// The differences, lane by lane. No lane of `other` may be above that of `self`.
+    fn sub(&self, other: Self) -> Self
+        requires { Each2 (λ a b. b ≤ a) (lanes self.now) (lanes other) }
+        ensures { lanes result ≡ zip2 (λ a b. a - b) (lanes self.now) (lanes other) };
+
+    /// One more in lane `SIZE - 1 - n`, which must be below 255. The other lanes stay.
+    fn inc_nth_from_end_lex_byte(&self, n: usize) -> Self
+        requires in_range { n < SIZE }
+        requires room { slice_index (lanes self.now) (SIZE - 1 - n) < 255 }
+        ensures { lanes result
+            ≡ slice_set (lanes self.now) (SIZE - 1 - n) (slice_index (lanes self.now) (SIZE - 1 - n) + 1) };
+
+    /// One less in the last lane, which must not be 0. The other lanes stay.
+    fn dec_last_lex_byte(&self) -> Self
+        requires { 0 < slice_index (lanes self.now) (SIZE - 1) }
+        ensures { lanes result
+            ≡ slice_set (lanes self.now) (SIZE - 1) (slice_index (lanes self.now) (SIZE - 1) - 1) };
 
     /// The sum of all lanes.
     fn sum_bytes(&self) -> usize

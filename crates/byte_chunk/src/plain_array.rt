@@ -43,8 +43,31 @@ impl ByteChunk for Plain {
         Plain([n; 8])
     }
 
+    fn is_zero(&self) -> bool {
+        self.to_array() == [0; 8]
+    }
+
+    fn shift_back_lex(&self, n: usize) -> Self {
+        let lanes = self.to_array();
+        Plain(array::from_fn(|i| if i + n < 8 { lanes[i + n] } else { 0 }))
+    }
+
+    fn shift_across(&self, n: Self) -> Self {
+        let these = self.to_array();
+        let those = n.to_array();
+        Plain(array::from_fn(|i| if i == 0 { these[7] } else { those[i - 1] }))
+    }
+
+    fn shr(&self, n: usize) -> Self {
+        Plain(self.to_array().map(|lane| lane >> n))
+    }
+
     fn cmp_eq_byte(&self, byte: u8) -> Self {
         Plain(self.to_array().map(|lane| u8::from(lane == byte)))
+    }
+
+    fn bytes_between_127(&self, a: u8, b: u8) -> Self {
+        Plain(self.to_array().map(|lane| u8::from(a < lane && lane < b)))
     }
 
     fn bitand(&self, other: Self) -> Self {
@@ -57,6 +80,24 @@ impl ByteChunk for Plain {
         let these = self.to_array();
         let those = other.to_array();
         Plain(array::from_fn(|i| these[i] + those[i]))
+    }
+
+    fn sub(&self, other: Self) -> Self {
+        let these = self.to_array();
+        let those = other.to_array();
+        Plain(array::from_fn(|i| these[i] - those[i]))
+    }
+
+    fn inc_nth_from_end_lex_byte(&self, n: usize) -> Self {
+        let mut lanes = self.to_array();
+        lanes[7 - n] += 1;
+        Plain(lanes)
+    }
+
+    fn dec_last_lex_byte(&self) -> Self {
+        let mut lanes = self.to_array();
+        lanes[7] -= 1;
+        Plain(lanes)
     }
 
     fn sum_bytes(&self) -> usize {

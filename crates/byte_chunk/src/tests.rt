@@ -24,6 +24,65 @@ fn zero_and_splat_fill_each_lane(rt: HostRuntime) -> Result<(), Fail> {
 }
 
 #[test]
+fn is_zero_asks_each_lane(rt: HostRuntime) -> Result<(), Fail> {
+    assert_eq!(rt; Plain::zero().is_zero(), true);
+    assert_eq!(rt; Plain::splat(0x80).is_zero(), false);
+    for i in 0..8 {
+        let mut lanes = [0; 8];
+        lanes[i] = 1;
+        assert_eq!(rt; Plain(lanes).is_zero(), false, "at {i}");
+    }
+    Ok(())
+}
+
+#[test]
+fn shift_back_lex_moves_lanes_to_the_front(rt: HostRuntime) -> Result<(), Fail> {
+    let chunk = Plain([1, 2, 3, 4, 5, 6, 7, 8]);
+    assert_eq!(rt; chunk.shift_back_lex(0).0, chunk.0);
+    assert_eq!(rt; chunk.shift_back_lex(1).0, [2, 3, 4, 5, 6, 7, 8, 0]);
+    assert_eq!(rt; chunk.shift_back_lex(2).0, [3, 4, 5, 6, 7, 8, 0, 0]);
+    assert_eq!(rt; chunk.shift_back_lex(3).0, [4, 5, 6, 7, 8, 0, 0, 0]);
+    assert_eq!(rt; chunk.shift_back_lex(4).0, [5, 6, 7, 8, 0, 0, 0, 0]);
+    Ok(())
+}
+
+#[test]
+fn shift_across_starts_with_the_last_lane(rt: HostRuntime) -> Result<(), Fail> {
+    let next = Plain([1, 2, 3, 4, 5, 6, 7, 8]);
+    assert_eq!(rt;
+        Plain::splat(9).shift_across(next).0,
+        [9, 1, 2, 3, 4, 5, 6, 7]
+    );
+    assert_eq!(rt;
+        next.shift_across(Plain::splat(9)).0,
+        [8, 9, 9, 9, 9, 9, 9, 9]
+    );
+    assert_eq!(rt;
+        Plain(*b"abcdefgh").shift_across(Plain(*b"ijklmnop")).0,
+        *b"hijklmno"
+    );
+    Ok(())
+}
+
+#[test]
+fn shr_shifts_the_low_bits_of_each_lane(rt: HostRuntime) -> Result<(), Fail> {
+    let low_seven = Plain::splat(0x7F);
+    assert_eq!(rt; Plain::splat(0xA8).shr(1).bitand(low_seven).0, [0x54; 8]);
+    assert_eq!(rt; Plain::splat(0xA9).shr(1).bitand(low_seven).0, [0x54; 8]);
+    let chunk = Plain([0x00, 0x01, 0x0F, 0x10, 0x7F, 0x80, 0xC3, 0xFF]);
+    assert_eq!(rt; chunk.shr(0).0, chunk.0);
+    assert_eq!(rt;
+        chunk.shr(3).bitand(Plain::splat(0x1F)).0,
+        [0x00, 0x00, 0x01, 0x02, 0x0F, 0x10, 0x18, 0x1F]
+    );
+    assert_eq!(rt;
+        chunk.shr(4).bitand(Plain::splat(0x0F)).0,
+        [0x00, 0x00, 0x00, 0x01, 0x07, 0x08, 0x0C, 0x0F]
+    );
+    Ok(())
+}
+
+#[test]
 fn cmp_eq_byte_marks_each_equal_lane(rt: HostRuntime) -> Result<(), Fail> {
     let chunk = Plain([0x80, 0x00, 0xFF, 0x80, 0x7F, 0x00, 0x81, 0x80]);
     let table = [
@@ -36,6 +95,27 @@ fn cmp_eq_byte_marks_each_equal_lane(rt: HostRuntime) -> Result<(), Fail> {
     for (byte, marks) in table {
         assert_eq!(rt; chunk.cmp_eq_byte(byte).0, marks, "at {byte}");
     }
+    Ok(())
+}
+
+#[test]
+fn bytes_between_127_leaves_out_both_bounds(rt: HostRuntime) -> Result<(), Fail> {
+    let chunk = Plain([0x07, 0x08, 0x7F, 0xFF, 0xA6, 0x00, 0x09, 0x7E]);
+    assert_eq!(rt;
+        chunk.bytes_between_127(0x07, 0x7E).0,
+        [0, 1, 0, 0, 0, 0, 1, 0]
+    );
+    assert_eq!(rt;
+        chunk.bytes_between_127(0x00, 0x7F).0,
+        [1, 1, 0, 0, 0, 0, 1, 1]
+    );
+    assert_eq!(rt; chunk.bytes_between_127(0x08, 0x09).0, [0; 8]);
+    assert_eq!(rt;
+        Plain([0x09, 0x0A, 0x0D, 0x0E, 0x89, 0x8A, 0x8D, 0x8E])
+            .bytes_between_127(0x09, 0x0E)
+            .0,
+        [0, 1, 1, 0, 0, 0, 0, 0]
+    );
     Ok(())
 }
 
@@ -80,6 +160,59 @@ fn add_reaches_255_in_each_lane(rt: HostRuntime) -> Result<(), Fail> {
 }
 
 #[test]
+fn sub_reaches_0_in_each_lane(rt: HostRuntime) -> Result<(), Fail> {
+    let chunk = Plain([0, 1, 2, 127, 128, 200, 254, 255]);
+    assert_eq!(rt; chunk.sub(Plain::zero()).0, chunk.0);
+    assert_eq!(rt; chunk.sub(chunk).0, [0; 8]);
+    assert_eq!(rt;
+        Plain::splat(255).sub(chunk).0,
+        [255, 254, 253, 128, 127, 55, 1, 0]
+    );
+    Ok(())
+}
+
+#[test]
+fn inc_nth_from_end_lex_byte_counts_from_the_end(rt: HostRuntime) -> Result<(), Fail> {
+    let chunk = Plain([1, 2, 3, 4, 5, 6, 7, 8]);
+    assert_eq!(rt;
+        chunk.inc_nth_from_end_lex_byte(0).0,
+        [1, 2, 3, 4, 5, 6, 7, 9]
+    );
+    assert_eq!(rt;
+        chunk.inc_nth_from_end_lex_byte(1).0,
+        [1, 2, 3, 4, 5, 6, 8, 8]
+    );
+    assert_eq!(rt;
+        chunk.inc_nth_from_end_lex_byte(7).0,
+        [2, 2, 3, 4, 5, 6, 7, 8]
+    );
+    assert_eq!(rt;
+        Plain([255, 255, 255, 255, 255, 254, 255, 255])
+            .inc_nth_from_end_lex_byte(2)
+            .0,
+        [255; 8]
+    );
+    Ok(())
+}
+
+#[test]
+fn dec_last_lex_byte_changes_the_last_lane(rt: HostRuntime) -> Result<(), Fail> {
+    assert_eq!(rt;
+        Plain([1, 2, 3, 4, 5, 6, 7, 8]).dec_last_lex_byte().0,
+        [1, 2, 3, 4, 5, 6, 7, 7]
+    );
+    assert_eq!(rt;
+        Plain::splat(1).dec_last_lex_byte().0,
+        [1, 1, 1, 1, 1, 1, 1, 0]
+    );
+    assert_eq!(rt;
+        Plain::splat(255).dec_last_lex_byte().0,
+        [255, 255, 255, 255, 255, 255, 255, 254]
+    );
+    Ok(())
+}
+
+#[test]
 fn sum_bytes_sums_past_a_byte(rt: HostRuntime) -> Result<(), Fail> {
     assert_eq!(rt; Plain([255; 8]).sum_bytes(), 2040);
     assert_eq!(rt; Plain([1, 2, 4, 8, 16, 32, 64, 128]).sum_bytes(), 255);
@@ -110,6 +243,39 @@ fn lane_count<T: ByteChunk>() -> usize {
     T::zero().add(T::splat(1)).sum_bytes()
 }
 
+fn has_digit<T: ByteChunk>(bytes: &[u8]) -> bool
+    requires { T.SIZE ≤ length bytes.now }
+{
+    !T::load(bytes).bytes_between_127(b'/', b':').is_zero()
+}
+
+fn from_third_byte_on<T: ByteChunk>(bytes: &[u8]) -> T
+    requires { T.SIZE ≤ length bytes.now }
+{
+    T::load(bytes).shift_back_lex(2)
+}
+
+// The chunk that starts one byte before `bytes`, where `before` is that byte.
+fn from_byte_before<T: ByteChunk>(before: u8, bytes: &[u8]) -> T
+    requires { T.SIZE ≤ length bytes.now }
+{
+    T::splat(before).shift_across(T::load(bytes))
+}
+
+fn upper_halves<T: ByteChunk>(bytes: &[u8]) -> T
+    requires { T.SIZE ≤ length bytes.now }
+{
+    T::load(bytes).shr(4).bitand(T::splat(0x0F))
+}
+
+// 3 in each lane, but 4 in the last but one and 2 in the last.
+fn threes_with_a_step<T: ByteChunk>() -> T {
+    T::splat(5)
+        .sub(T::splat(2))
+        .inc_nth_from_end_lex_byte(1)
+        .dec_last_lex_byte()
+}
+
 #[test]
 fn generic_code_calls_each_method(rt: HostRuntime) -> Result<(), Fail> {
     assert_eq!(rt;
@@ -118,6 +284,18 @@ fn generic_code_calls_each_method(rt: HostRuntime) -> Result<(), Fail> {
     );
     assert_eq!(rt; trailing_bytes::<Plain>(b"abcdefgh"), 0);
     assert_eq!(rt; lane_count::<Plain>(), 8);
+    assert_eq!(rt; has_digit::<Plain>(b"/a9b:c-d"), true);
+    assert_eq!(rt; has_digit::<Plain>(b"/a.b:c-d"), false);
+    assert_eq!(rt; from_third_byte_on::<Plain>(b"abcdefgh").0, *b"cdefgh\0\0");
+    assert_eq!(rt;
+        from_byte_before::<Plain>(b'-', b"abcdefgh").0,
+        *b"-abcdefg"
+    );
+    assert_eq!(rt;
+        upper_halves::<Plain>(b"\x01\x23\x45\x67\x89\xAB\xCD\xEF").0,
+        [0x0, 0x2, 0x4, 0x6, 0x8, 0xA, 0xC, 0xE]
+    );
+    assert_eq!(rt; threes_with_a_step::<Plain>().0, [3, 3, 3, 3, 3, 3, 4, 2]);
     Ok(())
 }
 
