@@ -1,11 +1,10 @@
 -- The characters of a text, from its leading and its trailing bytes.
-use Rattle.std.proofs.Common.{◌≡◌, ℕ, zero, suc, ◌+◌, ◌<◌, ◌≤◌, ◌⊎◌, inl, inr, Bool, true, false, cond, List, [], ◌∷◌, ◌++◌, length, get_or, refl, arith, sym, ◌∙◌, ap, add-one, chars, IsUtf8}
+use Rattle.std.proofs.Common.{◌≡◌, ℕ, suc, ◌+◌, ◌<◌, ◌≤◌, ◌⊎◌, inl, inr, Bool, true, false, cond, List, [], ◌∷◌, ◌++◌, length, get_or, refl, arith, sym, ◌∙◌, ap, add-one, chars, IsUtf8}
 use Rattle.std.specs.Prelude.{not}
 use Rattle.std.specs.Char.{len_utf8}
 use Rattle.std.proofs.lemmas.Bool.{cases_lt}
-use Rattle.std.proofs.lemmas.List.{get_or_past}
 use Rattle.str_indices.specs.Text.{size, cut}
-use Rattle.str_indices.specs.Schemes.{count, to_byte_idx, ends, is_end, Chars}
+use Rattle.str_indices.specs.Schemes.{count, to_byte_idx, is_end, Chars}
 use Rattle.str_indices.specs.Relations.{IsBoundary}
 use Rattle.str_indices.specs.Bytes.{mark, passing_before, is_trailing, is_leading}
 use Rattle.str_indices.proofs.Sizes.{size-cons}
@@ -16,6 +15,7 @@ use Rattle.str_indices.proofs.CharacterBytes.{characters_add}
 use Rattle.str_indices.proofs.CutBytes.{bytes_to_boundary, boundary_at_end, size-chars}
 use Rattle.str_indices.proofs.EndWeights.{end_count_total}
 use Rattle.str_indices.proofs.CutCounts.{ReadsAlone}
+use Rattle.str_indices.proofs.LeastEnds.{end_at-past}
 use Rattle.str_indices.proofs.BoundaryBytes.{begins_boundary, leading_among_four}
 
 -- each character ends at an end of `Chars`
@@ -68,12 +68,8 @@ pub char_past : (bytes : List ℕ) → IsUtf8 bytes → (k : ℕ) → passing_be
 char_past bytes utf8 k at_most =
     elim (cases_lt (passing_before is_leading bytes (length bytes)) k) [
       | inr all ↦ boundary_of_char bytes utf8 (length bytes) k (boundary_at_end bytes utf8) (omega arith)
-      | inl fewer ↦ sym (past (chars bytes) k (omega (arith, leading_at_boundary bytes utf8 (length bytes) (boundary_at_end bytes utf8), ap (count Chars) (cut_all (chars bytes) (length bytes) (omega (arith, size-chars bytes utf8))))) ∙ size-chars bytes utf8)
+      | inl fewer ↦ sym (end_at-past Chars (chars bytes) k (omega (arith, leading_at_boundary bytes utf8 (length bytes) (boundary_at_end bytes utf8), ap (count Chars) (cut_all (chars bytes) (length bytes) (omega (arith, size-chars bytes utf8))))) ∙ size-chars bytes utf8)
     ]
-  where
-    past : (cs : List ℕ) (k : ℕ) → count Chars cs < k → to_byte_idx Chars cs k ≡ size cs
-    past cs zero fewer = absurd (omega arith)
-    past cs (suc k) fewer = get_or_past (ends Chars cs) k (size cs) (omega arith)
 
 -- a chunk has as many leading bytes as its trailing bytes leave
 pub leading_in_chunk : (text seen : List ℕ) (at size added : ℕ) → seen ≡ text → passing_before is_trailing seen (at + size) ≡ passing_before is_trailing seen at + added → passing_before is_leading text (at + size) + added ≡ passing_before is_leading text at + size

@@ -1,5 +1,5 @@
 -- What a text cut at a byte index is: the longest beginning that fits before the index.
-use Rattle.std.proofs.Common.{◌≡◌, ℕ, ◌+◌, ◌<◌, ◌≤◌, inl, inr, List, [], ◌∷◌, ◌++◌, length, map, refl, arith, ◌∙◌, ap}
+use Rattle.std.proofs.Common.{◌≡◌, ℕ, ◌+◌, ◌<◌, ◌≤◌, inl, inr, List, [], ◌∷◌, ◌++◌, length, map, min, refl, arith, sym, ◌∙◌, ap}
 use Rattle.std.specs.Prelude.{filter, nat_le}
 use Rattle.std.specs.Char.{len_utf8}
 use Rattle.std.proofs.lemmas.Bool.{cases_lt, le-leb, lt-leb}
@@ -89,6 +89,14 @@ cut_from_all start (c ∷ cs) end fits =
 -- cut at or past its end, the text is whole
 pub cut_all : (cs : List ℕ) (end : ℕ) → size cs ≤ end → cut cs end ≡ cs
 cut_all cs end fits = cut_from_all 0 cs end (omega arith)
+
+-- cut at the lesser of a byte index and the text's end, the text is as if cut at the byte index
+pub cut_at_least : (cs : List ℕ) (end least : ℕ) → least ≡ min end (size cs) → cut cs least ≡ cut cs end
+cut_at_least cs end least here =
+    elim (cases_lt end (size cs)) [
+      | inl inside ↦ ap (cut cs) (omega arith)
+      | inr past ↦ cut_all cs least (omega arith) ∙ sym (cut_all cs end past)
+    ]
 
 -- no beginning that fits has more characters than the cut, in a text that begins at `start`
 length-le-cut_from : (start : ℕ) (front back : List ℕ) (end : ℕ) → start + size front ≤ end → length front ≤ length (cut_from start (front ++ back) end)

@@ -29,7 +29,7 @@ pub count_characters : (cs : List ℕ) → count Chars cs ≡ sum_by (λ _. 1) c
 count_characters cs = count_from_by (is_end Chars) (λ _. true) (λ _ _ _. refl) 0 cs
 
 -- a line feed ends a line in `Lf`, whatever stands beside it
-is_end-Lf : (start c : ℕ) (cs : List ℕ) → is_end Lf (first_placed start c cs) ≡ (c == 10)
+pub is_end-Lf : (start c : ℕ) (cs : List ℕ) → is_end Lf (first_placed start c cs) ≡ (c == 10)
 is_end-Lf start c cs = grind (arith, nat_tests)
 
 -- each line feed counts one in `Lf`

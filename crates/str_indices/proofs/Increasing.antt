@@ -13,7 +13,7 @@ IncreasesWithin low [] high = low ≤ high
 IncreasesWithin low (e ∷ es) high = (low < e) × IncreasesWithin e es high
 
 -- low is at most high
-low_le_high : (low : ℕ) (es : List ℕ) (high : ℕ) → IncreasesWithin low es high → low ≤ high
+pub low_le_high : (low : ℕ) (es : List ℕ) (high : ℕ) → IncreasesWithin low es high → low ≤ high
 low_le_high low [] high h = h
 low_le_high low (e ∷ es) high h = let rest = low_le_high e es high h.1 in omega (arith, h.0)
 
@@ -54,7 +54,7 @@ rank_none low (e ∷ es) high b h le =
     rank_above e es b above ∙ rank_none e es high b h.1 (omega arith)
 
 -- all of the numbers are at most b, where high is
-rank_all : (low : ℕ) (es : List ℕ) (high b : ℕ) → IncreasesWithin low es high → high ≤ b → rank es b ≡ length es
+pub rank_all : (low : ℕ) (es : List ℕ) (high b : ℕ) → IncreasesWithin low es high → high ≤ b → rank es b ≡ length es
 rank_all low [] high b h le = refl
 rank_all low (e ∷ es) high b h le =
     let last = low_le_high e es high h.1 in

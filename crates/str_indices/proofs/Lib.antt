@@ -1,5 +1,6 @@
 pub mod Sizes
 pub mod Increasing
+pub mod SelectOrder
 pub mod PlacedEnds
 pub mod EndSets
 pub mod EndCounts
@@ -7,7 +8,13 @@ pub mod Cuts
 pub mod Boundaries
 pub mod Maximum
 pub mod Units
+pub mod EndLaws
+pub mod Splits
+pub mod UnitLaws
 pub mod Conversions
+pub mod CharacterLaws
+pub mod JoinedCounts
+pub mod CountOrder
 pub mod Sums
 pub mod LaneSums
 pub mod EncodedCharacters
@@ -17,5 +24,8 @@ pub mod CutBytes
 pub mod EndWeights
 pub mod CutCounts
 pub mod CharacterCounts
+pub mod AsciiCounts
+pub mod LeastEnds
+pub mod LineFeedCounts
 pub mod BoundaryBytes
 pub mod PassBounds

@@ -65,3 +65,7 @@ counted_in_parts counted text led chunked first at end a b c none same_led same_
 -- a sum over more places is no less
 pub sum_below-le-sum_below : (f : ℕ → ℕ) (m n : ℕ) → m ≤ n → sum_below f m ≤ sum_below f n
 sum_below-le-sum_below f m n le = let whole : m + (n - m) ≡ n = omega arith in omega (arith, sum_below-add f m (n - m), ap (sum_below f) whole)
+
+-- where fewer than k bytes pass before a place, fewer than k do before an earlier one
+pub passing_before-earlier : (test : ℕ → Bool) (bytes : List ℕ) (k at : ℕ) → passing_before test bytes at < k → (d : ℕ) → d < at → passing_before test bytes d < k
+passing_before-earlier test bytes k at fewer d before = omega (arith, sum_below-le-sum_below (λ j. mark test (get_or bytes j 0)) d at (omega arith))

@@ -1,12 +1,16 @@
--- The conversion from UTF-16: the greatest boundary before which the characters take at most so many units.
-use Rattle.std.proofs.Common.{◌≡◌, ℕ, ◌≤◌, inl, inr, List, [], ◌∷◌, refl, arith, All, true, ap}
-use Rattle.std.specs.Prelude.{nat_le, filter, sum_by, Contains}
+-- The units of UTF-16: how many a text has, and the conversion from UTF-16, which is the greatest boundary before which the
+-- characters take at most so many.
+use Rattle.std.proofs.Common.{◌≡◌, ℕ, ◌+◌, ◌≤◌, ◌⊎◌, inl, inr, List, [], ◌∷◌, refl, arith, All, Bool, true, false, cond, ap}
+use Rattle.std.specs.Prelude.{nat_le, ◌==◌, filter, sum_by, Contains}
+use Rattle.std.specs.Char.{len_utf8}
 use Rattle.std.proofs.lemmas.Bool.{cases_lt, le-leb, leb-true}
 use Rattle.std.proofs.lemmas.List.Elements.{All-cons, All-weaker, All-filter, All-contains, All-contains_itself, Contains-append_right, filter_passes}
-use Rattle.str_indices.specs.Text.{weight}
-use Rattle.str_indices.specs.Schemes.{Chars, ends, units, boundaries, boundary_at_units}
+use Rattle.std.proofs.lemmas.List.Sums.{sum_by-cons}
+use Rattle.str_indices.specs.Text.{size, weight}
+use Rattle.str_indices.specs.Schemes.{Chars, Utf16, ends, units, boundaries, boundary_at_units, count, surrogates}
 use Rattle.str_indices.specs.Relations.{IsBoundary, IsGreatestWithin}
-use Rattle.str_indices.proofs.Cuts.{cut_seam}
+use Rattle.str_indices.proofs.Cuts.{cut_from, cut_from_fits, cut_from_stops, cut_seam, cut_all}
+use Rattle.str_indices.proofs.EndCounts.{count_characters}
 use Rattle.str_indices.proofs.EndSets.{ends_are}
 use Rattle.str_indices.proofs.Boundaries.{IsBoundary-start}
 use Rattle.str_indices.proofs.Maximum.{All-le-fold_max, fold_max_holds, All-from_filter}
@@ -68,3 +72,43 @@ boundary_at_units_is_greatest cs k =
       fits = answer.fits;
       greatest = λ q other fits. answer_is_most cs k q (record { boundary = other; fits = fits });
     }
+
+-- a text has the units that its characters take
+pub count-units : (cs : List ℕ) → count Utf16 cs ≡ sum_by weight cs
+count-units cs = ap (sum_by weight) (cut_all cs (size cs) (omega arith))
+
+-- a character takes one unit or two
+pub weight_is_one_or_two : (c : ℕ) → (weight c ≡ 1) ⊎ (weight c ≡ 2)
+weight_is_one_or_two c = by_test (len_utf8 c == 4)
+  where
+    by_test : (four : Bool) → (◌≡◌ {A = ℕ} (cond four 2 1) 1) ⊎ (◌≡◌ {A = ℕ} (cond four 2 1) 2)
+    by_test true = inr refl
+    by_test false = inl refl
+
+-- one unit, and one more where there are two
+one_and_second : (four : Bool) → ◌≡◌ {A = ℕ} (cond four 2 1) (1 + cond (cond four 2 1 == 2) 1 0)
+one_and_second true = refl
+one_and_second false = refl
+
+-- the characters take one unit each, and one more for each surrogate pair
+sum_by-weight : (cs : List ℕ) → sum_by weight cs ≡ sum_by (λ _. 1) cs + surrogates cs
+sum_by-weight [] = refl
+sum_by-weight (c ∷ cs) = omega (arith, sum_by-cons weight c cs, sum_by-cons {X = ℕ} (λ _. 1) c cs, sum_by-cons (λ x. cond (weight x == 2) 1 0) c cs, one_and_second (len_utf8 c == 4), sum_by-weight cs)
+
+-- a text has one unit for each character, and one more for each surrogate pair
+pub count-characters-surrogates : (cs : List ℕ) → count Utf16 cs ≡ count Chars cs + surrogates cs
+count-characters-surrogates cs = omega (arith, count-units cs, sum_by-weight cs, count_characters cs)
+
+-- no fewer units are before a greater byte index, in a text that begins at `start`
+units_from-le : (start : ℕ) (cs : List ℕ) (i j : ℕ) → i ≤ j → sum_by weight (cut_from start cs i) ≤ sum_by weight (cut_from start cs j)
+units_from-le start [] i j le = omega arith
+units_from-le start (c ∷ cs) i j le =
+    elim (cases_lt i (start + len_utf8 c)) [
+      | inl beyond ↦ rw (cut_from_stops start c cs i beyond) (omega arith)
+      | inr fits ↦ rw (cut_from_fits start c cs i fits, cut_from_fits start c cs j (omega arith))
+          (omega (arith, sum_by-cons weight c (cut_from (start + len_utf8 c) cs i), sum_by-cons weight c (cut_from (start + len_utf8 c) cs j), units_from-le (start + len_utf8 c) cs i j le))
+    ]
+
+-- no fewer units are before a greater byte index
+pub units-le-units : (cs : List ℕ) (i j : ℕ) → i ≤ j → units cs i ≤ units cs j
+units-le-units cs i j le = units_from-le 0 cs i j le

@@ -13,7 +13,7 @@ use Rattle.str_indices.proofs.Sizes.{size-cons}
 use Rattle.str_indices.proofs.Sums.{sum_below-add, sum_below-same}
 
 -- a sum in two parts
-sum_below_split : (f : ℕ → ℕ) (m n k : ℕ) → k ≡ m + n → sum_below f k ≡ sum_below f m + sum_below (λ j. f (m + j)) n
+pub sum_below_split : (f : ℕ → ℕ) (m n k : ℕ) → k ≡ m + n → sum_below f k ≡ sum_below f m + sum_below (λ j. f (m + j)) n
 sum_below_split f m n k e = rw e (sum_below-add f m n)
 
 abbrev pub total : (ℕ → List ℕ → ℕ) → List ℕ → ℕ
@@ -26,17 +26,17 @@ begun v [] (suc i) = 0
 begun v (c ∷ cs) (suc i) = v c cs + begun v cs (suc i - len_utf8 c)
 
 -- before the text begins
-begun_zero : (v : ℕ → List ℕ → ℕ) (cs : List ℕ) → begun v cs 0 ≡ 0
+pub begun_zero : (v : ℕ → List ℕ → ℕ) (cs : List ℕ) → begun v cs 0 ≡ 0
 begun_zero v [] = refl
 begun_zero v (c ∷ cs) = refl
 
 -- behind the beginning of the first character
-begun-cons : (v : ℕ → List ℕ → ℕ) (c : ℕ) (cs : List ℕ) (i : ℕ) → 0 < i → begun v (c ∷ cs) i ≡ v c cs + begun v cs (i - len_utf8 c)
+pub begun-cons : (v : ℕ → List ℕ → ℕ) (c : ℕ) (cs : List ℕ) (i : ℕ) → 0 < i → begun v (c ∷ cs) i ≡ v c cs + begun v cs (i - len_utf8 c)
 begun-cons v c cs zero h = absurd (omega arith)
 begun-cons v c cs (suc i) h = refl
 
 -- behind the end of the text
-begun_all : (v : ℕ → List ℕ → ℕ) (cs : List ℕ) (i : ℕ) → size cs ≤ i → begun v cs i ≡ total v cs
+pub begun_all : (v : ℕ → List ℕ → ℕ) (cs : List ℕ) (i : ℕ) → size cs ≤ i → begun v cs i ≡ total v cs
 begun_all v [] zero h = refl
 begun_all v [] (suc i) h = refl
 begun_all v (c ∷ cs) i h =

@@ -4,7 +4,9 @@
 --     passing_before test bytes n      how many of the first n bytes pass the test
 --     is_trailing b                    whether a byte doesn't begin its character
 --     is_leading b                     whether a byte begins its character
+--     is_line_feed b                   whether a byte is LF
 use Rattle.std.specs.Prelude.{ℕ, zero, suc, ◌+◌, Bool, not, ◌==◌, if◌then◌else◌, List, bit_and, slice_index}
+use Rattle.str_indices.specs.Text.{line_feed}
 
 abbrev pub sum_below : (ℕ → ℕ) → ℕ → ℕ
 sum_below f zero = 0
@@ -21,3 +23,6 @@ is_trailing b = bit_and b 0xC0 == 0x80
 
 abbrev pub is_leading : ℕ → Bool
 is_leading b = not (is_trailing b)
+
+abbrev pub is_line_feed : ℕ → Bool
+is_line_feed b = b == line_feed

@@ -4,3 +4,6 @@ pub mod Relations
 pub mod Examples
 pub mod Bytes
 pub mod PassBound
+pub mod SchemeGroups
+pub mod Starts
+pub mod Joins

@@ -1,4 +1,4 @@
-//! Index by chars, the Unicode scalar values of a text (the Unicode Standard, chapter 3).
+//! Index by chars: the Unicode scalar values of a text (the Unicode Standard, chapter 3).
 ghost use Rattle.std.specs.Prelude.{◌≡◌, ◌+◌, ◌-◌, ◌/◌, ◌<◌, ◌≤◌, ◌⊎◌, ℕ, chars, length, map, min};
 ghost use Rattle.str_indices.specs.Text.{cut};
 ghost use Rattle.str_indices.specs.Schemes.{count, from_byte_idx, to_byte_idx, Chars};
@@ -13,9 +13,7 @@ use crate::counting::{ByteTest, count_in_chunk, count_passing};
 use crate::places::{Position, boundary_at_or_before};
 use byte_chunk::{ByteChunk, Chunk, Probe};
 
-/// How many chars the text has.
-///
-/// Unlike the Rust crate's `str_indices::chars::count`, nothing here depends on where the text lies in memory.
+/// How many chars the text has; an empty text has none.
 pub fn count(text: &str) -> usize
     ensures { result ≡ count Chars (chars text.now) }
 {
@@ -24,7 +22,7 @@ pub fn count(text: &str) -> usize
 
 /// Converts a byte index to a char index: the number of chars that end at or before the byte.
 ///
-/// A byte inside a char belongs to that char. A byte past the end gives the number of chars.
+/// A byte inside a char belongs to that char. Any byte index past the end gives the number of chars.
 pub fn from_byte_idx(text: &str, byte_idx: usize) -> usize
     ensures { result ≡ from_byte_idx Chars (chars text.now) byte_idx }
 {
@@ -33,14 +31,16 @@ pub fn from_byte_idx(text: &str, byte_idx: usize) -> usize
 
 /// Converts a char index to the byte index where that char begins.
 ///
-/// An index past the last char gives the length of the text in bytes.
+/// Any index past the last char gives the length of the text in bytes.
 pub fn to_byte_idx(text: &str, char_idx: usize) -> usize
     ensures { result ≡ to_byte_idx Chars (chars text.now) char_idx }
 {
     to_byte_idx_impl(&mut Probe::<Chunk>::of(text), char_idx, 0)
 }
 
-/// Counts the chars of the text before `end`, over chunks of any type, after `lead` bytes that are walked one by one.
+/// Counts the chars before the boundary `end`, over chunks of any type.
+///
+/// `lead` bytes, or as many of them as stand before `end`, are walked one by one before the first chunk.
 pub fn count_impl<T: ByteChunk>(probe: &mut Probe<'_, T>, end: usize, lead: usize) -> usize
     requires within { end ≤ length probe.old.text }
     requires boundary { IsBoundary (chars probe.old.text) end }
@@ -53,7 +53,9 @@ pub fn count_impl<T: ByteChunk>(probe: &mut Probe<'_, T>, end: usize, lead: usiz
     end - count_passing::<TrailingBytes, T>(probe, end, lead)
 }
 
-/// Converts a byte index to a char index, over chunks of any type, after `lead` bytes that are walked one by one.
+/// Converts a byte index to a char index, as [`from_byte_idx`], over chunks of any type.
+///
+/// `lead` bytes, or as many of them as the pass covers, are walked one by one before the first chunk.
 pub fn from_byte_idx_impl<T: ByteChunk>(
     probe: &mut Probe<'_, T>,
     byte_idx: usize,
@@ -68,7 +70,9 @@ pub fn from_byte_idx_impl<T: ByteChunk>(
     count_impl(probe, end, lead)
 }
 
-/// Converts a char index to a byte index, over chunks of any type, after `lead` bytes that are walked one by one.
+/// Converts a char index to a byte index, as [`to_byte_idx`], over chunks of any type.
+///
+/// `lead` bytes, or as many of them as the text has, are walked one by one before the first chunk.
 pub fn to_byte_idx_impl<T: ByteChunk>(probe: &mut Probe<'_, T>, idx: usize, lead: usize) -> usize
     ensures answer { result ≡ to_byte_idx Chars (chars probe.old.text) idx }
     ensures text { probe.new.text ≡ probe.old.text }
