@@ -1,52 +1,81 @@
 // What the words ask for.
 ghost use Rattle.std.specs.Prelude.{◌≡◌, chars};
-ghost use Rattle.idx.specs.Requests.{call_named, request_of, answer_of, texts};
+ghost use Rattle.idx.specs.Requests.{counting_named, conversion_named, index_of, request_of, answer_of, texts};
 
-use str_indices::chars;
+use str_indices::{chars, lines_lf};
 
-/// A call of the library.
+/// A call of the library, with its index where it takes one.
 #[derive(Clone, Copy)]
-pub enum Call {
+pub enum Request {
     CharsCount,
-}
-
-/// A call with its arguments.
-#[derive(Clone, Copy)]
-pub struct Request {
-    pub call: Call,
-}
-
-impl Call {
-    /// The call of this name, or `None` where none is built under it.
-    fn from_name(name: &str) -> Option<Call>
-        ensures { result ≡ call_named name.now }
-    {
-        match name {
-            "chars.count" => Some(Call::CharsCount),
-            _ => None,
-        }
-    }
+    CharsFromByteIdx(usize),
+    CharsToByteIdx(usize),
+    LinesLfCountBreaks,
+    LinesLfFromByteIdx(usize),
+    LinesLfToByteIdx(usize),
 }
 
 impl Request {
     /// What the words ask for, or `None` where they are no request.
+    #[tactic(auto, unfolding(crate::specs::Requests::request_of))]
     pub fn from_words(words: &[&str]) -> Option<Request>
         ensures { result ≡ request_of (texts words.now) }
     {
         match words {
-            [name] => Some(Request {
-                call: Call::from_name(name)?,
-            }),
+            [name] => Request::counting(name),
+            [name, word] => Request::conversion(name, parse_index(word)?),
+            _ => None,
+        }
+    }
+
+    /// The counting call of this name, or `None` where none is built under it.
+    fn counting(name: &str) -> Option<Request>
+        ensures { result ≡ counting_named name.now }
+    {
+        match name {
+            "chars.count" => Some(Request::CharsCount),
+            "lines_lf.count_breaks" => Some(Request::LinesLfCountBreaks),
+            _ => None,
+        }
+    }
+
+    /// The conversion of this name for the index, or `None` where none is built under it.
+    fn conversion(name: &str, index: usize) -> Option<Request>
+        ensures { result ≡ conversion_named name.now index }
+    {
+        match name {
+            "chars.from_byte_idx" => Some(Request::CharsFromByteIdx(index)),
+            "chars.to_byte_idx" => Some(Request::CharsToByteIdx(index)),
+            "lines_lf.from_byte_idx" => Some(Request::LinesLfFromByteIdx(index)),
+            "lines_lf.to_byte_idx" => Some(Request::LinesLfToByteIdx(index)),
             _ => None,
         }
     }
 
     /// The number that the call answers for the text.
+    #[tactic(auto, unfolding(crate::specs::Requests::answer_of))]
     pub fn answer(&self, text: &str) -> usize
         ensures { result ≡ answer_of self.now (chars text.now) }
     {
-        match self.call {
-            Call::CharsCount => chars::count(text),
+        match *self {
+            Request::CharsCount => chars::count(text),
+            Request::CharsFromByteIdx(index) => chars::from_byte_idx(text, index),
+            Request::CharsToByteIdx(index) => chars::to_byte_idx(text, index),
+            Request::LinesLfCountBreaks => lines_lf::count_breaks(text),
+            Request::LinesLfFromByteIdx(index) => lines_lf::from_byte_idx(text, index),
+            Request::LinesLfToByteIdx(index) => lines_lf::to_byte_idx(text, index),
         }
     }
+}
+
+/// The number that the word writes in decimal digits, or `None` where it is empty, has another
+/// character, or writes a number that `usize` does not hold.
+fn parse_index(word: &str) -> Option<usize>
+    ensures { result ≡ index_of word.now }
+{
+    // `parse` takes a plus sign, which no index has.
+    if word.starts_with('+') {
+        return None;
+    }
+    word.parse().ok()
 }

@@ -7,6 +7,11 @@ use std::io::{ErrorKind, Read, Write};
 
 const TEXT: &str = "Hello せかい! Hello せかい! Hello せかい! Hello せかい! Hello せかい!";
 
+/// Seven, after a hundred zeros.
+const LONG_SEVEN: &str =
+    "0000000000000000000000000000000000000000000000000000000000000000000000000000000000000000000000000000\
+    7";
+
 /// Gives one byte a read.
 #[derive(Drop)]
 struct SlowReader<'a>(&'a [u8]);
@@ -102,14 +107,47 @@ fn answers_over_memory(rt: HostRuntime) {
 }
 
 #[test]
+fn converts_indices(rt: HostRuntime) {
+    let answers: [(&str, &str, &str, &[u8]); 8] = [
+        ("chars.to_byte_idx", "18446744073709551615", "せかい", b"9\n"),
+        ("chars.to_byte_idx", "007", "Hello world!", b"7\n"),
+        ("chars.to_byte_idx", LONG_SEVEN, "Hello world!", b"7\n"),
+        ("chars.to_byte_idx", "2", "せかい", b"6\n"),
+        ("chars.to_byte_idx", "0", "", b"0\n"),
+        ("chars.from_byte_idx", "8", "せかい", b"2\n"),
+        ("chars.from_byte_idx", "18446744073709551615", "せかい", b"3\n"),
+        ("chars.from_byte_idx", "0", "", b"0\n"),
+    ];
+    for (call, index, text, written) in answers {
+        let (result, output) = run_in_memory(rt.alloc(), &[call, index], text.as_bytes());
+        assert_eq!(rt; result, Ok(()));
+        assert_eq!(rt; output.as_slice(), written);
+    }
+}
+
+#[test]
 fn refuses_other_words(rt: HostRuntime) {
-    let lists: [&[&str]; 6] = [
+    let lists: [&[&str]; 20] = [
         &[],
         &["chars"],
         &["Chars.count"],
         &["chars.count "],
         &["chars.count_breaks"],
         &["chars.count", "0"],
+        &["chars.to_byte_idx"],
+        &["chars.from_byte_idx", ""],
+        &["chars.from_byte_idx", "+1"],
+        &["chars.from_byte_idx", "-1"],
+        &["chars.from_byte_idx", " 1"],
+        &["chars.from_byte_idx", "1 "],
+        &["chars.from_byte_idx", "1_000"],
+        &["chars.from_byte_idx", "0x1"],
+        &["chars.from_byte_idx", "٣"],
+        &["chars.from_byte_idx", "18446744073709551616"],
+        &["chars.from_byte_idx", "1", "2"],
+        &["Chars.from_byte_idx", "1"],
+        &["chars.from_char_idx", "1"],
+        &["1", "chars.from_byte_idx"],
     ];
     for words in lists {
         let (result, output) = run_in_memory(rt.alloc(), words, TEXT.as_bytes());
