@@ -11,9 +11,9 @@ use Rattle.std.specs.Str.{all_ascii_digits}
 use Rattle.std.specs.Str.Parse.{digits_value}
 use denote.Ref.{Bor}
 use Rattle.str_indices.specs.Text.{Text}
-use Rattle.str_indices.specs.Schemes.{count, from_byte_idx, to_byte_idx, Chars, Lf}
+use Rattle.str_indices.specs.Schemes.{count, from_byte_idx, to_byte_idx, surrogates, Chars, Utf16, Lf}
 use Rattle.idx.specs.declared.requests.Request.{Request}
-use Rattle.idx.specs.declared.requests.Request.TheVariants.{CharsCount, CharsFromByteIdx, CharsToByteIdx, LinesLfCountBreaks, LinesLfFromByteIdx, LinesLfToByteIdx}
+use Rattle.idx.specs.declared.requests.Request.TheVariants.{CharsCount, CharsFromByteIdx, CharsToByteIdx, Utf16Count, Utf16CountSurrogates, Utf16FromByteIdx, Utf16ToByteIdx, LinesLfCountBreaks, LinesLfFromByteIdx, LinesLfToByteIdx}
 
 -- the bytes of each word
 abbrev pub texts : List (Bor (List ℕ)) → List (List ℕ)
@@ -23,6 +23,8 @@ texts words = map (λ word. word.now) words
 abbrev pub counting_calls : List (List ℕ × Request)
 counting_calls =
     (codes "chars.count", CharsCount)
+    ∷ (codes "utf16.count", Utf16Count)
+    ∷ (codes "utf16.count_surrogates", Utf16CountSurrogates)
     ∷ (codes "lines_lf.count_breaks", LinesLfCountBreaks)
     ∷ []
 
@@ -31,6 +33,8 @@ abbrev pub conversions : List (List ℕ × (ℕ → Request))
 conversions =
     (codes "chars.from_byte_idx", CharsFromByteIdx)
     ∷ (codes "chars.to_byte_idx", CharsToByteIdx)
+    ∷ (codes "utf16.from_byte_idx", Utf16FromByteIdx)
+    ∷ (codes "utf16.to_byte_idx", Utf16ToByteIdx)
     ∷ (codes "lines_lf.from_byte_idx", LinesLfFromByteIdx)
     ∷ (codes "lines_lf.to_byte_idx", LinesLfToByteIdx)
     ∷ []
@@ -71,6 +75,10 @@ unfoldable pub answer_of : Request → Text → ℕ
 answer_of CharsCount text = count Chars text
 answer_of (CharsFromByteIdx index) text = from_byte_idx Chars text index
 answer_of (CharsToByteIdx index) text = to_byte_idx Chars text index
+answer_of Utf16Count text = count Utf16 text
+answer_of Utf16CountSurrogates text = surrogates text
+answer_of (Utf16FromByteIdx index) text = from_byte_idx Utf16 text index
+answer_of (Utf16ToByteIdx index) text = to_byte_idx Utf16 text index
 answer_of LinesLfCountBreaks text = count Lf text
 answer_of (LinesLfFromByteIdx index) text = from_byte_idx Lf text index
 answer_of (LinesLfToByteIdx index) text = to_byte_idx Lf text index

@@ -2,7 +2,7 @@
 ghost use Rattle.std.specs.Prelude.{◌≡◌, chars};
 ghost use Rattle.idx.specs.Requests.{counting_named, conversion_named, index_of, request_of, answer_of, texts};
 
-use str_indices::{chars, lines_lf};
+use str_indices::{chars, lines_lf, utf16};
 
 /// A call of the library, with its index where it takes one.
 #[derive(Clone, Copy)]
@@ -10,6 +10,10 @@ pub enum Request {
     CharsCount,
     CharsFromByteIdx(usize),
     CharsToByteIdx(usize),
+    Utf16Count,
+    Utf16CountSurrogates,
+    Utf16FromByteIdx(usize),
+    Utf16ToByteIdx(usize),
     LinesLfCountBreaks,
     LinesLfFromByteIdx(usize),
     LinesLfToByteIdx(usize),
@@ -34,6 +38,8 @@ impl Request {
     {
         match name {
             "chars.count" => Some(Request::CharsCount),
+            "utf16.count" => Some(Request::Utf16Count),
+            "utf16.count_surrogates" => Some(Request::Utf16CountSurrogates),
             "lines_lf.count_breaks" => Some(Request::LinesLfCountBreaks),
             _ => None,
         }
@@ -46,6 +52,8 @@ impl Request {
         match name {
             "chars.from_byte_idx" => Some(Request::CharsFromByteIdx(index)),
             "chars.to_byte_idx" => Some(Request::CharsToByteIdx(index)),
+            "utf16.from_byte_idx" => Some(Request::Utf16FromByteIdx(index)),
+            "utf16.to_byte_idx" => Some(Request::Utf16ToByteIdx(index)),
             "lines_lf.from_byte_idx" => Some(Request::LinesLfFromByteIdx(index)),
             "lines_lf.to_byte_idx" => Some(Request::LinesLfToByteIdx(index)),
             _ => None,
@@ -61,6 +69,10 @@ impl Request {
             Request::CharsCount => chars::count(text),
             Request::CharsFromByteIdx(index) => chars::from_byte_idx(text, index),
             Request::CharsToByteIdx(index) => chars::to_byte_idx(text, index),
+            Request::Utf16Count => utf16::count(text),
+            Request::Utf16CountSurrogates => utf16::count_surrogates(text),
+            Request::Utf16FromByteIdx(index) => utf16::from_byte_idx(text, index),
+            Request::Utf16ToByteIdx(index) => utf16::to_byte_idx(text, index),
             Request::LinesLfCountBreaks => lines_lf::count_breaks(text),
             Request::LinesLfFromByteIdx(index) => lines_lf::from_byte_idx(text, index),
             Request::LinesLfToByteIdx(index) => lines_lf::to_byte_idx(text, index),

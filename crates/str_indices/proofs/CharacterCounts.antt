@@ -97,18 +97,23 @@ four_bytes bytes utf8 i within =
     let one : ◌≡◌ {A = ℕ} (mark is_leading (get_or bytes m 0)) 1 = rw leads in
     omega (arith, here, one, sum_below-le-sum_below f i m le, sum_below-le-sum_below f (m + 1) (i + 4) (omega arith))
 
--- where less than a chunk is left, or the chunk at `at` reaches k, the k-th character ends less than four bytes behind the chunk
-pub end_is_near : (text led seen : List ℕ) → led ≡ text → seen ≡ text → IsUtf8 text → (at size k end : ℕ) → (length led < at + size) ⊎ (k ≤ passing_before is_leading led (at + size)) → end ≤ length text → passing_before is_leading seen end ≤ k → end < at + size + 4
-end_is_near text led seen same same' utf8 at size k end stopped within at_most =
-    let last = ap (λ t. passing_before is_leading t end) same' in
+-- what is counted grows by at least one at each leading byte
+abbrev pub CountsLeading : (List ℕ → ℕ → ℕ) → Type 0
+CountsLeading counted = (bytes : List ℕ) (m n : ℕ) → m ≤ n → passing_before is_leading bytes n + counted bytes m ≤ passing_before is_leading bytes m + counted bytes n
+
+-- Where less than a chunk is left, or what the chunk at `at` counts reaches k, a place with at most k counted before it is less
+-- than four bytes behind the chunk.
+pub end_is_near : (counted : List ℕ → ℕ → ℕ) → CountsLeading counted → (text led seen : List ℕ) → led ≡ text → seen ≡ text → IsUtf8 text → (at size k end : ℕ) → (length led < at + size) ⊎ (k ≤ counted led (at + size)) → end ≤ length text → counted seen end ≤ k → end < at + size + 4
+end_is_near counted leads text led seen same same' utf8 at size k end stopped within at_most =
+    let last = ap (λ t. counted t end) same' in
     elim stopped [
       | inl short ↦ omega (arith, ap length same)
       | inr reaches ↦ elim (cases_lt end (at + size + 4)) [
         | inl near ↦ near
         | inr far ↦
             let more = four_bytes text utf8 (at + size) (omega arith) in
-            let chunk = ap (λ t. passing_before is_leading t (at + size)) same in
+            let chunk = ap (λ t. counted t (at + size)) same in
             let f = λ (j : ℕ). mark is_leading (get_or text j 0) in
-            absurd (omega (arith, sum_below-le-sum_below f (at + size + 4) end far))
+            absurd (omega (arith, leads text (at + size) end (omega arith), sum_below-le-sum_below f (at + size + 4) end far))
       ]
     ]

@@ -9,7 +9,7 @@ use Rattle.str_indices.specs.Relations.{IsBoundary}
 use Rattle.str_indices.specs.Bytes.{sum_below}
 use Rattle.str_indices.proofs.Sizes.{size-cons}
 use Rattle.str_indices.proofs.Sums.{sum_below-same}
-use Rattle.str_indices.proofs.Cuts.{cut_is, cut_seam}
+use Rattle.str_indices.proofs.Cuts.{cut_is, cut_seam, cut_all}
 use Rattle.str_indices.proofs.Walks.{AddsAtFirst, total, walk_all}
 
 -- a text takes as many bytes as it has
@@ -24,6 +24,10 @@ size-chars bytes utf8 = sym (length-encodes (chars bytes)) ∙ ap length (encode
 -- the end of a text is a boundary
 pub boundary_at_end : (bytes : List ℕ) → IsUtf8 bytes → IsBoundary (chars bytes) (length bytes)
 boundary_at_end bytes utf8 = record { front = chars bytes; back = []; split = sym (append-nil (chars bytes)); place = size-chars bytes utf8 }
+
+-- cut at its end, a text is whole
+pub cut_at_end : (bytes : List ℕ) → IsUtf8 bytes → cut (chars bytes) (length bytes) ≡ chars bytes
+cut_at_end bytes utf8 = cut_all (chars bytes) (length bytes) (omega (arith, size-chars bytes utf8))
 
 -- the bytes before a seam of two texts
 take-encodes : (front back : List ℕ) → take (size front) (encodes (front ++ back)) ≡ encodes front

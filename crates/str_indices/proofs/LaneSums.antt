@@ -1,9 +1,11 @@
 -- The lanes of a chunk, against a sum over the places of a text.
-use Rattle.std.proofs.Common.{◌≡◌, ℕ, suc, ◌+◌, ◌<◌, ◌≤◌, List, [], ◌∷◌, map, take, drop, length, get_or, refl, arith, sym, ◌∙◌, ap, length-drop}
+use Rattle.std.proofs.Common.{◌≡◌, ℕ, suc, ◌+◌, ◌<◌, ◌≤◌, List, [], ◌∷◌, map, take, drop, replicate, length, get_or, bit_and, refl, arith, sym, ◌∙◌, ap, length-drop}
 use Rattle.std.specs.Prelude.{sum}
-use Rattle.std.specs.Simd.Lanes.{Each1}
+use Rattle.std.specs.Simd.Lanes.{Each1, zip2}
 use Rattle.std.proofs.lemmas.List.{get_or-take, get_or-drop, get_or-map, length-map, length-take-le}
 use Rattle.std.proofs.lemmas.List.Sums.{sum_by-cons}
+use Rattle.std.proofs.lemmas.Simd.{zip2_splat, map-map}
+use Rattle.byte_chunk.specs.Lanes.{is_byte}
 use Rattle.str_indices.specs.Bytes.{sum_below}
 use Rattle.str_indices.proofs.Sums.{sum_below-add, sum_below-front}
 
@@ -29,6 +31,12 @@ sum_below-lanes u bytes at size h =
     let lanes = take size (drop at bytes) in
     let long : length (map u lanes) ≡ size = length-map lanes u ∙ length-lanes bytes at size h in
     ap (λ n. sum_below (λ j. u (get_or bytes j 0)) (at + n)) (sym long) ∙ sum_below-chunk (λ j. u (get_or bytes j 0)) at (map u lanes) (λ j l. get_or-map u lanes j 0 0 (omega (arith, length-map lanes u)) ∙ ap u (get_or-take size (drop at bytes) j 0 (omega arith) ∙ get_or-drop at bytes j 0))
+
+-- lanes that were masked and then compared with a byte
+pub masked_lanes : (mask byte size : ℕ) (lanes splat masked marks : List ℕ) → length lanes ≡ size → splat ≡ replicate size mask → masked ≡ zip2 bit_and lanes splat → marks ≡ map (is_byte byte) masked
+    → marks ≡ map (λ lane. is_byte byte (bit_and lane mask)) lanes
+masked_lanes mask byte size lanes splat masked marks long filled joined compared =
+    compared ∙ ap (map (is_byte byte)) (joined ∙ ap (zip2 bit_and lanes) filled ∙ zip2_splat bit_and lanes size mask long) ∙ map-map (is_byte byte) (λ lane. bit_and lane mask) lanes
 
 -- lanes of at most one each
 pub lanes_at_most : (u : ℕ → ℕ) (most : ℕ) → ((b : ℕ) → u b ≤ most) → (lanes : List ℕ) → Each1 (λ lane. lane ≤ most) (map u lanes)

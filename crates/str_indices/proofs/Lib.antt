@@ -17,6 +17,7 @@ pub mod JoinedCounts
 pub mod CountOrder
 pub mod Sums
 pub mod LaneSums
+pub mod Rounds
 pub mod EncodedCharacters
 pub mod Walks
 pub mod CharacterBytes
@@ -28,4 +29,5 @@ pub mod AsciiCounts
 pub mod LeastEnds
 pub mod LineFeedCounts
 pub mod BoundaryBytes
+pub mod UnitCounts
 pub mod PassBounds

@@ -2,7 +2,7 @@
 use Rattle.std.proofs.Common.{◌≡◌, ℕ, ◌+◌, ◌-◌, ◌*◌, ◌/◌, ◌<◌, ◌≤◌, min, inl, inr, refl, arith, ap, ◌∙◌, add-mul, suc-mul, zero, suc}
 use Rattle.std.proofs.lemmas.Bool.{cases_lt}
 use Rattle.std.proofs.lemmas.Nat.{le-div}
-use Rattle.std.proofs.Math.Nat.{div-le_self, div-mul-le_self}
+use Rattle.std.proofs.Math.Nat.{div-le_self, div-mul-le_self, mul-le-mul_left, mul-le-mul_right, le-div_iff_mul-le}
 use Rattle.byte_chunk.specs.ProbeState.{ProbeState}
 use Rattle.str_indices.specs.PassBound.{PassBound, LoadsChunks, RisesWithin, leading_bytes, pass_turns, pass_loads}
 
@@ -41,49 +41,92 @@ no_loads old size from = record {
   low_kept = λ _. refl;
 }
 
--- one chunk more
-pub one_load_more : (old seen new : ProbeState) (size from at : ℕ) → LoadsChunks old seen size from at → new ≡ record seen { loads = seen.loads + 1; low = min seen.low at } → LoadsChunks old new size from (at + size)
-one_load_more old seen new size from at so_far more =
+-- one chunk
+one_load : (seen new : ProbeState) (size at : ℕ) → new ≡ record seen { loads = seen.loads + 1; low = min seen.low at } → LoadsChunks seen new size at (at + size)
+one_load seen new size at more =
     let low = ap (λ p. p.low) more in
-    let row : (so_far.chunks + 1) * size ≡ so_far.chunks * size + size = add-mul so_far.chunks 1 size ∙ omega arith in
     record {
-      chunks = so_far.chunks + 1;
-      covered = omega (arith, so_far.covered);
-      loads_made = omega (arith, ap (λ p. p.loads) more, so_far.loads_made);
-      text_kept = ap (λ p. p.text) more ∙ so_far.text_kept;
-      turns_kept = ap (λ p. p.turns) more ∙ so_far.turns_kept;
-      peeks_kept = ap (λ p. p.peeks) more ∙ so_far.peeks_kept;
-      low_reached = omega (arith, so_far.low_reached, so_far.covered);
+      chunks = 1;
+      covered = omega arith;
+      loads_made = ap (λ p. p.loads) more;
+      text_kept = ap (λ p. p.text) more;
+      turns_kept = ap (λ p. p.turns) more;
+      peeks_kept = ap (λ p. p.peeks) more;
+      low_reached = omega arith;
       low_kept = λ none. absurd (omega arith);
     }
+
+-- chunks, and then those that follow them
+pub loads_joined : (old seen new : ProbeState) (size from at to : ℕ) → LoadsChunks old seen size from at → LoadsChunks seen new size at to → LoadsChunks old new size from to
+loads_joined old seen new size from at to so_far more =
+    let row : (so_far.chunks + more.chunks) * size ≡ so_far.chunks * size + more.chunks * size = add-mul so_far.chunks more.chunks size in
+    record {
+      chunks = so_far.chunks + more.chunks;
+      covered = omega (arith, so_far.covered, more.covered);
+      loads_made = omega (arith, so_far.loads_made, more.loads_made);
+      text_kept = more.text_kept ∙ so_far.text_kept;
+      turns_kept = more.turns_kept ∙ so_far.turns_kept;
+      peeks_kept = more.peeks_kept ∙ so_far.peeks_kept;
+      low_reached = omega (arith, so_far.low_reached, so_far.covered, more.low_reached);
+      low_kept = λ none. more.low_kept (omega arith) ∙ so_far.low_kept (omega arith);
+    }
+
+-- chunks that leave less than one of so many are all of them
+pub loads_all : (old new : ProbeState) (size from at chunks : ℕ) → LoadsChunks old new size from at → at ≤ from + chunks * size → from + chunks * size < at + size → at ≡ from + chunks * size
+loads_all old new size from at chunks loads le near =
+    elim (cases_lt loads.chunks chunks) [
+      | inl fewer ↦ let next : suc loads.chunks ≤ chunks = omega arith in absurd (omega (arith, loads.covered, suc-mul loads.chunks size, mul-le-mul_right size next))
+      | inr all ↦ omega (arith, loads.covered, mul-le-mul_right size all)
+    ]
+
+-- one chunk more
+pub one_load_more : (old seen new : ProbeState) (size from at : ℕ) → LoadsChunks old seen size from at → new ≡ record seen { loads = seen.loads + 1; low = min seen.low at } → LoadsChunks old new size from (at + size)
+one_load_more old seen new size from at so_far more = loads_joined old seen new size from at (at + size) so_far (one_load seen new size at more)
 
 -- more bytes to cover have no fewer loads
 pass_loads-le : (size lead end n : ℕ) → 4 ≤ size → end ≤ n → pass_loads size lead end ≤ pass_loads size lead n
 pass_loads-le size lead end n least le =
     le-div (pass_loads size lead end) (n - min lead n) size (omega arith) (omega (arith, div-mul-le_self (end - min lead end) size))
 
--- up to three peeks, and then a pass over the first `end` of n bytes, keep within the bound of a pass over n bytes
-pub pass_after_peeks : (old peeked new : ProbeState) (size lead end n : ℕ) → 4 ≤ size → end ≤ n → peeked ≡ record old { peeks = peeked.peeks } → RisesWithin old.peeks peeked.peeks 3
-    → PassBound peeked new (leading_bytes lead end) (pass_turns size lead end) (pass_loads size lead end) 0
-    → PassBound old new (leading_bytes lead n) (pass_turns size lead n) (pass_loads size lead n) 3
-pass_after_peeks old peeked new size lead end n least le only peeks pass =
-    let turns = ap (λ p. p.turns) only in
-    let loads = ap (λ p. p.loads) only in
-    let low = ap (λ p. p.low) only in
-    let more = pass_loads-le size lead end n least le in
+-- a pass that covers no byte after its leading bytes has no load
+pass_loads-none : (size lead end : ℕ) → end ≤ lead → pass_loads size lead end ≤ 0
+pass_loads-none size lead end past = let nothing : end - min lead end ≡ 0 = omega arith in rw nothing (div-le_self 0 size)
+
+-- up to three peeks, and then passes over the first `end` of n bytes, keep within the bounds of passes over n bytes
+passes_after_peeks : (old peeked new : ProbeState) (lead end n turns loads more_turns more_loads : ℕ) → end ≤ n → turns ≤ more_turns → loads ≤ more_loads → (end ≤ lead → loads ≤ 0)
+    → peeked ≡ record old { peeks = peeked.peeks } → RisesWithin old.peeks peeked.peeks 3
+    → PassBound peeked new (leading_bytes lead end) turns loads 0 → PassBound old new (leading_bytes lead n) more_turns more_loads 3
+passes_after_peeks old peeked new lead end n turns loads more_turns more_loads le few_turns few_loads none_past only peeks pass =
+    let turns_kept = ap (λ p. p.turns) only in
+    let loads_kept = ap (λ p. p.loads) only in
+    let low_kept = ap (λ p. p.low) only in
     record {
       turns_within = record { rises = omega (arith, pass.turns_within.rises); within = omega (arith, pass.turns_within.within) };
-      loads_within = record { rises = omega (arith, pass.loads_within.rises); within = omega (arith, pass.loads_within.within, more) };
+      loads_within = record { rises = omega (arith, pass.loads_within.rises); within = omega (arith, pass.loads_within.within) };
       peeks_within = record { rises = omega (arith, pass.peeks_within.rises, peeks.rises); within = omega (arith, pass.peeks_within.within, peeks.within) };
       low_reached = elim (cases_lt lead end) [
         | inl leads ↦ omega (arith, pass.low_reached)
         | inr past ↦
-            let none : pass_loads size lead end ≤ 0 = let nothing : end - min lead end ≡ 0 = omega arith in rw nothing (div-le_self 0 size) in
-            let no_load : new.loads ≡ peeked.loads = omega (arith, pass.loads_within.rises, pass.loads_within.within, none) in
+            let no_load : new.loads ≡ peeked.loads = omega (arith, pass.loads_within.rises, pass.loads_within.within, none_past past) in
             omega (arith, pass.low_kept no_load)
       ];
       low_kept = λ none. let no_load : new.loads ≡ peeked.loads = omega arith in omega (arith, pass.low_kept no_load);
     }
+
+-- the same for one pass
+pub pass_after_peeks : (old peeked new : ProbeState) (size lead end n : ℕ) → 4 ≤ size → end ≤ n → peeked ≡ record old { peeks = peeked.peeks } → RisesWithin old.peeks peeked.peeks 3
+    → PassBound peeked new (leading_bytes lead end) (pass_turns size lead end) (pass_loads size lead end) 0
+    → PassBound old new (leading_bytes lead n) (pass_turns size lead n) (pass_loads size lead n) 3
+pass_after_peeks old peeked new size lead end n least le only peeks pass =
+    passes_after_peeks old peeked new lead end n (pass_turns size lead end) (pass_loads size lead end) (pass_turns size lead n) (pass_loads size lead n) le (omega arith) (pass_loads-le size lead end n least le) (pass_loads-none size lead end) only peeks pass
+
+-- the same for two
+pub two_passes_after_peeks : (old peeked new : ProbeState) (size lead end n : ℕ) → 4 ≤ size → end ≤ n → peeked ≡ record old { peeks = peeked.peeks } → RisesWithin old.peeks peeked.peeks 3
+    → PassBound peeked new (leading_bytes lead end) (2 * pass_turns size lead end) (2 * pass_loads size lead end) 0
+    → PassBound old new (leading_bytes lead n) (2 * pass_turns size lead n) (2 * pass_loads size lead n) 3
+two_passes_after_peeks old peeked new size lead end n least le only peeks pass =
+    passes_after_peeks old peeked new lead end n (2 * pass_turns size lead end) (2 * pass_loads size lead end) (2 * pass_turns size lead n) (2 * pass_loads size lead n) le (omega arith)
+    (omega (arith, pass_loads-le size lead end n least le)) (λ past. omega (arith, pass_loads-none size lead end past)) only peeks pass
 
 -- chunks that end at most one chunk behind a place are at most one more than fit before it
 chunks-le : (chunks size place : ℕ) → 4 ≤ size → chunks * size ≤ place + size → chunks ≤ place / size + 1
@@ -91,6 +134,14 @@ chunks-le zero size place least le = omega arith
 chunks-le (suc chunks) size place least le =
     let row : suc chunks * size ≡ chunks * size + size = suc-mul chunks size in
     omega (arith, le-div chunks place size (omega arith) (omega arith))
+
+-- chunks of fewer bytes than `most`, as many as `most` fits into k, have fewer bytes than k
+pub chunks_below : (size most chunks k bytes : ℕ) → size < most → chunks ≤ k / most → bytes ≤ chunks * size → 0 < bytes → bytes < k
+chunks_below size most zero k bytes less few covered some = absurd (omega arith)
+chunks_below size most (suc chunks) k bytes less few covered some =
+    let fits = (le-div_iff_mul-le {k = most} {x = suc chunks} {y = k} (omega arith)).0 few in
+    let le : size ≤ most = omega arith in
+    omega (arith, suc-mul chunks size, suc-mul chunks most, mul-le-mul_left chunks le)
 
 -- Leading bytes, then chunks up to one behind the place that is answered, then at most a chunk's bytes and four more: a pass
 -- that looks for a place in n bytes.

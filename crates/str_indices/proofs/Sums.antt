@@ -52,6 +52,10 @@ mark-le test b = at_most_one (test b)
 pub passing_before-more : (test : ℕ → Bool) (bytes : List ℕ) (m n : ℕ) → passing_before test bytes (m + n) ≤ passing_before test bytes m + n
 passing_before-more test bytes m n = sum_below-more (λ j. mark test (get_or bytes j 0)) (λ j. mark-le test (get_or bytes j 0)) m n
 
+-- between two places no more bytes pass than stand there
+pub passing_before-between : (test : ℕ → Bool) (bytes : List ℕ) (m n : ℕ) → m ≤ n → passing_before test bytes n ≤ passing_before test bytes m + (n - m)
+passing_before-between test bytes m n le = let whole : m + (n - m) ≡ n = omega arith in omega (arith, passing_before-more test bytes m (n - m), ap (passing_before test bytes) whole)
+
 -- What three parts of a pass counted, each in the text as it then was, adds up to what the whole text counts.
 pub counted_in_parts : (counted : List ℕ → ℕ → ℕ) (text led chunked : List ℕ) (first at end a b c : ℕ) → counted text 0 ≡ 0 → led ≡ text → chunked ≡ led
     → counted text first ≡ counted text 0 + a → counted led at ≡ counted led first + b → counted chunked end ≡ counted chunked at + c → counted text end ≡ a + b + c

@@ -168,7 +168,7 @@ impl ByteTest for TrailingBytes {
     }
 }
 
-fn is_leading_byte(byte: u8) -> bool
+pub(crate) fn is_leading_byte(byte: u8) -> bool
     ensures { result ≡ is_leading byte }
 {
     byte & 0xC0 != 0x80
@@ -181,7 +181,7 @@ pub(crate) fn is_trailing_byte(byte: u8) -> bool
 }
 
 /// 1 in each lane that is a trailing byte.
-fn count_trailing_chunk<T: ByteChunk>(chunk: T) -> T
+pub(crate) fn count_trailing_chunk<T: ByteChunk>(chunk: T) -> T
     requires { length (T.lanes chunk) ≡ T.SIZE }
     ensures { T.lanes result ≡ map (mark is_trailing) (T.lanes chunk) }
 {

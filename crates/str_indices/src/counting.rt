@@ -62,11 +62,41 @@ fn count_in_chunks<B: ByteTest, T: ByteChunk>(
 {
     let mut passing = 0;
     let mut at = from;
-    'chunks: while T::SIZE <= end - at {
-        passing += count_in_chunk::<B, T>(probe, at);
-        at += T::SIZE;
+    'rounds: while T::SIZE <= end - at {
+        let round = count_round::<B, T>(probe, at, end);
+        passing += round.passing;
+        at = round.end;
     }
     ChunkCount { passing, end: at }
+}
+
+/// Counts in at most `MAX_ACC` of these chunks, from `from` on: their lanes are added, and summed once.
+fn count_round<B: ByteTest, T: ByteChunk>(
+    probe: &mut Probe<'_, T>,
+    from: usize,
+    end: usize,
+) -> ChunkCount
+    requires ordered { from ≤ end }
+    requires within { end ≤ length probe.old.text }
+    ensures reached { (from ≤ result.end) × (result.end ≤ end) }
+    ensures goes_on { from + T.SIZE ≤ end → from + T.SIZE ≤ result.end }
+    ensures counted { passing_before B.passes probe.old.text result.end
+        ≡ passing_before B.passes probe.old.text from + result.passing }
+    ensures few { result.passing ≤ result.end - from }
+    ensures loads { LoadsChunks probe.old probe.new T.SIZE from result.end }
+{
+    let mut acc = T::zero();
+    let mut rounds = 0;
+    let mut at = from;
+    'chunks: while rounds < T::MAX_ACC && T::SIZE <= end - at {
+        acc = acc.add(B::passing_lanes(probe.load(at)));
+        at += T::SIZE;
+        rounds += 1;
+    }
+    ChunkCount {
+        passing: acc.sum_bytes(),
+        end: at,
+    }
 }
 
 /// Counts in the chunk at `at`, for one load.

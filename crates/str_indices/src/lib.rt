@@ -8,5 +8,6 @@ mod counting;
 pub mod laws;
 pub mod lines_lf;
 mod places;
+pub mod utf16;
 
 pub use byte_chunk;

@@ -1,8 +1,7 @@
-use Rattle.std.proofs.Common.{length, ap, ◌∙◌, arith, chars}
+use Rattle.std.proofs.Common.{length, ap, ◌∙◌, chars}
 use Rattle.str_indices.specs.Text.{cut}
 use Rattle.str_indices.specs.Schemes.{count, Chars}
-use Rattle.str_indices.proofs.Cuts.{cut_all}
-use Rattle.str_indices.proofs.CutBytes.{boundary_at_end, size-chars}
+use Rattle.str_indices.proofs.CutBytes.{boundary_at_end, cut_at_end}
 use Rattle.str_indices.proofs.chars.count.Goals as goal
 
 pub count_impl-requires-clause-boundary : goal.count_impl-requires-clause-boundary
@@ -11,5 +10,4 @@ count_impl-requires-clause-boundary c = rw (ap (λ p. p.text) c.of.ensures.state
 pub returns : goal.returns
 returns c =
     let text = c.args.text.now in
-    c.count_impl.ensures.count ∙ ap (λ t. count Chars (cut (chars t) (length text))) (ap (λ p. p.text) c.of.ensures.state)
-    ∙ ap (count Chars) (cut_all (chars text) (length text) (omega (arith, size-chars text c.utf8.text)))
+    c.count_impl.ensures.count ∙ ap (λ t. count Chars (cut (chars t) (length text))) (ap (λ p. p.text) c.of.ensures.state) ∙ ap (count Chars) (cut_at_end text c.utf8.text)

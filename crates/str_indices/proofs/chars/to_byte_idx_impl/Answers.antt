@@ -1,4 +1,6 @@
 use Rattle.std.proofs.Common.{◌<◌, ◌+◌, length, arith, ap, ◌∙◌}
+use Rattle.str_indices.specs.Bytes.{passing_before, is_leading}
+use Rattle.str_indices.specs.Bytes.{passing_before, is_leading}
 use Rattle.str_indices.proofs.CharacterCounts.{char_found, char_reached, end_is_near}
 use Rattle.str_indices.proofs.PassBounds.{pass_to_place}
 use Rattle.str_indices.proofs.chars.to_byte_idx_impl.Goals as goal
@@ -31,6 +33,6 @@ returns-clause-pass g c =
     let (in_rest, rested, few', fits') = rest.ensures.turns in
     let same = ap (λ p. p.text) led in
     let reached : rest.result.byte < chunks.result.byte + size + 4 =
-    end_is_near text first.new.probe.text chunks.new.probe.text same (loads.text_kept ∙ same) c.len-len.ensures.utf8 chunks.result.byte size c.args.idx rest.result.byte chunks.ensures.stopped (omega (arith, rest.ensures.reached.1)) (omega (arith, rest.ensures.counted, rest.ensures.at_most)) in
+    end_is_near (passing_before is_leading) (λ bytes m n le. omega arith) text first.new.probe.text chunks.new.probe.text same (loads.text_kept ∙ same) c.len-len.ensures.utf8 chunks.result.byte size c.args.idx rest.result.byte chunks.ensures.stopped (omega (arith, rest.ensures.reached.1)) (omega (arith, rest.ensures.counted, rest.ensures.at_most)) in
     pass_to_place c.args.probe.now first.new.probe chunks.new.probe rest.new.probe size c.args.lead (length text) first.result.byte to rest.result.byte in_lead in_rest g.met.T.ByteChunk.lawful.least
     (omega (arith, first.ensures.reached.1, c.min-first_chunk.ensures, c.len-len.ensures.len)) (omega (arith, fits)) (omega (arith, near, rest.ensures.reached.0)) (omega (arith, few', reached)) led loads rested

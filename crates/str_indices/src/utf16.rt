@@ -1,0 +1,261 @@
+//! Index by UTF-16 code units (the Unicode Standard, chapter 3).
+//!
+//! A char that takes four bytes in UTF-8 takes a surrogate pair in UTF-16, which is two units. Each other char takes one.
+ghost use Rattle.std.specs.Prelude.{◌≡◌, ◌+◌, ◌-◌, ◌*◌, ◌/◌, ◌<◌, ◌≤◌, ◌⊎◌, ℕ, chars, length, map, min};
+ghost use Rattle.str_indices.specs.Text.{cut};
+ghost use Rattle.str_indices.specs.Schemes.{count, from_byte_idx, to_byte_idx, surrogates, Utf16};
+ghost use Rattle.str_indices.specs.Relations.{IsBoundary};
+ghost use Rattle.str_indices.specs.Bytes.{mark, units_before, is_leading, begins_four_bytes};
+ghost use Rattle.str_indices.specs.PassBound.{PassBound, LoadsChunks, RisesWithin, leading_bytes, pass_turns, pass_loads};
+
+#[cfg(test)]
+mod tests;
+
+use crate::chars::{self, count_trailing_chunk, is_leading_byte};
+use crate::counting::{ByteTest, count_passing};
+use crate::places::{Position, boundary_at_or_before};
+use byte_chunk::{ByteChunk, Chunk, Probe};
+
+/// How many UTF-16 code units the text would take.
+pub fn count(text: &str) -> usize
+    ensures { result ≡ count Utf16 (chars text.now) }
+{
+    count_impl(&mut Probe::<Chunk>::of(text), text.len(), 0)
+}
+
+/// How many surrogate pairs the text would have in UTF-16: one for each char of four bytes.
+pub fn count_surrogates(text: &str) -> usize
+    ensures { result ≡ surrogates (chars text.now) }
+{
+    count_surrogates_impl(&mut Probe::<Chunk>::of(text), text.len(), 0)
+}
+
+/// Converts a byte index to a UTF-16 code unit index: the number of units of the chars that end at or before the byte.
+///
+/// A byte inside a char belongs to that char, whose first unit is the answer. A byte past the end gives the number of units.
+pub fn from_byte_idx(text: &str, byte_idx: usize) -> usize
+    ensures { result ≡ from_byte_idx Utf16 (chars text.now) byte_idx }
+{
+    from_byte_idx_impl(&mut Probe::<Chunk>::of(text), byte_idx, 0)
+}
+
+/// Converts a UTF-16 code unit index to the byte index where the char of that unit begins.
+///
+/// The second unit of a surrogate pair belongs to its char. An index past the last unit gives the length of the text in bytes.
+pub fn to_byte_idx(text: &str, utf16_idx: usize) -> usize
+    ensures { result ≡ to_byte_idx Utf16 (chars text.now) utf16_idx }
+{
+    to_byte_idx_impl(&mut Probe::<Chunk>::of(text), utf16_idx, 0)
+}
+
+/// Counts the UTF-16 code units of the text before `end`, over chunks of any type, after `lead` bytes that are walked one by one.
+pub fn count_impl<T: ByteChunk>(probe: &mut Probe<'_, T>, end: usize, lead: usize) -> usize
+    requires within { end ≤ length probe.old.text }
+    requires boundary { IsBoundary (chars probe.old.text) end }
+    ensures count { result ≡ count Utf16 (cut (chars probe.old.text) end) }
+    ensures text { probe.new.text ≡ probe.old.text }
+    ensures pass { PassBound probe.old probe.new (leading_bytes lead end)
+        (2 * pass_turns T.SIZE lead end) (2 * pass_loads T.SIZE lead end) 0 }
+{
+    let chars = chars::count_impl(probe, end, lead);
+    chars + count_surrogates_impl(probe, end, lead)
+}
+
+/// Counts the surrogate pairs of the text before `end`, over chunks of any type, after `lead` bytes that are walked one by one.
+///
+/// No char of four bytes begins in the last three bytes, so these are not read.
+pub fn count_surrogates_impl<T: ByteChunk>(
+    probe: &mut Probe<'_, T>,
+    end: usize,
+    lead: usize,
+) -> usize
+    requires within { end ≤ length probe.old.text }
+    requires boundary { IsBoundary (chars probe.old.text) end }
+    ensures count { result ≡ surrogates (cut (chars probe.old.text) end) }
+    ensures text { probe.new.text ≡ probe.old.text }
+    ensures pass { let first = leading_bytes lead (end - 3) in
+        PassBound probe.old probe.new first (pass_turns T.SIZE lead (end - 3)) ((end - first) / T.SIZE) 0 }
+{
+    prove!(end <= probe.len());
+    count_passing::<FourByteLeads, T>(probe, end.saturating_sub(3), lead)
+}
+
+/// Converts a byte index to a UTF-16 code unit index, over chunks of any type, after `lead` bytes that are walked one by one.
+pub fn from_byte_idx_impl<T: ByteChunk>(
+    probe: &mut Probe<'_, T>,
+    byte_idx: usize,
+    lead: usize,
+) -> usize
+    ensures answer { result ≡ from_byte_idx Utf16 (chars probe.old.text) byte_idx }
+    ensures text { probe.new.text ≡ probe.old.text }
+    ensures pass { let n = min byte_idx (length probe.old.text) in
+        PassBound probe.old probe.new (leading_bytes lead n) (2 * pass_turns T.SIZE lead n) (2 * pass_loads T.SIZE lead n) 3 }
+{
+    let end = boundary_at_or_before(probe, byte_idx);
+    count_impl(probe, end, lead)
+}
+
+/// Converts a UTF-16 code unit index to a byte index, over chunks of any type, after `lead` bytes that are walked one by one.
+pub fn to_byte_idx_impl<T: ByteChunk>(probe: &mut Probe<'_, T>, idx: usize, lead: usize) -> usize
+    ensures answer { result ≡ to_byte_idx Utf16 (chars probe.old.text) idx }
+    ensures text { probe.new.text ≡ probe.old.text }
+    ensures pass { let n = length probe.old.text in
+        PassBound probe.old probe.new (leading_bytes lead n) (pass_turns T.SIZE lead n) (result / T.SIZE + 5) 3 }
+{
+    let len = probe.len();
+    let first_chunk = lead.min(len);
+    let start = Position { byte: 0, count: 0 };
+    let led = walk_to_unit(probe, start, first_chunk, idx);
+    if led.byte < first_chunk {
+        return led.byte;
+    }
+    let in_rounds = skip_rounds(probe, led, idx);
+    let chunked = skip_chunks(probe, in_rounds, idx);
+    walk_to_unit(probe, chunked, len, idx).byte
+}
+
+/// Walks on from a position, one turn a byte, up to `to` or to the byte that begins the char whose units pass the index.
+fn walk_to_unit<T: ByteChunk>(
+    probe: &mut Probe<'_, T>,
+    from: Position,
+    to: usize,
+    idx: usize,
+) -> Position
+    requires ordered { from.byte ≤ to }
+    requires within { to ≤ length probe.old.text }
+    requires counted { from.count ≡ units_before probe.old.text from.byte }
+    requires at_most { from.count ≤ idx }
+    ensures reached { (from.byte ≤ result.byte) × (result.byte ≤ to) }
+    ensures counted { result.count ≡ units_before probe.old.text result.byte }
+    ensures at_most { result.count ≤ idx }
+    ensures stopped { result.byte < to → idx < units_before probe.old.text (result.byte + 1) }
+    ensures turns { (n : ℕ) × (probe.new ≡ record probe.old { turns = probe.old.turns + n })
+        × (n ≤ result.byte + 1 - from.byte) × (n ≤ to - from.byte) }
+{
+    prove!(to <= probe.len());
+    let mut at = from;
+    while at.byte < to {
+        let count = at.count + units_at(probe.turn(at.byte));
+        if count > idx {
+            break;
+        }
+        at = Position {
+            byte: at.byte + 1,
+            count,
+        };
+    }
+    at
+}
+
+/// Skips rounds of whole chunks from a position on, over so few chunks that their units can't pass the index.
+///
+/// A chunk has at most one unit more than bytes, so at most `MAX_ACC` units.
+fn skip_rounds<T: ByteChunk>(probe: &mut Probe<'_, T>, from: Position, idx: usize) -> Position
+    requires within { from.byte ≤ length probe.old.text }
+    requires counted { from.count ≡ units_before probe.old.text from.byte }
+    requires at_most { from.count ≤ idx }
+    ensures reached { (from.byte ≤ result.byte) × (result.byte ≤ length probe.old.text) }
+    ensures counted { result.count ≡ units_before probe.old.text result.byte }
+    ensures at_most { result.count ≤ idx }
+    ensures place { let chunks = min ((idx - from.count) / T.MAX_ACC) ((length probe.old.text - from.byte) / T.SIZE) in
+        result.byte ≡ from.byte + chunks * T.SIZE }
+    ensures loads { LoadsChunks probe.old probe.new T.SIZE from.byte result.byte }
+{
+    let left = probe.len() - from.byte;
+    let chunks = ((idx - from.count) / T::MAX_ACC).min(left / T::SIZE);
+    let end = from.byte + chunks * T::SIZE;
+    let mut at = from;
+    'rounds: while T::SIZE <= end - at.byte {
+        at = skip_round(probe, at, end);
+    }
+    at
+}
+
+/// Skips at most `MAX_ACC` whole chunks that end at or before `end`: each is loaded once, and their lanes are added and summed once.
+fn skip_round<T: ByteChunk>(probe: &mut Probe<'_, T>, from: Position, end: usize) -> Position
+    requires ordered { from.byte ≤ end }
+    requires within { end ≤ length probe.old.text }
+    requires counted { from.count ≡ units_before probe.old.text from.byte }
+    ensures reached { (from.byte ≤ result.byte) × (result.byte ≤ end) }
+    ensures goes_on { from.byte + T.SIZE ≤ end → from.byte + T.SIZE ≤ result.byte }
+    ensures counted { result.count ≡ units_before probe.old.text result.byte }
+    ensures loads { LoadsChunks probe.old probe.new T.SIZE from.byte result.byte }
+{
+    prove!(end <= probe.len());
+    let mut trailing = T::zero();
+    let mut four_byte_leads = T::zero();
+    let mut rounds = 0;
+    let mut at = from.byte;
+    'chunks: while rounds < T::MAX_ACC && T::SIZE <= end - at {
+        let chunk = probe.load(at);
+        trailing = trailing.add(count_trailing_chunk(chunk));
+        four_byte_leads = four_byte_leads.add(count_surrogates_chunk(chunk));
+        at += T::SIZE;
+        rounds += 1;
+    }
+    let leading = at - from.byte - trailing.sum_bytes();
+    Position {
+        byte: at,
+        count: from.count + leading + four_byte_leads.sum_bytes(),
+    }
+}
+
+/// Skips whole chunks one at a time from a position on, while the units before their end are below the index.
+fn skip_chunks<T: ByteChunk>(probe: &mut Probe<'_, T>, from: Position, idx: usize) -> Position
+    requires within { from.byte ≤ length probe.old.text }
+    requires counted { from.count ≡ units_before probe.old.text from.byte }
+    requires at_most { from.count ≤ idx }
+    ensures reached { (from.byte ≤ result.byte) × (result.byte ≤ length probe.old.text) }
+    ensures counted { result.count ≡ units_before probe.old.text result.byte }
+    ensures below { (result ≡ from) ⊎ (result.count < idx) }
+    ensures stopped { (length probe.old.text < result.byte + T.SIZE)
+        ⊎ (idx ≤ units_before probe.old.text (result.byte + T.SIZE)) }
+    ensures loads { (to : ℕ) × (to ≤ result.byte + T.SIZE) × LoadsChunks probe.old probe.new T.SIZE from.byte to }
+{
+    let len = probe.len();
+    let mut at = from;
+    'chunks: while T::SIZE <= len - at.byte {
+        let next = skip_round(probe, at, at.byte + T::SIZE);
+        if next.count >= idx {
+            break;
+        }
+        at = next;
+    }
+    at
+}
+
+/// How many units the char takes that the byte begins; 0 for a trailing byte.
+fn units_at(byte: u8) -> usize
+    ensures { result ≡ mark is_leading byte + mark begins_four_bytes byte }
+{
+    usize::from(is_leading_byte(byte)) + usize::from(is_four_byte_lead(byte))
+}
+
+/// The bytes that begin a char of four bytes, which takes a surrogate pair.
+struct FourByteLeads;
+
+impl ByteTest for FourByteLeads {
+    ghost passes = { begins_four_bytes };
+
+    fn passes_byte(byte: u8) -> bool {
+        is_four_byte_lead(byte)
+    }
+
+    fn passing_lanes<T: ByteChunk>(chunk: T) -> T {
+        count_surrogates_chunk(chunk)
+    }
+}
+
+fn is_four_byte_lead(byte: u8) -> bool
+    ensures { result ≡ begins_four_bytes byte }
+{
+    byte & 0xF0 == 0xF0
+}
+
+/// 1 in each lane that begins a char of four bytes.
+fn count_surrogates_chunk<T: ByteChunk>(chunk: T) -> T
+    requires { length (T.lanes chunk) ≡ T.SIZE }
+    ensures { T.lanes result ≡ map (mark begins_four_bytes) (T.lanes chunk) }
+{
+    chunk.bitand(T::splat(0xF0)).cmp_eq_byte(0xF0)
+}

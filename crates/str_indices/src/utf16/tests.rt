@@ -1,0 +1,138 @@
+use super::{count, count_surrogates, count_surrogates_impl, from_byte_idx, to_byte_idx};
+use byte_chunk::{Plain, Probe};
+use std::test::Fail;
+
+const TEXT: &str = "Hel🐸lo world! こん🐸にち🐸🐸は!";
+
+#[test]
+fn a_frog_counts_two_units(rt: HostRuntime) -> Result<(), Fail> {
+    let table = [
+        ("", 0, 0),
+        ("\u{85}", 1, 0),
+        ("\u{2028}", 1, 0),
+        ("せ", 1, 0),
+        ("🐸", 2, 1),
+        (TEXT, 27, 4),
+    ];
+    for (text, units, pairs) in table {
+        assert_eq!(rt; count(text), units, "units of {text}");
+        assert_eq!(rt; count_surrogates(text), pairs, "pairs of {text}");
+    }
+    Ok(())
+}
+
+#[test]
+fn surrogates_before_a_boundary_are_counted_after_any_lead(rt: HostRuntime) -> Result<(), Fail> {
+    for lead in 0..10 {
+        assert_eq!(rt;
+            count_surrogates_impl::<Plain>(&mut Probe::of("🐸🐸"), 0, lead),
+            0,
+            "after {lead}"
+        );
+        assert_eq!(rt;
+            count_surrogates_impl::<Plain>(&mut Probe::of("🐸🐸"), 4, lead),
+            1,
+            "after {lead}"
+        );
+        assert_eq!(rt;
+            count_surrogates_impl::<Plain>(&mut Probe::of("🐸🐸"), 8, lead),
+            2,
+            "after {lead}"
+        );
+    }
+    Ok(())
+}
+
+#[test]
+fn a_byte_inside_a_char_has_the_units_before_that_char(rt: HostRuntime) -> Result<(), Fail> {
+    let table = [
+        (0, 0),
+        (3, 3),
+        (4, 3),
+        (5, 3),
+        (6, 3),
+        (7, 5),
+        (9, 7),
+        (23, 17),
+        (24, 17),
+        (25, 17),
+        (26, 17),
+        (27, 19),
+        (33, 21),
+        (34, 21),
+        (35, 21),
+        (36, 21),
+        (37, 23),
+        (38, 23),
+        (39, 23),
+        (40, 23),
+        (41, 25),
+        (45, 27),
+        (46, 27),
+    ];
+    for (byte, unit) in table {
+        assert_eq!(rt; from_byte_idx(TEXT, byte), unit, "at byte {byte}");
+    }
+    Ok(())
+}
+
+#[test]
+fn the_second_unit_of_a_pair_is_at_the_byte_of_its_char(rt: HostRuntime) -> Result<(), Fail> {
+    let table = [
+        (0, 0),
+        (3, 3),
+        (4, 3),
+        (5, 7),
+        (7, 9),
+        (17, 23),
+        (18, 23),
+        (19, 27),
+        (21, 33),
+        (22, 33),
+        (23, 37),
+        (24, 37),
+        (25, 41),
+        (27, 45),
+        (28, 45),
+    ];
+    for (unit, byte) in table {
+        assert_eq!(rt; to_byte_idx(TEXT, unit), byte, "at unit {unit}");
+    }
+    for (unit, byte) in [(7, 7), (8, 7), (9, 11), (10, 12), (11, 12)] {
+        assert_eq!(rt; to_byte_idx("aaaaaaa🐸b", unit), byte, "at unit {unit}");
+    }
+    Ok(())
+}
+
+#[test]
+fn the_empty_text_answers_0(rt: HostRuntime) -> Result<(), Fail> {
+    for index in [0, 18446744073709551615] {
+        assert_eq!(rt; from_byte_idx("", index), 0);
+        assert_eq!(rt; to_byte_idx("", index), 0);
+    }
+    Ok(())
+}
+
+#[test]
+fn texts_of_many_chunks_are_counted_in_rounds(rt: HostRuntime) -> Result<(), Fail> {
+    let frogs = "🐸".repeat(rt.alloc(), 1025)?;
+    assert_eq!(rt; count_surrogates(&frogs), 1025);
+    assert_eq!(rt; count(&frogs), 2050);
+    for (unit, byte) in [(2049, 4096), (2050, 4100)] {
+        assert_eq!(rt; to_byte_idx(&frogs, unit), byte, "at unit {unit}");
+    }
+    Ok(())
+}
+
+#[test]
+fn an_index_behind_many_chunks_is_reached(rt: HostRuntime) -> Result<(), Fail> {
+    let letters = "a".repeat(rt.alloc(), 600)?;
+    for (unit, byte) in [(511, 511), (600, 600), (601, 600)] {
+        assert_eq!(rt; to_byte_idx(&letters, unit), byte, "at unit {unit}");
+    }
+    let frogs = "🐸".repeat(rt.alloc(), 300)?;
+    for (unit, byte) in [(598, 1196), (599, 1196), (600, 1200)] {
+        assert_eq!(rt; to_byte_idx(&frogs, unit), byte, "at unit {unit}");
+    }
+    Ok(())
+}
