@@ -126,6 +126,27 @@ fn converts_indices(rt: HostRuntime) {
 }
 
 #[test]
+fn answers_calls_of_each_module(rt: HostRuntime) {
+    let frogs = "Hel🐸lo world! こん🐸にち🐸🐸は!";
+    let lines = "\nHere\nare\nsome\nwords\n";
+    let answers: [(&[&str], &str, &[u8]); 8] = [
+        (&["utf16.count"], frogs, b"27\n"),
+        (&["utf16.count_surrogates"], frogs, b"4\n"),
+        (&["utf16.from_byte_idx", "3"], frogs, b"3\n"),
+        (&["utf16.to_byte_idx", "4"], frogs, b"3\n"),
+        (&["lines_lf.count_breaks"], "", b"0\n"),
+        (&["lines_lf.count_breaks"], lines, b"5\n"),
+        (&["lines_lf.from_byte_idx", "6"], lines, b"2\n"),
+        (&["lines_lf.to_byte_idx", "2"], lines, b"6\n"),
+    ];
+    for (words, text, written) in answers {
+        let (result, output) = run_in_memory(rt.alloc(), words, text.as_bytes());
+        assert_eq!(rt; result, Ok(()));
+        assert_eq!(rt; output.as_slice(), written);
+    }
+}
+
+#[test]
 fn refuses_other_words(rt: HostRuntime) {
     let lists: [&[&str]; 20] = [
         &[],
