@@ -11,9 +11,9 @@ use Rattle.std.specs.Str.{all_ascii_digits}
 use Rattle.std.specs.Str.Parse.{digits_value}
 use denote.Ref.{Bor}
 use Rattle.str_indices.specs.Text.{Text}
-use Rattle.str_indices.specs.Schemes.{count, from_byte_idx, to_byte_idx, surrogates, Chars, Utf16, Lf}
+use Rattle.str_indices.specs.Schemes.{count, from_byte_idx, to_byte_idx, surrogates, Chars, Utf16, Lf, Crlf}
 use Rattle.idx.specs.declared.requests.Request.{Request}
-use Rattle.idx.specs.declared.requests.Request.TheVariants.{CharsCount, CharsFromByteIdx, CharsToByteIdx, Utf16Count, Utf16CountSurrogates, Utf16FromByteIdx, Utf16ToByteIdx, LinesLfCountBreaks, LinesLfFromByteIdx, LinesLfToByteIdx}
+use Rattle.idx.specs.declared.requests.Request.TheVariants.{CharsCount, CharsFromByteIdx, CharsToByteIdx, Utf16Count, Utf16CountSurrogates, Utf16FromByteIdx, Utf16ToByteIdx, LinesLfCountBreaks, LinesLfFromByteIdx, LinesLfToByteIdx, LinesCrlfCountBreaks, LinesCrlfFromByteIdx, LinesCrlfToByteIdx}
 
 -- the bytes of each word
 abbrev pub texts : List (Bor (List ℕ)) → List (List ℕ)
@@ -26,6 +26,7 @@ counting_calls =
     ∷ (codes "utf16.count", Utf16Count)
     ∷ (codes "utf16.count_surrogates", Utf16CountSurrogates)
     ∷ (codes "lines_lf.count_breaks", LinesLfCountBreaks)
+    ∷ (codes "lines_crlf.count_breaks", LinesCrlfCountBreaks)
     ∷ []
 
 -- the conversions that are built, each with its name, and to be given its index
@@ -37,6 +38,8 @@ conversions =
     ∷ (codes "utf16.to_byte_idx", Utf16ToByteIdx)
     ∷ (codes "lines_lf.from_byte_idx", LinesLfFromByteIdx)
     ∷ (codes "lines_lf.to_byte_idx", LinesLfToByteIdx)
+    ∷ (codes "lines_crlf.from_byte_idx", LinesCrlfFromByteIdx)
+    ∷ (codes "lines_crlf.to_byte_idx", LinesCrlfToByteIdx)
     ∷ []
 
 -- what the table has under the name
@@ -82,3 +85,6 @@ answer_of (Utf16ToByteIdx index) text = to_byte_idx Utf16 text index
 answer_of LinesLfCountBreaks text = count Lf text
 answer_of (LinesLfFromByteIdx index) text = from_byte_idx Lf text index
 answer_of (LinesLfToByteIdx index) text = to_byte_idx Lf text index
+answer_of LinesCrlfCountBreaks text = count Crlf text
+answer_of (LinesCrlfFromByteIdx index) text = from_byte_idx Crlf text index
+answer_of (LinesCrlfToByteIdx index) text = to_byte_idx Crlf text index

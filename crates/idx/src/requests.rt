@@ -2,7 +2,7 @@
 ghost use Rattle.std.specs.Prelude.{◌≡◌, chars};
 ghost use Rattle.idx.specs.Requests.{counting_named, conversion_named, index_of, request_of, answer_of, texts};
 
-use str_indices::{chars, lines_lf, utf16};
+use str_indices::{chars, lines_crlf, lines_lf, utf16};
 
 /// A call of the library, with its index where it takes one.
 #[derive(Clone, Copy)]
@@ -17,6 +17,9 @@ pub enum Request {
     LinesLfCountBreaks,
     LinesLfFromByteIdx(usize),
     LinesLfToByteIdx(usize),
+    LinesCrlfCountBreaks,
+    LinesCrlfFromByteIdx(usize),
+    LinesCrlfToByteIdx(usize),
 }
 
 impl Request {
@@ -41,6 +44,7 @@ impl Request {
             "utf16.count" => Some(Request::Utf16Count),
             "utf16.count_surrogates" => Some(Request::Utf16CountSurrogates),
             "lines_lf.count_breaks" => Some(Request::LinesLfCountBreaks),
+            "lines_crlf.count_breaks" => Some(Request::LinesCrlfCountBreaks),
             _ => None,
         }
     }
@@ -56,6 +60,8 @@ impl Request {
             "utf16.to_byte_idx" => Some(Request::Utf16ToByteIdx(index)),
             "lines_lf.from_byte_idx" => Some(Request::LinesLfFromByteIdx(index)),
             "lines_lf.to_byte_idx" => Some(Request::LinesLfToByteIdx(index)),
+            "lines_crlf.from_byte_idx" => Some(Request::LinesCrlfFromByteIdx(index)),
+            "lines_crlf.to_byte_idx" => Some(Request::LinesCrlfToByteIdx(index)),
             _ => None,
         }
     }
@@ -76,6 +82,9 @@ impl Request {
             Request::LinesLfCountBreaks => lines_lf::count_breaks(text),
             Request::LinesLfFromByteIdx(index) => lines_lf::from_byte_idx(text, index),
             Request::LinesLfToByteIdx(index) => lines_lf::to_byte_idx(text, index),
+            Request::LinesCrlfCountBreaks => lines_crlf::count_breaks(text),
+            Request::LinesCrlfFromByteIdx(index) => lines_crlf::from_byte_idx(text, index),
+            Request::LinesCrlfToByteIdx(index) => lines_crlf::to_byte_idx(text, index),
         }
     }
 }

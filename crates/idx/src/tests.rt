@@ -129,7 +129,7 @@ fn converts_indices(rt: HostRuntime) {
 fn answers_calls_of_each_module(rt: HostRuntime) {
     let frogs = "Hel🐸lo world! こん🐸にち🐸🐸は!";
     let lines = "\nHere\nare\nsome\nwords\n";
-    let answers: [(&[&str], &str, &[u8]); 8] = [
+    let answers: [(&[&str], &str, &[u8]); 11] = [
         (&["utf16.count"], frogs, b"27\n"),
         (&["utf16.count_surrogates"], frogs, b"4\n"),
         (&["utf16.from_byte_idx", "3"], frogs, b"3\n"),
@@ -138,6 +138,9 @@ fn answers_calls_of_each_module(rt: HostRuntime) {
         (&["lines_lf.count_breaks"], lines, b"5\n"),
         (&["lines_lf.from_byte_idx", "6"], lines, b"2\n"),
         (&["lines_lf.to_byte_idx", "2"], lines, b"6\n"),
+        (&["lines_crlf.count_breaks"], "\r\r\n\n", b"3\n"),
+        (&["lines_crlf.from_byte_idx", "2"], "a\r\nb", b"0\n"),
+        (&["lines_crlf.to_byte_idx", "1"], "a\r\nb", b"3\n"),
     ];
     for (words, text, written) in answers {
         let (result, output) = run_in_memory(rt.alloc(), words, text.as_bytes());

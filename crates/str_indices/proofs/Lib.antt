@@ -30,4 +30,6 @@ pub mod LeastEnds
 pub mod LineFeedCounts
 pub mod BoundaryBytes
 pub mod UnitCounts
+pub mod CrlfCounts
+pub mod CrlfLanes
 pub mod PassBounds

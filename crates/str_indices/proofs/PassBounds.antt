@@ -1,10 +1,10 @@
 -- What the parts of a pass add up to.
-use Rattle.std.proofs.Common.{◌≡◌, ℕ, ◌+◌, ◌-◌, ◌*◌, ◌/◌, ◌<◌, ◌≤◌, min, inl, inr, refl, arith, ap, ◌∙◌, add-mul, suc-mul, zero, suc}
+use Rattle.std.proofs.Common.{◌≡◌, ℕ, ◌+◌, ◌-◌, ◌*◌, ◌/◌, ◌<◌, ◌≤◌, ◌⊎◌, min, inl, inr, refl, arith, ap, ◌∙◌, add-mul, suc-mul, zero, suc}
 use Rattle.std.proofs.lemmas.Bool.{cases_lt}
 use Rattle.std.proofs.lemmas.Nat.{le-div}
 use Rattle.std.proofs.Math.Nat.{div-le_self, div-mul-le_self, mul-le-mul_left, mul-le-mul_right, le-div_iff_mul-le}
 use Rattle.byte_chunk.specs.ProbeState.{ProbeState}
-use Rattle.str_indices.specs.PassBound.{PassBound, LoadsChunks, RisesWithin, leading_bytes, pass_turns, pass_loads}
+use Rattle.str_indices.specs.PassBound.{PassBound, LoadsChunks, PeeksBack, RisesWithin, leading_bytes, pass_turns, pass_loads}
 
 -- leading bytes, then chunks, then the rest, byte by byte: a pass over the first n bytes
 pub pass_of_parts : (old led chunked new : ProbeState) (size lead n first at : ℕ) → 4 ≤ size → first ≡ min lead n → at ≤ n → n < at + size
@@ -143,25 +143,63 @@ chunks_below size most (suc chunks) k bytes less few covered some =
     let le : size ≤ most = omega arith in
     omega (arith, suc-mul chunks size, suc-mul chunks most, mul-le-mul_left chunks le)
 
--- Leading bytes, then chunks up to one behind the place that is answered, then at most a chunk's bytes and four more: a pass
--- that looks for a place in n bytes.
+-- a state in which nothing more was peeked at
+no_peeks : (state : ProbeState) (at : ℕ) → PeeksBack state state at
+no_peeks state at = record { only_peeked = refl; peeks_within = record { rises = omega arith; within = omega arith } }
+
+-- Leading bytes, a peek behind them, then chunks up to one behind the place that is answered, a peek behind them, then at most a
+-- chunk's bytes and four more, and two peeks: a pass that looks for a place in n bytes.
+pub pass_to_place_peeking : (old led ready chunked behind rested new : ProbeState) (size lead n from before_chunks to at place in_lead in_rest : ℕ) → 4 ≤ size → from ≡ min lead n → in_lead ≤ from → before_chunks ≤ in_lead → to ≤ place + size → in_rest ≤ size + 4
+    → led ≡ record old { turns = old.turns + in_lead } → PeeksBack led ready before_chunks → LoadsChunks ready chunked size from to → PeeksBack chunked behind at
+    → rested ≡ record behind { turns = behind.turns + in_rest } → new ≡ record rested { peeks = new.peeks } → RisesWithin rested.peeks new.peeks 2
+    → PassBound old new (leading_bytes lead n) (pass_turns size lead n) (place / size + 5) 3
+pass_to_place_peeking old led ready chunked behind rested new size lead n from before_chunks to at place in_lead in_rest least here few peeked within short leads before loads after rests looks peeks =
+    let turns_led = ap (λ p. p.turns) leads in
+    let turns_before = ap (λ p. p.turns) before.only_peeked in
+    let turns_after = ap (λ p. p.turns) after.only_peeked in
+    let turns_rested = ap (λ p. p.turns) rests in
+    let turns_new = ap (λ p. p.turns) looks in
+    let loads_led = ap (λ p. p.loads) leads in
+    let loads_before = ap (λ p. p.loads) before.only_peeked in
+    let loads_after = ap (λ p. p.loads) after.only_peeked in
+    let loads_rested = ap (λ p. p.loads) rests in
+    let loads_new = ap (λ p. p.loads) looks in
+    let low_led = ap (λ p. p.low) leads in
+    let low_before = ap (λ p. p.low) before.only_peeked in
+    let low_after = ap (λ p. p.low) after.only_peeked in
+    let low_rested = ap (λ p. p.low) rests in
+    let low_new = ap (λ p. p.low) looks in
+    let peeks_led = ap (λ p. p.peeks) leads in
+    let peeks_rested = ap (λ p. p.peeks) rests in
+    let all_turns : new.turns ≡ old.turns + in_lead + in_rest = omega (arith, loads.turns_kept) in
+    let all_loads : new.loads ≡ old.loads + loads.chunks = omega (arith, loads.loads_made) in
+    let most = chunks-le loads.chunks size place least (omega (arith, loads.covered)) in
+    record {
+      turns_within = record { rises = omega arith; within = omega arith };
+      loads_within = record { rises = omega arith; within = omega (arith, most) };
+      peeks_within = record {
+        rises = omega (arith, before.peeks_within.rises, loads.peeks_kept, after.peeks_within.rises, peeks.rises);
+        within = omega (arith, before.peeks_within.within, loads.peeks_kept, after.peeks_within.within, peeks.within);
+      };
+      low_reached = omega (arith, loads.low_reached);
+      low_kept = λ none. let no_chunk : loads.chunks ≡ 0 = omega arith in omega (arith, loads.low_kept no_chunk);
+    }
+
+-- the same without a peek
 pub pass_to_place : (old led chunked new : ProbeState) (size lead n from to place in_lead in_rest : ℕ) → 4 ≤ size → from ≡ min lead n → in_lead ≤ from → to ≤ place + size → in_rest ≤ size + 4
     → led ≡ record old { turns = old.turns + in_lead } → LoadsChunks led chunked size from to → new ≡ record chunked { turns = chunked.turns + in_rest }
     → PassBound old new (leading_bytes lead n) (pass_turns size lead n) (place / size + 5) 3
 pass_to_place old led chunked new size lead n from to place in_lead in_rest least here few within short leads loads rests =
-    let turns = ap (λ p. p.turns) leads in
-    let loads0 = ap (λ p. p.loads) leads in
-    let peeks = ap (λ p. p.peeks) leads in
-    let low = ap (λ p. p.low) leads in
-    let turns' = ap (λ p. p.turns) rests in
-    let loads' = ap (λ p. p.loads) rests in
-    let peeks' = ap (λ p. p.peeks) rests in
-    let low' = ap (λ p. p.low) rests in
-    let most = chunks-le loads.chunks size place least (omega (arith, loads.covered)) in
-    record {
-      turns_within = record { rises = omega (arith, loads.turns_kept); within = omega (arith, loads.turns_kept) };
-      loads_within = record { rises = omega (arith, loads.loads_made); within = omega (arith, loads.loads_made, most) };
-      peeks_within = record { rises = omega (arith, loads.peeks_kept); within = omega (arith, loads.peeks_kept) };
-      low_reached = omega (arith, loads.low_reached);
-      low_kept = λ none. let no_chunk : loads.chunks ≡ 0 = omega (arith, loads.loads_made) in omega (arith, loads.low_kept no_chunk);
-    }
+    pass_to_place_peeking old led led chunked chunked new new size lead n from 0 to to place in_lead in_rest least here few (omega arith) within short leads (no_peeks led 0) loads (no_peeks chunked to) rests refl
+    (record { rises = omega arith; within = omega arith })
+
+-- where less than a chunk is left, or the chunk at `at` reaches k, the first place before which k are counted is at most its end
+pub place_is_near : (counted : ℕ → ℕ) (n at size k place : ℕ) → (n < at + size) ⊎ (k ≤ counted (at + size)) → place ≤ n → ((d : ℕ) → d < place → counted d < k) → place ≤ at + size
+place_is_near counted n at size k place stopped within first =
+    elim stopped [
+      | inl short ↦ omega arith
+      | inr reaches ↦ elim (cases_lt (at + size) place) [
+        | inl past ↦ absurd (omega (arith, first (at + size) past))
+        | inr near ↦ near
+      ]
+    ]

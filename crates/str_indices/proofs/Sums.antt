@@ -73,3 +73,8 @@ sum_below-le-sum_below f m n le = let whole : m + (n - m) ≡ n = omega arith in
 -- where fewer than k bytes pass before a place, fewer than k do before an earlier one
 pub passing_before-earlier : (test : ℕ → Bool) (bytes : List ℕ) (k at : ℕ) → passing_before test bytes at < k → (d : ℕ) → d < at → passing_before test bytes d < k
 passing_before-earlier test bytes k at fewer d before = omega (arith, sum_below-le-sum_below (λ j. mark test (get_or bytes j 0)) d at (omega arith))
+
+-- places that add nothing leave a sum as it is
+pub sum_below-still : (f : ℕ → ℕ) (m n : ℕ) → ((j : ℕ) → j < n → f (m + j) ≡ 0) → sum_below f (m + n) ≡ sum_below f m
+sum_below-still f m zero none = rw add-zero refl
+sum_below-still f m (suc n) none = rw add-suc (omega (arith, sum_below-still f m n (λ j h. none j (omega arith)), none n (omega arith)))

@@ -7,8 +7,14 @@
 --     begins_four_bytes b              whether a byte begins a character of four bytes, which takes a surrogate pair
 --     units_before bytes n             how many UTF-16 code units the characters take that begin in the first n bytes
 --     is_line_feed b                   whether a byte is LF
-use Rattle.std.specs.Prelude.{ℕ, zero, suc, ◌+◌, Bool, not, ◌==◌, if◌then◌else◌, List, bit_and, slice_index}
-use Rattle.str_indices.specs.Text.{line_feed}
+--     is_carriage_return b             whether a byte is CR
+--     byte_before bytes n              the byte before place n
+--     starts_break before b            whether LF, CR or CRLF starts with b, which stands behind `before`
+--     break_start bytes n              1 where LF, CR or CRLF starts at place n
+--     breaks_before bytes n            how many LF, CR and CRLF start before place n: a CRLF counts at its CR
+--     is_middle bytes n                whether place n stands between CR and LF
+use Rattle.std.specs.Prelude.{ℕ, zero, suc, ◌+◌, Bool, not, ◌==◌, ◌&&◌, ◌||◌, if◌then◌else◌, List, bit_and, slice_index}
+use Rattle.str_indices.specs.Text.{line_feed, carriage_return}
 
 abbrev pub sum_below : (ℕ → ℕ) → ℕ → ℕ
 sum_below f zero = 0
@@ -35,3 +41,23 @@ units_before bytes n = passing_before is_leading bytes n + passing_before begins
 
 abbrev pub is_line_feed : ℕ → Bool
 is_line_feed b = b == line_feed
+
+abbrev pub is_carriage_return : ℕ → Bool
+is_carriage_return b = b == carriage_return
+
+-- 0 where there is none
+abbrev pub byte_before : List ℕ → ℕ → ℕ
+byte_before bytes zero = 0
+byte_before bytes (suc n) = slice_index bytes n
+
+abbrev pub starts_break : ℕ → ℕ → Bool
+starts_break before b = is_carriage_return b || (is_line_feed b && not (is_carriage_return before))
+
+abbrev pub break_start : List ℕ → ℕ → ℕ
+break_start bytes n = mark (starts_break (byte_before bytes n)) (slice_index bytes n)
+
+abbrev pub breaks_before : List ℕ → ℕ → ℕ
+breaks_before bytes n = sum_below (break_start bytes) n
+
+abbrev pub is_middle : List ℕ → ℕ → Bool
+is_middle bytes n = is_carriage_return (byte_before bytes n) && is_line_feed (slice_index bytes n)

@@ -38,3 +38,8 @@ pub record LoadsChunks (old new : ProbeState) (size from to : ℕ) : Type 0 wher
   pub peeks_kept : new.peeks ≡ old.peeks
   pub low_reached : min old.low from ≤ new.low
   pub low_kept : chunks ≡ 0 → new.low ≡ old.low
+
+-- From one state of a probe to a later one: nothing was read but, where there is one and by at most one peek, the byte before `at`.
+pub record PeeksBack (old new : ProbeState) (at : ℕ) : Type 0 where
+  pub only_peeked : new ≡ record old { peeks = new.peeks }
+  pub peeks_within : RisesWithin old.peeks new.peeks (min at 1)

@@ -1,7 +1,8 @@
 //! Places in a text.
-ghost use Rattle.std.specs.Prelude.{◌≡◌, ◌≤◌, chars, length, min};
+ghost use Rattle.std.specs.Prelude.{◌≡◌, ◌≤◌, chars, length, min, not};
 ghost use Rattle.str_indices.specs.Text.{size, cut};
-ghost use Rattle.str_indices.specs.PassBound.{RisesWithin};
+ghost use Rattle.str_indices.specs.Bytes.{byte_before, is_carriage_return, is_middle};
+ghost use Rattle.str_indices.specs.PassBound.{PeeksBack, RisesWithin};
 
 use crate::chars::is_trailing_byte;
 use byte_chunk::{ByteChunk, Probe};
@@ -38,4 +39,28 @@ pub(crate) fn boundary_at_or_before<T: ByteChunk>(
         boundary -= 1;
     }
     boundary
+}
+
+/// Whether the byte before a place is CR, by one peek where there is such a byte.
+pub(crate) fn follows_carriage_return<T: ByteChunk>(probe: &mut Probe<'_, T>, at: usize) -> bool
+    requires { at ≤ length probe.old.text }
+    ensures follows { result ≡ is_carriage_return (byte_before probe.old.text at) }
+    ensures peeked { PeeksBack probe.old probe.new at }
+{
+    if at == 0 {
+        return false;
+    }
+    probe.peek(at - 1) == b'\r'
+}
+
+/// Whether a byte index does not stand between CR and LF, by at most two peeks.
+pub(crate) fn is_not_crlf_middle<T: ByteChunk>(probe: &mut Probe<'_, T>, byte_idx: usize) -> bool
+    ensures middle { result ≡ not (is_middle probe.old.text byte_idx) }
+    ensures peeked { probe.new ≡ record probe.old { peeks = probe.new.peeks } }
+    ensures peeks { RisesWithin probe.old.peeks probe.new.peeks 2 }
+{
+    if byte_idx >= probe.len() || probe.peek(byte_idx) != b'\n' {
+        return true;
+    }
+    !follows_carriage_return(probe, byte_idx)
 }

@@ -1,0 +1,287 @@
+//! Index by lines that end in LF (U+000A), CR (U+000D) or CRLF, which is one break.
+//!
+//! The Unicode Standard's Annex 14 lists the characters that break lines; of those in the Rust crate's list only LF and CR
+//! count here.
+ghost use Rattle.std.specs.Prelude.{◌≡◌, ◌+◌, ◌-◌, ◌/◌, ◌<◌, ◌≤◌, ◌⊎◌, ℕ, ◌∷◌, [], Bool, chars, drop, length, min};
+ghost use Rattle.str_indices.specs.Text.{cut};
+ghost use Rattle.str_indices.specs.Schemes.{count, from_byte_idx, to_byte_idx, Crlf};
+ghost use Rattle.str_indices.specs.Bytes.{mark, is_carriage_return, byte_before, starts_break, breaks_before, is_middle};
+ghost use Rattle.str_indices.specs.PassBound.{PassBound, LoadsChunks, RisesWithin, leading_bytes, pass_turns, pass_loads};
+
+use crate::places::{Position, follows_carriage_return, is_not_crlf_middle};
+use byte_chunk::{ByteChunk, Chunk, Probe};
+
+#[cfg(test)]
+mod tests;
+
+const LF: u8 = b'\n';
+
+const CR: u8 = b'\r';
+
+/// How many line breaks the text has: LF, CR and CRLF, which is one break.
+///
+/// That is one less than its lines: behind a break at the end of the text an empty line begins.
+pub fn count_breaks(text: &str) -> usize
+    ensures { result ≡ count Crlf (chars text.now) }
+{
+    count_breaks_impl(&mut Probe::<Chunk>::of(text), text.len(), 0)
+}
+
+/// Converts a byte index to a line index: the number of line breaks that end at or before the byte.
+///
+/// A break belongs to the line that it ends, and the byte between CR and LF to the line that the CRLF ends. A byte past
+/// the end gives the index of the last line.
+pub fn from_byte_idx(text: &str, byte_idx: usize) -> usize
+    ensures { result ≡ from_byte_idx Crlf (chars text.now) byte_idx }
+{
+    from_byte_idx_impl(&mut Probe::<Chunk>::of(text), byte_idx, 0)
+}
+
+/// Converts a line index to the byte index where that line begins: 0, or right behind a line break.
+///
+/// An index past the last line gives the length of the text in bytes.
+pub fn to_byte_idx(text: &str, line_idx: usize) -> usize
+    ensures { result ≡ to_byte_idx Crlf (chars text.now) line_idx }
+{
+    to_byte_idx_impl(&mut Probe::<Chunk>::of(text), line_idx, 0)
+}
+
+/// Counts the line breaks before `end`, LF, CR and CRLF, which is one break, over chunks of any type, after `lead` bytes that
+/// are walked one by one.
+///
+/// `end` may lie inside a character, and between CR and LF: what stands before it is then a text that ends in CR, which counts.
+pub fn count_breaks_impl<T: ByteChunk>(probe: &mut Probe<'_, T>, end: usize, lead: usize) -> usize
+    requires within { end ≤ length probe.old.text }
+    ensures count { result ≡ count Crlf (cut (chars probe.old.text) end) }
+    ensures text { probe.new.text ≡ probe.old.text }
+    ensures pass { PassBound probe.old probe.new (leading_bytes lead end)
+        (pass_turns T.SIZE lead end) (pass_loads T.SIZE lead end) 0 }
+{
+    prove!(end <= probe.len());
+    let first_chunk = lead.min(end);
+    let leading = count_in_bytes(probe, 0, first_chunk, false);
+    let follows_return = follows_carriage_return(probe, first_chunk);
+    let chunks = count_in_chunks(probe, first_chunk, end, follows_return);
+    let follows_return = follows_carriage_return(probe, chunks.end);
+    let rest = count_in_bytes(probe, chunks.end, end, follows_return);
+    leading + chunks.breaks + rest
+}
+
+/// Converts a byte index to a line index, over chunks of any type, after `lead` bytes that are walked one by one.
+pub fn from_byte_idx_impl<T: ByteChunk>(
+    probe: &mut Probe<'_, T>,
+    byte_idx: usize,
+    lead: usize,
+) -> usize
+    ensures answer { result ≡ from_byte_idx Crlf (chars probe.old.text) byte_idx }
+    ensures text { probe.new.text ≡ probe.old.text }
+    ensures pass { let n = min byte_idx (length probe.old.text) in
+        PassBound probe.old probe.new (leading_bytes lead n) (pass_turns T.SIZE lead n) (pass_loads T.SIZE lead n) 3 }
+{
+    let end = byte_idx.min(probe.len());
+    let is_whole = is_not_crlf_middle(probe, end);
+    let breaks = count_breaks_impl(probe, end, lead);
+    if is_whole { breaks } else { breaks - 1 }
+}
+
+/// Converts a line index to a byte index, over chunks of any type, after `lead` bytes that are walked one by one.
+pub fn to_byte_idx_impl<T: ByteChunk>(probe: &mut Probe<'_, T>, idx: usize, lead: usize) -> usize
+    ensures answer { result ≡ to_byte_idx Crlf (chars probe.old.text) idx }
+    ensures text { probe.new.text ≡ probe.old.text }
+    ensures pass { let n = length probe.old.text in
+        PassBound probe.old probe.new (leading_bytes lead n) (pass_turns T.SIZE lead n) (result / T.SIZE + 5) 3 }
+{
+    let len = probe.len();
+    let first_chunk = lead.min(len);
+    let start = Position { byte: 0, count: 0 };
+    let led = walk_to_line(probe, start, first_chunk, idx, false);
+    if led.count == idx {
+        return behind_crlf(probe, led.byte);
+    }
+    let follows_return = follows_carriage_return(probe, led.byte);
+    let chunked = skip_chunks(probe, led, idx, follows_return);
+    let follows_return = follows_carriage_return(probe, chunked.byte);
+    let rest = walk_to_line(probe, chunked, len, idx, follows_return);
+    behind_crlf(probe, rest.byte)
+}
+
+/// Walks on from a position, one turn a byte, up to `to` or to the byte before which the count is the index.
+/// `follows_return` is whether the byte before the position is CR.
+fn walk_to_line<T: ByteChunk>(
+    probe: &mut Probe<'_, T>,
+    from: Position,
+    to: usize,
+    idx: usize,
+    mut follows_return: bool,
+) -> Position
+    requires ordered { from.byte ≤ to }
+    requires within { to ≤ length probe.old.text }
+    requires counted { from.count ≡ breaks_before probe.old.text from.byte }
+    requires at_most { from.count ≤ idx }
+    requires first { (d : ℕ) → d < from.byte → breaks_before probe.old.text d < idx }
+    requires follows { follows_return ≡ is_carriage_return (byte_before probe.old.text from.byte) }
+    ensures reached { (from.byte ≤ result.byte) × (result.byte ≤ to) }
+    ensures counted { result.count ≡ breaks_before probe.old.text result.byte }
+    ensures at_most { result.count ≤ idx }
+    ensures first { (d : ℕ) → d < result.byte → breaks_before probe.old.text d < idx }
+    ensures stopped { result.byte < to → result.count ≡ idx }
+    ensures turns { probe.new ≡ record probe.old { turns = probe.old.turns + (result.byte - from.byte) } }
+{
+    let mut at = from;
+    while at.byte < to && at.count < idx {
+        let byte = probe.turn(at.byte);
+        at = Position {
+            byte: at.byte + 1,
+            count: at.count + count_in_byte(byte, follows_return),
+        };
+        follows_return = byte == CR;
+    }
+    at
+}
+
+/// Skips whole chunks from a position on, while fewer breaks than the index start before their end.
+/// `follows_return` is whether the byte before the position is CR.
+fn skip_chunks<T: ByteChunk>(
+    probe: &mut Probe<'_, T>,
+    from: Position,
+    idx: usize,
+    follows_return: bool,
+) -> Position
+    requires within { from.byte ≤ length probe.old.text }
+    requires counted { from.count ≡ breaks_before probe.old.text from.byte }
+    requires below { from.count < idx }
+    requires follows { follows_return ≡ is_carriage_return (byte_before probe.old.text from.byte) }
+    ensures reached { (from.byte ≤ result.byte) × (result.byte ≤ length probe.old.text) }
+    ensures counted { result.count ≡ breaks_before probe.old.text result.byte }
+    ensures below { result.count < idx }
+    ensures stopped { (length probe.old.text < result.byte + T.SIZE)
+        ⊎ (idx ≤ breaks_before probe.old.text (result.byte + T.SIZE)) }
+    ensures loads { (to : ℕ) × (to ≤ result.byte + T.SIZE) × LoadsChunks probe.old probe.new T.SIZE from.byte to }
+{
+    let len = probe.len();
+    let mut at = from;
+    let mut returns = T::splat(u8::from(follows_return));
+    'chunks: while T::SIZE <= len - at.byte {
+        let chunk = count_in_chunk(probe, at.byte, returns);
+        let count = at.count + chunk.breaks;
+        if count >= idx {
+            break;
+        }
+        at = Position {
+            byte: at.byte + T::SIZE,
+            count,
+        };
+        returns = chunk.returns;
+    }
+    at
+}
+
+/// The place itself, or where it stands between CR and LF the place behind the LF, by at most two peeks.
+fn behind_crlf<T: ByteChunk>(probe: &mut Probe<'_, T>, place: usize) -> usize
+    requires { place ≤ length probe.old.text }
+    ensures behind { result ≡ place + mark (is_middle probe.old.text) place }
+    ensures peeked { probe.new ≡ record probe.old { peeks = probe.new.peeks } }
+    ensures peeks { RisesWithin probe.old.peeks probe.new.peeks 2 }
+{
+    if is_not_crlf_middle(probe, place) {
+        place
+    } else {
+        prove!(place < probe.len());
+        place + 1
+    }
+}
+
+/// How many breaks start in some chunks, and where the last chunk ends.
+#[derive(Clone, Copy)]
+struct ChunkCount {
+    breaks: usize,
+    end: usize,
+}
+
+/// Counts the breaks that start in the whole chunks from `from` on that end at or before `end`.
+/// `follows_return` is whether the byte before `from` is CR.
+fn count_in_chunks<T: ByteChunk>(
+    probe: &mut Probe<'_, T>,
+    from: usize,
+    end: usize,
+    follows_return: bool,
+) -> ChunkCount
+    requires ordered { from ≤ end }
+    requires within { end ≤ length probe.old.text }
+    requires follows { follows_return ≡ is_carriage_return (byte_before probe.old.text from) }
+    ensures reached { (from ≤ result.end) × (result.end ≤ end) × (end < result.end + T.SIZE) }
+    ensures counted { breaks_before probe.old.text result.end ≡ breaks_before probe.old.text from + result.breaks }
+    ensures few { result.breaks ≤ result.end - from }
+    ensures loads { LoadsChunks probe.old probe.new T.SIZE from result.end }
+{
+    let mut breaks = 0;
+    let mut at = from;
+    let mut returns = T::splat(u8::from(follows_return));
+    'chunks: while T::SIZE <= end - at {
+        let chunk = count_in_chunk(probe, at, returns);
+        breaks += chunk.breaks;
+        at += T::SIZE;
+        returns = chunk.returns;
+    }
+    ChunkCount { breaks, end: at }
+}
+
+/// How many breaks start in a chunk, and 1 in each lane that is CR.
+#[derive(Clone, Copy)]
+struct ChunkBreaks<T> {
+    breaks: usize,
+    returns: T,
+}
+
+/// Counts the breaks that start in the chunk at `at`, for one load. The last lane of `before` is 1 where the byte before the
+/// chunk is CR, else 0: in the chunk before, 1 in each lane that is CR.
+fn count_in_chunk<T: ByteChunk>(probe: &mut Probe<'_, T>, at: usize, before: T) -> ChunkBreaks<T>
+    requires within { at + T.SIZE ≤ length probe.old.text }
+    requires carried { drop (T.SIZE - 1) (T.lanes before) ≡ mark is_carriage_return (byte_before probe.old.text at) ∷ [] }
+    ensures counted { breaks_before probe.old.text (at + T.SIZE) ≡ breaks_before probe.old.text at + result.breaks }
+    ensures few { result.breaks ≤ T.SIZE }
+    ensures carried { drop (T.SIZE - 1) (T.lanes result.returns)
+        ≡ mark is_carriage_return (byte_before probe.old.text (at + T.SIZE)) ∷ [] }
+    ensures load { probe.new ≡ record probe.old { loads = probe.old.loads + 1; low = min probe.old.low at } }
+{
+    let chunk = probe.load(at);
+    let feeds = chunk.cmp_eq_byte(LF);
+    let returns = chunk.cmp_eq_byte(CR);
+    let pairs = before.shift_across(returns).bitand(feeds);
+    ChunkBreaks {
+        breaks: feeds.add(returns).sub(pairs).sum_bytes(),
+        returns,
+    }
+}
+
+/// Counts the breaks that start from the byte `from` to before `to`, one turn each.
+/// `follows_return` is whether the byte before `from` is CR.
+fn count_in_bytes<T: ByteChunk>(
+    probe: &mut Probe<'_, T>,
+    from: usize,
+    to: usize,
+    mut follows_return: bool,
+) -> usize
+    requires ordered { from ≤ to }
+    requires within { to ≤ length probe.old.text }
+    requires follows { follows_return ≡ is_carriage_return (byte_before probe.old.text from) }
+    ensures counted { breaks_before probe.old.text to ≡ breaks_before probe.old.text from + result }
+    ensures few { result ≤ to - from }
+    ensures turns { probe.new ≡ record probe.old { turns = probe.old.turns + (to - from) } }
+{
+    let mut breaks = 0;
+    for i in from..to {
+        let byte = probe.turn(i);
+        breaks += count_in_byte(byte, follows_return);
+        follows_return = byte == CR;
+    }
+    breaks
+}
+
+/// How many breaks start with the byte: 1 with a CR, and with an LF that doesn't follow a CR, else 0.
+fn count_in_byte(byte: u8, follows_return: bool) -> usize
+    ensures counted { (before : ℕ) → follows_return ≡ is_carriage_return before → result ≡ mark (starts_break before) byte }
+    ensures few { result ≤ 1 }
+{
+    usize::from(byte == CR || byte == LF && !follows_return)
+}
