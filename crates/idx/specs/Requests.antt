@@ -11,9 +11,9 @@ use Rattle.std.specs.Str.{all_ascii_digits}
 use Rattle.std.specs.Str.Parse.{digits_value}
 use denote.Ref.{Bor}
 use Rattle.str_indices.specs.Text.{Text}
-use Rattle.str_indices.specs.Schemes.{count, from_byte_idx, to_byte_idx, surrogates, Chars, Utf16, Lf, Crlf}
+use Rattle.str_indices.specs.Schemes.{count, from_byte_idx, to_byte_idx, surrogates, Chars, Utf16, Lf, Crlf, Lines}
 use Rattle.idx.specs.declared.requests.Request.{Request}
-use Rattle.idx.specs.declared.requests.Request.TheVariants.{CharsCount, CharsFromByteIdx, CharsToByteIdx, Utf16Count, Utf16CountSurrogates, Utf16FromByteIdx, Utf16ToByteIdx, LinesLfCountBreaks, LinesLfFromByteIdx, LinesLfToByteIdx, LinesCrlfCountBreaks, LinesCrlfFromByteIdx, LinesCrlfToByteIdx}
+use Rattle.idx.specs.declared.requests.Request.TheVariants.{CharsCount, CharsFromByteIdx, CharsToByteIdx, Utf16Count, Utf16CountSurrogates, Utf16FromByteIdx, Utf16ToByteIdx, LinesLfCountBreaks, LinesLfFromByteIdx, LinesLfToByteIdx, LinesCrlfCountBreaks, LinesCrlfFromByteIdx, LinesCrlfToByteIdx, LinesCountBreaks, LinesFromByteIdx, LinesToByteIdx}
 
 -- the bytes of each word
 abbrev pub texts : List (Bor (List ℕ)) → List (List ℕ)
@@ -27,6 +27,7 @@ counting_calls =
     ∷ (codes "utf16.count_surrogates", Utf16CountSurrogates)
     ∷ (codes "lines_lf.count_breaks", LinesLfCountBreaks)
     ∷ (codes "lines_crlf.count_breaks", LinesCrlfCountBreaks)
+    ∷ (codes "lines.count_breaks", LinesCountBreaks)
     ∷ []
 
 -- the conversions that are built, each with its name, and to be given its index
@@ -40,6 +41,8 @@ conversions =
     ∷ (codes "lines_lf.to_byte_idx", LinesLfToByteIdx)
     ∷ (codes "lines_crlf.from_byte_idx", LinesCrlfFromByteIdx)
     ∷ (codes "lines_crlf.to_byte_idx", LinesCrlfToByteIdx)
+    ∷ (codes "lines.from_byte_idx", LinesFromByteIdx)
+    ∷ (codes "lines.to_byte_idx", LinesToByteIdx)
     ∷ []
 
 -- what the table has under the name
@@ -88,3 +91,6 @@ answer_of (LinesLfToByteIdx index) text = to_byte_idx Lf text index
 answer_of LinesCrlfCountBreaks text = count Crlf text
 answer_of (LinesCrlfFromByteIdx index) text = from_byte_idx Crlf text index
 answer_of (LinesCrlfToByteIdx index) text = to_byte_idx Crlf text index
+answer_of LinesCountBreaks text = count Lines text
+answer_of (LinesFromByteIdx index) text = from_byte_idx Lines text index
+answer_of (LinesToByteIdx index) text = to_byte_idx Lines text index

@@ -2,7 +2,7 @@
 ghost use Rattle.std.specs.Prelude.{◌≡◌, chars};
 ghost use Rattle.idx.specs.Requests.{counting_named, conversion_named, index_of, request_of, answer_of, texts};
 
-use str_indices::{chars, lines_crlf, lines_lf, utf16};
+use str_indices::{chars, lines, lines_crlf, lines_lf, utf16};
 
 /// A call of the library, with its index where it takes one.
 #[derive(Clone, Copy)]
@@ -20,6 +20,9 @@ pub enum Request {
     LinesCrlfCountBreaks,
     LinesCrlfFromByteIdx(usize),
     LinesCrlfToByteIdx(usize),
+    LinesCountBreaks,
+    LinesFromByteIdx(usize),
+    LinesToByteIdx(usize),
 }
 
 impl Request {
@@ -45,6 +48,7 @@ impl Request {
             "utf16.count_surrogates" => Some(Request::Utf16CountSurrogates),
             "lines_lf.count_breaks" => Some(Request::LinesLfCountBreaks),
             "lines_crlf.count_breaks" => Some(Request::LinesCrlfCountBreaks),
+            "lines.count_breaks" => Some(Request::LinesCountBreaks),
             _ => None,
         }
     }
@@ -62,6 +66,8 @@ impl Request {
             "lines_lf.to_byte_idx" => Some(Request::LinesLfToByteIdx(index)),
             "lines_crlf.from_byte_idx" => Some(Request::LinesCrlfFromByteIdx(index)),
             "lines_crlf.to_byte_idx" => Some(Request::LinesCrlfToByteIdx(index)),
+            "lines.from_byte_idx" => Some(Request::LinesFromByteIdx(index)),
+            "lines.to_byte_idx" => Some(Request::LinesToByteIdx(index)),
             _ => None,
         }
     }
@@ -85,6 +91,9 @@ impl Request {
             Request::LinesCrlfCountBreaks => lines_crlf::count_breaks(text),
             Request::LinesCrlfFromByteIdx(index) => lines_crlf::from_byte_idx(text, index),
             Request::LinesCrlfToByteIdx(index) => lines_crlf::to_byte_idx(text, index),
+            Request::LinesCountBreaks => lines::count_breaks(text),
+            Request::LinesFromByteIdx(index) => lines::from_byte_idx(text, index),
+            Request::LinesToByteIdx(index) => lines::to_byte_idx(text, index),
         }
     }
 }

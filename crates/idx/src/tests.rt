@@ -129,7 +129,7 @@ fn converts_indices(rt: HostRuntime) {
 fn answers_calls_of_each_module(rt: HostRuntime) {
     let frogs = "Hel🐸lo world! こん🐸にち🐸🐸は!";
     let lines = "\nHere\nare\nsome\nwords\n";
-    let answers: [(&[&str], &str, &[u8]); 11] = [
+    let answers: [(&[&str], &str, &[u8]); 15] = [
         (&["utf16.count"], frogs, b"27\n"),
         (&["utf16.count_surrogates"], frogs, b"4\n"),
         (&["utf16.from_byte_idx", "3"], frogs, b"3\n"),
@@ -141,6 +141,10 @@ fn answers_calls_of_each_module(rt: HostRuntime) {
         (&["lines_crlf.count_breaks"], "\r\r\n\n", b"3\n"),
         (&["lines_crlf.from_byte_idx", "2"], "a\r\nb", b"0\n"),
         (&["lines_crlf.to_byte_idx", "1"], "a\r\nb", b"3\n"),
+        (&["lines.count_breaks"], lines, b"5\n"),
+        (&["lines.from_byte_idx", "4"], "é\u{85}x", b"1\n"),
+        (&["lines.to_byte_idx", "1"], "a\u{2028}b", b"4\n"),
+        (&["lines.to_byte_idx", "007"], "a\nb", b"3\n"),
     ];
     for (words, text, written) in answers {
         let (result, output) = run_in_memory(rt.alloc(), words, text.as_bytes());

@@ -3,12 +3,13 @@ use Rattle.std.proofs.Common.{◌≡◌, ℕ, zero, suc, ◌+◌, ◌-◌, ◌<�
 use Rattle.std.specs.Char.{len_utf8}
 use Rattle.std.proofs.Math.Utf8.{encode, encodes, scalar, scalars}
 use Rattle.std.proofs.lemmas.Bool.{cases_lt, and_parts}
-use Rattle.std.proofs.lemmas.Str.{encodes-chars, scalars-chars, len_utf8_bounds}
+use Rattle.std.proofs.lemmas.Str.{encodes-chars, scalars-chars, length-encode, len_utf8_bounds}
 use Rattle.str_indices.specs.Text.{size, cut}
 use Rattle.str_indices.specs.Relations.{IsBoundary}
 use Rattle.str_indices.specs.Bytes.{is_trailing}
 use Rattle.str_indices.proofs.Sizes.{size-cons}
 use Rattle.str_indices.proofs.Cuts.{cut_from, cut_from_fits, cut_from_stops, cut_is}
+use Rattle.str_indices.proofs.EncodedCharacters.{by_encoding}
 use Rattle.str_indices.proofs.CharacterBytes.{get_or-behind, later_trailing, first_byte, is_trailing_ascii, is_trailing_first, is_trailing_later}
 use Rattle.str_indices.proofs.Boundaries.{IsBoundary-start}
 use Rattle.str_indices.proofs.CutBytes.{size-chars, size-cut}
@@ -123,3 +124,47 @@ char_boundary bytes utf8 fit i b = begins_boundary bytes utf8 i (omega (arith, b
   where
     leads : (byte : ℕ) → byte < 256 → (128 ≤ byte → 192 ≤ byte) → is_trailing byte ≡ false
     leads byte below above = elim (cases_lt byte 128) [ inl ascii ↦ is_trailing_ascii byte ascii | inr wide ↦ is_trailing_first byte (above wide) below ]
+
+-- no boundary stands before the end of some trailing bytes
+pub no_boundary_before : (bytes : List ℕ) → IsUtf8 bytes → (from at : ℕ) → at ≤ length bytes → ((j : ℕ) → from ≤ j → j < at → is_trailing (get_or bytes j 0) ≡ true) → (p : ℕ) → IsBoundary (chars bytes) p → from ≤ p → at ≤ p
+no_boundary_before bytes utf8 from at within trails p b le =
+    elim (cases_lt p at) [
+      | inl before ↦ let clash : true ≡ false = sym (trails p le before) ∙ boundary_begins bytes utf8 p b (omega arith) in cc
+      | inr past ↦ past
+    ]
+
+-- three trailing bytes end at a boundary
+pub boundary_behind_three : (bytes : List ℕ) → IsUtf8 bytes → (from at : ℕ) → at ≡ from + 3 → at ≤ length bytes → ((j : ℕ) → from ≤ j → j < at → is_trailing (get_or bytes j 0) ≡ true) → IsBoundary (chars bytes) at
+boundary_behind_three bytes utf8 from at three within trails = begins_boundary bytes utf8 at within (λ inside.
+    let (m, le, lt, leads) = leading_among_four bytes utf8 from (omega arith) in
+    elim (cases_lt m at) [
+      | inl before ↦ let clash : true ≡ false = sym (trails m le before) ∙ leads in cc
+      | inr here ↦ let same : m ≡ at = omega arith in rw same at leads
+    ])
+
+-- behind a character of one byte stands a boundary, over the characters
+behind_ascii : (cs : List ℕ) (i : ℕ) → scalars cs ≡ true → (front back : List ℕ) → cs ≡ front ++ back → size front ≡ i → i < size cs → get_or (encodes cs) i 0 < 128 → IsBoundary cs (i + 1)
+behind_ascii cs i s [] [] split place below ascii = let none : size cs ≡ 0 = rw split refl in absurd (omega arith)
+behind_ascii cs i s [] (c ∷ back) split place below ascii =
+    let one : len_utf8 c ≡ 1 = sym (length-encode c) ∙ one_byte c (encodes back) (and_parts (scalar c) (scalars back) (rw split at s)).0 (rw (split, ← place) at ascii) in
+    record { front = c ∷ []; back = back; split = split; place = omega (arith, size-cons c []) }
+  where
+    one_byte : (c : ℕ) (rest : List ℕ) → scalar c ≡ true → get_or (encode c ++ rest) 0 0 < 128 → length (encode c) ≡ 1
+    one_byte c rest s = by_encoding (λ bs. get_or (bs ++ rest) 0 0 < 128 → length bs ≡ 1) c s
+        (λ e. rw (e.bytes) (λ _. refl))
+        (λ e. rw (e.bytes) (λ l. absurd (omega (arith, e.first_low))))
+        (λ e. rw (e.bytes) (λ l. absurd (omega (arith, e.first_low))))
+        (λ e. rw (e.bytes) (λ l. absurd (omega (arith, e.first_low))))
+behind_ascii [] i s (y ∷ front) back split place below ascii = absurd (omega arith)
+behind_ascii (c ∷ cs) i s (y ∷ front) back split place below ascii =
+    let same : c ≡ y = cc in
+    let rest : cs ≡ front ++ back = cc in
+    let sizes = ap len_utf8 same in
+    let behind : i ≡ len_utf8 c + size front = omega (arith, size-cons y front) in
+    let b = behind_ascii cs (size front) (and_parts (scalar c) (scalars cs) s).1 front back rest refl (omega (arith, size-cons c cs)) (rw (get_or-behind c (encodes cs) (size front) i behind) at ascii) in
+    record { front = c ∷ b.front; back = b.back; split = ap (λ r. c ∷ r) b.split; place = omega (arith, size-cons c b.front, b.place) }
+
+-- behind an ASCII byte that begins a character stands a boundary
+pub boundary_behind_ascii : (bytes : List ℕ) → IsUtf8 bytes → (i : ℕ) → IsBoundary (chars bytes) i → i < length bytes → get_or bytes i 0 < 128 → IsBoundary (chars bytes) (i + 1)
+boundary_behind_ascii bytes utf8 i b below ascii =
+    behind_ascii (chars bytes) i (scalars-chars bytes utf8) b.front b.back b.split b.place (omega (arith, size-chars bytes utf8)) (subst (λ t. get_or t i 0 < 128) (sym (encodes-chars bytes utf8)) ascii)

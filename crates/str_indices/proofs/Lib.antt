@@ -32,4 +32,10 @@ pub mod BoundaryBytes
 pub mod UnitCounts
 pub mod CrlfCounts
 pub mod CrlfLanes
+pub mod PassWalks
 pub mod PassBounds
+pub mod BreakLanes
+pub mod BreakChunks
+pub mod BreakRounds
+pub mod BreakBytes
+pub mod BreakStops

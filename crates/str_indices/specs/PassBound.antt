@@ -43,3 +43,27 @@ pub record LoadsChunks (old new : ProbeState) (size from to : ℕ) : Type 0 wher
 pub record PeeksBack (old new : ProbeState) (at : ℕ) : Type 0 where
   pub only_peeked : new ≡ record old { peeks = new.peeks }
   pub peeks_within : RisesWithin old.peeks new.peeks (min at 1)
+
+-- From one state of a probe to a later one: so many bytes were walked, one turn and at most two peeks each, and no chunk was loaded.
+pub record WalksBytes (old new : ProbeState) (bytes : ℕ) : Type 0 where
+  pub text_kept : new.text ≡ old.text
+  pub turns_made : new.turns ≡ old.turns + bytes
+  pub loads_kept : new.loads ≡ old.loads
+  pub peeks_made : RisesWithin old.peeks new.peeks (2 * bytes)
+  pub low_kept : new.low ≡ old.low
+
+-- From one state of a probe to a later one: the chunks from `from` to `to` were walked, one load and at most four peeks each.
+pub record WalksChunks (old new : ProbeState) (size from to : ℕ) : Type 0 where
+  pub chunks : ℕ
+  pub covered : from + chunks * size ≡ to
+  pub text_kept : new.text ≡ old.text
+  pub turns_kept : new.turns ≡ old.turns
+  pub loads_made : new.loads ≡ old.loads + chunks
+  pub peeks_made : RisesWithin old.peeks new.peeks (4 * chunks)
+  pub low_reached : min old.low from ≤ new.low
+  pub low_kept : chunks ≡ 0 → new.low ≡ old.low
+
+-- From one state of a probe to a later one: at most so many peeks, and nothing else was read.
+pub record Peeks (old new : ProbeState) (most : ℕ) : Type 0 where
+  pub only : new ≡ record old { peeks = new.peeks }
+  pub peeks_made : RisesWithin old.peeks new.peeks most

@@ -6,6 +6,7 @@
 pub mod chars;
 mod counting;
 pub mod laws;
+pub mod lines;
 pub mod lines_crlf;
 pub mod lines_lf;
 mod places;

@@ -1,8 +1,9 @@
 //! Places in a text.
-ghost use Rattle.std.specs.Prelude.{◌≡◌, ◌≤◌, chars, length, min, not};
+ghost use Rattle.std.specs.Prelude.{◌≡◌, ◌≤◌, ◌+◌, ℕ, chars, length, min, not};
 ghost use Rattle.str_indices.specs.Text.{size, cut};
 ghost use Rattle.str_indices.specs.Bytes.{byte_before, is_carriage_return, is_middle};
-ghost use Rattle.str_indices.specs.PassBound.{PeeksBack, RisesWithin};
+ghost use Rattle.str_indices.specs.Relations.{IsBoundary};
+ghost use Rattle.str_indices.specs.PassBound.{Peeks, PeeksBack, RisesWithin};
 
 use crate::chars::is_trailing_byte;
 use byte_chunk::{ByteChunk, Probe};
@@ -26,6 +27,7 @@ pub(crate) fn boundary_at_or_before<T: ByteChunk>(
     ensures within { result ≤ min byte_idx (length probe.old.text) }
     ensures peeked { probe.new ≡ record probe.old { peeks = probe.new.peeks } }
     ensures peeks { RisesWithin probe.old.peeks probe.new.peeks 3 }
+    ensures peeks_once { byte_idx ≤ result → probe.new.peeks ≤ probe.old.peeks + 1 }
 {
     let len = probe.len();
     if byte_idx >= len {
@@ -63,4 +65,27 @@ pub(crate) fn is_not_crlf_middle<T: ByteChunk>(probe: &mut Probe<'_, T>, byte_id
         return true;
     }
     !follows_carriage_return(probe, byte_idx)
+}
+
+/// The least boundary at or after a byte, by at most three peeks.
+pub(crate) fn boundary_at_or_after<T: ByteChunk>(probe: &mut Probe<'_, T>, byte_idx: usize) -> usize
+    requires { byte_idx ≤ length probe.old.text }
+    ensures boundary { IsBoundary (chars probe.old.text) result }
+    ensures least { (p : ℕ) → IsBoundary (chars probe.old.text) p → byte_idx ≤ p → result ≤ p }
+    ensures reached { (byte_idx ≤ result) × (result ≤ length probe.old.text) }
+    ensures near { result ≤ byte_idx + 3 }
+    ensures peeks { Peeks probe.old probe.new 3 }
+{
+    let len = probe.len();
+    let mut boundary = byte_idx;
+    for _ in 0..MOST_TRAILING_BYTES {
+        if boundary >= len {
+            break;
+        }
+        if !is_trailing_byte(probe.peek(boundary)) {
+            break;
+        }
+        boundary += 1;
+    }
+    boundary
 }

@@ -1,0 +1,16 @@
+use Rattle.std.proofs.Common.{◌≡◌, ◌-◌, ◌<◌, ◌≤◌, length}
+use Rattle.str_indices.specs.Breaks.{breaks_before}
+use Rattle.str_indices.specs.PassBound.{WalksChunks}
+use Rattle.str_indices.proofs.lines.skip_chunks.Given as goal
+
+abbrev pub invariant-chunks : goal.invariant-chunks
+invariant-chunks g l = record {
+  from_low : l.initial.at.byte ≤ l.at.byte;
+  to_high : l.at.byte ≤ length l.initial.probe.text;
+  counted : l.at.count ≡ breaks_before l.initial.probe.text l.at.byte;
+  below : l.at.count < l.idx;
+  walk : WalksChunks l.initial.probe l.probe g.T.ByteChunk.SIZE l.initial.at.byte l.at.byte;
+}
+
+abbrev pub decreases-chunks : goal.decreases-chunks
+decreases-chunks g l = l.len - l.at.byte

@@ -1,0 +1,212 @@
+use super::{
+    count_breaks, count_breaks_impl, from_byte_idx, from_byte_idx_impl, to_byte_idx,
+    to_byte_idx_impl,
+};
+use crate::chars;
+use byte_chunk::{Plain, Probe};
+use std::test::Fail;
+
+const ENGLISH_AND_JAPANESE: &str =
+    "Hello there!  How're you doing?\nIt's a fine day, isn't it?\nAren't you glad we're alive?\nこんにちは、みんなさん！";
+
+const FOUR_WORDS: &str = "Here\nare\nsome\nwords";
+
+const FOUR_WORDS_BETWEEN_BREAKS: &str = "\nHere\nare\nsome\nwords\n";
+
+const FOUR_WORDS_BY_CRLF: &str = "Here\r\nare\r\nsome\r\nwords";
+
+const THREE_LINES: &str = "Hello せ\nか\nい!";
+
+const EVERY_BREAK: &str =
+    "\u{A}Hello\u{D}\u{A}\u{D}せ\u{B}か\u{C}い\u{85}. There\u{2028}is something.\u{2029}";
+
+const SEVEN_BREAKS: &str =
+    "\u{A}Hello\u{D}\u{A}せ\u{B}か\u{C}い\u{85}. There\u{A}is something.\u{2029}";
+
+const BEFORE_SEPARATOR: &str = "aaaaaa\u{2028}b";
+
+/// The count of the breaks before a boundary, over `Plain`.
+fn count_before(text: &str, end: usize, lead: usize) -> Option<usize> {
+    if !text.is_char_boundary(end) {
+        return None;
+    }
+    Some(count_breaks_impl(&mut Probe::<Plain>::of(text), end, lead))
+}
+
+#[test]
+fn counts_whole_texts(rt: HostRuntime) -> Result<(), Fail> {
+    let table = [
+        (EVERY_BREAK, 8),
+        (SEVEN_BREAKS, 7),
+        ("", 0),
+        (ENGLISH_AND_JAPANESE, 3),
+        (FOUR_WORDS_BETWEEN_BREAKS, 5),
+        (FOUR_WORDS_BY_CRLF, 3),
+    ];
+    for (text, breaks) in table {
+        assert_eq!(rt; count_breaks(text), breaks, "in {text}");
+    }
+    Ok(())
+}
+
+#[test]
+fn line_of_each_byte(rt: HostRuntime) -> Result<(), Fail> {
+    let table = [
+        (FOUR_WORDS, 0..5, 0),
+        (FOUR_WORDS, 5..9, 1),
+        (FOUR_WORDS, 9..14, 2),
+        (FOUR_WORDS, 14..20, 3),
+        (FOUR_WORDS_BETWEEN_BREAKS, 0..1, 0),
+        (FOUR_WORDS_BETWEEN_BREAKS, 1..6, 1),
+        (FOUR_WORDS_BETWEEN_BREAKS, 6..10, 2),
+        (FOUR_WORDS_BETWEEN_BREAKS, 10..15, 3),
+        (FOUR_WORDS_BETWEEN_BREAKS, 15..21, 4),
+        (FOUR_WORDS_BETWEEN_BREAKS, 21..23, 5),
+        (FOUR_WORDS_BY_CRLF, 0..6, 0),
+        (FOUR_WORDS_BY_CRLF, 6..11, 1),
+        (FOUR_WORDS_BY_CRLF, 11..17, 2),
+        (FOUR_WORDS_BY_CRLF, 17..23, 3),
+        (ENGLISH_AND_JAPANESE, 0..32, 0),
+        (ENGLISH_AND_JAPANESE, 32..59, 1),
+        (ENGLISH_AND_JAPANESE, 59..88, 2),
+        (ENGLISH_AND_JAPANESE, 88..130, 3),
+        ("a\r\nb", 2..3, 0),
+        ("a\r\nb", 3..4, 1),
+        ("é\u{85}x", 2..4, 0),
+        ("é\u{85}x", 4..5, 1),
+        ("", 0..1, 0),
+    ];
+    for (text, bytes, line) in table {
+        for byte in bytes {
+            assert_eq!(rt; from_byte_idx(text, byte), line, "at {byte} in {text}");
+        }
+        assert_eq!(rt;
+            from_byte_idx(text, usize::MAX),
+            count_breaks(text),
+            "past {text}"
+        );
+    }
+    Ok(())
+}
+
+#[test]
+fn line_begins_at_its_byte(rt: HostRuntime) -> Result<(), Fail> {
+    let table = [
+        (FOUR_WORDS_BY_CRLF, 0, 0),
+        (FOUR_WORDS_BY_CRLF, 1, 6),
+        (FOUR_WORDS_BY_CRLF, 2, 11),
+        (FOUR_WORDS_BY_CRLF, 3, 17),
+        (FOUR_WORDS_BETWEEN_BREAKS, 0, 0),
+        (FOUR_WORDS_BETWEEN_BREAKS, 1, 1),
+        (FOUR_WORDS_BETWEEN_BREAKS, 2, 6),
+        (FOUR_WORDS_BETWEEN_BREAKS, 3, 10),
+        (FOUR_WORDS_BETWEEN_BREAKS, 4, 15),
+        (FOUR_WORDS_BETWEEN_BREAKS, 5, 21),
+        (ENGLISH_AND_JAPANESE, 0, 0),
+        (ENGLISH_AND_JAPANESE, 1, 32),
+        (ENGLISH_AND_JAPANESE, 2, 59),
+        (ENGLISH_AND_JAPANESE, 3, 88),
+        (ENGLISH_AND_JAPANESE, 4, 124),
+        (ENGLISH_AND_JAPANESE, 5, 124),
+        (ENGLISH_AND_JAPANESE, 6, 124),
+        ("a\r\nb", 1, 3),
+        ("a\u{2028}b", 1, 4),
+        ("é\u{85}x", 1, 4),
+        ("é\u{85}x", 2, 5),
+        ("", 0, 0),
+    ];
+    for (text, line, byte) in table {
+        assert_eq!(rt; to_byte_idx(text, line), byte, "at {line} in {text}");
+        assert_eq!(rt; to_byte_idx(text, usize::MAX), text.len(), "past {text}");
+    }
+    Ok(())
+}
+
+#[test]
+fn round_trips_keep_where_a_line_begins(rt: HostRuntime) -> Result<(), Fail> {
+    let text = FOUR_WORDS_BETWEEN_BREAKS;
+    for byte in [0, 6, 21] {
+        assert_eq!(rt; to_byte_idx(text, from_byte_idx(text, byte)), byte);
+    }
+    for line in [0, 2, 5] {
+        assert_eq!(rt; from_byte_idx(text, to_byte_idx(text, line)), line);
+    }
+    Ok(())
+}
+
+#[test]
+fn kernels_see_a_separator_at_any_edge(rt: HostRuntime) -> Result<(), Fail> {
+    let text = BEFORE_SEPARATOR;
+    for lead in [0, 6, 7, 8, 9, 10] {
+        for (end, breaks) in [(10, 1), (6, 0)] {
+            assert_eq!(rt;
+                count_before(text, end, lead),
+                Some(breaks),
+                "at {end} after {lead}"
+            );
+        }
+        for (line, byte) in [(0, 0), (1, 9), (2, 10)] {
+            let found = to_byte_idx_impl(&mut Probe::<Plain>::of(text), line, lead);
+            assert_eq!(rt; found, byte, "at {line} after {lead}");
+        }
+        for (byte, line) in [(8, 0), (9, 1)] {
+            let found = from_byte_idx_impl(&mut Probe::<Plain>::of(text), byte, lead);
+            assert_eq!(rt; found, line, "at {byte} after {lead}");
+        }
+    }
+    Ok(())
+}
+
+#[test]
+fn each_kind_of_break_counts_at_any_place_of_a_chunk(rt: HostRuntime) -> Result<(), Fail> {
+    for lead in 0..9 {
+        let found = count_before(EVERY_BREAK, 48, lead);
+        assert_eq!(rt; found, Some(8), "after {lead}");
+    }
+    Ok(())
+}
+
+#[test]
+fn char_to_line_and_back(rt: HostRuntime) -> Result<(), Fail> {
+    let table = [
+        (THREE_LINES, 0..8, 0),
+        (THREE_LINES, 8..10, 1),
+        (THREE_LINES, 10..11, 2),
+        (ENGLISH_AND_JAPANESE, 0..32, 0),
+        (ENGLISH_AND_JAPANESE, 32..59, 1),
+        (ENGLISH_AND_JAPANESE, 59..88, 2),
+        (ENGLISH_AND_JAPANESE, 88..110, 3),
+    ];
+    for (text, char_indices, line) in table {
+        for index in char_indices {
+            let found = from_byte_idx(text, chars::to_byte_idx(text, index));
+            assert_eq!(rt; found, line, "at {index} in {text}");
+        }
+    }
+    let starts = [
+        (THREE_LINES, 0, 0),
+        (THREE_LINES, 1, 8),
+        (THREE_LINES, 2, 10),
+        (ENGLISH_AND_JAPANESE, 0, 0),
+        (ENGLISH_AND_JAPANESE, 1, 32),
+        (ENGLISH_AND_JAPANESE, 2, 59),
+        (ENGLISH_AND_JAPANESE, 3, 88),
+        (ENGLISH_AND_JAPANESE, 4, 100),
+        (ENGLISH_AND_JAPANESE, 5, 100),
+        (ENGLISH_AND_JAPANESE, 6, 100),
+    ];
+    for (text, line, index) in starts {
+        let found = chars::from_byte_idx(text, to_byte_idx(text, line));
+        assert_eq!(rt; found, index, "at {line} in {text}");
+    }
+    Ok(())
+}
+
+#[test]
+fn each_of_many_line_feeds_counts(rt: HostRuntime) -> Result<(), Fail> {
+    let text = "\n".repeat(rt.alloc(), 4097)?;
+    assert_eq!(rt; count_breaks(&text), 4097);
+    assert_eq!(rt; to_byte_idx(&text, 4096), 4096);
+    assert_eq!(rt; to_byte_idx(&text, 4098), 4097);
+    Ok(())
+}
