@@ -7,7 +7,7 @@
 --     break_at bytes j              1 where a break is counted at the j-th byte, else 0
 --     breaks_before bytes n         how many breaks are counted at the first n bytes
 --     HasLanes size f lanes         there are `size` lanes, and f of its place in each
-use Rattle.std.specs.Prelude.{ℕ, ◌≡◌, ◌+◌, ◌-◌, ◌<◌, Bool, not, ◌==◌, ◌&&◌, ◌||◌, nat_lt, if◌then◌else◌, List, [], ◌∷◌, ◌++◌, length, slice_index}
+use Rattle.std.specs.Prelude.{ℕ, ◌≡◌, ◌+◌, ◌<◌, Bool, not, ◌==◌, ◌&&◌, ◌||◌, nat_lt, if◌then◌else◌, List, [], ◌∷◌, ◌++◌, length, slice_index}
 use Rattle.str_indices.specs.Bytes.{sum_below}
 
 abbrev pub is_ascii_break : ℕ → Bool
