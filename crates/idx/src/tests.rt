@@ -91,6 +91,7 @@ fn run_to_writer(alloc: Global, most: usize, flush_fails: bool) -> (Result<(), F
     (result, output.taken)
 }
 
+// The contract of `run` lets a body through that always answers `NoMemory` or `Read`; this refuses it.
 #[test]
 fn answers_over_memory(rt: HostRuntime) {
     let answers: [(&[u8], Result<(), Fault>, &[u8]); 4] = [
