@@ -1,6 +1,5 @@
 use Rattle.std.proofs.Common.{◌<◌, ◌+◌, length, arith, ap, ◌∙◌}
 use Rattle.str_indices.specs.Bytes.{passing_before, is_leading}
-use Rattle.str_indices.specs.Bytes.{passing_before, is_leading}
 use Rattle.str_indices.proofs.CharacterCounts.{char_found, char_reached, end_is_near}
 use Rattle.str_indices.proofs.PassBounds.{pass_to_place}
 use Rattle.str_indices.proofs.chars.to_byte_idx_impl.Goals as goal
