@@ -8,13 +8,13 @@ ghost use Rattle.std.specs.Prelude.{◌≡◌, ℕ, ◌+◌, ◌-◌, ◌/◌, �
 ghost use Rattle.std.specs.Simd.Lanes.{zip2, Each1, Each2};
 ghost use Rattle.byte_chunk.specs.Lanes.{is_byte, is_between, IsLawful};
 
+mod chunks;
 mod counters;
-mod plain_array;
 #[cfg(test)]
 mod tests;
 mod text_probe;
 
-pub use plain_array::Plain;
+pub use chunks::plain_array::Plain;
 pub use text_probe::Probe;
 
 /// The chunk type that the public functions of the crates above use.

@@ -6,7 +6,8 @@ use Rattle.std.proofs.lemmas.Fmt.{decimal_digit, decimal_step}
 use Rattle.std.proofs.lemmas.Grind.{drop-set_at}
 
 -- the last digit of a number of two digits or more may stand before what follows the number
-pub decimal_last : (n : ℕ) (rest : List ℕ) → 10 ≤ n → n < 2 ^ 64 → decimal (n / 10) ++ ((48 + n % 10) ∷ rest) ≡ decimal n ++ rest
+pub decimal_last : (n : ℕ) (rest : List ℕ) → 10 ≤ n → n < 2 ^ 64
+    → decimal (n / 10) ++ ((48 + n % 10) ∷ rest) ≡ decimal n ++ rest
 decimal_last n rest large small = rw (decimal_step n large small, append_assoc)
 
 -- the first digit of a number takes its place
@@ -22,7 +23,8 @@ one_place_fewer (suc (suc j)) n large small =
     (omega arith, rw left (omega arith))
 
 -- an element written before the place `start` stands before what follows that place
-pub drop-set_before : (xs : List ℕ) (start y : ℕ) → 1 ≤ start → start ≤ length xs → drop (start - 1) (slice_set xs (start - 1) y) ≡ y ∷ drop start xs
+pub drop-set_before : (xs : List ℕ) (start y : ℕ) → 1 ≤ start → start ≤ length xs
+    → drop (start - 1) (slice_set xs (start - 1) y) ≡ y ∷ drop start xs
 drop-set_before xs start y some within =
     let next : start - 1 + 1 ≡ start = omega arith in
     drop-set_at xs (start - 1) (start - 1) y refl (omega arith) ∙ rw next

@@ -15,7 +15,8 @@ weight-le c = elim (cases_Bool (len_utf8 c == 4)) [
 ]
 
 -- so the characters of a text that begins at `start` take at most twice their number, however it is cut
-units_from-le : (start byte : ℕ) (cs : Text) → sum_by weight (map (λ p. p.character) (filter (λ p. nat_le p.end byte) (placed start cs))) ≤ length cs * 2
+units_from-le : (start byte : ℕ) (cs : Text)
+    → sum_by weight (map (λ p. p.character) (filter (λ p. nat_le p.end byte) (placed start cs))) ≤ length cs * 2
 units_from-le start byte [] = omega arith
 units_from-le start byte (c ∷ cs) =
     let end = start + len_utf8 c in
@@ -36,13 +37,16 @@ filter-all test passes [] = refl
 filter-all test passes (p ∷ ps) = rw (passes p, filter-all test passes ps)
 
 -- past the units of the text every boundary passes that test
-all_fit_past : (cs : Text) (j : ℕ) → length cs * 2 ≤ j → filter (λ p. nat_le (units cs p) j) (boundaries cs) ≡ boundaries cs
+all_fit_past : (cs : Text) (j : ℕ) → length cs * 2 ≤ j
+    → filter (λ p. nat_le (units cs p) j) (boundaries cs) ≡ boundaries cs
 all_fit_past cs j past = filter-all (λ p. nat_le (units cs p) j) (λ p. fits_past cs j p past) (boundaries cs)
 
 -- so an index may be bounded there before it is converted
-pub to_byte_idx-min : (cs : Text) (k bound : ℕ) → length cs * 2 ≤ bound → to_byte_idx Utf16 cs (min k bound) ≡ to_byte_idx Utf16 cs k
+pub to_byte_idx-min : (cs : Text) (k bound : ℕ) → length cs * 2 ≤ bound
+    → to_byte_idx Utf16 cs (min k bound) ≡ to_byte_idx Utf16 cs k
 to_byte_idx-min cs k bound past =
     elim (cases_lt k bound) [
       | inl below ↦ ap (to_byte_idx Utf16 cs) (omega (arith, below))
-      | inr above ↦ ap (fold max 0) (all_fit_past cs (min k bound) (omega arith) ∙ sym (all_fit_past cs k (omega arith)))
+      | inr above ↦ ap (fold max 0) (all_fit_past cs (min k bound) (omega arith)
+          ∙ sym (all_fit_past cs k (omega arith)))
     ]

@@ -7,7 +7,8 @@ pub record RisesWithin (old new most : ℕ) : Type 0 where
   pub rises : old ≤ new
   pub within : new ≤ old + most
 
--- From one state of a probe to a later one: at most so many turns and loads, no load before `first`, and at most two peeks
+-- From one state of a probe to a later one: at most so many turns and loads, no load before `first`, and at most two
+-- peeks
 -- for each turn, four for each load and `spare` more.
 pub record PassBound (old new : ProbeState) (first turns loads spare : ℕ) : Type 0 where
   pub turns_within : RisesWithin old.turns new.turns turns
@@ -28,7 +29,8 @@ pass_turns size lead n = leading_bytes lead n + size + 4
 abbrev pub pass_loads : ℕ → ℕ → ℕ → ℕ
 pass_loads size lead n = (n - leading_bytes lead n) / size
 
--- From one state of a probe to a later one: the chunks from `from` to `to` were loaded, each once, and nothing else was read.
+-- From one state of a probe to a later one: the chunks from `from` to `to` were loaded, each once, and nothing else
+-- was read.
 pub record LoadsChunks (old new : ProbeState) (size from to : ℕ) : Type 0 where
   pub chunks : ℕ
   pub covered : from + chunks * size ≡ to
@@ -39,12 +41,14 @@ pub record LoadsChunks (old new : ProbeState) (size from to : ℕ) : Type 0 wher
   pub low_reached : min old.low from ≤ new.low
   pub low_kept : chunks ≡ 0 → new.low ≡ old.low
 
--- From one state of a probe to a later one: nothing was read but, where there is one and by at most one peek, the byte before `at`.
+-- From one state of a probe to a later one: nothing was read but, where there is one and by at most one peek, the
+-- byte before `at`.
 pub record PeeksBack (old new : ProbeState) (at : ℕ) : Type 0 where
   pub only_peeked : new ≡ record old { peeks = new.peeks }
   pub peeks_within : RisesWithin old.peeks new.peeks (min at 1)
 
--- From one state of a probe to a later one: so many bytes were walked, one turn and at most two peeks each, and no chunk was loaded.
+-- From one state of a probe to a later one: so many bytes were walked, one turn and at most two peeks each, and no
+-- chunk was loaded.
 pub record WalksBytes (old new : ProbeState) (bytes : ℕ) : Type 0 where
   pub text_kept : new.text ≡ old.text
   pub turns_made : new.turns ≡ old.turns + bytes
@@ -52,7 +56,8 @@ pub record WalksBytes (old new : ProbeState) (bytes : ℕ) : Type 0 where
   pub peeks_made : RisesWithin old.peeks new.peeks (2 * bytes)
   pub low_kept : new.low ≡ old.low
 
--- From one state of a probe to a later one: the chunks from `from` to `to` were walked, one load and at most four peeks each.
+-- From one state of a probe to a later one: the chunks from `from` to `to` were walked, one load and at most four
+-- peeks each.
 pub record WalksChunks (old new : ProbeState) (size from to : ℕ) : Type 0 where
   pub chunks : ℕ
   pub covered : from + chunks * size ≡ to

@@ -3,8 +3,10 @@
 --     IsBoundary text p                p is the size of a beginning of the text
 --     IsCrlfMiddle text p              p is a boundary between CR and LF
 --     IsEnd s text p                   p is an end of the text in the scheme
---     IsGreatestWithin text units p    p is the greatest boundary before which the text takes at most this many UTF-16 units
---     IsLongestCut text end front      front is the longest beginning of the text whose characters end at or before `end`
+--     IsGreatestWithin text units p    p is the greatest boundary before which the text takes at most this many
+-- UTF-16 units
+--     IsLongestCut text end front      front is the longest beginning of the text whose characters end at or before
+-- `end`
 use Rattle.std.specs.Prelude.{ℕ, ◌≡◌, ◌<◌, ◌≤◌, List, [], ◌∷◌, ◌++◌, IsTrue, sum_by, length}
 use Rattle.std.specs.Char.{char_set_contains}
 use Rattle.str_indices.specs.Text.{Text, size, weight, line_feed, carriage_return}

@@ -1,4 +1,5 @@
--- The schemes in two groups. In the line schemes ends are line breaks; in the character schemes every boundary above 0 is an end.
+-- The schemes in two groups. In the line schemes ends are line breaks; in the character schemes every boundary above
+-- 0 is an end.
 use Rattle.std.specs.Prelude.{⊤}
 use Rattle.str_indices.specs.Schemes.{Scheme, Chars, Utf16, Lf, Crlf, Lines}
 

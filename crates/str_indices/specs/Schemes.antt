@@ -37,7 +37,8 @@ break_characters Chars = []
 break_characters Utf16 = []
 break_characters Lf = line_feed ∷ []
 break_characters Crlf = line_feed ∷ carriage_return ∷ []
-break_characters Lines = line_feed ∷ vertical_tab ∷ form_feed ∷ carriage_return ∷ next_line ∷ line_separator ∷ paragraph_separator ∷ []
+break_characters Lines = line_feed ∷ vertical_tab ∷ form_feed ∷ carriage_return ∷ next_line ∷ line_separator ∷
+    paragraph_separator ∷ []
 
 -- whether a character of the set ends at p, which is no CRLF middle
 abbrev pub is_break_end : List ℕ → Placed → Bool

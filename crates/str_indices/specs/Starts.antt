@@ -1,4 +1,5 @@
--- Where what is at an index begins: the character at a byte index, the line at a byte index, the surrogate pair at a unit.
+-- Where what is at an index begins: the character at a byte index, the line at a byte index, the surrogate pair at a
+-- unit.
 --     IsGreatestBoundary text byte p   p is the greatest boundary at or before the byte index
 --     IsGreatestEnd s text byte p      p is the greatest end at or before it, or 0 where there is none
 --     IsSecondUnit text k              the text has a surrogate pair whose first unit is unit k - 1
@@ -13,7 +14,8 @@ pub record IsGreatestBoundary (text : Text) (byte p : ℕ) : Type 0 where
   pub at_or_before : p ≤ byte
   pub greatest : (q : ℕ) → IsBoundary text q → q ≤ byte → q ≤ p
 
--- p is an end or 0, at or before the byte index, and no greater end is. Ends are above 0, so that p is 0 only where no end
+-- p is an end or 0, at or before the byte index, and no greater end is. Ends are above 0, so that p is 0 only where
+-- no end
 -- is at or before the byte index.
 pub record IsGreatestEnd (s : Scheme) (text : Text) (byte p : ℕ) : Type 0 where
   pub end_or_zero : IsEnd s text p ⊎ (p ≡ 0)

@@ -16,4 +16,5 @@ pub sum_bytes-requires : goal.sum_bytes-requires
 sum_bytes-requires g c =
     let lawful = g.met.T.ByteChunk.lawful in
     rw (c.add.ensures, c.zero.ensures, c.splat.ensures)
-    (Each1-zip2 (λ a b. a + b) (λ lane. lane ≤ g.T.ByteChunk.MAX_ACC) _ _ (sums_small g.T.ByteChunk.SIZE g.T.ByteChunk.MAX_ACC (omega (arith, lawful.room))))
+    (Each1-zip2 (λ a b. a + b) (λ lane. lane ≤ g.T.ByteChunk.MAX_ACC) _ _
+    (sums_small g.T.ByteChunk.SIZE g.T.ByteChunk.MAX_ACC (omega (arith, lawful.room))))

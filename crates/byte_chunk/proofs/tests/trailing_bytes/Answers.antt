@@ -16,4 +16,5 @@ marks_small byte most (lane ∷ lanes) one = (mark_small byte lane most one, mar
 pub sum_bytes-requires : goal.sum_bytes-requires
 sum_bytes-requires g c =
     let lawful = g.met.T.ByteChunk.lawful in
-    rw c.cmp_eq_byte.ensures (marks_small 0x80 g.T.ByteChunk.MAX_ACC (g.T.ByteChunk.lanes c.bitand.result) (omega (arith, lawful.room)))
+    rw c.cmp_eq_byte.ensures (marks_small 0x80 g.T.ByteChunk.MAX_ACC (g.T.ByteChunk.lanes c.bitand.result)
+    (omega (arith, lawful.room)))

@@ -11,7 +11,8 @@ use Rattle.idx.proofs.requests.parse_index.Goals as goal
 
 -- a parse that takes digits alone, up to the greatest `usize`, reads an index
 index_of-parsed : {E : Type 0} (word : List ℕ) (parsed : Result ℕ E)
-    → OkIff parsed ((all_ascii_digits word ≡ true) × (0 < length word) × (digits_value 10 word < 2 ^ 64)) (digits_value 10 word)
+    → OkIff parsed ((all_ascii_digits word ≡ true) × (0 < length word) × (digits_value 10 word < 2 ^ 64))
+    (digits_value 10 word)
     → result_ok parsed ≡ index_of word
 index_of-parsed word (Ok n) reads = grind (arith, reads)
 index_of-parsed word (Err error) refuses = grind (arith, refuses)
@@ -19,6 +20,8 @@ index_of-parsed word (Err error) refuses = grind (arith, refuses)
 pub returns : goal.returns
 returns c =
     let word = c.args.word.now in
-    let unsigned = not_from_Decides _ (starts_char 43 word _ c.starts_with.ensures.cases (omega arith) (omega arith)) c.if-starts_with.false in
-    let numeral = parse_plain (numerals_by_value _ tells_all_ascii_digits) 64 word c.parse.result c.parse.ensures.value.0 unsigned in
+    let unsigned = not_from_Decides _ (starts_char 43 word _ c.starts_with.ensures.cases (omega arith) (omega arith))
+    c.if-starts_with.false in
+    let numeral = parse_plain (numerals_by_value _ tells_all_ascii_digits) 64 word c.parse.result
+    c.parse.ensures.value.0 unsigned in
     c.ok.ensures.value ∙ index_of-parsed word c.parse.result numeral

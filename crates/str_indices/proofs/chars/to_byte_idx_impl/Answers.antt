@@ -1,13 +1,17 @@
 use Rattle.std.proofs.Common.{◌<◌, ◌+◌, length, arith, ap, ◌∙◌}
 use Rattle.str_indices.specs.Bytes.{passing_before, is_leading}
-use Rattle.str_indices.proofs.CharacterCounts.{char_found, char_reached, end_is_near}
-use Rattle.str_indices.proofs.PassBounds.{pass_to_place}
+use Rattle.str_indices.proofs.lemmas.schemes.CharBytes.{char_found, char_reached, end_is_near}
+use Rattle.str_indices.proofs.lemmas.passes.PassBounds.{pass_to_place}
 use Rattle.str_indices.proofs.chars.to_byte_idx_impl.Goals as goal
 
 pub returns-then-led-first_chunk-clause-answer : goal.returns-then-led-first_chunk-clause-answer
 returns-then-led-first_chunk-clause-answer g c =
     let led = c.walk_to_char-led in
-    omega (arith, char_found c.args.probe.now.text c.len-len.ensures.utf8 led.result.byte c.args.idx (omega arith) (omega (arith, led.ensures.counted, led.ensures.at_most)) (led.ensures.stopped (omega arith)))
+    omega (
+      arith,
+      char_found c.args.probe.now.text c.len-len.ensures.utf8 led.result.byte c.args.idx (omega arith)
+          (omega (arith, led.ensures.counted, led.ensures.at_most)) (led.ensures.stopped (omega arith)),
+    )
 
 pub returns-clause-answer : goal.returns-clause-answer
 returns-clause-answer g c =
@@ -16,7 +20,9 @@ returns-clause-answer g c =
     let rest = c.walk_to_char in
     omega (
       arith,
-      char_reached c.args.probe.now.text c.skip_chunks-chunked.new.probe.text (loads.text_kept ∙ ap (λ p. p.text) led) c.len-len.ensures.utf8 rest.result.byte c.args.idx c.len-len.result rest.result.count
+      char_reached c.args.probe.now.text c.skip_chunks-chunked.new.probe.text
+          (loads.text_kept ∙ ap (λ p. p.text) led) c.len-len.ensures.utf8 rest.result.byte c.args.idx
+          c.len-len.result rest.result.count
           c.len-len.ensures.len rest.ensures.reached.1 rest.ensures.counted rest.ensures.at_most rest.ensures.stopped,
     )
 
@@ -32,6 +38,11 @@ returns-clause-pass g c =
     let (in_rest, rested, few', fits') = rest.ensures.turns in
     let same = ap (λ p. p.text) led in
     let reached : rest.result.byte < chunks.result.byte + size + 4 =
-    end_is_near (passing_before is_leading) (λ bytes m n le. omega arith) text first.new.probe.text chunks.new.probe.text same (loads.text_kept ∙ same) c.len-len.ensures.utf8 chunks.result.byte size c.args.idx rest.result.byte chunks.ensures.stopped (omega (arith, rest.ensures.reached.1)) (omega (arith, rest.ensures.counted, rest.ensures.at_most)) in
-    pass_to_place c.args.probe.now first.new.probe chunks.new.probe rest.new.probe size c.args.lead (length text) first.result.byte to rest.result.byte in_lead in_rest g.met.T.ByteChunk.lawful.least
-    (omega (arith, first.ensures.reached.1, c.min-first_chunk.ensures, c.len-len.ensures.len)) (omega (arith, fits)) (omega (arith, near, rest.ensures.reached.0)) (omega (arith, few', reached)) led loads rested
+    end_is_near (passing_before is_leading) (λ bytes m n le. omega arith) text first.new.probe.text
+    chunks.new.probe.text same (loads.text_kept ∙ same) c.len-len.ensures.utf8 chunks.result.byte size c.args.idx
+    rest.result.byte chunks.ensures.stopped (omega (arith, rest.ensures.reached.1))
+    (omega (arith, rest.ensures.counted, rest.ensures.at_most)) in
+    pass_to_place c.args.probe.now first.new.probe chunks.new.probe rest.new.probe size c.args.lead (length text)
+    first.result.byte to rest.result.byte in_lead in_rest g.met.T.ByteChunk.lawful.least
+    (omega (arith, first.ensures.reached.1, c.min-first_chunk.ensures, c.len-len.ensures.len)) (omega (arith, fits))
+    (omega (arith, near, rest.ensures.reached.0)) (omega (arith, few', reached)) led loads rested

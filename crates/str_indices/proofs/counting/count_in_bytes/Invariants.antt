@@ -5,6 +5,7 @@ use Rattle.str_indices.proofs.counting.count_in_bytes.Given as goal
 abbrev pub invariant-loop-i : goal.invariant-loop-i
 invariant-loop-i g l = record {
   turns : l.probe ≡ record l.initial.probe { turns = l.initial.probe.turns + (l.i - l.from) };
-  counted : passing_before g.B.ByteTest.passes l.initial.probe.text l.i ≡ passing_before g.B.ByteTest.passes l.initial.probe.text l.from + l.passing;
+  counted : passing_before g.B.ByteTest.passes l.initial.probe.text l.i ≡ passing_before g.B.ByteTest.passes
+      l.initial.probe.text l.from + l.passing;
   few : l.passing ≤ l.i - l.from;
 }

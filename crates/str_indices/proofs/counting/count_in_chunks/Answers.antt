@@ -1,6 +1,6 @@
 use Rattle.std.proofs.Common.{arith, ap}
 use Rattle.str_indices.specs.Bytes.{passing_before}
-use Rattle.str_indices.proofs.PassBounds.{loads_joined}
+use Rattle.str_indices.proofs.lemmas.passes.PassBounds.{loads_joined}
 use Rattle.str_indices.proofs.counting.count_in_chunks.Goals as goal
 
 pub rounds-preserved : goal.rounds-preserved
@@ -14,5 +14,6 @@ rounds-preserved g c =
       to_high = omega arith;
       counted = omega (arith, so_far.counted, round.ensures.counted);
       few = omega arith;
-      loads = loads_joined c.args.probe.now c.rounds.probe round.new.probe g.T.ByteChunk.SIZE c.args.from c.rounds.at round.result.end so_far.loads round.ensures.loads;
+      loads = loads_joined c.args.probe.now c.rounds.probe round.new.probe g.T.ByteChunk.SIZE c.args.from c.rounds.at
+          round.result.end so_far.loads round.ensures.loads;
     }

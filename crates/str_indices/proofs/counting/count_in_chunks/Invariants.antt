@@ -7,7 +7,8 @@ abbrev pub invariant-rounds : goal.invariant-rounds
 invariant-rounds g l = record {
   from_low : l.from ≤ l.at;
   to_high : l.at ≤ l.end;
-  counted : passing_before g.B.ByteTest.passes l.initial.probe.text l.at ≡ passing_before g.B.ByteTest.passes l.initial.probe.text l.from + l.passing;
+  counted : passing_before g.B.ByteTest.passes l.initial.probe.text l.at ≡ passing_before g.B.ByteTest.passes
+      l.initial.probe.text l.from + l.passing;
   few : l.passing ≤ l.at - l.from;
   loads : LoadsChunks l.initial.probe l.probe g.T.ByteChunk.SIZE l.from l.at;
 }

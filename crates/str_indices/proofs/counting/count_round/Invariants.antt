@@ -1,6 +1,6 @@
 use Rattle.std.proofs.Common.{◌≡◌, ◌+◌, ◌-◌, ◌<◌, ◌≤◌}
 use Rattle.str_indices.specs.PassBound.{LoadsChunks}
-use Rattle.str_indices.proofs.Rounds.{Accumulates}
+use Rattle.str_indices.proofs.lemmas.lanes.Rounds.{Accumulates}
 use Rattle.str_indices.proofs.counting.count_round.Given as goal
 
 abbrev pub invariant-chunks : goal.invariant-chunks
@@ -9,7 +9,8 @@ invariant-chunks g l = record {
   few : l.rounds ≤ g.T.ByteChunk.MAX_ACC;
   starts : l.rounds ≡ 0 → l.at ≡ l.from;
   goes_on : 0 < l.rounds → l.from + g.T.ByteChunk.SIZE ≤ l.at;
-  lanes : Accumulates g.B.ByteTest.passes l.initial.probe.text g.T.ByteChunk.SIZE l.from l.at l.rounds (g.T.ByteChunk.lanes l.acc);
+  lanes : Accumulates g.B.ByteTest.passes l.initial.probe.text g.T.ByteChunk.SIZE l.from l.at l.rounds
+      (g.T.ByteChunk.lanes l.acc);
   loads : LoadsChunks l.initial.probe l.probe g.T.ByteChunk.SIZE l.from l.at;
 }
 

@@ -1,8 +1,8 @@
 use Rattle.std.proofs.Common.{chars}
-use Rattle.str_indices.proofs.Conversions.{IsBoundary-to_byte_idx}
-use Rattle.str_indices.proofs.EndSets.{ends_are, ends_increase}
-use Rattle.str_indices.proofs.Units.{boundary_at_units_is_greatest}
-use Rattle.str_indices.proofs.Cuts.{cut_is_longest}
+use Rattle.str_indices.proofs.lemmas.laws.CharacterLaws.{IsBoundary-to_byte_idx}
+use Rattle.str_indices.proofs.lemmas.texts.EndSets.{ends_are, ends_increase}
+use Rattle.str_indices.proofs.lemmas.texts.Units.{boundary_at_units_is_greatest}
+use Rattle.str_indices.proofs.lemmas.texts.Cuts.{cut_is_longest}
 use Rattle.str_indices.proofs.laws.boundaries.Goals as goal
 
 pub returns-clause-boundary : goal.returns-clause-boundary

@@ -1,5 +1,5 @@
 use Rattle.std.proofs.Common.{chars}
-use Rattle.str_indices.proofs.CharacterLaws.{boundary_adjunction}
+use Rattle.str_indices.proofs.lemmas.laws.CharacterLaws.{boundary_adjunction}
 use Rattle.str_indices.proofs.laws.boundary_adjunction.Goals as goal
 
 pub returns : goal.returns

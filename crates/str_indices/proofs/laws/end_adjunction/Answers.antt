@@ -1,5 +1,5 @@
 use Rattle.std.proofs.Common.{chars}
-use Rattle.str_indices.proofs.EndLaws.{to_le_iff}
+use Rattle.str_indices.proofs.lemmas.laws.EndLaws.{to_le_iff}
 use Rattle.str_indices.proofs.laws.end_adjunction.Goals as goal
 
 pub returns : goal.returns

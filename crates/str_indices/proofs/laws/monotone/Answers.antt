@@ -1,5 +1,5 @@
 use Rattle.std.proofs.Common.{chars}
-use Rattle.str_indices.proofs.Conversions.{from_byte_idx-le, to_byte_idx-le}
+use Rattle.str_indices.proofs.lemmas.laws.CharacterLaws.{from_byte_idx-le, to_byte_idx-le}
 use Rattle.str_indices.proofs.laws.monotone.Goals as goal
 
 pub returns-clause-from : goal.returns-clause-from

@@ -1,5 +1,5 @@
 use Rattle.std.proofs.Common.{chars}
-use Rattle.str_indices.proofs.CountOrder.{count-Lf-le-count-Crlf, count-Crlf-le-count-Lines}
+use Rattle.str_indices.proofs.lemmas.laws.CountLaws.{count-Lf-le-count-Crlf, count-Crlf-le-count-Lines}
 use Rattle.str_indices.proofs.laws.order_of_counts.Goals as goal
 
 pub returns-clause-lf_to_crlf : goal.returns-clause-lf_to_crlf

@@ -1,5 +1,5 @@
 use Rattle.std.proofs.Common.{chars}
-use Rattle.str_indices.proofs.EndLaws.{from-to}
+use Rattle.str_indices.proofs.lemmas.laws.EndLaws.{from-to}
 use Rattle.str_indices.proofs.laws.round_trip.Goals as goal
 
 pub returns : goal.returns

@@ -1,5 +1,5 @@
 use Rattle.std.proofs.Common.{chars}
-use Rattle.str_indices.proofs.Units.{count-characters-surrogates}
+use Rattle.str_indices.proofs.lemmas.texts.Units.{count-characters-surrogates}
 use Rattle.str_indices.proofs.laws.units.Goals as goal
 
 pub returns : goal.returns

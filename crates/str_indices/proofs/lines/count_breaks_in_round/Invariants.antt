@@ -1,7 +1,7 @@
 use Rattle.std.proofs.Common.{◌≡◌, ◌+◌, ◌-◌, ◌<◌, ◌≤◌, take}
 use Rattle.str_indices.specs.Breaks.{break_at}
 use Rattle.str_indices.specs.PassBound.{WalksChunks}
-use Rattle.str_indices.proofs.BreakRounds.{AddsUp}
+use Rattle.str_indices.proofs.lemmas.lanes.BreakRounds.{AddsUp}
 use Rattle.str_indices.proofs.lines.count_breaks_in_round.Given as goal
 
 abbrev pub invariant-chunks : goal.invariant-chunks
@@ -11,7 +11,8 @@ invariant-chunks g l = record {
   few : l.rounds ≤ g.T.ByteChunk.MAX_ACC;
   goes_on : 0 < l.rounds → l.from.byte + g.T.ByteChunk.SIZE ≤ l.at;
   starts : l.rounds ≡ 0 → l.at ≡ l.from.byte;
-  lanes : AddsUp (break_at (take l.end l.initial.probe.text)) g.T.ByteChunk.SIZE l.from.byte l.at l.rounds (g.T.ByteChunk.lanes l.breaks);
+  lanes : AddsUp (break_at (take l.end l.initial.probe.text)) g.T.ByteChunk.SIZE l.from.byte l.at l.rounds
+      (g.T.ByteChunk.lanes l.breaks);
   walk : WalksChunks l.initial.probe l.probe g.T.ByteChunk.SIZE l.from.byte l.at;
 }
 

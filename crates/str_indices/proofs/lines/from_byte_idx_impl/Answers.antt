@@ -2,8 +2,8 @@ use Rattle.std.proofs.Common.{◌≡◌, true, false, chars, arith, ap, sym, ◌
 use Rattle.str_indices.specs.Text.{cut}
 use Rattle.str_indices.specs.Schemes.{Lines, end_count}
 use Rattle.str_indices.specs.Bytes.{is_middle}
-use Rattle.str_indices.proofs.BoundaryBytes.{cut_boundary}
-use Rattle.str_indices.proofs.BreakStops.{line_of_byte}
+use Rattle.str_indices.proofs.lemmas.bytes.BoundaryBytes.{cut_boundary}
+use Rattle.str_indices.proofs.lemmas.schemes.LineBytes.{line_of_byte}
 use Rattle.str_indices.proofs.lines.from_byte_idx_impl.Goals as goal
 
 pub count_breaks_impl-breaks-requires-clause-boundary : goal.count_breaks_impl-breaks-requires-clause-boundary
@@ -17,9 +17,13 @@ overflow_sub-result g c =
     let text = c.args.probe.now.text in
     let end = c.boundary_at_or_before-end in
     let peeked = ap (λ p. p.text) end.ensures.peeked in
-    let counted = c.count_breaks_impl-breaks.ensures.count ∙ ap (λ t. end_count Lines (cut (chars t) end.result)) (ap (λ p. p.text) c.parts_crlf-inside_crlf.ensures.peeks.only ∙ peeked) in
-    let parted : is_middle text end.result ≡ true = sym (ap (λ t. is_middle t end.result) peeked) ∙ sym c.parts_crlf-inside_crlf.ensures.answer ∙ c.if-inside_crlf.true in
-    let line = rw parted at (line_of_byte text (rw peeked at c.len.ensures.utf8) c.args.byte_idx end.result end.ensures.boundary (omega (arith, end.ensures.within))) in
+    let counted = c.count_breaks_impl-breaks.ensures.count
+    ∙ ap (λ t. end_count Lines (cut (chars t) end.result))
+    (ap (λ p. p.text) c.parts_crlf-inside_crlf.ensures.peeks.only ∙ peeked) in
+    let parted : is_middle text end.result ≡ true = sym (ap (λ t. is_middle t end.result) peeked)
+    ∙ sym c.parts_crlf-inside_crlf.ensures.answer ∙ c.if-inside_crlf.true in
+    let line = rw parted at (line_of_byte text (rw peeked at c.len.ensures.utf8) c.args.byte_idx end.result
+    end.ensures.boundary (omega (arith, end.ensures.within))) in
     omega (arith, counted, line)
 
 pub returns-then-inside_crlf-clause-answer : goal.returns-then-inside_crlf-clause-answer
@@ -27,9 +31,13 @@ returns-then-inside_crlf-clause-answer g c =
     let text = c.args.probe.now.text in
     let end = c.boundary_at_or_before-end in
     let peeked = ap (λ p. p.text) end.ensures.peeked in
-    let counted = c.count_breaks_impl-breaks.ensures.count ∙ ap (λ t. end_count Lines (cut (chars t) end.result)) (ap (λ p. p.text) c.parts_crlf-inside_crlf.ensures.peeks.only ∙ peeked) in
-    let parted : is_middle text end.result ≡ true = sym (ap (λ t. is_middle t end.result) peeked) ∙ sym c.parts_crlf-inside_crlf.ensures.answer ∙ c.if-inside_crlf.true in
-    let line = rw parted at (line_of_byte text (rw peeked at c.len.ensures.utf8) c.args.byte_idx end.result end.ensures.boundary (omega (arith, end.ensures.within))) in
+    let counted = c.count_breaks_impl-breaks.ensures.count
+    ∙ ap (λ t. end_count Lines (cut (chars t) end.result))
+    (ap (λ p. p.text) c.parts_crlf-inside_crlf.ensures.peeks.only ∙ peeked) in
+    let parted : is_middle text end.result ≡ true = sym (ap (λ t. is_middle t end.result) peeked)
+    ∙ sym c.parts_crlf-inside_crlf.ensures.answer ∙ c.if-inside_crlf.true in
+    let line = rw parted at (line_of_byte text (rw peeked at c.len.ensures.utf8) c.args.byte_idx end.result
+    end.ensures.boundary (omega (arith, end.ensures.within))) in
     omega (arith, counted, line)
 
 pub returns-else-inside_crlf-clause-answer : goal.returns-else-inside_crlf-clause-answer
@@ -37,7 +45,11 @@ returns-else-inside_crlf-clause-answer g c =
     let text = c.args.probe.now.text in
     let end = c.boundary_at_or_before-end in
     let peeked = ap (λ p. p.text) end.ensures.peeked in
-    let counted = c.count_breaks_impl-breaks.ensures.count ∙ ap (λ t. end_count Lines (cut (chars t) end.result)) (ap (λ p. p.text) c.parts_crlf-inside_crlf.ensures.peeks.only ∙ peeked) in
-    let whole : is_middle text end.result ≡ false = sym (ap (λ t. is_middle t end.result) peeked) ∙ sym c.parts_crlf-inside_crlf.ensures.answer ∙ c.if-inside_crlf.false in
-    let line = rw whole at (line_of_byte text (rw peeked at c.len.ensures.utf8) c.args.byte_idx end.result end.ensures.boundary (omega (arith, end.ensures.within))) in
+    let counted = c.count_breaks_impl-breaks.ensures.count
+    ∙ ap (λ t. end_count Lines (cut (chars t) end.result))
+    (ap (λ p. p.text) c.parts_crlf-inside_crlf.ensures.peeks.only ∙ peeked) in
+    let whole : is_middle text end.result ≡ false = sym (ap (λ t. is_middle t end.result) peeked)
+    ∙ sym c.parts_crlf-inside_crlf.ensures.answer ∙ c.if-inside_crlf.false in
+    let line = rw whole at (line_of_byte text (rw peeked at c.len.ensures.utf8) c.args.byte_idx end.result
+    end.ensures.boundary (omega (arith, end.ensures.within))) in
     omega (arith, counted, line)

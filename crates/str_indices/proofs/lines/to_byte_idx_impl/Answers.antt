@@ -1,8 +1,8 @@
 use Rattle.std.proofs.Common.{◌≡◌, ◌+◌, ◌-◌, ◌/◌, length, min, take, inl, inr, arith, ap, ◌∙◌}
 use Rattle.std.proofs.lemmas.Bool.{cases_lt}
 use Rattle.std.proofs.lemmas.List.{take_all}
-use Rattle.str_indices.proofs.BreakStops.{fewer_before, line_begins, line_is_near}
-use Rattle.str_indices.proofs.PassWalks.{peeks_after_pass, pass_of_walks, chunks_before}
+use Rattle.str_indices.proofs.lemmas.schemes.LineBytes.{fewer_before, line_begins, line_is_near}
+use Rattle.str_indices.proofs.lemmas.passes.PassWalks.{peeks_after_pass, pass_of_walks, chunks_before}
 use Rattle.str_indices.proofs.lines.to_byte_idx_impl.Goals as goal
 
 pub returns-then-led-idx-clause-answer : goal.returns-then-led-idx-clause-answer
@@ -10,12 +10,15 @@ returns-then-led-idx-clause-answer g c =
     let text = c.args.probe.now.text in
     let led = c.count_breaks_up_to-led in
     let found = c.boundary_at_or_after in
-    let whole : take c.len-len.result text ≡ text = take_all c.len-len.result text (omega (arith, c.len-len.ensures.len)) in
+    let whole : take c.len-len.result text ≡ text =
+    take_all c.len-len.result text (omega (arith, c.len-len.ensures.len)) in
     let same = led.ensures.walk.text_kept in
     let counted = rw whole at led.ensures.counted in
     let first = rw whole at led.ensures.first in
-    let answer = line_begins text c.len-len.ensures.utf8 c.args.idx led.result.byte found.result found.ensures.reached.0 (omega (arith, found.ensures.reached.1, ap length same))
-    (rw same at found.ensures.boundary) (rw same at found.ensures.least) (λ _. omega (arith, counted, c.if-led-idx.true)) (λ d before. first d (omega arith) before) in
+    let answer = line_begins text c.len-len.ensures.utf8 c.args.idx led.result.byte found.result
+    found.ensures.reached.0 (omega (arith, found.ensures.reached.1, ap length same))
+    (rw same at found.ensures.boundary) (rw same at found.ensures.least)
+    (λ _. omega (arith, counted, c.if-led-idx.true)) (λ d before. first d (omega arith) before) in
     omega (arith, answer)
 
 pub returns-clause-answer : goal.returns-clause-answer
@@ -26,18 +29,21 @@ returns-clause-answer g c =
     let rest = c.count_breaks_up_to-reached in
     let found = c.boundary_at_or_after-2 in
     let (to, near, walk) = chunks.ensures.walk in
-    let whole : take c.len-len.result text ≡ text = take_all c.len-len.result text (omega (arith, c.len-len.ensures.len)) in
+    let whole : take c.len-len.result text ≡ text =
+    take_all c.len-len.result text (omega (arith, c.len-len.ensures.len)) in
     let same_led = led.ensures.walk.text_kept in
     let same_chunked = walk.text_kept ∙ same_led in
     let same = rest.ensures.walk.text_kept ∙ same_chunked in
     let skipped = rw same_led at chunks.ensures.counted in
     let counted = rw (same_chunked, whole) at rest.ensures.counted in
     let first = rw (same_chunked, whole) at rest.ensures.first in
-    let answer = line_begins text c.len-len.ensures.utf8 c.args.idx rest.result.byte found.result found.ensures.reached.0 (omega (arith, found.ensures.reached.1, ap length same))
+    let answer = line_begins text c.len-len.ensures.utf8 c.args.idx rest.result.byte found.result
+    found.ensures.reached.0 (omega (arith, found.ensures.reached.1, ap length same))
     (rw same at found.ensures.boundary) (rw same at found.ensures.least)
     (λ inside. omega (arith, counted, rest.ensures.stopped (omega (arith, c.len-len.ensures.len))))
     (λ d before. elim (cases_lt d chunks.result.byte) [
-      | inl early ↦ fewer_before text c.args.idx chunks.result.byte d (omega (arith, skipped, chunks.ensures.below)) (omega arith)
+      | inl early ↦ fewer_before text c.args.idx chunks.result.byte d (omega (arith, skipped, chunks.ensures.below))
+          (omega arith)
       | inr late ↦ first d late before
     ]) in
     omega (arith, answer)
@@ -53,15 +59,25 @@ returns-clause-pass g c =
     let found = c.boundary_at_or_after-2 in
     let (to, near, walk) = chunks.ensures.walk in
     let same_led = led.ensures.walk.text_kept in
-    let whole : take c.len-len.result text ≡ text = take_all c.len-len.result text (omega (arith, c.len-len.ensures.len)) in
+    let whole : take c.len-len.result text ≡ text =
+    take_all c.len-len.result text (omega (arith, c.len-len.ensures.len)) in
     let first = rw (walk.text_kept ∙ same_led, whole) at rest.ensures.first in
-    let all_led : led.result.byte ≡ c.min-first_chunk.result = elim (cases_lt led.result.byte c.min-first_chunk.result) [
+    let all_led : led.result.byte ≡ c.min-first_chunk.result =
+    elim (cases_lt led.result.byte c.min-first_chunk.result) [
       | inl stopped ↦ absurd (c.if-led-idx.false (led.ensures.stopped stopped))
       | inr reached ↦ omega (arith, led.ensures.reached.1)
     ] in
-    let reached = line_is_near text chunks.result.byte size c.args.idx rest.result.byte (rw same_led at chunks.ensures.stopped) (omega (arith, rest.ensures.reached.1, c.len-len.ensures.len)) first in
-    let bound = pass_of_walks c.args.probe.now led.new.probe chunks.new.probe rest.new.probe size led.result.byte to (led.result.byte - 0) (rest.result.byte - chunks.result.byte) (led.result.byte + size + 4) (found.result / size + 5)
+    let reached = line_is_near text chunks.result.byte size c.args.idx rest.result.byte
+    (rw same_led at chunks.ensures.stopped) (omega (arith, rest.ensures.reached.1, c.len-len.ensures.len)) first in
+    let bound = pass_of_walks c.args.probe.now led.new.probe chunks.new.probe rest.new.probe size led.result.byte to
+    (led.result.byte - 0) (rest.result.byte - chunks.result.byte) (led.result.byte + size + 4)
+    (found.result / size + 5)
     led.ensures.walk walk rest.ensures.walk (omega (arith, reached))
-    (omega (arith, chunks_before led.new.probe chunks.new.probe size led.result.byte to found.result least walk (omega (arith, near, rest.ensures.reached.0, found.ensures.reached.0)))) in
+    (omega (
+      arith,
+      chunks_before led.new.probe chunks.new.probe size led.result.byte to found.result least walk
+          (omega (arith, near, rest.ensures.reached.0, found.ensures.reached.0)),
+    )) in
     rw (all_led ∙ c.min-first_chunk.ensures ∙ ap (λ n. min c.args.lead n) c.len-len.ensures.len) at
-    (peeks_after_pass c.args.probe.now rest.new.probe found.new.probe led.result.byte (led.result.byte + size + 4) (found.result / size + 5) 0 3 bound found.ensures.peeks)
+    (peeks_after_pass c.args.probe.now rest.new.probe found.new.probe led.result.byte (led.result.byte + size + 4)
+    (found.result / size + 5) 0 3 bound found.ensures.peeks)

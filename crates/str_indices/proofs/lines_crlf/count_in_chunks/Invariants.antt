@@ -9,7 +9,8 @@ invariant-chunks g l = record {
   to_high : l.at ≤ l.end;
   counted : breaks_before l.initial.probe.text l.at ≡ breaks_before l.initial.probe.text l.from + l.breaks;
   few : l.breaks ≤ l.at - l.from;
-  carried : drop (g.T.ByteChunk.SIZE - 1) (g.T.ByteChunk.lanes l.returns) ≡ mark is_carriage_return (byte_before l.initial.probe.text l.at) ∷ [];
+  carried : drop (g.T.ByteChunk.SIZE - 1) (g.T.ByteChunk.lanes l.returns) ≡ mark is_carriage_return
+      (byte_before l.initial.probe.text l.at) ∷ [];
   loads : LoadsChunks l.initial.probe l.probe g.T.ByteChunk.SIZE l.from l.at;
 }
 

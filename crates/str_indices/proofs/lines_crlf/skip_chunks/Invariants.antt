@@ -9,7 +9,8 @@ invariant-chunks g l = record {
   to_high : l.at.byte ≤ length l.initial.probe.text;
   counted : l.at.count ≡ breaks_before l.initial.probe.text l.at.byte;
   below : l.at.count < l.idx;
-  carried : drop (g.T.ByteChunk.SIZE - 1) (g.T.ByteChunk.lanes l.returns) ≡ mark is_carriage_return (byte_before l.initial.probe.text l.at.byte) ∷ [];
+  carried : drop (g.T.ByteChunk.SIZE - 1) (g.T.ByteChunk.lanes l.returns) ≡ mark is_carriage_return
+      (byte_before l.initial.probe.text l.at.byte) ∷ [];
   loads : LoadsChunks l.initial.probe l.probe g.T.ByteChunk.SIZE l.initial.at.byte l.at.byte;
 }
 

@@ -1,10 +1,10 @@
 use Rattle.std.proofs.Common.{arith, ◌<◌, refl}
 use Rattle.std.specs.Prelude.{sum}
 use Rattle.str_indices.specs.Bytes.{is_trailing, begins_four_bytes}
-use Rattle.str_indices.proofs.Sums.{passing_before-between}
-use Rattle.str_indices.proofs.Rounds.{no_round, room_to_add, one_round_more, room_to_sum}
-use Rattle.str_indices.proofs.PassBounds.{no_loads, one_load_more}
-use Rattle.str_indices.proofs.UnitCounts.{units_between, units_before-le}
+use Rattle.str_indices.proofs.lemmas.bytes.Sums.{passing_before-between}
+use Rattle.str_indices.proofs.lemmas.lanes.Rounds.{no_round, room_to_add, one_round_more, room_to_sum}
+use Rattle.str_indices.proofs.lemmas.passes.PassBounds.{no_loads, one_load_more}
+use Rattle.str_indices.proofs.lemmas.schemes.UnitBytes.{units_between, units_before-le}
 use Rattle.str_indices.proofs.utf16.skip_round.Goals as goal
 
 pub chunks-init : goal.chunks-init
@@ -16,22 +16,29 @@ chunks-init g c =
       few = omega arith;
       starts = λ _. refl;
       goes_on = λ (some : 0 < 0). omega arith;
-      trailing_lanes = no_round is_trailing text chunk.SIZE c.args.from.byte (chunk.lanes c.zero-trailing.result) c.zero-trailing.ensures;
-      four_byte_lanes = no_round begins_four_bytes text chunk.SIZE c.args.from.byte (chunk.lanes c.zero-four_byte_leads.result) c.zero-four_byte_leads.ensures;
+      trailing_lanes = no_round is_trailing text chunk.SIZE c.args.from.byte (chunk.lanes c.zero-trailing.result)
+          c.zero-trailing.ensures;
+      four_byte_lanes = no_round begins_four_bytes text chunk.SIZE c.args.from.byte
+          (chunk.lanes c.zero-four_byte_leads.result) c.zero-four_byte_leads.ensures;
       loads = no_loads c.args.probe.now chunk.SIZE c.args.from.byte;
     }
 
 pub add-trailing-requires : goal.add-trailing-requires
 add-trailing-requires g c =
     let chunk = g.T.ByteChunk in
-    room_to_add is_trailing c.args.probe.now.text chunk.SIZE c.args.from.byte c.chunks.at c.chunks.rounds (chunk.lanes c.chunks.trailing) (chunk.lanes c.load-chunk.result) (chunk.lanes c.count_trailing_chunk.result)
-    (omega (arith, c.chunks-test.true, c.MAX_ACC.ensures, g.met.T.ByteChunk.lawful.fits)) c.chunks.invariant.trailing_lanes c.count_trailing_chunk.ensures
+    room_to_add is_trailing c.args.probe.now.text chunk.SIZE c.args.from.byte c.chunks.at c.chunks.rounds
+    (chunk.lanes c.chunks.trailing) (chunk.lanes c.load-chunk.result) (chunk.lanes c.count_trailing_chunk.result)
+    (omega (arith, c.chunks-test.true, c.MAX_ACC.ensures, g.met.T.ByteChunk.lawful.fits))
+    c.chunks.invariant.trailing_lanes c.count_trailing_chunk.ensures
 
 pub add-four_byte_leads-requires : goal.add-four_byte_leads-requires
 add-four_byte_leads-requires g c =
     let chunk = g.T.ByteChunk in
-    room_to_add begins_four_bytes c.args.probe.now.text chunk.SIZE c.args.from.byte c.chunks.at c.chunks.rounds (chunk.lanes c.chunks.four_byte_leads) (chunk.lanes c.load-chunk.result) (chunk.lanes c.count_surrogates_chunk.result)
-    (omega (arith, c.chunks-test.true, c.MAX_ACC.ensures, g.met.T.ByteChunk.lawful.fits)) c.chunks.invariant.four_byte_lanes c.count_surrogates_chunk.ensures
+    room_to_add begins_four_bytes c.args.probe.now.text chunk.SIZE c.args.from.byte c.chunks.at c.chunks.rounds
+    (chunk.lanes c.chunks.four_byte_leads) (chunk.lanes c.load-chunk.result)
+    (chunk.lanes c.count_surrogates_chunk.result)
+    (omega (arith, c.chunks-test.true, c.MAX_ACC.ensures, g.met.T.ByteChunk.lawful.fits))
+    c.chunks.invariant.four_byte_lanes c.count_surrogates_chunk.ensures
 
 pub chunks-preserved : goal.chunks-preserved
 chunks-preserved g c =
@@ -45,26 +52,40 @@ chunks-preserved g c =
       few = omega (arith, c.MAX_ACC.ensures);
       starts = λ none. absurd (omega arith);
       goes_on = λ _. omega (arith, so_far.loads.covered);
-      trailing_lanes = one_round_more is_trailing text c.chunks.probe.text chunk.SIZE from c.chunks.at c.chunks.rounds (chunk.lanes c.chunks.trailing) loaded (chunk.lanes c.count_trailing_chunk.result) (chunk.lanes c.add-trailing.result)
-          so_far.loads.text_kept (omega (arith, c.SIZE.ensures)) so_far.trailing_lanes c.load-chunk.ensures.lanes c.count_trailing_chunk.ensures c.add-trailing.ensures;
-      four_byte_lanes = one_round_more begins_four_bytes text c.chunks.probe.text chunk.SIZE from c.chunks.at c.chunks.rounds (chunk.lanes c.chunks.four_byte_leads) loaded (chunk.lanes c.count_surrogates_chunk.result) (chunk.lanes c.add-four_byte_leads.result)
-          so_far.loads.text_kept (omega (arith, c.SIZE.ensures)) so_far.four_byte_lanes c.load-chunk.ensures.lanes c.count_surrogates_chunk.ensures c.add-four_byte_leads.ensures;
-      loads = one_load_more c.args.probe.now c.chunks.probe c.load-chunk.new.self chunk.SIZE from c.chunks.at so_far.loads c.load-chunk.ensures.state;
+      trailing_lanes = one_round_more is_trailing text c.chunks.probe.text chunk.SIZE from c.chunks.at
+          c.chunks.rounds (chunk.lanes c.chunks.trailing) loaded (chunk.lanes c.count_trailing_chunk.result)
+          (chunk.lanes c.add-trailing.result)
+          so_far.loads.text_kept (omega (arith, c.SIZE.ensures)) so_far.trailing_lanes c.load-chunk.ensures.lanes
+          c.count_trailing_chunk.ensures c.add-trailing.ensures;
+      four_byte_lanes = one_round_more begins_four_bytes text c.chunks.probe.text chunk.SIZE from c.chunks.at
+          c.chunks.rounds (chunk.lanes c.chunks.four_byte_leads) loaded (chunk.lanes c.count_surrogates_chunk.result)
+          (chunk.lanes c.add-four_byte_leads.result)
+          so_far.loads.text_kept (omega (arith, c.SIZE.ensures)) so_far.four_byte_lanes c.load-chunk.ensures.lanes
+          c.count_surrogates_chunk.ensures c.add-four_byte_leads.ensures;
+      loads = one_load_more c.args.probe.now c.chunks.probe c.load-chunk.new.self chunk.SIZE from c.chunks.at
+          so_far.loads c.load-chunk.ensures.state;
     })
 
 pub sum_bytes-requires : goal.sum_bytes-requires
 sum_bytes-requires g c =
     let chunk = g.T.ByteChunk in
-    room_to_sum is_trailing c.args.probe.now.text chunk.SIZE c.args.from.byte c.chunks.at c.chunks.rounds chunk.MAX_ACC (chunk.lanes c.chunks.trailing) c.chunks.invariant.few c.chunks.invariant.trailing_lanes
+    room_to_sum is_trailing c.args.probe.now.text chunk.SIZE c.args.from.byte c.chunks.at c.chunks.rounds
+    chunk.MAX_ACC (chunk.lanes c.chunks.trailing) c.chunks.invariant.few c.chunks.invariant.trailing_lanes
 
 pub sum_bytes-requires-2 : goal.sum_bytes-requires-2
 sum_bytes-requires-2 g c =
     let chunk = g.T.ByteChunk in
-    room_to_sum begins_four_bytes c.args.probe.now.text chunk.SIZE c.args.from.byte c.chunks.at c.chunks.rounds chunk.MAX_ACC (chunk.lanes c.chunks.four_byte_leads) c.chunks.invariant.few c.chunks.invariant.four_byte_lanes
+    room_to_sum begins_four_bytes c.args.probe.now.text chunk.SIZE c.args.from.byte c.chunks.at c.chunks.rounds
+    chunk.MAX_ACC (chunk.lanes c.chunks.four_byte_leads) c.chunks.invariant.few c.chunks.invariant.four_byte_lanes
 
 pub overflow_sub-leading-2 : goal.overflow_sub-leading-2
 overflow_sub-leading-2 g c =
-    omega (arith, passing_before-between is_trailing c.args.probe.now.text c.args.from.byte c.chunks.at (omega (arith, c.chunks.invariant.loads.covered)), c.chunks.invariant.trailing_lanes.counted)
+    omega (
+      arith,
+      passing_before-between is_trailing c.args.probe.now.text c.args.from.byte c.chunks.at
+          (omega (arith, c.chunks.invariant.loads.covered)),
+      c.chunks.invariant.trailing_lanes.counted,
+    )
 
 pub overflow_add-result : goal.overflow_add-result
 overflow_add-result g c =
@@ -73,7 +94,9 @@ overflow_add-result g c =
     let chunk = g.T.ByteChunk in
     omega (
       arith,
-      units_between text c.args.from.byte c.chunks.at c.sum_bytes.result (sum (chunk.lanes c.chunks.four_byte_leads)) c.args.from.count (omega (arith, so_far.loads.covered)) c.requires.counted (omega (arith, so_far.trailing_lanes.counted)) so_far.four_byte_lanes.counted,
+      units_between text c.args.from.byte c.chunks.at c.sum_bytes.result (sum (chunk.lanes c.chunks.four_byte_leads))
+          c.args.from.count (omega (arith, so_far.loads.covered)) c.requires.counted
+          (omega (arith, so_far.trailing_lanes.counted)) so_far.four_byte_lanes.counted,
       units_before-le text c.len.ensures.utf8 c.chunks.at (omega arith),
     )
 
@@ -83,7 +106,9 @@ overflow_add-result-2 g c =
     let so_far = c.chunks.invariant in
     omega (
       arith,
-      units_between text c.args.from.byte c.chunks.at c.sum_bytes.result c.sum_bytes-2.result c.args.from.count (omega (arith, so_far.loads.covered)) c.requires.counted (omega (arith, so_far.trailing_lanes.counted)) (omega (arith, so_far.four_byte_lanes.counted)),
+      units_between text c.args.from.byte c.chunks.at c.sum_bytes.result c.sum_bytes-2.result c.args.from.count
+          (omega (arith, so_far.loads.covered)) c.requires.counted (omega (arith, so_far.trailing_lanes.counted))
+          (omega (arith, so_far.four_byte_lanes.counted)),
       units_before-le text c.len.ensures.utf8 c.chunks.at (omega arith),
     )
 
@@ -91,4 +116,6 @@ pub returns-clause-counted : goal.returns-clause-counted
 returns-clause-counted g c =
     let text = c.args.probe.now.text in
     let so_far = c.chunks.invariant in
-    units_between text c.args.from.byte c.chunks.at c.sum_bytes.result c.sum_bytes-2.result c.args.from.count (omega (arith, so_far.loads.covered)) c.requires.counted (omega (arith, so_far.trailing_lanes.counted)) (omega (arith, so_far.four_byte_lanes.counted))
+    units_between text c.args.from.byte c.chunks.at c.sum_bytes.result c.sum_bytes-2.result c.args.from.count
+    (omega (arith, so_far.loads.covered)) c.requires.counted (omega (arith, so_far.trailing_lanes.counted))
+    (omega (arith, so_far.four_byte_lanes.counted))

@@ -2,8 +2,8 @@ use Rattle.std.proofs.Common.{min, ◌*◌, arith, ap, sym, ◌∙◌, inl, inr,
 use Rattle.std.proofs.lemmas.Bool.{cases_lt}
 use Rattle.std.proofs.Math.Nat.{le-div_iff_mul-le}
 use Rattle.str_indices.specs.Bytes.{units_before}
-use Rattle.str_indices.proofs.PassBounds.{loads_joined, loads_all, chunks_below}
-use Rattle.str_indices.proofs.UnitCounts.{units_before-more}
+use Rattle.str_indices.proofs.lemmas.passes.PassBounds.{loads_joined, loads_all, chunks_below}
+use Rattle.str_indices.proofs.lemmas.schemes.UnitBytes.{units_before-more}
 use Rattle.str_indices.proofs.utf16.skip_rounds.Goals as goal
 
 pub rounds-preserved : goal.rounds-preserved
@@ -14,7 +14,8 @@ rounds-preserved g c =
       from_low = omega arith;
       to_high = omega arith;
       counted = round.ensures.counted ∙ ap (λ t. units_before t round.result.byte) so_far.loads.text_kept;
-      loads = loads_joined c.args.probe.now c.rounds.probe round.new.probe g.T.ByteChunk.SIZE c.args.from.byte c.rounds.at.byte round.result.byte so_far.loads round.ensures.loads;
+      loads = loads_joined c.args.probe.now c.rounds.probe round.new.probe g.T.ByteChunk.SIZE c.args.from.byte
+          c.rounds.at.byte round.result.byte so_far.loads round.ensures.loads;
     }
 
 pub returns-clause-at_most : goal.returns-clause-at_most
@@ -28,14 +29,17 @@ returns-clause-at_most g c =
     let chunks = c.min-chunks.result in
     let left = c.len.result - c.args.from.byte in
     let fitting = ap (λ k. left / k) (c.SIZE.ensures ∙ sym c.SIZE-2.ensures) in
-    let within = (le-div_iff_mul-le {k = size} {x = chunks} {y = left} (omega (arith, g.met.T.ByteChunk.lawful.least))).0 (omega arith) in
+    let within = (le-div_iff_mul-le {k = size} {x = chunks} {y = left}
+    (omega (arith, g.met.T.ByteChunk.lawful.least))).0 (omega arith) in
     let room = g.met.T.ByteChunk.lawful.room in
     elim (cases_lt 0 bytes) [
-      | inr none ↦ let same : c.rounds.at.byte ≡ c.args.from.byte = omega arith in omega (arith, ap (units_before text) same)
+      | inr none ↦ let same : c.rounds.at.byte ≡ c.args.from.byte =
+          omega arith in omega (arith, ap (units_before text) same)
       | inl some ↦ omega (
         arith,
         units_before-more text c.len.ensures.utf8 c.args.from.byte bytes (omega arith),
-        chunks_below size c.MAX_ACC.result chunks (c.args.idx - c.args.from.count) bytes (omega arith) (omega arith) (omega arith) some,
+        chunks_below size c.MAX_ACC.result chunks (c.args.idx - c.args.from.count) bytes (omega arith) (omega arith)
+            (omega arith) some,
       )
     ]
 
@@ -43,8 +47,12 @@ pub returns-clause-place : goal.returns-clause-place
 returns-clause-place g c =
     let chunk = g.T.ByteChunk in
     let from = c.args.from in
-    let fits = ap (λ n. min n ((c.len.result - from.byte) / c.SIZE.result)) (ap (λ most. (c.args.idx - from.count) / most) c.MAX_ACC.ensures) in
-    let whole = ap (λ n. min ((c.args.idx - from.count) / chunk.MAX_ACC) n) (ap (λ size. (c.len.result - from.byte) / size) c.SIZE.ensures ∙ ap (λ n. (n - from.byte) / chunk.SIZE) c.len.ensures.len) in
+    let fits = ap (λ n. min n ((c.len.result - from.byte) / c.SIZE.result))
+    (ap (λ most. (c.args.idx - from.count) / most) c.MAX_ACC.ensures) in
+    let whole = ap (λ n. min ((c.args.idx - from.count) / chunk.MAX_ACC) n)
+    (ap (λ size. (c.len.result - from.byte) / size) c.SIZE.ensures
+    ∙ ap (λ n. (n - from.byte) / chunk.SIZE) c.len.ensures.len) in
     let end = ap (λ size. c.min-chunks.result * size) c.SIZE-2.ensures in
-    loads_all c.args.probe.now c.rounds.probe chunk.SIZE from.byte c.rounds.at.byte c.min-chunks.result c.rounds.invariant.loads (omega arith) (omega (arith, c.SIZE-in-rounds.ensures))
+    loads_all c.args.probe.now c.rounds.probe chunk.SIZE from.byte c.rounds.at.byte c.min-chunks.result
+    c.rounds.invariant.loads (omega arith) (omega (arith, c.SIZE-in-rounds.ensures))
     ∙ ap (λ n. from.byte + n * chunk.SIZE) (c.min-chunks.ensures ∙ fits ∙ whole)

@@ -18,9 +18,11 @@ use Rattle.byte_chunk.proofs.counters.Counter.of.Code as code
 pub of_spec : {M : Type 1} → statement M
 of_spec 𝓤 𝓛 𝓜 𝓡 wired =
     let c = f.clauses 𝓛 𝓜.mem 𝓡.returns in
-    proved 𝓛 f.ended tt c 𝓜 𝓡 tt f.Key.name code.function (code.unfolded 𝓤 𝓛.H 𝓜 𝓡 wired) (λ κs. tt) (λ κs. tt) (λ κs qs bounds a n are.
+    proved 𝓛 f.ended tt c 𝓜 𝓡 tt f.Key.name code.function (code.unfolded 𝓤 𝓛.H 𝓜 𝓡 wired) (λ κs. tt) (λ κs. tt)
+    (λ κs qs bounds a n are.
     qed 𝓛 ((‵ ftrue ⊛ ‵ ftrue) ∷ ‵ ftrue ∷ []) ∵ keep ! [] $ enter ! _ _ _ _ _ $ alloc_all ! (λ l. pass_all ! refl tt $
     sets ! (agg ! (no_more !)) refl (tt, tt) $ returns ! (look_at ! 0 refl) $ free_all ! refl $
     suffices ! _ (ends_at 𝓛 f.ended tt c ((tt, tt, tt, tt, tt), n) (vstruct vnil) n tt tt) $ says ! refl $
-    pure_i ! (the_row.own_val n (vstruct vnil ∷ [])) (λ x. (((λ _. (tt, tt)), tt), tt)) ((record { count = n }, (refl, tt)), (((tt, (refl, tt)), tt), tt)) $
+    pure_i ! (the_row.own_val n (vstruct vnil ∷ [])) (λ x. (((λ _. (tt, tt)), tt), tt))
+    ((record { count = n }, (refl, tt)), (((tt, (refl, tt)), tt), tt)) $
     nothing ! $ nothing ! $ done !))

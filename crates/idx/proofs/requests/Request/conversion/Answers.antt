@@ -5,4 +5,5 @@ use Rattle.idx.proofs.Names.{entry_named-no_row}
 use Rattle.idx.proofs.requests.Request.conversion.Goals as goal
 
 pub returns-in_default : goal.returns-in_default
-returns-in_default c = sym (ap (option_map (λ conversion. conversion c.args.index)) (entry_named-no_row c.args.name.now conversions (assumption c.in_default)))
+returns-in_default c = sym (ap (option_map (λ conversion. conversion c.args.index))
+    (entry_named-no_row c.args.name.now conversions (assumption c.in_default)))

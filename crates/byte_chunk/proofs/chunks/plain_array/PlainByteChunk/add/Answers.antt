@@ -1,0 +1,29 @@
+use Rattle.std.proofs.Common.{ℕ, ◌+◌, ◌<◌, ◌≤◌, get_or, Fits, w8, ap₂, ◌∙◌, rules, arith}
+use Rattle.std.proofs.iter.Serving.{serving}
+use Rattle.std.specs.Simd.Lanes.{zip2, Each2}
+use Rattle.byte_chunk.proofs.lemmas.Lanewise.{zip2_of-calls, Each2-get_or}
+use Rattle.byte_chunk.proofs.chunks.plain_array.PlainByteChunk.add.Goals as goal
+
+pub from_fn-requires : goal.from_fn-requires
+from_fn-requires c =
+    let these = c.to_array-these in
+    let those = c.to_array-those in
+    let each : Each2 (λ a b. a + b ≤ 255) these.result those.result = rw (these.ensures, those.ensures) c.requires in
+    let fits : (i : ℕ) → i < 8 → Fits w8 (get_or these.result i 0 + get_or those.result i 0) =
+    λ i below. record {
+      fits = omega (
+        arith,
+        Each2-get_or (λ a b. a + b ≤ 255) these.result those.result i
+            (omega arith) (omega arith) each,
+      );
+    } in
+    grind (serving, fits)
+
+pub returns : goal.returns
+returns c =
+    let these = c.to_array-these in
+    let those = c.to_array-those in
+    let plus : ℕ → ℕ → ℕ = λ a b. a + b in
+    zip2_of-calls plus 8 these.result those.result c.from_fn.result (λ i lane left call. search rules) (omega arith)
+    (omega arith) c.from_fn.ensures.items
+    ∙ ap₂ (zip2 plus) these.ensures those.ensures

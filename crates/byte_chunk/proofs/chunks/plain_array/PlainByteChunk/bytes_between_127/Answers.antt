@@ -1,0 +1,11 @@
+use Rattle.std.proofs.Common.{map, ap, ◌∙◌, rules, arith}
+use Rattle.byte_chunk.specs.Lanes.{is_between}
+use Rattle.byte_chunk.proofs.lemmas.Lanewise.{map_of-calls}
+use Rattle.byte_chunk.proofs.chunks.plain_array.PlainByteChunk.bytes_between_127.Goals as goal
+
+pub returns : goal.returns
+returns c =
+    let between = is_between c.args.a c.args.b in
+    map_of-calls between 8 c.to_array.result c.map.result (λ lane bit left call. search rules) (omega arith)
+    c.map.ensures.items
+    ∙ ap (map between) c.to_array.ensures

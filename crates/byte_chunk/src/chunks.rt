@@ -1,0 +1,3 @@
+//! The chunk types, one file each.
+
+pub(crate) mod plain_array;

@@ -1,0 +1,4 @@
+pub mod Sums
+pub mod Walks
+pub mod Characters
+pub mod BoundaryBytes

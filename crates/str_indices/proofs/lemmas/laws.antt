@@ -1,0 +1,4 @@
+pub mod EndLaws
+pub mod UnitLaws
+pub mod CharacterLaws
+pub mod CountLaws

@@ -1,0 +1,149 @@
+-- The laws of the UTF-16 code units.
+use Rattle.std.proofs.Common.{◌≡◌, ℕ, ◌+◌, ◌<◌, ◌≤◌, ◌↔◌, ◌⊎◌, inl, inr, min, List, [], ◌∷◌, ◌++◌, refl, arith, sym, ◌∙◌, ap, append_assoc}
+use Rattle.std.specs.Prelude.{sum_by}
+use Rattle.std.proofs.lemmas.Bool.{cases_lt}
+use Rattle.std.proofs.lemmas.Str.{len_utf8_bounds}
+use Rattle.std.proofs.lemmas.List.Sums.{sum_by-cons, sum_by-append}
+use Rattle.str_indices.specs.Text.{size, weight, cut}
+use Rattle.str_indices.specs.Schemes.{Utf16, units, boundary_at_units, count}
+use Rattle.str_indices.specs.Relations.{IsBoundary, IsGreatestWithin}
+use Rattle.str_indices.specs.Starts.{IsSecondUnit}
+use Rattle.str_indices.proofs.lemmas.texts.Sizes.{size-cons, size-append, boundary_beside}
+use Rattle.str_indices.proofs.lemmas.texts.Cuts.{cut_is}
+use Rattle.str_indices.proofs.lemmas.texts.Units.{units_at, units-le-units, count-units, weight_is_one_or_two, boundary_at_units_is_greatest}
+
+-- before the byte index of k there are at most k units
+units-boundary_at_units-le : (cs : List ℕ) (k : ℕ) → units cs (boundary_at_units cs k) ≤ k
+units-boundary_at_units-le cs k =
+    let answer = boundary_at_units_is_greatest cs k in
+    rw (units_at cs (boundary_at_units cs k) answer.boundary) answer.fits
+
+-- a boundary is at most the byte index of k exactly where at most k units are before it
+pub boundary_le_iff : (cs : List ℕ) (b k : ℕ) → IsBoundary cs b → (b ≤ boundary_at_units cs k) ↔ (units cs b ≤ k)
+boundary_le_iff cs b k at = (
+  λ le. omega (arith, units-le-units cs b (boundary_at_units cs k) le, units-boundary_at_units-le cs k),
+  λ within. (boundary_at_units_is_greatest cs k).greatest b at (rw (units_at cs b at) at within),
+)
+
+-- a greater index has no lesser byte index
+pub boundary_at_units-le : (cs : List ℕ) (i j : ℕ) → i ≤ j → boundary_at_units cs i ≤ boundary_at_units cs j
+boundary_at_units-le cs i j le =
+    let first = boundary_at_units_is_greatest cs i in
+    (boundary_at_units_is_greatest cs j).greatest (boundary_at_units cs i) first.boundary (omega (arith, first.fits))
+
+-- from a byte index to its units and back is at or before it
+pub boundary_at_units-units-le : (cs : List ℕ) (b : ℕ) → boundary_at_units cs (units cs b) ≤ b
+boundary_at_units-units-le cs b = before (cut_is cs b).rest (cut_is cs b).split
+  where
+    answer : IsGreatestWithin cs (units cs b) (boundary_at_units cs (units cs b))
+    answer = boundary_at_units_is_greatest cs (units cs b)
+
+    fits : size (cut cs b) ≤ b
+    fits = omega (arith, (cut_is cs b).fits)
+
+    before : (rest : List ℕ) → cs ≡ cut cs b ++ rest → boundary_at_units cs (units cs b) ≤ b
+    before [] split =
+        let whole = ap size split ∙ size-append (cut cs b) [] in
+        let parts = ap size answer.boundary.split ∙ size-append answer.boundary.front answer.boundary.back in
+        omega (arith, fits, answer.boundary.place)
+    before (c ∷ after) split =
+        elim (boundary_beside weight cs (cut cs b) c after split (boundary_at_units cs (units cs b)) answer.boundary) [
+          | inl earlier ↦ omega (arith, fits, earlier.0)
+          | inr later ↦ absurd (elim (weight_is_one_or_two c) [
+            | inl one ↦ omega (arith, later.1, answer.fits)
+            | inr two ↦ omega (arith, later.1, answer.fits)
+          ])
+        ]
+
+-- behind the byte index of k the text ends, or its next character takes it past k units
+next_is_past : (cs : List ℕ) (k : ℕ) (answer : IsGreatestWithin cs k (boundary_at_units cs k)) (c : ℕ)
+    (after : List ℕ) → answer.boundary.back ≡ c ∷ after → k < sum_by weight answer.boundary.front + weight c
+next_is_past cs k answer c after next =
+    let front = answer.boundary.front in
+    let bounds = len_utf8_bounds c in
+    let sizes = size-append front (c ∷ []) in
+    let sums = sum_by-append weight front (c ∷ []) in
+    elim (cases_lt k (sum_by weight front + weight c)) [
+      | inl past ↦ past
+      | inr within ↦
+          let longer : IsBoundary cs (size (front ++ c ∷ [])) =
+          record {
+            front = front ++ c ∷ [];
+            back = after;
+            split = answer.boundary.split
+                ∙ ap (λ r. front ++ r) next ∙ sym (append_assoc front (c ∷ []) after);
+            place = refl;
+          } in
+          let greatest = answer.greatest (size (front ++ c ∷ [])) longer (omega (arith, sum_by-cons weight c [])) in
+          absurd (omega (arith, answer.boundary.place, size-cons c []))
+    ]
+
+-- from an index to its byte index and back is the index, or the count, or for a pair's second unit the first
+units_or_first_of_pair : (cs : List ℕ) (k : ℕ)
+    → (units cs (boundary_at_units cs k) ≡ min k (count Utf16 cs)) ⊎ (IsSecondUnit cs
+    k × (units cs (boundary_at_units cs k) + 1 ≡ k))
+units_or_first_of_pair cs k = by_rest answer.boundary.back refl
+  where
+    answer : IsGreatestWithin cs k (boundary_at_units cs k)
+    answer = boundary_at_units_is_greatest cs k
+
+    front : List ℕ
+    front = answer.boundary.front
+
+    before : units cs (boundary_at_units cs k) ≡ sum_by weight front
+    before = units_at cs (boundary_at_units cs k) answer.boundary
+
+    whole : count Utf16 cs ≡ sum_by weight front + sum_by weight answer.boundary.back
+    whole = count-units cs ∙ ap (sum_by weight) answer.boundary.split ∙ sum_by-append weight front answer.boundary.back
+
+    by_rest : (rest : List ℕ) → answer.boundary.back ≡ rest
+        → (units cs (boundary_at_units cs k) ≡ min k (count Utf16 cs)) ⊎ (IsSecondUnit cs
+        k × (units cs (boundary_at_units cs k) + 1 ≡ k))
+    by_rest [] none = inl (omega (arith, before, whole, ap (sum_by weight) none, answer.fits))
+    by_rest (c ∷ after) next =
+        let past = next_is_past cs k answer c after next in
+        elim (cases_lt (sum_by weight front) k) [
+          | inr all ↦ inl (omega (arith, before, whole, answer.fits))
+          | inl less ↦ elim (weight_is_one_or_two c) [
+            | inl one ↦ absurd (omega arith)
+            | inr two ↦ inr (
+              record {
+                front = front;
+                character = c;
+                back = after;
+                split = answer.boundary.split
+                    ∙ ap (λ r. front ++ r) next;
+                pair = two;
+                first_unit = omega arith;
+              },
+              omega (arith, before),
+            )
+          ]
+        ]
+
+-- the second unit of a pair has the byte index of the first
+pub units-second_unit : (cs : List ℕ) (k : ℕ) → IsSecondUnit cs k → units cs (boundary_at_units cs k) + 1 ≡ k
+units-second_unit cs k second =
+    elim (units_or_first_of_pair cs k) [
+      | inr first ↦ first.1
+      | inl all ↦
+          let answer = boundary_at_units_is_greatest cs k in
+          let before = units_at cs (boundary_at_units cs k) answer.boundary in
+          let whole = count-units cs ∙ ap (sum_by weight) second.split
+          ∙ sum_by-append weight second.front (second.character ∷ second.back) in
+          let rest = sum_by-cons weight second.character second.back in
+          absurd (elim (boundary_beside weight cs second.front second.character second.back second.split
+          (boundary_at_units cs k) answer.boundary) [
+            | inl earlier ↦ omega (arith, earlier.1, second.pair, second.first_unit)
+            | inr later ↦ omega (arith, later.1, second.pair, second.first_unit, answer.fits)
+          ])
+    ]
+
+-- an index comes back, or the count, or it is a pair's second unit
+pub units_or_second_unit : (cs : List ℕ) (k : ℕ)
+    → (units cs (boundary_at_units cs k) ≡ min k (count Utf16 cs)) ⊎ IsSecondUnit cs k
+units_or_second_unit cs k =
+    elim (units_or_first_of_pair cs k) [
+      | inl all ↦ inl all
+      | inr first ↦ inr first.0
+    ]

@@ -1,0 +1,2 @@
+pub mod PassBounds
+pub mod PassWalks

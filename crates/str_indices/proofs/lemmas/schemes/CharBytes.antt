@@ -1,0 +1,152 @@
+-- The characters of a text, from its leading and its trailing bytes.
+use Rattle.std.proofs.Common.{◌≡◌, ℕ, suc, ◌+◌, ◌<◌, ◌≤◌, ◌⊎◌, inl, inr, Bool, true, false, cond, List, [], ◌∷◌, ◌++◌, length, get_or, refl, arith, sym, ◌∙◌, ap, add-one, chars, IsUtf8}
+use Rattle.std.specs.Prelude.{not}
+use Rattle.std.specs.Char.{len_utf8}
+use Rattle.std.proofs.lemmas.Bool.{cases_lt}
+use Rattle.str_indices.specs.Text.{size, cut}
+use Rattle.str_indices.specs.Schemes.{count, to_byte_idx, is_end, Chars}
+use Rattle.str_indices.specs.Relations.{IsBoundary}
+use Rattle.str_indices.specs.Bytes.{mark, passing_before, is_trailing, is_leading}
+use Rattle.str_indices.proofs.lemmas.texts.Sizes.{size-cons}
+use Rattle.str_indices.proofs.lemmas.bytes.Sums.{sum_below-le-sum_below, passing_or_not}
+use Rattle.str_indices.proofs.lemmas.texts.Ends.{ends_from, end_count_total, ReadsAlone}
+use Rattle.str_indices.proofs.lemmas.texts.Cuts.{cut_seam, cut_all}
+use Rattle.str_indices.proofs.lemmas.bytes.Characters.{characters_add}
+use Rattle.str_indices.proofs.lemmas.bytes.Walks.{bytes_to_boundary, boundary_at_end, size-chars}
+use Rattle.str_indices.proofs.lemmas.texts.EndSets.{end_at-past}
+use Rattle.str_indices.proofs.lemmas.bytes.BoundaryBytes.{begins_boundary, leading_among_four}
+
+-- each character ends at an end of `Chars`
+pub reads_alone : ReadsAlone Chars
+reads_alone c cs ds = refl
+
+-- before a boundary as many bytes begin a character as the cut text has characters
+pub leading_at_boundary : (bytes : List ℕ) → IsUtf8 bytes → (end : ℕ) → IsBoundary (chars bytes) end
+    → passing_before is_leading bytes end ≡ count Chars (cut (chars bytes) end)
+leading_at_boundary bytes utf8 end b = bytes_to_boundary (mark is_leading) (λ _ _. 1) characters_add bytes utf8 end b
+    ∙ sym (end_count_total Chars (cut (chars bytes) end))
+
+-- the bytes before a boundary are the characters of the cut text and the trailing bytes
+pub characters_and_trailing : (bytes : List ℕ) → IsUtf8 bytes → (end : ℕ) → IsBoundary (chars bytes) end
+    → count Chars (cut (chars bytes) end) + passing_before is_trailing bytes end ≡ end
+characters_and_trailing bytes utf8 end b =
+    omega (arith, leading_at_boundary bytes utf8 end b, passing_or_not is_trailing bytes end)
+
+-- the ends of `Chars` behind a beginning that is not empty
+end_of_front : (start c : ℕ) (front back : List ℕ) (d : ℕ)
+    → get_or (ends_from (is_end Chars) start (c ∷ front ++ back)) (length front) d ≡ start + size (c ∷ front)
+end_of_front start c [] back d = omega (arith, size-cons c [])
+end_of_front start c (x ∷ front) back d = end_of_front (start + len_utf8 c) x front back d
+    ∙ omega (arith, size-cons c (x ∷ front), size-cons x front)
+
+-- as many characters as a beginning has end where it ends
+to_byte_idx-front : (front back : List ℕ) → to_byte_idx Chars (front ++ back) (length front) ≡ size front
+to_byte_idx-front [] back = refl
+to_byte_idx-front (c ∷ front) back = end_of_front 0 c front back (size (c ∷ front ++ back)) ∙ omega arith
+
+-- there are as many ends of `Chars` as characters
+count-length : (start : ℕ) (cs : List ℕ) → length (ends_from (is_end Chars) start cs) ≡ length cs
+count-length start [] = refl
+count-length start (c ∷ cs) = ap suc (count-length (start + len_utf8 c) cs)
+
+-- a boundary with k leading bytes before it is where the k-th character ends
+pub boundary_of_char : (bytes : List ℕ) → IsUtf8 bytes → (i k : ℕ) → IsBoundary (chars bytes) i
+    → passing_before is_leading bytes i ≡ k → i ≡ to_byte_idx Chars (chars bytes) k
+boundary_of_char bytes utf8 i k b counted =
+    let front_is : cut (chars bytes) i ≡ b.front = rw (b.split, ← b.place) (cut_seam b.front b.back) in
+    let many : length b.front ≡ k = sym (count-length 0 b.front) ∙ ap (count Chars) (sym front_is)
+    ∙ sym (leading_at_boundary bytes utf8 i b) ∙ counted in
+    sym (ap (λ t. to_byte_idx Chars t k) b.split ∙ ap (to_byte_idx Chars (b.front ++ b.back)) (sym many)
+    ∙ to_byte_idx-front b.front b.back ∙ b.place)
+
+-- a byte that begins the character after the k-th is where the k-th ends
+pub char_found : (bytes : List ℕ) → IsUtf8 bytes → (i k : ℕ) → i < length bytes
+    → passing_before is_leading bytes i ≤ k → k < passing_before is_leading bytes (i + 1)
+    → i ≡ to_byte_idx Chars (chars bytes) k
+char_found bytes utf8 i k below at_most passed =
+    let more : passing_before is_leading bytes (i + 1) ≡ passing_before is_leading bytes i + mark is_leading
+    (get_or bytes i 0) = ap (passing_before is_leading bytes) (add-one i) in
+    let (leads, one) = marked (is_trailing (get_or bytes i 0)) (omega arith) in
+    boundary_of_char bytes utf8 i k (begins_boundary bytes utf8 i (omega arith) (λ _. leads)) (omega (arith, one))
+  where
+    marked : (trails : Bool) → 0 < cond (not trails) 1 0 → (trails ≡ false) × (◌≡◌ {A = ℕ} (cond (not trails) 1 0) 1)
+    marked true none = absurd (omega arith)
+    marked false some = (refl, refl)
+
+-- where the text begins no more than k characters, the k-th ends with the text
+pub char_past : (bytes : List ℕ) → IsUtf8 bytes → (k : ℕ) → passing_before is_leading bytes (length bytes) ≤ k
+    → length bytes ≡ to_byte_idx Chars (chars bytes) k
+char_past bytes utf8 k at_most =
+    elim (cases_lt (passing_before is_leading bytes (length bytes)) k) [
+      | inr all ↦ boundary_of_char bytes utf8 (length bytes) k (boundary_at_end bytes utf8) (omega arith)
+      | inl fewer ↦ sym (end_at-past Chars (chars bytes) k
+          (omega (
+            arith,
+            leading_at_boundary bytes utf8 (length bytes) (boundary_at_end bytes utf8),
+            ap (count Chars)
+                (cut_all (chars bytes) (length bytes) (omega (arith, size-chars bytes utf8))),
+          )) ∙ size-chars bytes utf8)
+    ]
+
+-- a chunk has as many leading bytes as its trailing bytes leave
+pub leading_in_chunk : (text seen : List ℕ) (at size added : ℕ) → seen ≡ text
+    → passing_before is_trailing seen (at + size) ≡ passing_before is_trailing seen at + added
+    → passing_before is_leading text (at + size) + added ≡ passing_before is_leading text at + size
+leading_in_chunk text seen at size added same counted =
+    let before = ap (λ t. passing_before is_trailing t at) same in
+    let behind = ap (λ t. passing_before is_trailing t (at + size)) same in
+    omega (arith, passing_or_not is_trailing text at, passing_or_not is_trailing text (at + size))
+
+-- where a walk stops at or before the end of the text, it is where the k-th character ends
+pub char_reached : (text seen : List ℕ) → seen ≡ text → IsUtf8 text → (at k n count : ℕ) → n ≡ length text → at ≤ n
+    → count ≡ passing_before is_leading seen at → count ≤ k → (at < n → k < passing_before is_leading seen (at + 1))
+    → at ≡ to_byte_idx Chars (chars text) k
+char_reached text seen same utf8 at k n count whole within counted at_most stopped =
+    let here = ap (λ t. passing_before is_leading t at) same in
+    let behind = ap (λ t. passing_before is_leading t (at + 1)) same in
+    elim (cases_lt at n) [
+      | inl inside ↦ char_found text utf8 at k (omega arith) (omega arith) (omega (arith, stopped inside))
+      | inr past ↦ let end : at ≡ length text = omega arith in end
+          ∙ char_past text utf8 k (omega (arith, ap (passing_before is_leading text) end))
+    ]
+
+-- four bytes in a row begin a character
+four_bytes : (bytes : List ℕ) → IsUtf8 bytes → (i : ℕ) → i + 4 ≤ length bytes
+    → passing_before is_leading bytes i < passing_before is_leading bytes (i + 4)
+four_bytes bytes utf8 i within =
+    let (m, le, lt, leads) = leading_among_four bytes utf8 i within in
+    let f = λ (j : ℕ). mark is_leading (get_or bytes j 0) in
+    let here : passing_before is_leading bytes (m + 1) ≡ passing_before is_leading bytes m + mark is_leading
+    (get_or bytes m 0) = ap (passing_before is_leading bytes) (add-one m) in
+    let one : ◌≡◌ {A = ℕ} (mark is_leading (get_or bytes m 0)) 1 = rw leads in
+    omega (arith, here, one, sum_below-le-sum_below f i m le, sum_below-le-sum_below f (m + 1) (i + 4) (omega arith))
+
+-- what is counted grows by at least one at each leading byte
+abbrev pub CountsLeading : (List ℕ → ℕ → ℕ) → Type 0
+CountsLeading counted = (bytes : List ℕ) (m n : ℕ) → m ≤ n
+    → passing_before is_leading bytes n + counted bytes m ≤ passing_before is_leading bytes m + counted bytes n
+
+-- Where less than a chunk is left, or what the chunk at `at` counts reaches k, a place with at most k counted before
+-- it is less
+-- than four bytes behind the chunk.
+pub end_is_near : (counted : List ℕ → ℕ → ℕ) → CountsLeading counted → (text led seen : List ℕ) → led ≡ text
+    → seen ≡ text → IsUtf8 text → (at size k end : ℕ) → (length led < at + size) ⊎ (k ≤ counted led (at + size))
+    → end ≤ length text → counted seen end ≤ k → end < at + size + 4
+end_is_near counted leads text led seen same same' utf8 at size k end stopped within at_most =
+    let last = ap (λ t. counted t end) same' in
+    elim stopped [
+      | inl short ↦ omega (arith, ap length same)
+      | inr reaches ↦ elim (cases_lt end (at + size + 4)) [
+        | inl near ↦ near
+        | inr far ↦
+            let more = four_bytes text utf8 (at + size) (omega arith) in
+            let chunk = ap (λ t. counted t (at + size)) same in
+            let f = λ (j : ℕ). mark is_leading (get_or text j 0) in
+            absurd (omega (
+              arith,
+              leads text (at + size) end (omega arith),
+              sum_below-le-sum_below f (at + size + 4)
+                  end far,
+            ))
+      ]
+    ]

@@ -1,0 +1,48 @@
+-- How many bytes a text takes, by its parts, and what stands before each of two places where it is split.
+use Rattle.std.proofs.Common.{◌≡◌, ℕ, ◌+◌, List, ◌∷◌, ◌++◌, ◌≤◌, ◌⊎◌, inl, inr, [], refl, arith, sym, ◌∙◌, ap}
+use Rattle.std.specs.Char.{len_utf8}
+use Rattle.std.proofs.lemmas.List.Sums.{sum_by-cons, sum_by-append}
+use Rattle.str_indices.specs.Text.{size}
+use Rattle.std.specs.Prelude.{sum_by}
+use Rattle.str_indices.specs.Relations.{IsBoundary}
+
+-- a text takes the bytes of its first character and those of the rest
+pub size-cons : (c : ℕ) (cs : List ℕ) → size (c ∷ cs) ≡ len_utf8 c + size cs
+size-cons c cs = sum_by-cons len_utf8 c cs
+
+-- two texts, one after the other, take the bytes of both
+pub size-append : (a b : List ℕ) → size (a ++ b) ≡ size a + size b
+size-append a b = sum_by-append len_utf8 a b
+
+-- of two beginnings of one text, a and front, either front goes on from a, or a goes on from front, with the
+-- character c that is next
+compare_splits : (a b front : List ℕ) (c : ℕ) (back : List ℕ) → a ++ b ≡ front ++ c ∷ back
+    → ((rest : List ℕ) × (front ≡ a ++ rest)) ⊎ ((rest : List ℕ) × (a ≡ front ++ c ∷ rest))
+compare_splits [] b front c back same = inl (front, refl)
+compare_splits (x ∷ a) b [] c back same = let first : x ≡ c = cc in inr (a, ap (λ y. y ∷ a) first)
+compare_splits (x ∷ a) b (y ∷ front) c back same =
+    let first : x ≡ y = cc in
+    let others : a ++ b ≡ front ++ c ∷ back = cc in
+    elim (compare_splits a b front c back others) [
+      | inl shorter ↦ let goes_on = shorter.1 in inl (shorter.0, cc)
+      | inr longer ↦ let goes_on = longer.1 in inr (longer.0, cc)
+    ]
+
+-- A boundary is at or before the place where a character begins, and no more is before it than there, or it is at or
+-- behind the
+-- place where the character ends, and no less is before it than there.
+pub boundary_beside : (w : ℕ → ℕ) (cs front : List ℕ) (c : ℕ) (back : List ℕ) → cs ≡ front ++ c ∷ back
+    → (p : ℕ) (at : IsBoundary cs p)
+    → ((p ≤ size front) × (sum_by w at.front ≤ sum_by w front)) ⊎ ((size front + len_utf8 c ≤ p) × (sum_by w
+    front + w c ≤ sum_by w at.front))
+boundary_beside w cs front c back split p at =
+    elim (compare_splits at.front at.back front c back (sym at.split ∙ split)) [
+      | inl shorter ↦
+          let sizes = ap size shorter.1 ∙ size-append at.front shorter.0 in
+          let sums = ap (sum_by w) shorter.1 ∙ sum_by-append w at.front shorter.0 in
+          inl (omega (arith, at.place), omega arith)
+      | inr longer ↦
+          let sizes = ap size longer.1 ∙ size-append front (c ∷ longer.0) in
+          let sums = ap (sum_by w) longer.1 ∙ sum_by-append w front (c ∷ longer.0) in
+          inr (omega (arith, at.place, size-cons c longer.0), omega (arith, sum_by-cons w c longer.0))
+    ]
