@@ -4,6 +4,7 @@ pub mod Relations
 pub mod Examples
 pub mod Bytes
 pub mod PassBound
+pub mod Reads
 pub mod Breaks
 pub mod SchemeGroups
 pub mod Starts

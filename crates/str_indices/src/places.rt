@@ -3,7 +3,7 @@ ghost use Rattle.std.specs.Prelude.{◌≡◌, ◌≤◌, ◌+◌, ℕ, chars, l
 ghost use Rattle.str_indices.specs.Text.{size, cut};
 ghost use Rattle.str_indices.specs.Bytes.{byte_before, is_carriage_return, is_middle};
 ghost use Rattle.str_indices.specs.Relations.{IsBoundary};
-ghost use Rattle.str_indices.specs.PassBound.{Peeks, PeeksBack, RisesWithin};
+ghost use Rattle.str_indices.specs.Reads.{Reads};
 
 use crate::chars::is_trailing_byte;
 use byte_chunk::{ByteChunk, Probe};
@@ -25,9 +25,8 @@ pub(crate) fn boundary_at_or_before<T: ByteChunk>(
 ) -> usize
     ensures boundary { result ≡ size (cut (chars probe.old.text) byte_idx) }
     ensures within { result ≤ min byte_idx (length probe.old.text) }
-    ensures peeked { probe.new ≡ record probe.old { peeks = probe.new.peeks } }
-    ensures peeks { RisesWithin probe.old.peeks probe.new.peeks 3 }
-    ensures peeks_once { byte_idx ≤ result → probe.new.peeks ≤ probe.old.peeks + 1 }
+    ensures reads { Reads probe.old probe.new 0 0 0 3 }
+    ensures reads_once { byte_idx ≤ result → Reads probe.old probe.new 0 0 0 1 }
 {
     let len = probe.len();
     if byte_idx >= len {
@@ -47,7 +46,7 @@ pub(crate) fn boundary_at_or_before<T: ByteChunk>(
 pub(crate) fn follows_carriage_return<T: ByteChunk>(probe: &mut Probe<'_, T>, at: usize) -> bool
     requires { at ≤ length probe.old.text }
     ensures follows { result ≡ is_carriage_return (byte_before probe.old.text at) }
-    ensures peeked { PeeksBack probe.old probe.new at }
+    ensures reads { Reads probe.old probe.new 0 0 0 (min at 1) }
 {
     if at == 0 {
         return false;
@@ -58,8 +57,7 @@ pub(crate) fn follows_carriage_return<T: ByteChunk>(probe: &mut Probe<'_, T>, at
 /// Whether a byte index does not stand between CR and LF, by at most two peeks.
 pub(crate) fn is_not_crlf_middle<T: ByteChunk>(probe: &mut Probe<'_, T>, byte_idx: usize) -> bool
     ensures middle { result ≡ not (is_middle probe.old.text byte_idx) }
-    ensures peeked { probe.new ≡ record probe.old { peeks = probe.new.peeks } }
-    ensures peeks { RisesWithin probe.old.peeks probe.new.peeks 2 }
+    ensures reads { Reads probe.old probe.new 0 0 0 2 }
 {
     if byte_idx >= probe.len() || probe.peek(byte_idx) != b'\n' {
         return true;
@@ -74,7 +72,7 @@ pub(crate) fn boundary_at_or_after<T: ByteChunk>(probe: &mut Probe<'_, T>, byte_
     ensures least { (p : ℕ) → IsBoundary (chars probe.old.text) p → byte_idx ≤ p → result ≤ p }
     ensures reached { (byte_idx ≤ result) × (result ≤ length probe.old.text) }
     ensures near { result ≤ byte_idx + 3 }
-    ensures peeks { Peeks probe.old probe.new 3 }
+    ensures reads { Reads probe.old probe.new 0 0 0 3 }
 {
     let len = probe.len();
     let mut boundary = byte_idx;
