@@ -1,15 +1,16 @@
 //! Index by chars: the Unicode scalar values of a text (the Unicode Standard, chapter 3).
-ghost use Rattle.std.specs.Prelude.{◌≡◌, ◌+◌, ◌-◌, ◌/◌, ◌<◌, ◌≤◌, ◌⊎◌, ℕ, chars, length, map, min};
+ghost use Rattle.std.specs.Prelude.{◌≡◌, ◌+◌, ◌-◌, ◌/◌, ◌<◌, ◌≤◌, ◌⊎◌, chars, length, min};
 ghost use Rattle.str_indices.specs.Text.{cut};
 ghost use Rattle.str_indices.specs.Schemes.{count, from_byte_idx, to_byte_idx, Chars};
 ghost use Rattle.str_indices.specs.Relations.{IsBoundary};
-ghost use Rattle.str_indices.specs.Bytes.{mark, passing_before, is_trailing, is_leading};
-ghost use Rattle.str_indices.specs.PassBound.{PassBound, LoadsChunks, RisesWithin, leading_bytes, pass_turns, pass_loads};
+ghost use Rattle.str_indices.specs.Bytes.{passing_before, is_leading};
+ghost use Rattle.str_indices.specs.Reads.{Reads, leading_bytes, pass_turns, pass_loads};
 
 #[cfg(test)]
 mod tests;
 
-use crate::counting::{ByteTest, count_in_chunk, count_passing};
+use crate::bytes::{TrailingBytes, is_leading_byte};
+use crate::counting::{count_in_chunk, count_passing};
 use crate::places::{Position, boundary_at_or_before};
 use byte_chunk::{ByteChunk, Chunk, Probe};
 
@@ -46,7 +47,7 @@ pub fn count_impl<T: ByteChunk>(probe: &mut Probe<'_, T>, end: usize, lead: usiz
     requires boundary { IsBoundary (chars probe.old.text) end }
     ensures count { result ≡ count Chars (cut (chars probe.old.text) end) }
     ensures text { probe.new.text ≡ probe.old.text }
-    ensures pass { PassBound probe.old probe.new (leading_bytes lead end)
+    ensures pass { Reads probe.old probe.new (leading_bytes lead end)
         (pass_turns T.SIZE lead end) (pass_loads T.SIZE lead end) 0 }
 {
     prove!(end <= probe.len());
@@ -64,7 +65,7 @@ pub fn from_byte_idx_impl<T: ByteChunk>(
     ensures answer { result ≡ from_byte_idx Chars (chars probe.old.text) byte_idx }
     ensures text { probe.new.text ≡ probe.old.text }
     ensures pass { let n = min byte_idx (length probe.old.text) in
-        PassBound probe.old probe.new (leading_bytes lead n) (pass_turns T.SIZE lead n) (pass_loads T.SIZE lead n) 3 }
+        Reads probe.old probe.new (leading_bytes lead n) (pass_turns T.SIZE lead n) (pass_loads T.SIZE lead n) 3 }
 {
     let end = boundary_at_or_before(probe, byte_idx);
     count_impl(probe, end, lead)
@@ -77,7 +78,7 @@ pub fn to_byte_idx_impl<T: ByteChunk>(probe: &mut Probe<'_, T>, idx: usize, lead
     ensures answer { result ≡ to_byte_idx Chars (chars probe.old.text) idx }
     ensures text { probe.new.text ≡ probe.old.text }
     ensures pass { let n = length probe.old.text in
-        PassBound probe.old probe.new (leading_bytes lead n) (pass_turns T.SIZE lead n) (result / T.SIZE + 5) 3 }
+        Reads probe.old probe.new (leading_bytes lead n) (pass_turns T.SIZE lead n) (result / T.SIZE + 5) 3 }
 {
     let len = probe.len();
     let first_chunk = lead.min(len);
@@ -105,8 +106,7 @@ fn walk_to_char<T: ByteChunk>(
     ensures counted { result.count ≡ passing_before is_leading probe.old.text result.byte }
     ensures at_most { result.count ≤ idx }
     ensures stopped { result.byte < to → idx < passing_before is_leading probe.old.text (result.byte + 1) }
-    ensures turns { (n : ℕ) × (probe.new ≡ record probe.old { turns = probe.old.turns + n })
-        × (n ≤ result.byte + 1 - from.byte) × (n ≤ to - from.byte) }
+    ensures reads { Reads probe.old probe.new 0 (min (result.byte + 1 - from.byte) (to - from.byte)) 0 0 }
 {
     let mut at = from;
     while at.byte < to {
@@ -136,7 +136,7 @@ fn skip_chunks<T: ByteChunk>(probe: &mut Probe<'_, T>, from: Position, idx: usiz
     ensures at_most { result.count ≤ idx }
     ensures stopped { (length probe.old.text < result.byte + T.SIZE)
         ⊎ (idx ≤ passing_before is_leading probe.old.text (result.byte + T.SIZE)) }
-    ensures loads { (to : ℕ) × (to ≤ result.byte + T.SIZE) × LoadsChunks probe.old probe.new T.SIZE from.byte to }
+    ensures reads { Reads probe.old probe.new from.byte 0 ((result.byte - from.byte) / T.SIZE + 1) 0 }
 {
     let len = probe.len();
     let mut at = from;
@@ -151,39 +151,4 @@ fn skip_chunks<T: ByteChunk>(probe: &mut Probe<'_, T>, from: Position, idx: usiz
         };
     }
     at
-}
-
-/// The bytes that do not begin their char.
-struct TrailingBytes;
-
-impl ByteTest for TrailingBytes {
-    ghost passes = { is_trailing };
-
-    fn passes_byte(byte: u8) -> bool {
-        is_trailing_byte(byte)
-    }
-
-    fn passing_lanes<T: ByteChunk>(chunk: T) -> T {
-        count_trailing_chunk(chunk)
-    }
-}
-
-pub(crate) fn is_leading_byte(byte: u8) -> bool
-    ensures { result ≡ is_leading byte }
-{
-    byte & 0xC0 != 0x80
-}
-
-pub(crate) fn is_trailing_byte(byte: u8) -> bool
-    ensures { result ≡ is_trailing byte }
-{
-    byte & 0xC0 == 0x80
-}
-
-/// 1 in each lane that is a trailing byte.
-pub(crate) fn count_trailing_chunk<T: ByteChunk>(chunk: T) -> T
-    requires { length (T.lanes chunk) ≡ T.SIZE }
-    ensures { T.lanes result ≡ map (mark is_trailing) (T.lanes chunk) }
-{
-    chunk.bitand(T::splat(0xC0)).cmp_eq_byte(0x80)
 }

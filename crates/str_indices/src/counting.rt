@@ -1,23 +1,11 @@
 //! Counts the bytes of a text that pass a test: leading bytes one by one, then whole chunks, then the rest one by one.
-ghost use Rattle.std.specs.Prelude.{◌≡◌, ℕ, ◌+◌, ◌-◌, ◌<◌, ◌≤◌, Bool, length, map, min};
-ghost use Rattle.str_indices.specs.Bytes.{mark, passing_before};
-ghost use Rattle.str_indices.specs.PassBound.{PassBound, LoadsChunks, leading_bytes, pass_turns, pass_loads};
+ghost use Rattle.std.specs.Prelude.{◌≡◌, ◌+◌, ◌-◌, ◌/◌, ◌<◌, ◌≤◌, length};
+ghost use Rattle.str_indices.specs.Bytes.{passing_before};
+ghost use Rattle.str_indices.specs.Reads.{Reads, leading_bytes, pass_turns, pass_loads};
 
+use crate::bytes::ByteTest;
+use crate::places::Position;
 use byte_chunk::{ByteChunk, Probe};
-
-/// A test of one byte, and of all lanes of a chunk at once.
-pub(crate) trait ByteTest {
-    ghost passes: { ℕ → Bool };
-
-    /// Whether the byte passes.
-    fn passes_byte(byte: u8) -> bool
-        ensures { result ≡ passes byte };
-
-    /// 1 in each lane whose byte passes, and 0 in the others.
-    fn passing_lanes<T: ByteChunk>(chunk: T) -> T
-        requires { length (T.lanes chunk) ≡ T.SIZE }
-        ensures { T.lanes result ≡ map (mark passes) (T.lanes chunk) };
-}
 
 /// Counts the first `end` bytes that pass, of which `lead` are walked one by one before the first chunk.
 pub(crate) fn count_passing<B: ByteTest, T: ByteChunk>(
@@ -27,75 +15,60 @@ pub(crate) fn count_passing<B: ByteTest, T: ByteChunk>(
 ) -> usize
     requires { end ≤ length probe.old.text }
     ensures counted { result ≡ passing_before B.passes probe.old.text end }
-    ensures few { result ≤ end }
-    ensures text { probe.new.text ≡ probe.old.text }
-    ensures pass { PassBound probe.old probe.new (leading_bytes lead end)
+    ensures reads { Reads probe.old probe.new (leading_bytes lead end)
         (pass_turns T.SIZE lead end) (pass_loads T.SIZE lead end) 0 }
 {
-    let first_chunk = lead.min(end);
-    let leading = count_in_bytes::<B, T>(probe, 0, first_chunk);
-    let chunks = count_in_chunks::<B, T>(probe, first_chunk, end);
-    let rest = count_in_bytes::<B, T>(probe, chunks.end, end);
-    leading + chunks.passing + rest
+    let start = Position { byte: 0, count: 0 };
+    let led = count_in_bytes::<B, T>(probe, start, lead.min(end));
+    let chunked = count_in_chunks::<B, T>(probe, led, end);
+    count_in_bytes::<B, T>(probe, chunked, end).count
 }
 
-/// How many bytes of some chunks pass, and where the last chunk ends.
-#[derive(Clone, Copy)]
-struct ChunkCount {
-    passing: usize,
-    end: usize,
-}
-
-/// Counts in the whole chunks from `from` on that end at or before `end`.
+/// Counts in the whole chunks from a position on that end at or before `end`.
 fn count_in_chunks<B: ByteTest, T: ByteChunk>(
     probe: &mut Probe<'_, T>,
-    from: usize,
+    from: Position,
     end: usize,
-) -> ChunkCount
-    requires ordered { from ≤ end }
+) -> Position
+    requires ordered { from.byte ≤ end }
     requires within { end ≤ length probe.old.text }
-    ensures reached { (from ≤ result.end) × (result.end ≤ end) × (end < result.end + T.SIZE) }
-    ensures counted { passing_before B.passes probe.old.text result.end
-        ≡ passing_before B.passes probe.old.text from + result.passing }
-    ensures few { result.passing ≤ result.end - from }
-    ensures loads { LoadsChunks probe.old probe.new T.SIZE from result.end }
+    requires counted { from.count ≡ passing_before B.passes probe.old.text from.byte }
+    ensures reached { (from.byte ≤ result.byte) × (result.byte ≤ end) × (end < result.byte + T.SIZE) }
+    ensures counted { result.count ≡ passing_before B.passes probe.old.text result.byte }
+    ensures reads { Reads probe.old probe.new from.byte 0 ((result.byte - from.byte) / T.SIZE) 0 }
 {
-    let mut passing = 0;
     let mut at = from;
-    'rounds: while T::SIZE <= end - at {
-        let round = count_round::<B, T>(probe, at, end);
-        passing += round.passing;
-        at = round.end;
+    'rounds: while T::SIZE <= end - at.byte {
+        at = count_round::<B, T>(probe, at, end);
     }
-    ChunkCount { passing, end: at }
+    at
 }
 
-/// Counts in at most `MAX_ACC` of these chunks, from `from` on: their lanes are added, and summed once.
+/// Counts in at most `MAX_ACC` of these chunks: their lanes are added, and summed once.
 fn count_round<B: ByteTest, T: ByteChunk>(
     probe: &mut Probe<'_, T>,
-    from: usize,
+    from: Position,
     end: usize,
-) -> ChunkCount
-    requires ordered { from ≤ end }
+) -> Position
+    requires ordered { from.byte ≤ end }
     requires within { end ≤ length probe.old.text }
-    ensures reached { (from ≤ result.end) × (result.end ≤ end) }
-    ensures goes_on { from + T.SIZE ≤ end → from + T.SIZE ≤ result.end }
-    ensures counted { passing_before B.passes probe.old.text result.end
-        ≡ passing_before B.passes probe.old.text from + result.passing }
-    ensures few { result.passing ≤ result.end - from }
-    ensures loads { LoadsChunks probe.old probe.new T.SIZE from result.end }
+    requires counted { from.count ≡ passing_before B.passes probe.old.text from.byte }
+    ensures reached { (from.byte ≤ result.byte) × (result.byte ≤ end) }
+    ensures goes_on { from.byte + T.SIZE ≤ end → from.byte + T.SIZE ≤ result.byte }
+    ensures counted { result.count ≡ passing_before B.passes probe.old.text result.byte }
+    ensures reads { Reads probe.old probe.new from.byte 0 ((result.byte - from.byte) / T.SIZE) 0 }
 {
     let mut acc = T::zero();
     let mut rounds = 0;
-    let mut at = from;
+    let mut at = from.byte;
     'chunks: while rounds < T::MAX_ACC && T::SIZE <= end - at {
         acc = acc.add(B::passing_lanes(probe.load(at)));
         at += T::SIZE;
         rounds += 1;
     }
-    ChunkCount {
-        passing: acc.sum_bytes(),
-        end: at,
+    Position {
+        byte: at,
+        count: from.count + acc.sum_bytes(),
     }
 }
 
@@ -107,30 +80,29 @@ pub(crate) fn count_in_chunk<B: ByteTest, T: ByteChunk>(
     requires { at + T.SIZE ≤ length probe.old.text }
     ensures counted { passing_before B.passes probe.old.text (at + T.SIZE)
         ≡ passing_before B.passes probe.old.text at + result }
-    ensures few { result ≤ T.SIZE }
-    ensures load { probe.new ≡ record probe.old { loads = probe.old.loads + 1; low = min probe.old.low at } }
+    ensures reads { Reads probe.old probe.new at 0 1 0 }
 {
     B::passing_lanes(probe.load(at)).sum_bytes()
 }
 
-/// Counts from the byte `from` to before `to`, one turn each.
+/// Counts from a position on in the bytes before `to`, one turn each.
 fn count_in_bytes<B: ByteTest, T: ByteChunk>(
     probe: &mut Probe<'_, T>,
-    from: usize,
+    from: Position,
     to: usize,
-) -> usize
-    requires ordered { from ≤ to }
+) -> Position
+    requires ordered { from.byte ≤ to }
     requires within { to ≤ length probe.old.text }
-    ensures counted { passing_before B.passes probe.old.text to
-        ≡ passing_before B.passes probe.old.text from + result }
-    ensures few { result ≤ to - from }
-    ensures turns { probe.new ≡ record probe.old { turns = probe.old.turns + (to - from) } }
+    requires counted { from.count ≡ passing_before B.passes probe.old.text from.byte }
+    ensures reached { result.byte ≡ to }
+    ensures counted { result.count ≡ passing_before B.passes probe.old.text to }
+    ensures reads { Reads probe.old probe.new 0 (to - from.byte) 0 0 }
 {
-    let mut passing = 0;
-    for i in from..to {
+    let mut count = from.count;
+    for i in from.byte..to {
         if B::passes_byte(probe.turn(i)) {
-            passing += 1;
+            count += 1;
         }
     }
-    passing
+    Position { byte: to, count }
 }

@@ -6,17 +6,14 @@ ghost use Rattle.std.specs.Prelude.{◌≡◌, ◌+◌, ◌-◌, ◌/◌, ◌<�
 ghost use Rattle.str_indices.specs.Text.{cut};
 ghost use Rattle.str_indices.specs.Schemes.{count, from_byte_idx, to_byte_idx, Crlf};
 ghost use Rattle.str_indices.specs.Bytes.{mark, is_carriage_return, byte_before, starts_break, breaks_before, is_middle};
-ghost use Rattle.str_indices.specs.PassBound.{PassBound, LoadsChunks, RisesWithin, leading_bytes, pass_turns, pass_loads};
+ghost use Rattle.str_indices.specs.Reads.{Reads, leading_bytes, pass_turns, pass_loads};
 
+use crate::bytes::{CR, LF};
 use crate::places::{Position, follows_carriage_return, is_not_crlf_middle};
 use byte_chunk::{ByteChunk, Chunk, Probe};
 
 #[cfg(test)]
 mod tests;
-
-const LF: u8 = b'\n';
-
-const CR: u8 = b'\r';
 
 /// How many line breaks the text has: LF, CR and CRLF, which is one break.
 ///
@@ -54,17 +51,16 @@ pub fn count_breaks_impl<T: ByteChunk>(probe: &mut Probe<'_, T>, end: usize, lea
     requires within { end ≤ length probe.old.text }
     ensures count { result ≡ count Crlf (cut (chars probe.old.text) end) }
     ensures text { probe.new.text ≡ probe.old.text }
-    ensures pass { PassBound probe.old probe.new (leading_bytes lead end)
+    ensures pass { Reads probe.old probe.new (leading_bytes lead end)
         (pass_turns T.SIZE lead end) (pass_loads T.SIZE lead end) 0 }
 {
     prove!(end <= probe.len());
-    let first_chunk = lead.min(end);
-    let leading = count_in_bytes(probe, 0, first_chunk, false);
-    let follows_return = follows_carriage_return(probe, first_chunk);
-    let chunks = count_in_chunks(probe, first_chunk, end, follows_return);
-    let follows_return = follows_carriage_return(probe, chunks.end);
-    let rest = count_in_bytes(probe, chunks.end, end, follows_return);
-    leading + chunks.breaks + rest
+    let start = Position { byte: 0, count: 0 };
+    let led = count_in_bytes(probe, start, lead.min(end), false);
+    let follows_return = follows_carriage_return(probe, led.byte);
+    let chunked = count_in_chunks(probe, led, end, follows_return);
+    let follows_return = follows_carriage_return(probe, chunked.byte);
+    count_in_bytes(probe, chunked, end, follows_return).count
 }
 
 /// Converts a byte index to a line index, over chunks of any type, after `lead` bytes that are walked one by one.
@@ -76,7 +72,7 @@ pub fn from_byte_idx_impl<T: ByteChunk>(
     ensures answer { result ≡ from_byte_idx Crlf (chars probe.old.text) byte_idx }
     ensures text { probe.new.text ≡ probe.old.text }
     ensures pass { let n = min byte_idx (length probe.old.text) in
-        PassBound probe.old probe.new (leading_bytes lead n) (pass_turns T.SIZE lead n) (pass_loads T.SIZE lead n) 3 }
+        Reads probe.old probe.new (leading_bytes lead n) (pass_turns T.SIZE lead n) (pass_loads T.SIZE lead n) 3 }
 {
     let end = byte_idx.min(probe.len());
     let is_whole = is_not_crlf_middle(probe, end);
@@ -89,7 +85,7 @@ pub fn to_byte_idx_impl<T: ByteChunk>(probe: &mut Probe<'_, T>, idx: usize, lead
     ensures answer { result ≡ to_byte_idx Crlf (chars probe.old.text) idx }
     ensures text { probe.new.text ≡ probe.old.text }
     ensures pass { let n = length probe.old.text in
-        PassBound probe.old probe.new (leading_bytes lead n) (pass_turns T.SIZE lead n) (result / T.SIZE + 5) 3 }
+        Reads probe.old probe.new (leading_bytes lead n) (pass_turns T.SIZE lead n) (result / T.SIZE + 5) 3 }
 {
     let len = probe.len();
     let first_chunk = lead.min(len);
@@ -118,12 +114,11 @@ fn walk_to_line<T: ByteChunk>(
     requires within { to ≤ length probe.old.text }
     requires counted { from.count ≡ breaks_before probe.old.text from.byte }
     requires at_most { from.count ≤ idx }
-    requires first { (d : ℕ) → d < from.byte → breaks_before probe.old.text d < idx }
     requires follows { follows_return ≡ is_carriage_return (byte_before probe.old.text from.byte) }
     ensures reached { (from.byte ≤ result.byte) × (result.byte ≤ to) }
     ensures counted { result.count ≡ breaks_before probe.old.text result.byte }
     ensures at_most { result.count ≤ idx }
-    ensures first { (d : ℕ) → d < result.byte → breaks_before probe.old.text d < idx }
+    ensures first { (d : ℕ) → from.byte ≤ d → d < result.byte → breaks_before probe.old.text d < idx }
     ensures stopped { result.byte < to → result.count ≡ idx }
     ensures turns { probe.new ≡ record probe.old { turns = probe.old.turns + (result.byte - from.byte) } }
 {
@@ -156,13 +151,13 @@ fn skip_chunks<T: ByteChunk>(
     ensures below { result.count < idx }
     ensures stopped { (length probe.old.text < result.byte + T.SIZE)
         ⊎ (idx ≤ breaks_before probe.old.text (result.byte + T.SIZE)) }
-    ensures loads { (to : ℕ) × (to ≤ result.byte + T.SIZE) × LoadsChunks probe.old probe.new T.SIZE from.byte to }
+    ensures reads { Reads probe.old probe.new from.byte 0 ((result.byte - from.byte) / T.SIZE + 1) 0 }
 {
     let len = probe.len();
     let mut at = from;
     let mut returns = T::splat(u8::from(follows_return));
     'chunks: while T::SIZE <= len - at.byte {
-        let chunk = count_in_chunk(probe, at.byte, returns);
+        let chunk = count_starts_in_chunk(probe, at.byte, returns);
         let count = at.count + chunk.breaks;
         if count >= idx {
             break;
@@ -180,8 +175,7 @@ fn skip_chunks<T: ByteChunk>(
 fn behind_crlf<T: ByteChunk>(probe: &mut Probe<'_, T>, place: usize) -> usize
     requires { place ≤ length probe.old.text }
     ensures behind { result ≡ place + mark (is_middle probe.old.text) place }
-    ensures peeked { probe.new ≡ record probe.old { peeks = probe.new.peeks } }
-    ensures peeks { RisesWithin probe.old.peeks probe.new.peeks 2 }
+    ensures reads { Reads probe.old probe.new 0 0 0 2 }
 {
     if is_not_crlf_middle(probe, place) {
         place
@@ -191,39 +185,35 @@ fn behind_crlf<T: ByteChunk>(probe: &mut Probe<'_, T>, place: usize) -> usize
     }
 }
 
-/// How many breaks start in some chunks, and where the last chunk ends.
-#[derive(Clone, Copy)]
-struct ChunkCount {
-    breaks: usize,
-    end: usize,
-}
-
-/// Counts the breaks that start in the whole chunks from `from` on that end at or before `end`.
-/// `follows_return` is whether the byte before `from` is CR.
+/// Counts the breaks that start in the whole chunks from a position on that end at or before `end`.
+/// `follows_return` is whether the byte before the position is CR.
 fn count_in_chunks<T: ByteChunk>(
     probe: &mut Probe<'_, T>,
-    from: usize,
+    from: Position,
     end: usize,
     follows_return: bool,
-) -> ChunkCount
-    requires ordered { from ≤ end }
+) -> Position
+    requires ordered { from.byte ≤ end }
     requires within { end ≤ length probe.old.text }
-    requires follows { follows_return ≡ is_carriage_return (byte_before probe.old.text from) }
-    ensures reached { (from ≤ result.end) × (result.end ≤ end) × (end < result.end + T.SIZE) }
-    ensures counted { breaks_before probe.old.text result.end ≡ breaks_before probe.old.text from + result.breaks }
-    ensures few { result.breaks ≤ result.end - from }
-    ensures loads { LoadsChunks probe.old probe.new T.SIZE from result.end }
+    requires counted { from.count ≡ breaks_before probe.old.text from.byte }
+    requires follows { follows_return ≡ is_carriage_return (byte_before probe.old.text from.byte) }
+    ensures reached { (from.byte ≤ result.byte) × (result.byte ≤ end) × (end < result.byte + T.SIZE) }
+    ensures counted { result.count ≡ breaks_before probe.old.text result.byte }
+    ensures loaded { probe.old.loads + min 1 (result.byte - from.byte) ≤ probe.new.loads }
+    ensures unpeeked { probe.new.peeks ≡ probe.old.peeks }
+    ensures reads { Reads probe.old probe.new from.byte 0 ((result.byte - from.byte) / T.SIZE) 0 }
 {
-    let mut breaks = 0;
     let mut at = from;
     let mut returns = T::splat(u8::from(follows_return));
-    'chunks: while T::SIZE <= end - at {
-        let chunk = count_in_chunk(probe, at, returns);
-        breaks += chunk.breaks;
-        at += T::SIZE;
+    'chunks: while T::SIZE <= end - at.byte {
+        let chunk = count_starts_in_chunk(probe, at.byte, returns);
+        at = Position {
+            byte: at.byte + T::SIZE,
+            count: at.count + chunk.breaks,
+        };
         returns = chunk.returns;
     }
-    ChunkCount { breaks, end: at }
+    at
 }
 
 /// How many breaks start in a chunk, and 1 in each lane that is CR.
@@ -233,11 +223,17 @@ struct ChunkBreaks<T> {
     returns: T,
 }
 
-/// Counts the breaks that start in the chunk at `at`, for one load. The last lane of `before` is 1 where the byte before the
-/// chunk is CR, else 0: in the chunk before, 1 in each lane that is CR.
-fn count_in_chunk<T: ByteChunk>(probe: &mut Probe<'_, T>, at: usize, before: T) -> ChunkBreaks<T>
+/// Counts the breaks that start in the chunk at `at`, for one load.
+///
+/// `before` is the chunk before it with 1 in each lane that is CR; only its last lane is read.
+fn count_starts_in_chunk<T: ByteChunk>(
+    probe: &mut Probe<'_, T>,
+    at: usize,
+    before: T,
+) -> ChunkBreaks<T>
     requires within { at + T.SIZE ≤ length probe.old.text }
-    requires carried { drop (T.SIZE - 1) (T.lanes before) ≡ mark is_carriage_return (byte_before probe.old.text at) ∷ [] }
+    requires carried { drop (T.SIZE - 1) (T.lanes before)
+        ≡ mark is_carriage_return (byte_before probe.old.text at) ∷ [] }
     ensures counted { breaks_before probe.old.text (at + T.SIZE) ≡ breaks_before probe.old.text at + result.breaks }
     ensures few { result.breaks ≤ T.SIZE }
     ensures carried { drop (T.SIZE - 1) (T.lanes result.returns)
@@ -254,33 +250,35 @@ fn count_in_chunk<T: ByteChunk>(probe: &mut Probe<'_, T>, at: usize, before: T) 
     }
 }
 
-/// Counts the breaks that start from the byte `from` to before `to`, one turn each.
-/// `follows_return` is whether the byte before `from` is CR.
+/// Counts from a position on the breaks that start in the bytes before `to`, one turn each.
+/// `follows_return` is whether the byte before the position is CR.
 fn count_in_bytes<T: ByteChunk>(
     probe: &mut Probe<'_, T>,
-    from: usize,
+    from: Position,
     to: usize,
     mut follows_return: bool,
-) -> usize
-    requires ordered { from ≤ to }
+) -> Position
+    requires ordered { from.byte ≤ to }
     requires within { to ≤ length probe.old.text }
-    requires follows { follows_return ≡ is_carriage_return (byte_before probe.old.text from) }
-    ensures counted { breaks_before probe.old.text to ≡ breaks_before probe.old.text from + result }
-    ensures few { result ≤ to - from }
-    ensures turns { probe.new ≡ record probe.old { turns = probe.old.turns + (to - from) } }
+    requires counted { from.count ≡ breaks_before probe.old.text from.byte }
+    requires follows { follows_return ≡ is_carriage_return (byte_before probe.old.text from.byte) }
+    ensures reached { result.byte ≡ to }
+    ensures counted { result.count ≡ breaks_before probe.old.text to }
+    ensures turns { probe.new ≡ record probe.old { turns = probe.old.turns + (to - from.byte) } }
 {
-    let mut breaks = 0;
-    for i in from..to {
+    let mut count = from.count;
+    for i in from.byte..to {
         let byte = probe.turn(i);
-        breaks += count_in_byte(byte, follows_return);
+        count += count_in_byte(byte, follows_return);
         follows_return = byte == CR;
     }
-    breaks
+    Position { byte: to, count }
 }
 
 /// How many breaks start with the byte: 1 with a CR, and with an LF that doesn't follow a CR, else 0.
 fn count_in_byte(byte: u8, follows_return: bool) -> usize
-    ensures counted { (before : ℕ) → follows_return ≡ is_carriage_return before → result ≡ mark (starts_break before) byte }
+    ensures counted { (before : ℕ) → follows_return ≡ is_carriage_return before
+        → result ≡ mark (starts_break before) byte }
     ensures few { result ≤ 1 }
 {
     usize::from(byte == CR || byte == LF && !follows_return)

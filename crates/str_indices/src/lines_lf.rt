@@ -6,9 +6,10 @@ ghost use Rattle.std.specs.Prelude.{◌≡◌, ◌+◌, ◌-◌, ◌/◌, ◌<�
 ghost use Rattle.str_indices.specs.Text.{cut};
 ghost use Rattle.str_indices.specs.Schemes.{count, from_byte_idx, to_byte_idx, Lf};
 ghost use Rattle.str_indices.specs.Bytes.{passing_before, is_line_feed};
-ghost use Rattle.str_indices.specs.PassBound.{PassBound, LoadsChunks, leading_bytes, pass_turns, pass_loads};
+ghost use Rattle.str_indices.specs.Reads.{Reads, leading_bytes, pass_turns, pass_loads};
 
-use crate::counting::{ByteTest, count_in_chunk, count_passing};
+use crate::bytes::{LF, LineFeeds};
+use crate::counting::{count_in_chunk, count_passing};
 use crate::places::Position;
 use byte_chunk::{ByteChunk, Chunk, Probe};
 
@@ -50,7 +51,7 @@ pub fn count_breaks_impl<T: ByteChunk>(probe: &mut Probe<'_, T>, end: usize, lea
     requires within { end ≤ length probe.old.text }
     ensures count { result ≡ count Lf (cut (chars probe.old.text) end) }
     ensures text { probe.new.text ≡ probe.old.text }
-    ensures pass { PassBound probe.old probe.new (leading_bytes lead end)
+    ensures pass { Reads probe.old probe.new (leading_bytes lead end)
         (pass_turns T.SIZE lead end) (pass_loads T.SIZE lead end) 0 }
 {
     prove!(end <= probe.len());
@@ -66,7 +67,7 @@ pub fn from_byte_idx_impl<T: ByteChunk>(
     ensures answer { result ≡ from_byte_idx Lf (chars probe.old.text) byte_idx }
     ensures text { probe.new.text ≡ probe.old.text }
     ensures pass { let n = min byte_idx (length probe.old.text) in
-        PassBound probe.old probe.new (leading_bytes lead n) (pass_turns T.SIZE lead n) (pass_loads T.SIZE lead n) 3 }
+        Reads probe.old probe.new (leading_bytes lead n) (pass_turns T.SIZE lead n) (pass_loads T.SIZE lead n) 3 }
 {
     let end = byte_idx.min(probe.len());
     count_breaks_impl(probe, end, lead)
@@ -77,7 +78,7 @@ pub fn to_byte_idx_impl<T: ByteChunk>(probe: &mut Probe<'_, T>, idx: usize, lead
     ensures answer { result ≡ to_byte_idx Lf (chars probe.old.text) idx }
     ensures text { probe.new.text ≡ probe.old.text }
     ensures pass { let n = length probe.old.text in
-        PassBound probe.old probe.new (leading_bytes lead n) (pass_turns T.SIZE lead n) (result / T.SIZE + 5) 3 }
+        Reads probe.old probe.new (leading_bytes lead n) (pass_turns T.SIZE lead n) (result / T.SIZE + 5) 3 }
 {
     let len = probe.len();
     let first_chunk = lead.min(len);
@@ -101,19 +102,18 @@ fn walk_to_line<T: ByteChunk>(
     requires within { to ≤ length probe.old.text }
     requires counted { from.count ≡ passing_before is_line_feed probe.old.text from.byte }
     requires at_most { from.count ≤ idx }
-    requires first { (d : ℕ) → d < from.byte → passing_before is_line_feed probe.old.text d < idx }
     ensures reached { (from.byte ≤ result.byte) × (result.byte ≤ to) }
     ensures counted { result.count ≡ passing_before is_line_feed probe.old.text result.byte }
     ensures at_most { result.count ≤ idx }
-    ensures first { (d : ℕ) → d < result.byte → passing_before is_line_feed probe.old.text d < idx }
+    ensures first { (d : ℕ) → from.byte ≤ d → d < result.byte → passing_before is_line_feed probe.old.text d < idx }
     ensures stopped { result.byte < to → result.count ≡ idx }
-    ensures turns { probe.new ≡ record probe.old { turns = probe.old.turns + (result.byte - from.byte) } }
+    ensures reads { Reads probe.old probe.new 0 (result.byte - from.byte) 0 0 }
 {
     let mut at = from;
     while at.byte < to && at.count < idx {
         at = Position {
             byte: at.byte + 1,
-            count: at.count + usize::from(LineFeeds::passes_byte(probe.turn(at.byte))),
+            count: at.count + usize::from(probe.turn(at.byte) == LF),
         };
     }
     at
@@ -129,7 +129,7 @@ fn skip_chunks<T: ByteChunk>(probe: &mut Probe<'_, T>, from: Position, idx: usiz
     ensures below { result.count < idx }
     ensures stopped { (length probe.old.text < result.byte + T.SIZE)
         ⊎ (idx ≤ passing_before is_line_feed probe.old.text (result.byte + T.SIZE)) }
-    ensures loads { (to : ℕ) × (to ≤ result.byte + T.SIZE) × LoadsChunks probe.old probe.new T.SIZE from.byte to }
+    ensures reads { Reads probe.old probe.new from.byte 0 ((result.byte - from.byte) / T.SIZE + 1) 0 }
 {
     let len = probe.len();
     let mut at = from;
@@ -144,19 +144,4 @@ fn skip_chunks<T: ByteChunk>(probe: &mut Probe<'_, T>, from: Position, idx: usiz
         };
     }
     at
-}
-
-/// The bytes that are LF.
-struct LineFeeds;
-
-impl ByteTest for LineFeeds {
-    ghost passes = { is_line_feed };
-
-    fn passes_byte(byte: u8) -> bool {
-        byte == b'\n'
-    }
-
-    fn passing_lanes<T: ByteChunk>(chunk: T) -> T {
-        chunk.cmp_eq_byte(b'\n')
-    }
 }

@@ -5,7 +5,7 @@ ghost use Rattle.str_indices.specs.Bytes.{byte_before, is_carriage_return, is_mi
 ghost use Rattle.str_indices.specs.Relations.{IsBoundary};
 ghost use Rattle.str_indices.specs.Reads.{Reads};
 
-use crate::chars::is_trailing_byte;
+use crate::bytes::{CR, LF, is_trailing_byte};
 use byte_chunk::{ByteChunk, Probe};
 
 /// A place in a text, and what a kernel counted before it.
@@ -51,7 +51,7 @@ pub(crate) fn follows_carriage_return<T: ByteChunk>(probe: &mut Probe<'_, T>, at
     if at == 0 {
         return false;
     }
-    probe.peek(at - 1) == b'\r'
+    probe.peek(at - 1) == CR
 }
 
 /// Whether a byte index does not stand between CR and LF, by at most two peeks.
@@ -59,7 +59,7 @@ pub(crate) fn is_not_crlf_middle<T: ByteChunk>(probe: &mut Probe<'_, T>, byte_id
     ensures middle { result ≡ not (is_middle probe.old.text byte_idx) }
     ensures reads { Reads probe.old probe.new 0 0 0 2 }
 {
-    if byte_idx >= probe.len() || probe.peek(byte_idx) != b'\n' {
+    if byte_idx >= probe.len() || probe.peek(byte_idx) != LF {
         return true;
     }
     !follows_carriage_return(probe, byte_idx)

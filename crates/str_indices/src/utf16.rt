@@ -1,18 +1,21 @@
 //! Index by UTF-16 code units (the Unicode Standard, chapter 3).
 //!
 //! A char that takes four bytes in UTF-8 takes a surrogate pair in UTF-16, which is two units. Each other char takes one.
-ghost use Rattle.std.specs.Prelude.{◌≡◌, ◌+◌, ◌-◌, ◌*◌, ◌/◌, ◌<◌, ◌≤◌, ◌⊎◌, ℕ, chars, length, map, min};
+ghost use Rattle.std.specs.Prelude.{◌≡◌, ◌+◌, ◌-◌, ◌*◌, ◌/◌, ◌<◌, ◌≤◌, ◌⊎◌, chars, length, min};
 ghost use Rattle.str_indices.specs.Text.{cut};
 ghost use Rattle.str_indices.specs.Schemes.{count, from_byte_idx, to_byte_idx, surrogates, Utf16};
 ghost use Rattle.str_indices.specs.Relations.{IsBoundary};
 ghost use Rattle.str_indices.specs.Bytes.{mark, units_before, is_leading, begins_four_bytes};
-ghost use Rattle.str_indices.specs.PassBound.{PassBound, LoadsChunks, RisesWithin, leading_bytes, pass_turns, pass_loads};
+ghost use Rattle.str_indices.specs.Reads.{Reads, WholeChunks, leading_bytes, pass_turns, pass_loads};
 
 #[cfg(test)]
 mod tests;
 
-use crate::chars::{self, count_trailing_chunk, is_leading_byte};
-use crate::counting::{ByteTest, count_passing};
+use crate::bytes::{
+    FourByteLeads, count_surrogates_chunk, count_trailing_chunk, is_four_byte_lead, is_leading_byte,
+};
+use crate::chars;
+use crate::counting::count_passing;
 use crate::places::{Position, boundary_at_or_before};
 use byte_chunk::{ByteChunk, Chunk, Probe};
 
@@ -54,7 +57,7 @@ pub fn count_impl<T: ByteChunk>(probe: &mut Probe<'_, T>, end: usize, lead: usiz
     requires boundary { IsBoundary (chars probe.old.text) end }
     ensures count { result ≡ count Utf16 (cut (chars probe.old.text) end) }
     ensures text { probe.new.text ≡ probe.old.text }
-    ensures pass { PassBound probe.old probe.new (leading_bytes lead end)
+    ensures pass { Reads probe.old probe.new (leading_bytes lead end)
         (2 * pass_turns T.SIZE lead end) (2 * pass_loads T.SIZE lead end) 0 }
 {
     let chars = chars::count_impl(probe, end, lead);
@@ -74,7 +77,7 @@ pub fn count_surrogates_impl<T: ByteChunk>(
     ensures count { result ≡ surrogates (cut (chars probe.old.text) end) }
     ensures text { probe.new.text ≡ probe.old.text }
     ensures pass { let first = leading_bytes lead (end - 3) in
-        PassBound probe.old probe.new first (pass_turns T.SIZE lead (end - 3)) ((end - first) / T.SIZE) 0 }
+        Reads probe.old probe.new first (pass_turns T.SIZE lead (end - 3)) ((end - first) / T.SIZE) 0 }
 {
     prove!(end <= probe.len());
     count_passing::<FourByteLeads, T>(probe, end.saturating_sub(3), lead)
@@ -89,7 +92,7 @@ pub fn from_byte_idx_impl<T: ByteChunk>(
     ensures answer { result ≡ from_byte_idx Utf16 (chars probe.old.text) byte_idx }
     ensures text { probe.new.text ≡ probe.old.text }
     ensures pass { let n = min byte_idx (length probe.old.text) in
-        PassBound probe.old probe.new (leading_bytes lead n) (2 * pass_turns T.SIZE lead n) (2 * pass_loads T.SIZE lead n) 3 }
+        Reads probe.old probe.new (leading_bytes lead n) (2 * pass_turns T.SIZE lead n) (2 * pass_loads T.SIZE lead n) 3 }
 {
     let end = boundary_at_or_before(probe, byte_idx);
     count_impl(probe, end, lead)
@@ -100,7 +103,7 @@ pub fn to_byte_idx_impl<T: ByteChunk>(probe: &mut Probe<'_, T>, idx: usize, lead
     ensures answer { result ≡ to_byte_idx Utf16 (chars probe.old.text) idx }
     ensures text { probe.new.text ≡ probe.old.text }
     ensures pass { let n = length probe.old.text in
-        PassBound probe.old probe.new (leading_bytes lead n) (pass_turns T.SIZE lead n) (result / T.SIZE + 5) 3 }
+        Reads probe.old probe.new (leading_bytes lead n) (pass_turns T.SIZE lead n) (result / T.SIZE + 5) 3 }
 {
     let len = probe.len();
     let first_chunk = lead.min(len);
@@ -129,8 +132,7 @@ fn walk_to_unit<T: ByteChunk>(
     ensures counted { result.count ≡ units_before probe.old.text result.byte }
     ensures at_most { result.count ≤ idx }
     ensures stopped { result.byte < to → idx < units_before probe.old.text (result.byte + 1) }
-    ensures turns { (n : ℕ) × (probe.new ≡ record probe.old { turns = probe.old.turns + n })
-        × (n ≤ result.byte + 1 - from.byte) × (n ≤ to - from.byte) }
+    ensures reads { Reads probe.old probe.new 0 (min (result.byte + 1 - from.byte) (to - from.byte)) 0 0 }
 {
     prove!(to <= probe.len());
     let mut at = from;
@@ -159,7 +161,7 @@ fn skip_rounds<T: ByteChunk>(probe: &mut Probe<'_, T>, from: Position, idx: usiz
     ensures at_most { result.count ≤ idx }
     ensures place { let chunks = min ((idx - from.count) / T.MAX_ACC) ((length probe.old.text - from.byte) / T.SIZE) in
         result.byte ≡ from.byte + chunks * T.SIZE }
-    ensures loads { LoadsChunks probe.old probe.new T.SIZE from.byte result.byte }
+    ensures reads { Reads probe.old probe.new from.byte 0 ((result.byte - from.byte) / T.SIZE) 0 }
 {
     let left = probe.len() - from.byte;
     let chunks = ((idx - from.count) / T::MAX_ACC).min(left / T::SIZE);
@@ -179,7 +181,8 @@ fn skip_round<T: ByteChunk>(probe: &mut Probe<'_, T>, from: Position, end: usize
     ensures reached { (from.byte ≤ result.byte) × (result.byte ≤ end) }
     ensures goes_on { from.byte + T.SIZE ≤ end → from.byte + T.SIZE ≤ result.byte }
     ensures counted { result.count ≡ units_before probe.old.text result.byte }
-    ensures loads { LoadsChunks probe.old probe.new T.SIZE from.byte result.byte }
+    ensures whole { WholeChunks T.SIZE from.byte result.byte }
+    ensures reads { Reads probe.old probe.new from.byte 0 ((result.byte - from.byte) / T.SIZE) 0 }
 {
     prove!(end <= probe.len());
     let mut trailing = T::zero();
@@ -210,7 +213,7 @@ fn skip_chunks<T: ByteChunk>(probe: &mut Probe<'_, T>, from: Position, idx: usiz
     ensures below { (result ≡ from) ⊎ (result.count < idx) }
     ensures stopped { (length probe.old.text < result.byte + T.SIZE)
         ⊎ (idx ≤ units_before probe.old.text (result.byte + T.SIZE)) }
-    ensures loads { (to : ℕ) × (to ≤ result.byte + T.SIZE) × LoadsChunks probe.old probe.new T.SIZE from.byte to }
+    ensures reads { Reads probe.old probe.new from.byte 0 ((result.byte - from.byte) / T.SIZE + 1) 0 }
 {
     let len = probe.len();
     let mut at = from;
@@ -229,33 +232,4 @@ fn units_at(byte: u8) -> usize
     ensures { result ≡ mark is_leading byte + mark begins_four_bytes byte }
 {
     usize::from(is_leading_byte(byte)) + usize::from(is_four_byte_lead(byte))
-}
-
-/// The bytes that begin a char of four bytes, which takes a surrogate pair.
-struct FourByteLeads;
-
-impl ByteTest for FourByteLeads {
-    ghost passes = { begins_four_bytes };
-
-    fn passes_byte(byte: u8) -> bool {
-        is_four_byte_lead(byte)
-    }
-
-    fn passing_lanes<T: ByteChunk>(chunk: T) -> T {
-        count_surrogates_chunk(chunk)
-    }
-}
-
-fn is_four_byte_lead(byte: u8) -> bool
-    ensures { result ≡ begins_four_bytes byte }
-{
-    byte & 0xF0 == 0xF0
-}
-
-/// 1 in each lane that begins a char of four bytes.
-fn count_surrogates_chunk<T: ByteChunk>(chunk: T) -> T
-    requires { length (T.lanes chunk) ≡ T.SIZE }
-    ensures { T.lanes result ≡ map (mark begins_four_bytes) (T.lanes chunk) }
-{
-    chunk.bitand(T::splat(0xF0)).cmp_eq_byte(0xF0)
 }

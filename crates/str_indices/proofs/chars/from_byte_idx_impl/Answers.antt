@@ -4,28 +4,23 @@ use Rattle.str_indices.specs.Schemes.{Chars, end_count}
 use Rattle.str_indices.proofs.lemmas.bytes.BoundaryBytes.{cut_boundary}
 use Rattle.str_indices.proofs.lemmas.texts.Ends.{end_count-cut, cut-cut}
 use Rattle.str_indices.proofs.lemmas.schemes.CharBytes.{reads_alone}
-use Rattle.str_indices.proofs.lemmas.passes.PassBounds.{pass_after_peeks}
+use Rattle.str_indices.proofs.lemmas.passes.Passes.{pass_after_peeks}
 use Rattle.str_indices.proofs.chars.from_byte_idx_impl.Goals as goal
 
 pub count_impl-requires-clause-boundary : goal.count_impl-requires-clause-boundary
 count_impl-requires-clause-boundary g c =
     let end = c.boundary_at_or_before-end in
-    rw (ap (λ p. p.text) end.ensures.peeked, end.ensures.boundary)
-    (cut_boundary (chars c.args.probe.now.text) c.args.byte_idx)
+    rw (end.ensures.reads.text_kept, end.ensures.boundary) (cut_boundary (chars c.args.probe.now.text) c.args.byte_idx)
 
 pub returns-clause-answer : goal.returns-clause-answer
 returns-clause-answer g c =
     let text = chars c.args.probe.now.text in
     let end = c.boundary_at_or_before-end in
-    let answer = c.count_impl.ensures.count
-    ∙ ap (λ t. end_count Chars (cut (chars t) end.result)) (ap (λ p. p.text) end.ensures.peeked)
-    ∙ ap (λ i. end_count Chars (cut text i)) end.ensures.boundary
-    ∙ ap (end_count Chars) (cut-cut text c.args.byte_idx) ∙ end_count-cut Chars reads_alone text c.args.byte_idx in
-    omega (arith, answer)
+    let counted = rw (end.ensures.reads.text_kept, end.ensures.boundary, cut-cut text c.args.byte_idx) at c.count_impl.ensures.count in
+    omega (arith, counted, end_count-cut Chars reads_alone text c.args.byte_idx)
 
 pub returns-clause-pass : goal.returns-clause-pass
 returns-clause-pass g c =
     let end = c.boundary_at_or_before-end in
-    pass_after_peeks c.args.probe.now end.new.probe c.count_impl.new.probe g.T.ByteChunk.SIZE c.args.lead end.result
-    (min c.args.byte_idx (length c.args.probe.now.text))
-    g.met.T.ByteChunk.lawful.least end.ensures.within end.ensures.peeked end.ensures.peeks c.count_impl.ensures.pass
+    pass_after_peeks g.T.ByteChunk.SIZE c.args.lead end.result (min c.args.byte_idx (length c.args.probe.now.text))
+    g.met.T.ByteChunk.lawful.least end.ensures.within end.ensures.reads c.count_impl.ensures.pass

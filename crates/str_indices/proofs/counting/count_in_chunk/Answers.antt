@@ -27,13 +27,3 @@ returns-clause-counted g c =
     sum_below-loaded (mark g.B.ByteTest.passes) c.args.probe.now.text c.args.at chunk.SIZE c.sum_bytes.result
     (chunk.lanes c.load.result) (chunk.lanes c.passing_lanes.result) c.requires c.load.ensures.lanes
     c.passing_lanes.ensures c.sum_bytes.ensures
-
-pub returns-clause-few : goal.returns-clause-few
-returns-clause-few g c =
-    let chunk = g.T.ByteChunk in
-    let test = g.B.ByteTest.passes in
-    let text = c.args.probe.now.text in
-    let counted = sum_below-loaded (mark test) text c.args.at chunk.SIZE c.sum_bytes.result
-    (chunk.lanes c.load.result) (chunk.lanes c.passing_lanes.result) c.requires c.load.ensures.lanes
-    c.passing_lanes.ensures c.sum_bytes.ensures in
-    omega (arith, counted, passing_before-more test text c.args.at chunk.SIZE)

@@ -1,5 +1,5 @@
-use Rattle.std.proofs.Common.{◌≡◌, ◌+◌, ◌-◌, ◌<◌, ◌≤◌}
-use Rattle.str_indices.specs.PassBound.{LoadsChunks}
+use Rattle.std.proofs.Common.{◌≡◌, ◌+◌, ◌*◌, ◌-◌, ◌<◌, ◌≤◌}
+use Rattle.str_indices.specs.Reads.{Reads}
 use Rattle.str_indices.proofs.lemmas.lanes.Rounds.{Accumulates}
 use Rattle.str_indices.proofs.counting.count_round.Given as goal
 
@@ -7,11 +7,11 @@ abbrev pub invariant-chunks : goal.invariant-chunks
 invariant-chunks g l = record {
   to_high : l.at ≤ l.end;
   few : l.rounds ≤ g.T.ByteChunk.MAX_ACC;
-  starts : l.rounds ≡ 0 → l.at ≡ l.from;
-  goes_on : 0 < l.rounds → l.from + g.T.ByteChunk.SIZE ≤ l.at;
-  lanes : Accumulates g.B.ByteTest.passes l.initial.probe.text g.T.ByteChunk.SIZE l.from l.at l.rounds
-      (g.T.ByteChunk.lanes l.acc);
-  loads : LoadsChunks l.initial.probe l.probe g.T.ByteChunk.SIZE l.from l.at;
+  starts : l.rounds ≡ 0 → l.at ≡ l.from.byte;
+  goes_on : 0 < l.rounds → l.from.byte + g.T.ByteChunk.SIZE ≤ l.at;
+  covered : l.from.byte + l.rounds * g.T.ByteChunk.SIZE ≡ l.at;
+  lanes : Accumulates g.B.ByteTest.passes l.initial.probe.text g.T.ByteChunk.SIZE l.from.byte l.at l.rounds (g.T.ByteChunk.lanes l.acc);
+  reads : Reads l.initial.probe l.probe l.from.byte 0 l.rounds 0;
 }
 
 abbrev pub decreases-chunks : goal.decreases-chunks

@@ -54,6 +54,10 @@ mark-le test b = at_most_one (test b)
     at_most_one true = omega arith
     at_most_one false = omega arith
 
+-- no more bytes pass than there are
+pub passing_before-le : (test : ℕ → Bool) (bytes : List ℕ) (n : ℕ) → passing_before test bytes n ≤ n
+passing_before-le test bytes n = sum_below-le (λ j. mark test (get_or bytes j 0)) (λ j. mark-le test (get_or bytes j 0)) n
+
 -- among n bytes more at most n more pass
 pub passing_before-more : (test : ℕ → Bool) (bytes : List ℕ) (m n : ℕ)
     → passing_before test bytes (m + n) ≤ passing_before test bytes m + n

@@ -1,10 +1,9 @@
 -- What one turn, load or peek reads, and what the parts of a pass add up to.
-use Rattle.std.proofs.Common.{◌≡◌, ℕ, zero, suc, ◌+◌, ◌-◌, ◌*◌, ◌/◌, ◌<◌, ◌≤◌, min, inl, inr, refl, arith, ap, ◌∙◌, add-mul, suc-mul}
-use Rattle.std.proofs.lemmas.Bool.{cases_lt}
-use Rattle.std.proofs.lemmas.Nat.{le-div}
-use Rattle.std.proofs.Math.Nat.{div-mul-le_self}
+use Rattle.std.proofs.Common.{◌≡◌, ℕ, ◌+◌, ◌-◌, ◌*◌, ◌/◌, ◌≤◌, min, refl, arith, ap, ◌∙◌}
+use Rattle.std.proofs.Math.Nat.{div-le_of_le-mul}
 use Rattle.byte_chunk.specs.ProbeState.{ProbeState}
-use Rattle.str_indices.specs.Reads.{Reads, leading_bytes, pass_turns, pass_loads}
+use Rattle.str_indices.specs.Reads.{Reads}
+use Rattle.str_indices.proofs.lemmas.passes.Quotients.{div-add-le, div-one_more}
 
 -- nothing was read
 pub nothing : (p : ProbeState) (first : ℕ) → Reads p p first 0 0 0
@@ -70,14 +69,20 @@ module _ {old seen new : ProbeState} where
     peeks_within = record {
       rises = omega (arith, a.peeks_within.rises, b.peeks_within.rises);
       within = omega (
-        arith, a.peeks_within.within, b.peeks_within.within, a.turns_within.rises, b.turns_within.rises,
-        a.loads_within.rises, b.loads_within.rises,
+        arith,
+        a.peeks_within.within,
+        b.peeks_within.within,
+        a.turns_within.rises,
+        b.turns_within.rises,
+        a.loads_within.rises,
+        b.loads_within.rises,
       );
     };
     low_reached = omega (arith, a.low_reached, b.low_reached);
-    low_kept = λ none. let kept : (new.loads ≡ seen.loads) × (seen.loads ≡ old.loads) =
-        (omega (arith, a.loads_within.rises, b.loads_within.rises),
-        omega (arith, a.loads_within.rises, b.loads_within.rises)) in
+    low_kept = λ none. let kept : (new.loads ≡ seen.loads) × (seen.loads ≡ old.loads) = (
+      omega (arith, a.loads_within.rises, b.loads_within.rises),
+      omega (arith, a.loads_within.rises, b.loads_within.rises),
+    ) in
         b.low_kept kept.0 ∙ a.low_kept kept.1;
   }
 
@@ -93,6 +98,26 @@ module _ {old new : ProbeState} where
     low_reached = omega (arith, a.low_reached);
     low_kept = a.low_kept;
   }
+
+  -- peeks that the turns and the loads pay for are no spare ones
+  pub paid : {first t l s : ℕ} → Reads old new first t l s
+      → new.peeks ≤ old.peeks + (2 * (new.turns - old.turns) + 4 * (new.loads - old.loads)) → Reads old new first t l 0
+  paid a few = record {
+    text_kept = a.text_kept;
+    turns_within = a.turns_within;
+    loads_within = a.loads_within;
+    peeks_within = record { rises = a.peeks_within.rises; within = omega arith };
+    low_reached = a.low_reached;
+    low_kept = a.low_kept;
+  }
+
+  -- where nothing was walked or loaded, the peeks are the spare ones
+  pub peeks_only : {first s : ℕ} → Reads old new first 0 0 s
+      → (new.turns ≡ old.turns) × (new.loads ≡ old.loads) × (new.peeks ≤ old.peeks + s)
+  peeks_only a =
+      let turns : new.turns ≡ old.turns = omega (arith, a.turns_within.rises, a.turns_within.within) in
+      let loads : new.loads ≡ old.loads = omega (arith, a.loads_within.rises, a.loads_within.within) in
+      (turns, loads, omega (arith, a.peeks_within.within))
 
   -- where nothing was loaded, no place was loaded from
   pub anywhere : {first t s : ℕ} (first' : ℕ) → Reads old new first t 0 s → Reads old new first' t 0 s
@@ -147,3 +172,69 @@ load_paying old seen new first at spare behind is few a =
       low_reached = omega (arith, a.low_reached);
       low_kept = λ none. absurd (omega (arith, a.loads_within.rises));
     }
+
+-- whole chunks, and then those from where they end
+pub chunks_joined : {old seen new : ProbeState} {size from at to : ℕ} → 4 ≤ size → from ≤ at → at ≤ to
+    → Reads old seen from 0 ((at - from) / size) 0 → Reads seen new at 0 ((to - at) / size) 0
+    → Reads old new from 0 ((to - from) / size) 0
+chunks_joined {seen = seen} {new = new} {size = size} {from = from} {at = at} {to = to} least le le' so_far more =
+    let behind : Reads seen new from 0 ((to - at) / size) 0 = weaken more le (omega arith) (omega arith) (omega arith) in
+    weaken (then_ so_far behind) (omega arith) (omega arith) (div-add-le size from at to least le le') (omega arith)
+
+-- the next chunk
+pub chunk_joined : {old seen new : ProbeState} {size from at : ℕ} → 4 ≤ size → from ≤ at
+    → Reads old seen from 0 ((at - from) / size) 0 → Reads seen new at 0 1 0
+    → Reads old new from 0 ((at + size - from) / size) 0
+chunk_joined {seen = seen} {new = new} {size = size} {from = from} {at = at} least le so_far more =
+    let behind : Reads seen new from 0 1 0 = weaken more le (omega arith) (omega arith) (omega arith) in
+    weaken (then_ so_far behind) (omega arith) (omega arith) (div-one_more size from at least le) (omega arith)
+
+-- the next chunk, which is left and may be walked again
+pub chunk_after : {old seen new : ProbeState} {from at l : ℕ} → from ≤ at → Reads old seen from 0 l 0
+    → Reads seen new at 0 1 0 → Reads old new from 0 (l + 1) 0
+chunk_after {seen = seen} {new = new} {from = from} le so_far more =
+    let behind : Reads seen new from 0 1 0 = weaken more le (omega arith) (omega arith) (omega arith) in
+    then_ so_far behind
+
+-- the chunks of no more bytes than one has are one at most
+pub chunk_of : {old new : ProbeState} {size at to : ℕ} → 4 ≤ size → at ≤ to → to ≤ at + size
+    → Reads old new at 0 ((to - at) / size) 0 → Reads old new at 0 1 0
+chunk_of {size = size} {at = at} {to = to} least le near chunks =
+    weaken chunks (omega arith) (omega arith)
+    (div-le_of_le-mul size {m = to - at} {n = 1} (omega arith)) (omega arith)
+
+-- whole chunks, and then those from where they end and one more
+pub chunks_and_one_more : {old seen new : ProbeState} {size from at to : ℕ} → 4 ≤ size → from ≤ at → at ≤ to
+    → Reads old seen from 0 ((at - from) / size) 0 → Reads seen new at 0 ((to - at) / size + 1) 0
+    → Reads old new from 0 ((to - from) / size + 1) 0
+chunks_and_one_more {seen = seen} {new = new} {size = size} {from = from} {at = at} {to = to} least le le' so_far more =
+    let behind : Reads seen new from 0 ((to - at) / size + 1) 0 = weaken more le (omega arith) (omega arith) (omega arith) in
+    weaken (then_ so_far behind) (omega arith) (omega arith) (omega (arith, div-add-le size from at to least le le')) (omega arith)
+
+-- Leading bytes, at most one peek behind them, chunks, at most one peek behind them, and the rest: what stands before a
+-- peek pays for it.
+pub peeks_behind_paid : (old led ready chunked behind new : ProbeState) (first at rest : ℕ) {l : ℕ}
+    → led ≡ record old { turns = old.turns + first } → Reads led ready 0 0 0 (min first 1)
+    → Reads ready chunked first 0 l 0 → ready.loads + min 1 (at - first) ≤ chunked.loads → chunked.peeks ≡ ready.peeks
+    → Reads chunked behind 0 0 0 (min at 1) → new ≡ record behind { turns = behind.turns + rest }
+    → Reads old new first (first + rest) l 0
+peeks_behind_paid old led ready chunked behind new first at rest leads before chunks loaded unpeeked after rests =
+    let all = then_ (then_ (then_ (then_ (turns_made old led first first leads) (anywhere first before)) chunks)
+    (anywhere first after)) (turns_made behind new first rest rests) in
+    let turns = ap (λ p. p.turns) leads in
+    let loads = ap (λ p. p.loads) leads in
+    let peeks = ap (λ p. p.peeks) leads in
+    let turns' = ap (λ p. p.turns) rests in
+    let loads' = ap (λ p. p.loads) rests in
+    let peeks' = ap (λ p. p.peeks) rests in
+    let (none, none_loaded, one) = peeks_only before in
+    let (none', none_loaded', one') = peeks_only after in
+    let walked : old.turns + first ≤ new.turns = omega (arith, chunks.turns_within.rises) in
+    let read : old.loads + min 1 (at - first) ≤ new.loads = omega arith in
+    let peeked : new.peeks ≤ old.peeks + min first 1 + min at 1 = omega arith in
+    weaken (paid all (enough first at old.peeks new.peeks (new.turns - old.turns) (new.loads - old.loads) peeked (omega arith) (omega arith)))
+    (omega arith) (omega arith) (omega arith) (omega arith)
+  where
+    enough : (first at old new turns loads : ℕ) → new ≤ old + min first 1 + min at 1 → first ≤ turns
+        → min 1 (at - first) ≤ loads → new ≤ old + (2 * turns + 4 * loads)
+    enough first at old new turns loads peeked walked read = omega arith

@@ -89,25 +89,21 @@ char_past bytes utf8 k at_most =
     ]
 
 -- a chunk has as many leading bytes as its trailing bytes leave
-pub leading_in_chunk : (text seen : List ℕ) (at size added : ℕ) → seen ≡ text
-    → passing_before is_trailing seen (at + size) ≡ passing_before is_trailing seen at + added
+pub leading_in_chunk : (text : List ℕ) (at size added : ℕ)
+    → passing_before is_trailing text (at + size) ≡ passing_before is_trailing text at + added
     → passing_before is_leading text (at + size) + added ≡ passing_before is_leading text at + size
-leading_in_chunk text seen at size added same counted =
-    let before = ap (λ t. passing_before is_trailing t at) same in
-    let behind = ap (λ t. passing_before is_trailing t (at + size)) same in
+leading_in_chunk text at size added counted =
     omega (arith, passing_or_not is_trailing text at, passing_or_not is_trailing text (at + size))
 
 -- where a walk stops at or before the end of the text, it is where the k-th character ends
-pub char_reached : (text seen : List ℕ) → seen ≡ text → IsUtf8 text → (at k n count : ℕ) → n ≡ length text → at ≤ n
-    → count ≡ passing_before is_leading seen at → count ≤ k → (at < n → k < passing_before is_leading seen (at + 1))
-    → at ≡ to_byte_idx Chars (chars text) k
-char_reached text seen same utf8 at k n count whole within counted at_most stopped =
-    let here = ap (λ t. passing_before is_leading t at) same in
-    let behind = ap (λ t. passing_before is_leading t (at + 1)) same in
-    elim (cases_lt at n) [
-      | inl inside ↦ char_found text utf8 at k (omega arith) (omega arith) (omega (arith, stopped inside))
-      | inr past ↦ let end : at ≡ length text = omega arith in end
-          ∙ char_past text utf8 k (omega (arith, ap (passing_before is_leading text) end))
+pub char_reached : (bytes : List ℕ) → IsUtf8 bytes → (at k : ℕ) → at ≤ length bytes → passing_before is_leading bytes at ≤ k
+    → (at < length bytes → k < passing_before is_leading bytes (at + 1)) → at ≡ to_byte_idx Chars (chars bytes) k
+char_reached bytes utf8 at k within at_most stopped =
+    elim (cases_lt at (length bytes)) [
+      | inl inside ↦ char_found bytes utf8 at k inside at_most (stopped inside)
+      | inr past ↦
+          let end : at ≡ length bytes = omega arith in
+          end ∙ char_past bytes utf8 k (omega (arith, ap (passing_before is_leading bytes) end))
     ]
 
 -- four bytes in a row begin a character
@@ -126,27 +122,19 @@ abbrev pub CountsLeading : (List ℕ → ℕ → ℕ) → Type 0
 CountsLeading counted = (bytes : List ℕ) (m n : ℕ) → m ≤ n
     → passing_before is_leading bytes n + counted bytes m ≤ passing_before is_leading bytes m + counted bytes n
 
--- Where less than a chunk is left, or what the chunk at `at` counts reaches k, a place with at most k counted before
--- it is less
+-- Where less than a chunk is left, or what the chunk at `at` counts reaches k, a place with at most k counted before it is less
 -- than four bytes behind the chunk.
-pub end_is_near : (counted : List ℕ → ℕ → ℕ) → CountsLeading counted → (text led seen : List ℕ) → led ≡ text
-    → seen ≡ text → IsUtf8 text → (at size k end : ℕ) → (length led < at + size) ⊎ (k ≤ counted led (at + size))
-    → end ≤ length text → counted seen end ≤ k → end < at + size + 4
-end_is_near counted leads text led seen same same' utf8 at size k end stopped within at_most =
-    let last = ap (λ t. counted t end) same' in
+pub end_is_near : (counted : List ℕ → ℕ → ℕ) → CountsLeading counted → (bytes : List ℕ) → IsUtf8 bytes → (at size k end : ℕ)
+    → (length bytes < at + size) ⊎ (k ≤ counted bytes (at + size)) → end ≤ length bytes → counted bytes end ≤ k
+    → end < at + size + 4
+end_is_near counted leads bytes utf8 at size k end stopped within at_most =
     elim stopped [
-      | inl short ↦ omega (arith, ap length same)
+      | inl short ↦ omega arith
       | inr reaches ↦ elim (cases_lt end (at + size + 4)) [
         | inl near ↦ near
         | inr far ↦
-            let more = four_bytes text utf8 (at + size) (omega arith) in
-            let chunk = ap (λ t. counted t (at + size)) same in
-            let f = λ (j : ℕ). mark is_leading (get_or text j 0) in
-            absurd (omega (
-              arith,
-              leads text (at + size) end (omega arith),
-              sum_below-le-sum_below f (at + size + 4)
-                  end far,
-            ))
+            let more = four_bytes bytes utf8 (at + size) (omega arith) in
+            let f = λ (j : ℕ). mark is_leading (get_or bytes j 0) in
+            absurd (omega (arith, leads bytes (at + size) end (omega arith), sum_below-le-sum_below f (at + size + 4) end far))
       ]
     ]

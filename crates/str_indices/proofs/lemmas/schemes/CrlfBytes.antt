@@ -245,23 +245,16 @@ cut_breaks bytes utf8 byte least here =
     )
 
 -- By that count, and by a test that the place is none between CR and LF: the breaks that end at a byte index or before.
-pub breaks_by_cut : (text seen : List ℕ) → seen ≡ text → IsUtf8 text → (byte least breaks : ℕ) (whole : Bool)
-    → least ≡ min byte (length text) → breaks ≡ count Crlf (cut (chars seen) least) → whole ≡ not (is_middle text least)
-    → (whole ≡ true → breaks ≡ from_byte_idx Crlf (chars text) byte) × (whole ≡ false
-    → breaks ≡ from_byte_idx Crlf (chars text) byte + 1)
-breaks_by_cut text seen same utf8 byte least breaks whole here counted tested =
-    let all = counted ∙ ap (λ t. count Crlf (cut (chars t) least)) same ∙ cut_breaks text utf8 byte least here in
-    by_test (is_middle text least) tested all
+pub breaks_by_cut : (bytes : List ℕ) → IsUtf8 bytes → (byte least : ℕ) (whole : Bool) → least ≡ min byte (length bytes)
+    → whole ≡ not (is_middle bytes least) → count Crlf (cut (chars bytes) least)
+    ≡ from_byte_idx Crlf (chars bytes) byte + cond whole 0 1
+breaks_by_cut bytes utf8 byte least whole here tested =
+    cut_breaks bytes utf8 byte least here
+    ∙ ap (λ n. from_byte_idx Crlf (chars bytes) byte + n) (by_test (is_middle bytes least) whole tested)
   where
-    by_test : (middle : Bool) → whole ≡ not middle → breaks ≡ from_byte_idx Crlf (chars text) byte + cond middle 1 0
-        → (whole ≡ true → breaks ≡ from_byte_idx Crlf (chars text) byte) × (whole ≡ false
-        → breaks ≡ from_byte_idx Crlf (chars text) byte + 1)
-    by_test true tested all = (λ passes. let clash : true ≡ false = sym passes ∙ tested in cc, λ fails. all)
-    by_test false tested all = (
-      λ passes. omega (arith, all),
-      λ fails. let clash : true ≡ false = sym tested
-          ∙ fails in cc,
-    )
+    by_test : (middle whole : Bool) → whole ≡ not middle → ◌≡◌ {A = ℕ} (cond middle 1 0) (cond whole 0 1)
+    by_test true whole tested = rw tested refl
+    by_test false whole tested = rw tested refl
 
 -- the byte behind a place between CR and LF is LF
 feed_at_middle : (before b : ℕ) → (is_carriage_return before && is_line_feed b) ≡ true → b ≡ 10
@@ -325,17 +318,15 @@ pub breaks_before-le : (bytes : List ℕ) (n : ℕ) → breaks_before bytes n �
 breaks_before-le bytes n = sum_below-le (break_start bytes) (break_start-le bytes) n
 
 -- one byte more, as a walk sees it
-pub break_walked : (text seen : List ℕ) (i byte added : ℕ) (follows : Bool) → seen ≡ text → byte ≡ get_or seen i 0
+pub break_walked : (text : List ℕ) (i byte added : ℕ) (follows : Bool) → byte ≡ get_or text i 0
     → follows ≡ is_carriage_return (byte_before text i)
     → ((before : ℕ) → follows ≡ is_carriage_return before → added ≡ mark (starts_break before) byte)
     → breaks_before text (i + 1) ≡ breaks_before text i + added
-break_walked text seen i byte added follows same is carried counted =
-    let here = counted (byte_before text i) carried
-    ∙ ap (mark (starts_break (byte_before text i))) (is ∙ ap (λ t. get_or t i 0) same) in
+break_walked text i byte added follows is carried counted =
+    let here = counted (byte_before text i) carried ∙ ap (mark (starts_break (byte_before text i))) is in
     ap (breaks_before text) (add-one i) ∙ ap (λ n. breaks_before text i + n) (sym here)
 
 -- and whether the byte that was walked is CR
-pub return_walked : (text seen : List ℕ) (i byte : ℕ) → seen ≡ text → byte ≡ get_or seen i 0
+pub return_walked : (text : List ℕ) (i byte : ℕ) → byte ≡ get_or text i 0
     → is_carriage_return byte ≡ is_carriage_return (byte_before text (i + 1))
-return_walked text seen i byte same is = ap is_carriage_return (is ∙ ap (λ t. get_or t i 0) same)
-    ∙ ap (λ n. is_carriage_return (byte_before text n)) (sym (add-one i))
+return_walked text i byte is = ap is_carriage_return is ∙ ap (λ n. is_carriage_return (byte_before text n)) (sym (add-one i))

@@ -332,15 +332,11 @@ boundary_within bytes utf8 p b = omega (
 
 -- a boundary with at most k units before it, and more before the next byte, if there is one, is where the conversion
 -- of k answers
-pub unit_reached : (text seen : List ℕ) → seen ≡ text → IsUtf8 text → (at k n count : ℕ) → n ≡ length text → at ≤ n
-    → count ≡ units_before seen at → count ≤ k → (at < n → k < units_before seen (at + 1))
-    → at ≡ boundary_at_units (chars text) k
-unit_reached text seen same utf8 at k n count whole within counted at_most stopped =
+pub unit_reached : (text : List ℕ) → IsUtf8 text → (at k : ℕ) → at ≤ length text → units_before text at ≤ k
+    → (at < length text → k < units_before text (at + 1)) → at ≡ boundary_at_units (chars text) k
+unit_reached text utf8 at k within at_most stopped =
     let cs = chars text in
-    let here = ap (λ t. units_before t at) same in
-    let behind = ap (λ t. units_before t (at + 1)) same in
-    let boundary = begins_boundary text utf8 at (omega arith)
-    (λ below. shows_unit text at (omega (arith, stopped (omega arith)))) in
+    let boundary = begins_boundary text utf8 at within (λ below. shows_unit text at (omega (arith, stopped below))) in
     let answer = boundary_at_units_is_greatest cs k in
     let fits : sum_by weight boundary.front ≤ k =
     omega (arith, units_at cs at boundary, units_at_boundary text utf8 at boundary) in

@@ -1,20 +1,31 @@
-use Rattle.std.proofs.Common.{ap, ◌∙◌, refl, arith}
-use Rattle.str_indices.specs.Bytes.{breaks_before}
-use Rattle.str_indices.proofs.lemmas.bytes.Sums.{counted_in_parts}
+use Rattle.std.proofs.Common.{◌≡◌, ◌-◌, ap, ◌∙◌, arith}
 use Rattle.str_indices.proofs.lemmas.schemes.CrlfBytes.{breaks_of_cut}
+use Rattle.str_indices.proofs.lemmas.passes.Costs.{peeks_behind_paid}
+use Rattle.str_indices.proofs.lemmas.passes.Passes.{counted_pass}
 use Rattle.str_indices.proofs.lines_crlf.count_breaks_impl.Goals as goal
 
 pub returns-clause-count : goal.returns-clause-count
 returns-clause-count g c =
-    let text = c.args.probe.now.text in
-    let led = c.count_in_bytes-leading in
+    let led = c.count_in_bytes-led in
     let ready = c.follows_carriage_return-follows_return in
-    let chunks = c.count_in_chunks-chunks in
     let behind = c.follows_carriage_return-follows_return-2 in
-    let rest = c.count_in_bytes-rest in
-    let counted = counted_in_parts breaks_before text ready.new.probe.text behind.new.probe.text
-    c.min-first_chunk.result chunks.result.end c.args.end led.result chunks.result.breaks rest.result refl
-    (ap (λ p. p.text) ready.ensures.peeked.only_peeked ∙ ap (λ p. p.text) led.ensures.turns)
-    (ap (λ p. p.text) behind.ensures.peeked.only_peeked ∙ chunks.ensures.loads.text_kept)
-    led.ensures.counted chunks.ensures.counted rest.ensures.counted in
-    omega (arith, counted, breaks_of_cut text c.len.ensures.utf8 c.args.end c.requires.within)
+    let same = behind.ensures.reads.text_kept ∙ c.count_in_chunks-chunked.ensures.reads.text_kept ∙ ready.ensures.reads.text_kept
+    ∙ ap (λ p. p.text) led.ensures.turns in
+    let counted = rw same at c.count_in_bytes.ensures.counted in
+    omega (arith, counted, breaks_of_cut c.args.probe.now.text c.len.ensures.utf8 c.args.end c.requires.within)
+
+pub returns-clause-pass : goal.returns-clause-pass
+returns-clause-pass g c =
+    let size = g.T.ByteChunk.SIZE in
+    let led = c.count_in_bytes-led in
+    let ready = c.follows_carriage_return-follows_return in
+    let chunks = c.count_in_chunks-chunked in
+    let behind = c.follows_carriage_return-follows_return-2 in
+    let rest = c.count_in_bytes in
+    let first = led.result.byte in
+    let here : first ≡ c.min.result - 0 = omega (arith, led.ensures.reached) in
+    let all = peeks_behind_paid c.args.probe.now led.new.probe ready.new.probe chunks.new.probe behind.new.probe rest.new.probe
+    first chunks.result.byte (c.args.end - chunks.result.byte) (rw here led.ensures.turns) ready.ensures.reads chunks.ensures.reads
+    chunks.ensures.loaded chunks.ensures.unpeeked behind.ensures.reads rest.ensures.turns in
+    counted_pass size c.args.lead c.args.end g.met.T.ByteChunk.lawful.least (omega arith) all chunks.ensures.reached.1
+    (omega (arith, chunks.ensures.reached.2))

@@ -1,22 +1,8 @@
-use Rattle.std.proofs.Common.{◌+◌, arith}
+use Rattle.std.proofs.Common.{◌+◌, inr, arith}
 use Rattle.str_indices.proofs.lemmas.schemes.CrlfBytes.{breaks_before-le}
-use Rattle.str_indices.proofs.lemmas.passes.PassBounds.{one_load_more}
+use Rattle.str_indices.proofs.lemmas.passes.Costs.{load_made, chunk_joined, chunk_after}
 use Rattle.str_indices.proofs.lines_crlf.skip_chunks.Goals as goal
 
 pub overflow_add-count : goal.overflow_add-count
-overflow_add-count g c = omega (
-  arith,
-  c.SIZE.ensures,
-  c.chunks.invariant.counted,
-  c.count_in_chunk-chunk.ensures.few,
-  breaks_before-le c.args.probe.now.text c.chunks.at.byte,
-)
-
-pub returns-then-count-idx-clause-loads : goal.returns-then-count-idx-clause-loads
-returns-then-count-idx-clause-loads g c = (
-  c.chunks.at.byte + g.T.ByteChunk.SIZE,
-  omega arith,
-  one_load_more c.args.probe.now c.chunks.probe
-      c.count_in_chunk-chunk.new.probe g.T.ByteChunk.SIZE c.args.from.byte c.chunks.at.byte
-      c.chunks.invariant.loads c.count_in_chunk-chunk.ensures.load,
-)
+overflow_add-count g c =
+    omega (arith, c.SIZE.ensures, c.chunks.invariant.counted, c.count_starts_in_chunk-chunk.ensures.few, breaks_before-le c.args.probe.now.text c.chunks.at.byte)

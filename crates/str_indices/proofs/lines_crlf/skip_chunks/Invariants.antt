@@ -1,6 +1,6 @@
-use Rattle.std.proofs.Common.{◌≡◌, ◌-◌, ◌<◌, ◌≤◌, ◌∷◌, [], drop, length}
+use Rattle.std.proofs.Common.{◌≡◌, ◌-◌, ◌/◌, ◌<◌, ◌≤◌, ◌∷◌, [], drop, length}
 use Rattle.str_indices.specs.Bytes.{mark, is_carriage_return, byte_before, breaks_before}
-use Rattle.str_indices.specs.PassBound.{LoadsChunks}
+use Rattle.str_indices.specs.Reads.{Reads}
 use Rattle.str_indices.proofs.lines_crlf.skip_chunks.Given as goal
 
 abbrev pub invariant-chunks : goal.invariant-chunks
@@ -11,7 +11,7 @@ invariant-chunks g l = record {
   below : l.at.count < l.idx;
   carried : drop (g.T.ByteChunk.SIZE - 1) (g.T.ByteChunk.lanes l.returns) ≡ mark is_carriage_return
       (byte_before l.initial.probe.text l.at.byte) ∷ [];
-  loads : LoadsChunks l.initial.probe l.probe g.T.ByteChunk.SIZE l.initial.at.byte l.at.byte;
+  reads : Reads l.initial.probe l.probe l.initial.at.byte 0 ((l.at.byte - l.initial.at.byte) / g.T.ByteChunk.SIZE) 0;
 }
 
 abbrev pub decreases-chunks : goal.decreases-chunks

@@ -8,7 +8,7 @@ invariant-loop-at g l = record {
   to_high : l.at.byte ≤ l.to;
   counted : l.at.count ≡ breaks_before l.initial.probe.text l.at.byte;
   at_most : l.at.count ≤ l.idx;
-  first : (d : ℕ) → d < l.at.byte → breaks_before l.initial.probe.text d < l.idx;
+  first : (d : ℕ) → l.initial.at.byte ≤ d → d < l.at.byte → breaks_before l.initial.probe.text d < l.idx;
   follows : l.follows_return ≡ is_carriage_return (byte_before l.initial.probe.text l.at.byte);
   turns : l.probe ≡ record l.initial.probe { turns = l.initial.probe.turns + (l.at.byte - l.initial.at.byte) };
 }

@@ -10,6 +10,5 @@ pub returns-clause-answer : goal.returns-clause-answer
 returns-clause-answer g c =
     let text = chars c.args.probe.now.text in
     let whole = size-chars c.args.probe.now.text c.len.ensures.utf8 in
-    let same_cut = ap (count Lf) (cut_at_least text c.args.byte_idx c.min-end.result
-    (omega (arith, c.min-end.ensures, c.len.ensures.len))) in
+    let same_cut = ap (count Lf) (cut_at_least text c.args.byte_idx c.min-end.result (omega (arith, c.min-end.ensures, c.len.ensures.len))) in
     omega (arith, c.count_breaks_impl.ensures.count, same_cut, end_count-cut Lf reads_alone text c.args.byte_idx)

@@ -1,6 +1,6 @@
-use Rattle.std.proofs.Common.{◌≡◌, ◌-◌, ◌<◌, ◌≤◌, length}
+use Rattle.std.proofs.Common.{◌≡◌, ◌-◌, ◌/◌, ◌<◌, ◌≤◌, length}
 use Rattle.str_indices.specs.Bytes.{passing_before, is_line_feed}
-use Rattle.str_indices.specs.PassBound.{LoadsChunks}
+use Rattle.str_indices.specs.Reads.{Reads}
 use Rattle.str_indices.proofs.lines_lf.skip_chunks.Given as goal
 
 abbrev pub invariant-chunks : goal.invariant-chunks
@@ -9,7 +9,7 @@ invariant-chunks g l = record {
   to_high : l.at.byte ≤ length l.initial.probe.text;
   counted : l.at.count ≡ passing_before is_line_feed l.initial.probe.text l.at.byte;
   below : l.at.count < l.idx;
-  loads : LoadsChunks l.initial.probe l.probe g.T.ByteChunk.SIZE l.initial.at.byte l.at.byte;
+  reads : Reads l.initial.probe l.probe l.initial.at.byte 0 ((l.at.byte - l.initial.at.byte) / g.T.ByteChunk.SIZE) 0;
 }
 
 abbrev pub decreases-chunks : goal.decreases-chunks

@@ -8,7 +8,7 @@ invariant-loop-at g l = record {
   to_high : l.at.byte ≤ l.to;
   counted : l.at.count ≡ passing_before is_line_feed l.initial.probe.text l.at.byte;
   at_most : l.at.count ≤ l.idx;
-  first : (d : ℕ) → d < l.at.byte → passing_before is_line_feed l.initial.probe.text d < l.idx;
+  first : (d : ℕ) → l.initial.at.byte ≤ d → d < l.at.byte → passing_before is_line_feed l.initial.probe.text d < l.idx;
   turns : l.probe ≡ record l.initial.probe { turns = l.initial.probe.turns + (l.at.byte - l.initial.at.byte) };
 }
 

@@ -1,9 +1,9 @@
-use Rattle.std.proofs.Common.{arith, ◌<◌, refl}
+use Rattle.std.proofs.Common.{add-mul, arith, ◌<◌, refl}
 use Rattle.std.specs.Prelude.{sum}
 use Rattle.str_indices.specs.Bytes.{is_trailing, begins_four_bytes}
 use Rattle.str_indices.proofs.lemmas.bytes.Sums.{passing_before-between}
 use Rattle.str_indices.proofs.lemmas.lanes.Rounds.{no_round, room_to_add, one_round_more, room_to_sum}
-use Rattle.str_indices.proofs.lemmas.passes.PassBounds.{no_loads, one_load_more}
+use Rattle.str_indices.proofs.lemmas.passes.Costs.{nothing, load_made, then_}
 use Rattle.str_indices.proofs.lemmas.schemes.UnitBytes.{units_between, units_before-le}
 use Rattle.str_indices.proofs.utf16.skip_round.Goals as goal
 
@@ -20,7 +20,8 @@ chunks-init g c =
           c.zero-trailing.ensures;
       four_byte_lanes = no_round begins_four_bytes text chunk.SIZE c.args.from.byte
           (chunk.lanes c.zero-four_byte_leads.result) c.zero-four_byte_leads.ensures;
-      loads = no_loads c.args.probe.now chunk.SIZE c.args.from.byte;
+      covered = omega arith;
+      reads = nothing c.args.probe.now c.args.from.byte;
     }
 
 pub add-trailing-requires : goal.add-trailing-requires
@@ -51,19 +52,19 @@ chunks-preserved g c =
       to_high = omega (arith, c.SIZE.ensures);
       few = omega (arith, c.MAX_ACC.ensures);
       starts = λ none. absurd (omega arith);
-      goes_on = λ _. omega (arith, so_far.loads.covered);
+      goes_on = λ _. omega (arith, so_far.covered);
       trailing_lanes = one_round_more is_trailing text c.chunks.probe.text chunk.SIZE from c.chunks.at
           c.chunks.rounds (chunk.lanes c.chunks.trailing) loaded (chunk.lanes c.count_trailing_chunk.result)
           (chunk.lanes c.add-trailing.result)
-          so_far.loads.text_kept (omega (arith, c.SIZE.ensures)) so_far.trailing_lanes c.load-chunk.ensures.lanes
+          so_far.reads.text_kept (omega (arith, c.SIZE.ensures)) so_far.trailing_lanes c.load-chunk.ensures.lanes
           c.count_trailing_chunk.ensures c.add-trailing.ensures;
       four_byte_lanes = one_round_more begins_four_bytes text c.chunks.probe.text chunk.SIZE from c.chunks.at
           c.chunks.rounds (chunk.lanes c.chunks.four_byte_leads) loaded (chunk.lanes c.count_surrogates_chunk.result)
           (chunk.lanes c.add-four_byte_leads.result)
-          so_far.loads.text_kept (omega (arith, c.SIZE.ensures)) so_far.four_byte_lanes c.load-chunk.ensures.lanes
+          so_far.reads.text_kept (omega (arith, c.SIZE.ensures)) so_far.four_byte_lanes c.load-chunk.ensures.lanes
           c.count_surrogates_chunk.ensures c.add-four_byte_leads.ensures;
-      loads = one_load_more c.args.probe.now c.chunks.probe c.load-chunk.new.self chunk.SIZE from c.chunks.at
-          so_far.loads c.load-chunk.ensures.state;
+      covered = omega (arith, so_far.covered, add-mul c.chunks.rounds 1 chunk.SIZE);
+      reads = then_ so_far.reads (load_made c.chunks.probe c.load-chunk.new.self from c.chunks.at (omega (arith, so_far.covered)) c.load-chunk.ensures.state);
     })
 
 pub sum_bytes-requires : goal.sum_bytes-requires
@@ -83,7 +84,7 @@ overflow_sub-leading-2 g c =
     omega (
       arith,
       passing_before-between is_trailing c.args.probe.now.text c.args.from.byte c.chunks.at
-          (omega (arith, c.chunks.invariant.loads.covered)),
+          (omega (arith, c.chunks.invariant.covered)),
       c.chunks.invariant.trailing_lanes.counted,
     )
 
@@ -95,7 +96,7 @@ overflow_add-result g c =
     omega (
       arith,
       units_between text c.args.from.byte c.chunks.at c.sum_bytes.result (sum (chunk.lanes c.chunks.four_byte_leads))
-          c.args.from.count (omega (arith, so_far.loads.covered)) c.requires.counted
+          c.args.from.count (omega (arith, so_far.covered)) c.requires.counted
           (omega (arith, so_far.trailing_lanes.counted)) so_far.four_byte_lanes.counted,
       units_before-le text c.len.ensures.utf8 c.chunks.at (omega arith),
     )
@@ -107,7 +108,7 @@ overflow_add-result-2 g c =
     omega (
       arith,
       units_between text c.args.from.byte c.chunks.at c.sum_bytes.result c.sum_bytes-2.result c.args.from.count
-          (omega (arith, so_far.loads.covered)) c.requires.counted (omega (arith, so_far.trailing_lanes.counted))
+          (omega (arith, so_far.covered)) c.requires.counted (omega (arith, so_far.trailing_lanes.counted))
           (omega (arith, so_far.four_byte_lanes.counted)),
       units_before-le text c.len.ensures.utf8 c.chunks.at (omega arith),
     )
@@ -117,5 +118,5 @@ returns-clause-counted g c =
     let text = c.args.probe.now.text in
     let so_far = c.chunks.invariant in
     units_between text c.args.from.byte c.chunks.at c.sum_bytes.result c.sum_bytes-2.result c.args.from.count
-    (omega (arith, so_far.loads.covered)) c.requires.counted (omega (arith, so_far.trailing_lanes.counted))
+    (omega (arith, so_far.covered)) c.requires.counted (omega (arith, so_far.trailing_lanes.counted))
     (omega (arith, so_far.four_byte_lanes.counted))

@@ -1,6 +1,6 @@
-use Rattle.std.proofs.Common.{◌≡◌, ◌+◌, ◌-◌, ◌<◌, ◌≤◌}
+use Rattle.std.proofs.Common.{◌≡◌, ◌+◌, ◌*◌, ◌-◌, ◌<◌, ◌≤◌}
 use Rattle.str_indices.specs.Bytes.{is_trailing, begins_four_bytes}
-use Rattle.str_indices.specs.PassBound.{LoadsChunks}
+use Rattle.str_indices.specs.Reads.{Reads}
 use Rattle.str_indices.proofs.lemmas.lanes.Rounds.{Accumulates}
 use Rattle.str_indices.proofs.utf16.skip_round.Given as goal
 
@@ -14,7 +14,8 @@ invariant-chunks g l = record {
       (g.T.ByteChunk.lanes l.trailing);
   four_byte_lanes : Accumulates begins_four_bytes l.initial.probe.text g.T.ByteChunk.SIZE l.initial.at l.at l.rounds
       (g.T.ByteChunk.lanes l.four_byte_leads);
-  loads : LoadsChunks l.initial.probe l.probe g.T.ByteChunk.SIZE l.initial.at l.at;
+  covered : l.initial.at + l.rounds * g.T.ByteChunk.SIZE ≡ l.at;
+  reads : Reads l.initial.probe l.probe l.initial.at 0 l.rounds 0;
 }
 
 abbrev pub decreases-chunks : goal.decreases-chunks

@@ -2,7 +2,8 @@ use Rattle.std.proofs.Common.{min, ◌*◌, arith, ap, sym, ◌∙◌, inl, inr,
 use Rattle.std.proofs.lemmas.Bool.{cases_lt}
 use Rattle.std.proofs.Math.Nat.{le-div_iff_mul-le}
 use Rattle.str_indices.specs.Bytes.{units_before}
-use Rattle.str_indices.proofs.lemmas.passes.PassBounds.{loads_joined, loads_all, chunks_below}
+use Rattle.str_indices.proofs.lemmas.passes.Costs.{chunks_joined}
+use Rattle.str_indices.proofs.lemmas.passes.Quotients.{all_chunks, chunks_below, whole_joined}
 use Rattle.str_indices.proofs.lemmas.schemes.UnitBytes.{units_before-more}
 use Rattle.str_indices.proofs.utf16.skip_rounds.Goals as goal
 
@@ -13,9 +14,9 @@ rounds-preserved g c =
     record {
       from_low = omega arith;
       to_high = omega arith;
-      counted = round.ensures.counted ∙ ap (λ t. units_before t round.result.byte) so_far.loads.text_kept;
-      loads = loads_joined c.args.probe.now c.rounds.probe round.new.probe g.T.ByteChunk.SIZE c.args.from.byte
-          c.rounds.at.byte round.result.byte so_far.loads round.ensures.loads;
+      counted = rw so_far.reads.text_kept at round.ensures.counted;
+      whole = whole_joined g.T.ByteChunk.SIZE _ _ _ so_far.whole round.ensures.whole;
+      reads = chunks_joined g.met.T.ByteChunk.lawful.least so_far.from_low round.ensures.reached.0 so_far.reads round.ensures.reads;
     }
 
 pub returns-clause-at_most : goal.returns-clause-at_most
@@ -53,6 +54,6 @@ returns-clause-place g c =
     (ap (λ size. (c.len.result - from.byte) / size) c.SIZE.ensures
     ∙ ap (λ n. (n - from.byte) / chunk.SIZE) c.len.ensures.len) in
     let end = ap (λ size. c.min-chunks.result * size) c.SIZE-2.ensures in
-    loads_all c.args.probe.now c.rounds.probe chunk.SIZE from.byte c.rounds.at.byte c.min-chunks.result
-    c.rounds.invariant.loads (omega arith) (omega (arith, c.SIZE-in-rounds.ensures))
+    all_chunks chunk.SIZE from.byte c.rounds.at.byte c.rounds.invariant.whole.0 c.min-chunks.result c.rounds.invariant.whole.1
+    (omega arith) (omega (arith, c.SIZE-in-rounds.ensures))
     ∙ ap (λ n. from.byte + n * chunk.SIZE) (c.min-chunks.ensures ∙ fits ∙ whole)

@@ -1,6 +1,6 @@
-use Rattle.std.proofs.Common.{◌≡◌, ◌-◌, ◌≤◌}
+use Rattle.std.proofs.Common.{◌≡◌, ◌-◌, ◌/◌, ◌≤◌}
 use Rattle.str_indices.specs.Bytes.{units_before}
-use Rattle.str_indices.specs.PassBound.{LoadsChunks}
+use Rattle.str_indices.specs.Reads.{Reads, WholeChunks}
 use Rattle.str_indices.proofs.utf16.skip_rounds.Given as goal
 
 abbrev pub invariant-rounds : goal.invariant-rounds
@@ -8,7 +8,8 @@ invariant-rounds g l = record {
   from_low : l.initial.at.byte ≤ l.at.byte;
   to_high : l.at.byte ≤ l.end;
   counted : l.at.count ≡ units_before l.initial.probe.text l.at.byte;
-  loads : LoadsChunks l.initial.probe l.probe g.T.ByteChunk.SIZE l.initial.at.byte l.at.byte;
+  whole : WholeChunks g.T.ByteChunk.SIZE l.initial.at.byte l.at.byte;
+  reads : Reads l.initial.probe l.probe l.initial.at.byte 0 ((l.at.byte - l.initial.at.byte) / g.T.ByteChunk.SIZE) 0;
 }
 
 abbrev pub decreases-rounds : goal.decreases-rounds

@@ -1,6 +1,6 @@
 use Rattle.std.proofs.Common.{arith}
 use Rattle.str_indices.proofs.lemmas.lanes.CrlfChunks.{loaded_by, sums_fit, pairs_fit, starts_at_most, breaks_in_chunk, few_in_chunk, last_is_return}
-use Rattle.str_indices.proofs.lines_crlf.count_in_chunk.Goals as goal
+use Rattle.str_indices.proofs.lines_crlf.count_starts_in_chunk.Goals as goal
 
 pub add-requires : goal.add-requires
 add-requires g c =

@@ -1,5 +1,5 @@
 use Rattle.str_indices.proofs.lemmas.lanes.Lanes.{masked_lanes}
-use Rattle.str_indices.proofs.chars.count_trailing_chunk.Goals as goal
+use Rattle.str_indices.proofs.bytes.count_trailing_chunk.Goals as goal
 
 pub returns : goal.returns
 returns g c =
