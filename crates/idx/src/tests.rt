@@ -156,7 +156,7 @@ fn answers_calls_of_each_module(rt: HostRuntime) {
 
 #[test]
 fn refuses_other_words(rt: HostRuntime) {
-    let lists: [&[&str]; 20] = [
+    let lists: [&[&str]; 21] = [
         &[],
         &["chars"],
         &["Chars.count"],
@@ -164,6 +164,7 @@ fn refuses_other_words(rt: HostRuntime) {
         &["chars.count_breaks"],
         &["chars.count", "0"],
         &["chars.to_byte_idx"],
+        &["lines.to_byte_idx"],
         &["chars.from_byte_idx", ""],
         &["chars.from_byte_idx", "+1"],
         &["chars.from_byte_idx", "-1"],

@@ -1,12 +1,11 @@
 -- What boundaries, ends, cuts and the conversion from UTF-16 are, as relations that compute nothing. The contract of
--- `laws::boundaries` says that the definitions of `Text` and `Schemes` compute exactly these.
+-- `laws::boundaries` ties three computations to them: the members of `ends s text` are the p with `IsEnd s text p`,
+-- `cut text end` is the front of `IsLongestCut`, and `to_byte_idx Utf16 text units` is the p of `IsGreatestWithin`.
 --     IsBoundary text p                p is the size of a beginning of the text
 --     IsCrlfMiddle text p              p is a boundary between CR and LF
 --     IsEnd s text p                   p is an end of the text in the scheme
---     IsGreatestWithin text units p    p is the greatest boundary before which the text takes at most this many
--- UTF-16 units
---     IsLongestCut text end front      front is the longest beginning of the text whose characters end at or before
--- `end`
+--     IsGreatestWithin text units p    p is the greatest boundary with at most this many UTF-16 units before it
+--     IsLongestCut text end front      front is the longest beginning of the text that takes at most `end` bytes
 use Rattle.std.specs.Prelude.{ℕ, ◌≡◌, ◌<◌, ◌≤◌, List, [], ◌∷◌, ◌++◌, IsTrue, sum_by, length}
 use Rattle.std.specs.Char.{char_set_contains}
 use Rattle.str_indices.specs.Text.{Text, size, weight, line_feed, carriage_return}

@@ -8,8 +8,8 @@ ghost use Rattle.str_indices.specs.Relations.{IsBoundary, IsEnd, IsGreatestWithi
 ghost use Rattle.str_indices.specs.Starts.{IsGreatestBoundary, IsGreatestEnd, IsSecondUnit};
 ghost use Rattle.str_indices.specs.Joins.{joins_crlf};
 
-/// From an index, in chars or in line breaks, to its byte index and back gives the index, or the count where the index is
-/// past it.
+/// From an index, in chars or in line breaks, to its byte index and back gives the index, or the count where the index
+/// is past it.
 ///
 /// An editor's go to line relies on it: the line that it goes to is the line that it then shows.
 pub fn round_trip(text: &str, k: usize)
@@ -17,8 +17,8 @@ pub fn round_trip(text: &str, k: usize)
         from_byte_idx s cs (to_byte_idx s cs k) ≡ min k (count s cs) }
 {}
 
-/// The byte index of `k`, a number of chars or of line breaks that the text has, is at most `b` exactly where `k` is at most
-/// the number at byte `b`.
+/// The byte index of `k`, a number of chars or of line breaks that the text has, is at most `b` exactly where `k` is at
+/// most the number at byte `b`.
 ///
 /// A span reporter relies on it: the line and the column of a byte are the greatest that begin at or before it.
 pub fn end_adjunction(text: &str, b: usize, k: usize)
@@ -26,17 +26,18 @@ pub fn end_adjunction(text: &str, b: usize, k: usize)
         k ≤ count s cs → (to_byte_idx s cs k ≤ b) ↔ (k ≤ from_byte_idx s cs b) }
 {}
 
-/// A boundary, a byte index `b` between characters, is at most the byte index of `k`, a number of chars or of UTF-16 code
-/// units, exactly where the number at `b` is at most `k`.
+/// A boundary, a byte index `b` between characters, is at most the byte index of `k`, a number of chars or of UTF-16
+/// code units, exactly where the number at `b` is at most `k`.
 ///
-/// A position mapper of a language server relies on it: a position inside a surrogate pair goes to the pair's beginning.
+/// A position mapper of a language server relies on it: a position inside a surrogate pair goes to the pair's
+/// beginning.
 pub fn boundary_adjunction(text: &str, b: usize, k: usize)
     ensures { (s : Scheme) → IsCharacterScheme s → let cs = chars text.now in
         IsBoundary cs b → (b ≤ to_byte_idx s cs k) ↔ (from_byte_idx s cs b ≤ k) }
 {}
 
-/// From a byte index to its index, in chars or in UTF-16 code units, and back gives the greatest boundary at or before it:
-/// the byte index where the character round it begins, or the length in bytes where it is past the end.
+/// From a byte index to its index, in chars or in UTF-16 code units, and back gives the greatest boundary at or before
+/// it: the byte index where the character round it begins, or the length in bytes where it is past the end.
 ///
 /// A span reporter relies on it: a span that begins inside a character is moved to the character's beginning.
 pub fn start_of_char(text: &str, b: usize)
@@ -44,8 +45,8 @@ pub fn start_of_char(text: &str, b: usize)
         IsGreatestBoundary cs b (to_byte_idx s cs (from_byte_idx s cs b)) }
 {}
 
-/// From a byte index to its line and back gives the byte index behind the last line break that ends at or before it, or 0
-/// where none does.
+/// From a byte index to its line and back gives the byte index behind the last line break that ends at or before it, or
+/// 0 where none does.
 ///
 /// An editor's go to line relies on it: the line round the caret begins there.
 pub fn start_of_line(text: &str, b: usize)
@@ -53,10 +54,11 @@ pub fn start_of_line(text: &str, b: usize)
         IsGreatestEnd s cs b (to_byte_idx s cs (from_byte_idx s cs b)) }
 {}
 
-/// From an index in UTF-16 code units to its byte index and back gives the index, or the count where the index is past it;
-/// but the second unit of a surrogate pair gives the first.
+/// From an index in UTF-16 code units to its byte index and back gives the index, or the count where the index is past
+/// it; but the second unit of a surrogate pair gives the first.
 ///
-/// A position mapper of a language server relies on it: only a position inside a pair moves, and by one unit.
+/// A position mapper of a language server relies on it: only a position inside a pair moves, by one unit, and one past
+/// the end, to the end.
 pub fn utf16_round_trip(text: &str, k: usize)
     ensures second_unit { let cs = chars text.now in
         IsSecondUnit cs k → from_byte_idx Utf16 cs (to_byte_idx Utf16 cs k) + 1 ≡ k }
@@ -85,11 +87,11 @@ pub fn joined_sums(a: &str, b: &str)
         ≡ count Lf (chars a.now) + count Lf (chars b.now) }
 {}
 
-/// Two texts, joined, have the line breaks of both, by the sets in which CRLF is one break; or one less, exactly where `a`
-/// ends in CR and `b` starts with LF.
+/// Two texts, joined, have the line breaks of both, by the sets in which CRLF is one break; or one less, exactly where
+/// `a` ends in CR and `b` starts with LF.
 ///
-/// A rope with summed counts relies on it: beside its counts it keeps whether a piece ends in CR and whether it starts with
-/// LF.
+/// A rope with summed counts relies on it: beside its counts it keeps whether a piece ends in CR and whether it starts
+/// with LF.
 pub fn joined_breaks(a: &str, b: &str)
     ensures lines_crlf { let joined = chars (a.now ++ b.now) in
         count Crlf joined + (if joins_crlf (chars a.now) (chars b.now) then 1 else 0)
@@ -107,8 +109,8 @@ pub fn order_of_counts(text: &str)
     ensures crlf_to_lines { count Crlf (chars text.now) ≤ count Lines (chars text.now) }
 {}
 
-/// A greater byte index never gives a lesser index, in chars, UTF-16 code units or line breaks, and a greater index never a
-/// lesser byte index.
+/// A greater byte index never gives a lesser index, in chars, UTF-16 code units or line breaks, and a greater index
+/// never a lesser byte index.
 ///
 /// An editor's go to line relies on it: a later line never begins before an earlier one.
 pub fn monotone(text: &str, i: usize, j: usize)
@@ -118,10 +120,12 @@ pub fn monotone(text: &str, i: usize, j: usize)
         to_byte_idx s (chars text.now) i ≤ to_byte_idx s (chars text.now) j }
 {}
 
-/// Each conversion to a byte index answers a place between characters. The definitions of ends, of cuts and of the
-/// conversion from UTF-16 compute what the relations of the same subject say.
+/// Each conversion to a byte index answers a place between characters. Three definitions compute what a relation says:
+/// `ends`, in increasing order, the places with `IsEnd`; `cut` the text with `IsLongestCut`; and `to_byte_idx` in UTF-16
+/// the place with `IsGreatestWithin`.
 ///
-/// A position mapper of a language server relies on it: the text may be split at each byte index that a conversion answers.
+/// A position mapper of a language server relies on it: the text may be split at each byte index that a conversion
+/// answers.
 pub fn boundaries(text: &str, k: usize)
     ensures boundary { (s : Scheme) → IsBoundary (chars text.now) (to_byte_idx s (chars text.now) k) }
     ensures ends { (s : Scheme) (p : ℕ) →

@@ -143,7 +143,7 @@ fn ascii_and_wide_chars_of_one_text(rt: HostRuntime) -> Result<(), Fail> {
 
 #[test]
 fn kernels_convert_after_any_lead(rt: HostRuntime) -> Result<(), Fail> {
-    for lead in [0, 9, 40] {
+    for lead in 0..14 {
         for (index, byte) in [(7, 7), (8, 11), (9, 12), (10, 12)] {
             let found = to_byte_idx_impl(&mut Probe::<Plain>::of(AROUND_FROG), index, lead);
             assert_eq!(rt; found, byte, "at {index} after {lead}");

@@ -137,7 +137,7 @@ fn round_trips_keep_where_a_line_begins(rt: HostRuntime) -> Result<(), Fail> {
 #[test]
 fn kernels_see_a_separator_at_any_edge(rt: HostRuntime) -> Result<(), Fail> {
     let text = BEFORE_SEPARATOR;
-    for lead in [0, 6, 7, 8, 9, 10] {
+    for lead in 0..12 {
         for (end, breaks) in [(10, 1), (6, 0)] {
             assert_eq!(rt;
                 count_before(text, end, lead),
@@ -198,6 +198,20 @@ fn char_to_line_and_back(rt: HostRuntime) -> Result<(), Fail> {
     for (text, line, index) in starts {
         let found = chars::from_byte_idx(text, to_byte_idx(text, line));
         assert_eq!(rt; found, index, "at {line} in {text}");
+    }
+    Ok(())
+}
+
+#[test]
+fn char_and_line_round_trips_keep_where_a_line_begins(rt: HostRuntime) -> Result<(), Fail> {
+    let text = FOUR_WORDS_BETWEEN_BREAKS;
+    for index in [0, 6, 21] {
+        let line = from_byte_idx(text, chars::to_byte_idx(text, index));
+        assert_eq!(rt; chars::from_byte_idx(text, to_byte_idx(text, line)), index);
+    }
+    for line in [0, 2, 5] {
+        let index = chars::from_byte_idx(text, to_byte_idx(text, line));
+        assert_eq!(rt; from_byte_idx(text, chars::to_byte_idx(text, index)), line);
     }
     Ok(())
 }

@@ -16,7 +16,7 @@ const TWO_SCRIPTS: &str =
 
 const BREAKS_AROUND_CRLF: &str = "\r\r\n\n";
 
-const CRLF_ACROSS_CHUNKS: &str = "aaaaaaa\r\nb";
+const CRLF_ACROSS_CHUNKS: &str = "aaaaaaa\r\nbbbbbbb";
 
 /// The count of the breaks before a byte, over `Plain`.
 fn count_before(text: &str, end: usize, lead: usize) -> Option<usize> {
@@ -44,21 +44,23 @@ fn counts_whole_texts(rt: HostRuntime) -> Result<(), Fail> {
 }
 
 #[test]
-fn return_before_the_end_counts(rt: HostRuntime) -> Result<(), Fail> {
-    for (end, breaks) in [(1, 0), (2, 1), (3, 1), (4, 1)] {
-        assert_eq!(rt; count_before("a\r\nb", end, 0), Some(breaks), "at {end}");
-    }
-    Ok(())
-}
-
-#[test]
-fn crlf_across_chunks_counts_once(rt: HostRuntime) -> Result<(), Fail> {
-    for lead in [0, 8] {
-        assert_eq!(rt;
-            count_before("aaaaaaa\r\nbbbbbbb", 16, lead),
-            Some(1),
-            "after {lead}"
-        );
+fn kernel_counts_before_a_byte_after_any_lead(rt: HostRuntime) -> Result<(), Fail> {
+    let table = [
+        ("a\r\nb", 1, 0),
+        ("a\r\nb", 2, 1),
+        ("a\r\nb", 3, 1),
+        ("a\r\nb", 4, 1),
+        (BREAKS_AROUND_CRLF, 4, 3),
+        (CRLF_ACROSS_CHUNKS, 16, 1),
+    ];
+    for lead in 0..18 {
+        for (text, end, breaks) in table {
+            assert_eq!(rt;
+                count_before(text, end, lead),
+                Some(breaks),
+                "at {end} of {text} after {lead}"
+            );
+        }
     }
     Ok(())
 }
@@ -195,8 +197,8 @@ fn line_and_where_it_begins_convert_to_each_other(rt: HostRuntime) -> Result<(),
 
 #[test]
 fn kernels_convert_after_any_lead(rt: HostRuntime) -> Result<(), Fail> {
-    for lead in [0, 7, 8, 9, 10] {
-        for (line, byte) in [(0, 0), (1, 9), (2, 10)] {
+    for lead in 0..18 {
+        for (line, byte) in [(0, 0), (1, 9), (2, 16)] {
             let found = to_byte_idx_impl(&mut Probe::<Plain>::of(CRLF_ACROSS_CHUNKS), line, lead);
             assert_eq!(rt; found, byte, "line {line} after {lead}");
         }

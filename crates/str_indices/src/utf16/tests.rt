@@ -1,20 +1,35 @@
-use super::{count, count_surrogates, count_surrogates_impl, from_byte_idx, to_byte_idx};
+use super::{
+    count, count_impl, count_surrogates, count_surrogates_impl, from_byte_idx, from_byte_idx_impl,
+    to_byte_idx, to_byte_idx_impl,
+};
 use byte_chunk::{Plain, Probe};
 use std::test::Fail;
 
 const TEXT: &str = "Hel🐸lo world! こん🐸にち🐸🐸は!";
 
+const AROUND_FROG: &str = "aaaaaaa🐸b";
+
+/// The units and the surrogate pairs before a boundary, over `Plain`.
+fn count_before(text: &str, end: usize, lead: usize) -> Option<(usize, usize)> {
+    if !text.is_char_boundary(end) {
+        return None;
+    }
+    let mut probe = Probe::<Plain>::of(text);
+    let units = count_impl(&mut probe, end, lead);
+    Some((units, count_surrogates_impl(&mut probe, end, lead)))
+}
+
 #[test]
-fn a_frog_counts_two_units(rt: HostRuntime) -> Result<(), Fail> {
-    let table = [
-        ("", 0, 0),
-        ("\u{85}", 1, 0),
-        ("\u{2028}", 1, 0),
-        ("せ", 1, 0),
-        ("🐸", 2, 1),
-        (TEXT, 27, 4),
+fn a_char_of_four_bytes_takes_two_units(rt: HostRuntime) -> Result<(), Fail> {
+    let table: [(&str, &[u8], usize, usize); 5] = [
+        ("\u{85}", b"\xC2\x85", 1, 0),
+        ("\u{2028}", b"\xE2\x80\xA8", 1, 0),
+        ("\u{2029}", b"\xE2\x80\xA9", 1, 0),
+        ("せ", b"\xE3\x81\x9B", 1, 0),
+        ("🐸", b"\xF0\x9F\x90\xB8", 2, 1),
     ];
-    for (text, units, pairs) in table {
+    for (text, bytes, units, pairs) in table {
+        assert_eq!(rt; text.as_bytes(), bytes, "bytes of {text}");
         assert_eq!(rt; count(text), units, "units of {text}");
         assert_eq!(rt; count_surrogates(text), pairs, "pairs of {text}");
     }
@@ -22,23 +37,47 @@ fn a_frog_counts_two_units(rt: HostRuntime) -> Result<(), Fail> {
 }
 
 #[test]
-fn surrogates_before_a_boundary_are_counted_after_any_lead(rt: HostRuntime) -> Result<(), Fail> {
-    for lead in 0..10 {
-        assert_eq!(rt;
-            count_surrogates_impl::<Plain>(&mut Probe::of("🐸🐸"), 0, lead),
-            0,
-            "after {lead}"
-        );
-        assert_eq!(rt;
-            count_surrogates_impl::<Plain>(&mut Probe::of("🐸🐸"), 4, lead),
-            1,
-            "after {lead}"
-        );
-        assert_eq!(rt;
-            count_surrogates_impl::<Plain>(&mut Probe::of("🐸🐸"), 8, lead),
-            2,
-            "after {lead}"
-        );
+fn counts_whole_texts(rt: HostRuntime) -> Result<(), Fail> {
+    for (text, units, pairs) in [("", 0, 0), (TEXT, 27, 4)] {
+        assert_eq!(rt; count(text), units, "units of {text}");
+        assert_eq!(rt; count_surrogates(text), pairs, "pairs of {text}");
+    }
+    Ok(())
+}
+
+#[test]
+fn kernels_count_before_a_boundary_after_any_lead(rt: HostRuntime) -> Result<(), Fail> {
+    let table = [
+        ("🐸🐸", 0, (0, 0)),
+        ("🐸🐸", 4, (2, 1)),
+        ("🐸🐸", 8, (4, 2)),
+        (AROUND_FROG, 7, (7, 0)),
+        (AROUND_FROG, 11, (9, 1)),
+        (AROUND_FROG, 12, (10, 1)),
+    ];
+    for lead in 0..14 {
+        for (text, end, counts) in table {
+            assert_eq!(rt;
+                count_before(text, end, lead),
+                Some(counts),
+                "at {end} of {text} after {lead}"
+            );
+        }
+    }
+    Ok(())
+}
+
+#[test]
+fn kernels_convert_after_any_lead(rt: HostRuntime) -> Result<(), Fail> {
+    for lead in 0..14 {
+        for (byte, unit) in [(7, 7), (8, 7), (10, 7), (11, 9), (12, 10), (13, 10)] {
+            let found = from_byte_idx_impl(&mut Probe::<Plain>::of(AROUND_FROG), byte, lead);
+            assert_eq!(rt; found, unit, "at byte {byte} after {lead}");
+        }
+        for (unit, byte) in [(7, 7), (8, 7), (9, 11), (10, 12), (11, 12)] {
+            let found = to_byte_idx_impl(&mut Probe::<Plain>::of(AROUND_FROG), unit, lead);
+            assert_eq!(rt; found, byte, "at unit {unit} after {lead}");
+        }
     }
     Ok(())
 }
@@ -99,7 +138,7 @@ fn the_second_unit_of_a_pair_is_at_the_byte_of_its_char(rt: HostRuntime) -> Resu
         assert_eq!(rt; to_byte_idx(TEXT, unit), byte, "at unit {unit}");
     }
     for (unit, byte) in [(7, 7), (8, 7), (9, 11), (10, 12), (11, 12)] {
-        assert_eq!(rt; to_byte_idx("aaaaaaa🐸b", unit), byte, "at unit {unit}");
+        assert_eq!(rt; to_byte_idx(AROUND_FROG, unit), byte, "at unit {unit}");
     }
     Ok(())
 }
