@@ -1,13 +1,13 @@
 #!/usr/bin/env python3
 """Shows that each public function has its answer from its kernel, and from no walk of its own.
 
-Each edit of the folder own-walk takes the answer out of one kernel's contract, so that its clause says nothing but keeps
-its name. It also names the public function that calls this kernel. In a copy of the crates with that edit, the function
-and all that it calls are checked: the function alone must be refused, at the goal of its own answer. A function with a
-walk of its own would still be proved. Before that the copy must be proved as it stands.
+Each edit of the folder own-walk takes the answer out of one kernel's contract: the clause keeps its name and says
+nothing. The edit names the public function that calls this kernel too. In a copy of the crates with that edit, the
+function and all that it calls are checked: the function alone must be refused, at the goal of its own answer. A
+function with a walk of its own would still be proved. Before that the copy must be proved as it stands.
 
-An edit has four lines: 'refuses:' the function, 'file:' the kernel's file in the crate, 'old:' a clause that stands once
-in it, 'new:' what it becomes. The last line printed is 'N passed, M failed'.
+An edit has four lines: 'refuses:' the function, 'file:' the kernel's file in the crate, 'old:' a clause that stands
+once in it, 'new:' what it becomes. The last line printed is 'N passed, M failed'.
 """
 import concurrent.futures
 import os
@@ -69,15 +69,15 @@ def open_goals(function, output):
     """The goals of the function that are refused, where it alone is refused, and no proof file fails at a name."""
     refused = {name: said for name, said in verdicts(output).items() if said not in ("proved", "no holes")}
     errors = re.findall(r"^\./(proofs/\S+?):\d+:\d+: error: (?:`([^`]*)`: )?(.*)$", output, re.MULTILINE)
-    strange = [said for file, _, said in errors if file != answers_of(function) or re.search(STALE_NAME, said)]
-    if set(refused) != {function} or strange:
+    own = [goal for file, goal, said in errors if file == answers_of(function) and not re.search(STALE_NAME, said)]
+    if set(refused) != {function} or len(own) != len(errors):
         return []
     _, _, searched = refused[function].partition("did not prove ")
-    return [goal for _, goal, _ in errors] + re.findall(r"`([^`]*)`", searched)
+    return own + re.findall(r"`([^`]*)`", searched)
 
 
 def goals_behind(crate, function, goals):
-    """The goals that are open besides these, once their answers are holes: the check names none beside a wrong answer."""
+    """The goals open besides these, once their answers are holes: beside a wrong answer the check names none."""
     file = crate / answers_of(function)
     if not file.is_file():
         return []
