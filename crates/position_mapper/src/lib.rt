@@ -3,7 +3,7 @@
 //! Every text, byte index and position has an answer: nothing panics, nothing allocates.
 #![tactic(auto)]
 
-ghost use Rattle.std.specs.Prelude.{◌≡◌, ◌+◌, chars};
+ghost use Rattle.std.specs.Prelude.{◌≡◌, ◌+◌, IsCharBoundary, chars};
 ghost use Rattle.str_indices.specs.Schemes.{from_byte_idx, to_byte_idx, Utf16};
 ghost use Rattle.str_indices.specs.Relations.{IsBoundary};
 ghost use Rattle.str_indices.specs.Starts.{IsGreatestBoundary};
@@ -51,9 +51,12 @@ pub fn position_of(text: &str, byte: usize) -> Position
 /// The second unit of a surrogate pair belongs to its char. An offset past the end of the line is not cut back to it,
 /// but goes on into the lines behind. A position past the end of the text gives the text's length in bytes.
 pub fn byte_of(text: &str, position: Position) -> usize
-    ensures { let cs = chars text.now in
+    ensures answer { let cs = chars text.now in
         result ≡ to_byte_idx Utf16 cs (from_byte_idx Utf16 cs (to_byte_idx line_scheme cs position.line) + position.character) }
+    ensures boundary { IsCharBoundary text.now result }
 {
+    // A sum that is cut to `usize::MAX` goes to the text's end, as the whole sum does.
+    laws::past_end(text);
     let line_start = lines::to_byte_idx(text, position.line);
     let unit = utf16::from_byte_idx(text, line_start).saturating_add(position.character);
     utf16::to_byte_idx(text, unit)

@@ -4,3 +4,4 @@ pub mod bytes
 pub mod schemes
 pub mod lanes
 pub mod passes
+pub mod Callers

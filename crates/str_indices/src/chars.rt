@@ -1,5 +1,5 @@
 //! Index by chars: the Unicode scalar values of a text (the Unicode Standard, chapter 3).
-ghost use Rattle.std.specs.Prelude.{◌≡◌, ◌+◌, ◌-◌, ◌/◌, ◌<◌, ◌≤◌, ◌⊎◌, chars, length, min};
+ghost use Rattle.std.specs.Prelude.{◌≡◌, ◌+◌, ◌-◌, ◌/◌, ◌<◌, ◌≤◌, ◌⊎◌, IsCharBoundary, chars, length, min};
 ghost use Rattle.str_indices.specs.Text.{cut};
 ghost use Rattle.str_indices.specs.Schemes.{count, from_byte_idx, to_byte_idx, Chars};
 ghost use Rattle.str_indices.specs.Relations.{IsBoundary};
@@ -34,7 +34,8 @@ pub fn from_byte_idx(text: &str, byte_idx: usize) -> usize
 ///
 /// Any index past the last char gives the length of the text in bytes.
 pub fn to_byte_idx(text: &str, char_idx: usize) -> usize
-    ensures { result ≡ to_byte_idx Chars (chars text.now) char_idx }
+    ensures answer { result ≡ to_byte_idx Chars (chars text.now) char_idx }
+    ensures boundary { IsCharBoundary text.now result }
 {
     to_byte_idx_impl(&mut Probe::<Chunk>::of(text), char_idx, 0)
 }

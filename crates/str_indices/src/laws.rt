@@ -1,5 +1,5 @@
 //! Laws of the counts and the conversions. Each function does nothing: its contract is the law.
-ghost use Rattle.std.specs.Prelude.{ℕ, ◌≡◌, ◌≢◌, ◌+◌, ◌≤◌, ◌↔◌, ◌⊎◌, ◌++◌, min, chars, Contains, if◌then◌else◌};
+ghost use Rattle.std.specs.Prelude.{ℕ, ◌≡◌, ◌≢◌, ◌+◌, ◌≤◌, ◌↔◌, ◌⊎◌, ◌++◌, min, chars, length, Contains, IsCharBoundary, if◌then◌else◌};
 ghost use Rattle.std.specs.List.Sorted.{IsStrictlyIncreasing};
 ghost use Rattle.str_indices.specs.Text.{cut};
 ghost use Rattle.str_indices.specs.Schemes.{Scheme, Chars, Utf16, Lf, Crlf, Lines, ends, count, from_byte_idx, to_byte_idx, surrogates};
@@ -120,6 +120,14 @@ pub fn monotone(text: &str, i: usize, j: usize)
         to_byte_idx s (chars text.now) i ≤ to_byte_idx s (chars text.now) j }
 {}
 
+/// An index that is at least the text's length in bytes goes to its end: no text has more chars, UTF-16 code units or line
+/// breaks than bytes.
+///
+/// A caller that adds to an index relies on it: where the sum does not fit `usize`, `usize::MAX` goes to the same byte.
+pub fn past_end(text: &str)
+    ensures { (s : Scheme) (k : ℕ) → length text.now ≤ k → to_byte_idx s (chars text.now) k ≡ length text.now }
+{}
+
 /// Each conversion to a byte index answers a place between characters. Three definitions compute what a relation says:
 /// `ends`, in increasing order, the places with `IsEnd`; `cut` the text with `IsLongestCut`; and `to_byte_idx` in UTF-16
 /// the place with `IsGreatestWithin`.
@@ -128,6 +136,7 @@ pub fn monotone(text: &str, i: usize, j: usize)
 /// answers.
 pub fn boundaries(text: &str, k: usize)
     ensures boundary { (s : Scheme) → IsBoundary (chars text.now) (to_byte_idx s (chars text.now) k) }
+    ensures sliceable { (p : ℕ) → IsBoundary (chars text.now) p ↔ IsCharBoundary text.now p }
     ensures ends { (s : Scheme) (p : ℕ) →
         Contains (ends s (chars text.now)) p ↔ IsEnd s (chars text.now) p }
     ensures order { (s : Scheme) → IsStrictlyIncreasing (ends s (chars text.now)) }

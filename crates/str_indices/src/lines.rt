@@ -2,7 +2,7 @@
 //!
 //! A line break is LF (U+000A), VT (U+000B), FF (U+000C), CR (U+000D), CR LF as one, U+0085, U+2028 or U+2029: the
 //! characters of the Unicode Standard's Annex 14 that the Rust crate `str_indices` lists.
-ghost use Rattle.std.specs.Prelude.{◌≡◌, ◌+◌, ◌-◌, ◌/◌, ◌<◌, ◌≤◌, ◌⊎◌, ℕ, chars, drop, length, map, min, slice_index, take};
+ghost use Rattle.std.specs.Prelude.{◌≡◌, ◌+◌, ◌-◌, ◌/◌, ◌<◌, ◌≤◌, ◌⊎◌, ℕ, IsCharBoundary, chars, drop, length, map, min, slice_index, take};
 ghost use Rattle.byte_chunk.specs.Lanes.{is_between};
 ghost use Rattle.str_indices.specs.Text.{cut, size};
 ghost use Rattle.str_indices.specs.Schemes.{count, from_byte_idx, to_byte_idx, Lines};
@@ -40,7 +40,8 @@ pub fn from_byte_idx(text: &str, byte_idx: usize) -> usize
 ///
 /// An index past the last line gives the length of the text in bytes.
 pub fn to_byte_idx(text: &str, line_idx: usize) -> usize
-    ensures { result ≡ to_byte_idx Lines (chars text.now) line_idx }
+    ensures answer { result ≡ to_byte_idx Lines (chars text.now) line_idx }
+    ensures boundary { IsCharBoundary text.now result }
 {
     to_byte_idx_impl(&mut Probe::<Chunk>::of(text), line_idx, 0)
 }

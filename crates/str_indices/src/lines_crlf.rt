@@ -2,7 +2,7 @@
 //!
 //! The Unicode Standard's Annex 14 lists the characters that break lines; of those in the Rust crate's list only LF and CR
 //! count here.
-ghost use Rattle.std.specs.Prelude.{◌≡◌, ◌+◌, ◌-◌, ◌/◌, ◌<◌, ◌≤◌, ◌⊎◌, ℕ, ◌∷◌, [], Bool, chars, drop, length, min};
+ghost use Rattle.std.specs.Prelude.{◌≡◌, ◌+◌, ◌-◌, ◌/◌, ◌<◌, ◌≤◌, ◌⊎◌, ℕ, ◌∷◌, [], Bool, IsCharBoundary, chars, drop, length, min};
 ghost use Rattle.str_indices.specs.Text.{cut};
 ghost use Rattle.str_indices.specs.Schemes.{count, from_byte_idx, to_byte_idx, Crlf};
 ghost use Rattle.str_indices.specs.Bytes.{mark, is_carriage_return, byte_before, starts_break, breaks_before, is_middle};
@@ -38,7 +38,8 @@ pub fn from_byte_idx(text: &str, byte_idx: usize) -> usize
 ///
 /// An index past the last line gives the length of the text in bytes.
 pub fn to_byte_idx(text: &str, line_idx: usize) -> usize
-    ensures { result ≡ to_byte_idx Crlf (chars text.now) line_idx }
+    ensures answer { result ≡ to_byte_idx Crlf (chars text.now) line_idx }
+    ensures boundary { IsCharBoundary text.now result }
 {
     to_byte_idx_impl(&mut Probe::<Chunk>::of(text), line_idx, 0)
 }

@@ -2,7 +2,7 @@
 //!
 //! LF is one of the breaks of the Unicode Standard's Annex 14 that the Rust crate lists; the others do not count here.
 //! CR LF counts once, because of its LF.
-ghost use Rattle.std.specs.Prelude.{◌≡◌, ◌+◌, ◌-◌, ◌/◌, ◌<◌, ◌≤◌, ◌⊎◌, ℕ, chars, length, min};
+ghost use Rattle.std.specs.Prelude.{◌≡◌, ◌+◌, ◌-◌, ◌/◌, ◌<◌, ◌≤◌, ◌⊎◌, ℕ, IsCharBoundary, chars, length, min};
 ghost use Rattle.str_indices.specs.Text.{cut};
 ghost use Rattle.str_indices.specs.Schemes.{count, from_byte_idx, to_byte_idx, Lf};
 ghost use Rattle.str_indices.specs.Bytes.{passing_before, is_line_feed};
@@ -39,7 +39,8 @@ pub fn from_byte_idx(text: &str, byte_idx: usize) -> usize
 ///
 /// An index past the last line gives the length of the text in bytes.
 pub fn to_byte_idx(text: &str, line_idx: usize) -> usize
-    ensures { result ≡ to_byte_idx Lf (chars text.now) line_idx }
+    ensures answer { result ≡ to_byte_idx Lf (chars text.now) line_idx }
+    ensures boundary { IsCharBoundary text.now result }
 {
     to_byte_idx_impl(&mut Probe::<Chunk>::of(text), line_idx, 0)
 }

@@ -1,7 +1,7 @@
 //! Index by UTF-16 code units (the Unicode Standard, chapter 3).
 //!
 //! A char that takes four bytes in UTF-8 takes a surrogate pair in UTF-16, which is two units. Each other char takes one.
-ghost use Rattle.std.specs.Prelude.{◌≡◌, ◌+◌, ◌-◌, ◌*◌, ◌/◌, ◌<◌, ◌≤◌, ◌⊎◌, chars, length, min};
+ghost use Rattle.std.specs.Prelude.{◌≡◌, ◌+◌, ◌-◌, ◌*◌, ◌/◌, ◌<◌, ◌≤◌, ◌⊎◌, IsCharBoundary, chars, length, min};
 ghost use Rattle.str_indices.specs.Text.{cut};
 ghost use Rattle.str_indices.specs.Schemes.{count, from_byte_idx, to_byte_idx, surrogates, Utf16};
 ghost use Rattle.str_indices.specs.Relations.{IsBoundary};
@@ -46,7 +46,8 @@ pub fn from_byte_idx(text: &str, byte_idx: usize) -> usize
 ///
 /// The second unit of a surrogate pair belongs to its char. An index past the last unit gives the length of the text in bytes.
 pub fn to_byte_idx(text: &str, utf16_idx: usize) -> usize
-    ensures { result ≡ to_byte_idx Utf16 (chars text.now) utf16_idx }
+    ensures answer { result ≡ to_byte_idx Utf16 (chars text.now) utf16_idx }
+    ensures boundary { IsCharBoundary text.now result }
 {
     to_byte_idx_impl(&mut Probe::<Chunk>::of(text), utf16_idx, 0)
 }

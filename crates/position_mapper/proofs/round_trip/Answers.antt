@@ -6,7 +6,7 @@ pub returns-clause-greatest : goal.returns-clause-greatest
 returns-clause-greatest c =
     let cs = chars c.args.text.now in
     let same : c.byte_of.result ≡ to_byte_idx Utf16 cs (from_byte_idx Utf16 cs c.args.byte) =
-    grind (arith, c.byte_of.ensures, c.position_of.ensures.character) in
+    grind (arith, c.byte_of.ensures.answer, c.position_of.ensures.character) in
     rw same (c.start_of_char.ensures Utf16 tt)
 
 pub returns-clause-boundary : goal.returns-clause-boundary

@@ -2,3 +2,4 @@ pub mod EndLaws
 pub mod UnitLaws
 pub mod CharacterLaws
 pub mod CountLaws
+pub mod PastEnds
