@@ -1,14 +1,16 @@
 -- Where a kernel of `lines` counts a break: CRLF at its LF, and each other break at its first byte.
---     is_ascii_break b              LF, VT, FF or CR
---     is_crlf b next                CR and the byte after it, LF
---     is_next_line b next           the two bytes of U+0085
---     is_separator b next after     the three bytes of U+2028 or U+2029
---     is_break b next after         whether a break is counted at a byte, by the two bytes after it
---     break_at bytes j              1 where a break is counted at the j-th byte, else 0
---     breaks_before bytes n         how many breaks are counted at the first n bytes
---     HasLanes size f lanes         there are `size` lanes, and f of its place in each
-use Rattle.std.specs.Prelude.{ℕ, ◌≡◌, ◌+◌, ◌<◌, Bool, not, ◌==◌, ◌&&◌, ◌||◌, nat_lt, if◌then◌else◌, List, [], ◌∷◌, ◌++◌, length, slice_index}
-use Rattle.str_indices.specs.Bytes.{sum_below}
+--     is_ascii_break b                  LF, VT, FF or CR
+--     is_crlf b next                    CR and the byte after it, LF
+--     is_next_line b next               the two bytes of U+0085
+--     is_separator b next after         the three bytes of U+2028 or U+2029
+--     is_break b next after             whether a break is counted at a byte, by the two bytes after it
+--     narrow_break_at bytes j           1 where a break of one byte, or CRLF, is counted at the j-th byte, else 0
+--     next_line_at bytes j              1 where the j-th byte begins U+0085, else 0
+--     separator_at bytes j              1 where the j-th byte begins U+2028 or U+2029, else 0
+--     break_at bytes j                  1 where a break is counted at the j-th byte, else 0
+--     breaks_counted_before bytes n     how many breaks are counted at the first n bytes
+use Rattle.std.specs.Prelude.{ℕ, ◌+◌, Bool, not, ◌==◌, ◌&&◌, ◌||◌, nat_lt, List, slice_index}
+use Rattle.str_indices.specs.Bytes.{flag, sum_below}
 
 abbrev pub is_ascii_break : ℕ → Bool
 is_ascii_break b = nat_lt 0x09 b && nat_lt b 0x0E
@@ -33,19 +35,18 @@ is_narrow_break b next = is_ascii_break b && not (is_crlf b next)
 abbrev pub is_break : ℕ → ℕ → ℕ → Bool
 is_break b next after = is_narrow_break b next || is_next_line b next || is_separator b next after
 
-abbrev pub flag : Bool → ℕ
-flag b = if b then 1 else 0
+abbrev pub narrow_break_at : List ℕ → ℕ → ℕ
+narrow_break_at bytes j = flag (is_narrow_break (slice_index bytes j) (slice_index bytes (1 + j)))
+
+abbrev pub next_line_at : List ℕ → ℕ → ℕ
+next_line_at bytes j = flag (is_next_line (slice_index bytes j) (slice_index bytes (1 + j)))
+
+abbrev pub separator_at : List ℕ → ℕ → ℕ
+separator_at bytes j =
+    flag (is_separator (slice_index bytes j) (slice_index bytes (1 + j)) (slice_index bytes (2 + j)))
 
 abbrev pub break_at : List ℕ → ℕ → ℕ
 break_at bytes j = flag (is_break (slice_index bytes j) (slice_index bytes (1 + j)) (slice_index bytes (2 + j)))
 
-abbrev pub breaks_before : List ℕ → ℕ → ℕ
-breaks_before bytes n = sum_below (break_at bytes) n
-
-pub record HasLanes (size : ℕ) (f : ℕ → ℕ) (lanes : List ℕ) : Type 0 where
-  pub long : length lanes ≡ size
-  pub each : (j : ℕ) → j < size → slice_index lanes j ≡ f j
-
--- a byte of a chunk or of the two after it
-abbrev pub chunk_byte : List ℕ → ℕ → ℕ → ℕ → ℕ
-chunk_byte lanes next after j = slice_index (lanes ++ next ∷ after ∷ []) j
+abbrev pub breaks_counted_before : List ℕ → ℕ → ℕ
+breaks_counted_before bytes n = sum_below (break_at bytes) n

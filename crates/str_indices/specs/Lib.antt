@@ -6,6 +6,7 @@ pub mod Bytes
 pub mod PassBound
 pub mod Reads
 pub mod Breaks
+pub mod Lanes
 pub mod SchemeGroups
 pub mod Starts
 pub mod Joins

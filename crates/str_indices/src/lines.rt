@@ -2,14 +2,16 @@
 //!
 //! A line break is LF (U+000A), VT (U+000B), FF (U+000C), CR (U+000D), CR LF as one, U+0085, U+2028 or U+2029: the
 //! characters of the Unicode Standard's Annex 14 that the Rust crate `str_indices` lists.
-ghost use Rattle.std.specs.Prelude.{◌≡◌, ◌+◌, ◌-◌, ◌/◌, ◌<◌, ◌≤◌, ◌⊎◌, ℕ, IsCharBoundary, chars, drop, length, map, min, slice_index, take};
-ghost use Rattle.byte_chunk.specs.Lanes.{is_between};
+ghost use Rattle.std.specs.Prelude.{◌≡◌, ◌+◌, ◌-◌, ◌*◌, ◌/◌, ◌<◌, ◌≤◌, ◌==◌, ◌&&◌, ◌⊎◌, ℕ, IsCharBoundary, chars, length, map, min, slice_index, take};
+ghost use Rattle.std.specs.Simd.Lanes.{Each1};
+ghost use Rattle.byte_chunk.specs.Lanes.{is_between, is_byte};
 ghost use Rattle.str_indices.specs.Text.{cut, size};
 ghost use Rattle.str_indices.specs.Schemes.{count, from_byte_idx, to_byte_idx, Lines};
 ghost use Rattle.str_indices.specs.Relations.{IsBoundary};
-ghost use Rattle.str_indices.specs.Bytes.{is_middle};
-ghost use Rattle.str_indices.specs.Breaks.{HasLanes, flag, chunk_byte, is_ascii_break, is_narrow_break, is_next_line, is_crlf, is_separator, is_break, break_at, breaks_before, ends_separator};
-ghost use Rattle.str_indices.specs.PassBound.{PassBound, Peeks, WalksBytes, WalksChunks, leading_bytes, pass_turns, pass_loads};
+ghost use Rattle.str_indices.specs.Bytes.{flag, is_carriage_return, is_middle};
+ghost use Rattle.str_indices.specs.Breaks.{is_crlf, is_separator, narrow_break_at, next_line_at, separator_at, break_at, breaks_counted_before, ends_separator};
+ghost use Rattle.str_indices.specs.Lanes.{HasLanes, SeenChunk};
+ghost use Rattle.str_indices.specs.Reads.{Reads, leading_bytes, pass_turns, pass_loads};
 
 use crate::places::{Position, boundary_at_or_after, boundary_at_or_before, is_not_crlf_middle};
 use byte_chunk::{ByteChunk, Chunk, Probe};
@@ -52,7 +54,7 @@ pub fn count_breaks_impl<T: ByteChunk>(probe: &mut Probe<'_, T>, end: usize, lea
     requires boundary { IsBoundary (chars probe.old.text) end }
     ensures count { result ≡ count Lines (cut (chars probe.old.text) end) }
     ensures text { probe.new.text ≡ probe.old.text }
-    ensures pass { PassBound probe.old probe.new (leading_bytes lead end)
+    ensures pass { Reads probe.old probe.new (leading_bytes lead end)
         (pass_turns T.SIZE lead end) (pass_loads T.SIZE lead end) 0 }
 {
     prove!(end <= probe.len());
@@ -72,7 +74,7 @@ pub fn from_byte_idx_impl<T: ByteChunk>(
     ensures answer { result ≡ from_byte_idx Lines (chars probe.old.text) byte_idx }
     ensures text { probe.new.text ≡ probe.old.text }
     ensures pass { let n = min byte_idx (length probe.old.text) in
-        PassBound probe.old probe.new (leading_bytes lead n) (pass_turns T.SIZE lead n) (pass_loads T.SIZE lead n) 3 }
+        Reads probe.old probe.new (leading_bytes lead n) (pass_turns T.SIZE lead n) (pass_loads T.SIZE lead n) 3 }
 {
     let end = boundary_at_or_before(probe, byte_idx);
     prove!(end <= probe.len());
@@ -88,8 +90,8 @@ fn parts_crlf<T: ByteChunk>(probe: &mut Probe<'_, T>, end: usize, byte_idx: usiz
     requires within { end ≤ length probe.old.text }
     requires boundary { end ≡ size (cut (chars probe.old.text) byte_idx) }
     ensures answer { result ≡ is_middle probe.old.text end }
-    ensures peeks { Peeks probe.old probe.new 2 }
-    ensures moved { end < byte_idx → probe.new.peeks ≡ probe.old.peeks }
+    ensures reads { Reads probe.old probe.new 0 0 0 2 }
+    ensures reads_nothing { end < byte_idx → Reads probe.old probe.new 0 0 0 0 }
 {
     prove!(end <= probe.len());
     end >= byte_idx && !is_not_crlf_middle(probe, end)
@@ -100,7 +102,7 @@ pub fn to_byte_idx_impl<T: ByteChunk>(probe: &mut Probe<'_, T>, idx: usize, lead
     ensures answer { result ≡ to_byte_idx Lines (chars probe.old.text) idx }
     ensures text { probe.new.text ≡ probe.old.text }
     ensures pass { let n = length probe.old.text in
-        PassBound probe.old probe.new (leading_bytes lead n) (pass_turns T.SIZE lead n) (result / T.SIZE + 5) 3 }
+        Reads probe.old probe.new (leading_bytes lead n) (pass_turns T.SIZE lead n) (result / T.SIZE + 5) 3 }
 {
     let len = probe.len();
     let first_chunk = lead.min(len);
@@ -127,14 +129,14 @@ fn count_breaks_up_to<T: ByteChunk>(
     requires ordered { from.byte ≤ to }
     requires seen { to ≤ end }
     requires within { end ≤ length probe.old.text }
-    requires counted { from.count ≡ breaks_before (take end probe.old.text) from.byte }
+    requires counted { from.count ≡ breaks_counted_before (take end probe.old.text) from.byte }
     requires at_most { from.count ≤ most }
     ensures reached { (from.byte ≤ result.byte) × (result.byte ≤ to) }
-    ensures counted { result.count ≡ breaks_before (take end probe.old.text) result.byte }
+    ensures counted { result.count ≡ breaks_counted_before (take end probe.old.text) result.byte }
     ensures at_most { result.count ≤ most }
-    ensures first { (d : ℕ) → from.byte ≤ d → d < result.byte → breaks_before (take end probe.old.text) d < most }
+    ensures first { (d : ℕ) → from.byte ≤ d → d < result.byte → breaks_counted_before (take end probe.old.text) d < most }
     ensures stopped { result.byte < to → result.count ≡ most }
-    ensures walk { WalksBytes probe.old probe.new (result.byte - from.byte) }
+    ensures reads { Reads probe.old probe.new 0 (result.byte - from.byte) 0 0 }
 {
     let mut at = from;
     while at.byte < to && at.count < most {
@@ -152,12 +154,32 @@ fn is_break_at<T: ByteChunk>(probe: &mut Probe<'_, T>, at: usize, end: usize) ->
     requires seen { at < end }
     requires within { end ≤ length probe.old.text }
     ensures answer { flag result ≡ break_at (take end probe.old.text) at }
-    ensures walk { WalksBytes probe.old probe.new 1 }
+    ensures reads { Reads probe.old probe.new 0 1 0 0 }
 {
     prove!(end <= probe.len());
-    match probe.turn(at) {
+    let byte = probe.turn(at);
+    match byte {
         b'\n' | 0x0B | 0x0C => true,
         b'\r' => peek_ahead(probe, at, 1, end) != b'\n',
+        _ => starts_wide_break(probe, byte, at, end),
+    }
+}
+
+/// Whether a break of several bytes is counted at byte `at`: where it may be, the bytes behind it are peeked at.
+fn starts_wide_break<T: ByteChunk>(
+    probe: &mut Probe<'_, T>,
+    byte: u8,
+    at: usize,
+    end: usize,
+) -> bool
+    requires seen { at < end }
+    requires within { end ≤ length probe.old.text }
+    requires byte { byte ≡ slice_index (take end probe.old.text) at }
+    ensures answer { flag result ≡ next_line_at (take end probe.old.text) at + separator_at (take end probe.old.text) at }
+    ensures reads { Reads probe.old probe.new 0 0 0 2 }
+    ensures reads_nothing { byte < 0xC2 → Reads probe.old probe.new 0 0 0 0 }
+{
+    match byte {
         0xC2 => peek_ahead(probe, at, 1, end) == 0x85,
         0xE2 => {
             let next = peek_ahead(probe, at, 1, end);
@@ -172,27 +194,13 @@ fn peek_ahead<T: ByteChunk>(probe: &mut Probe<'_, T>, at: usize, ahead: usize, e
     requires seen { at ≤ end }
     requires within { end ≤ length probe.old.text }
     ensures byte { result ≡ slice_index (take end probe.old.text) (ahead + at) }
-    ensures peeks { Peeks probe.old probe.new 1 }
+    ensures reads { Reads probe.old probe.new 0 0 0 1 }
 {
     if ahead < end - at {
         probe.peek(at + ahead)
     } else {
         0
     }
-}
-
-/// Whether the bytes are CR and LF.
-fn is_crlf(byte: u8, next: u8) -> bool
-    ensures { result ≡ is_crlf byte next }
-{
-    byte == b'\r' && next == b'\n'
-}
-
-/// Whether the bytes are those of U+0085.
-fn is_next_line(byte: u8, next: u8) -> bool
-    ensures { result ≡ is_next_line byte next }
-{
-    byte == 0xC2 && next == 0x85
 }
 
 /// Whether the bytes are those of U+2028 or U+2029.
@@ -210,10 +218,10 @@ fn count_breaks_in_chunks<T: ByteChunk>(
 ) -> Position
     requires ordered { from.byte ≤ end }
     requires within { end ≤ length probe.old.text }
-    requires counted { from.count ≡ breaks_before (take end probe.old.text) from.byte }
+    requires counted { from.count ≡ breaks_counted_before (take end probe.old.text) from.byte }
     ensures reached { (from.byte ≤ result.byte) × (result.byte ≤ end) × (end < result.byte + T.SIZE) }
-    ensures counted { result.count ≡ breaks_before (take end probe.old.text) result.byte }
-    ensures walk { WalksChunks probe.old probe.new T.SIZE from.byte result.byte }
+    ensures counted { result.count ≡ breaks_counted_before (take end probe.old.text) result.byte }
+    ensures reads { Reads probe.old probe.new from.byte 0 ((result.byte - from.byte) / T.SIZE) 0 }
 {
     let mut at = from;
     'rounds: while T::SIZE <= end - at.byte {
@@ -230,18 +238,17 @@ fn count_breaks_in_round<T: ByteChunk>(
 ) -> Position
     requires ordered { from.byte ≤ end }
     requires within { end ≤ length probe.old.text }
-    requires counted { from.count ≡ breaks_before (take end probe.old.text) from.byte }
+    requires counted { from.count ≡ breaks_counted_before (take end probe.old.text) from.byte }
     ensures reached { (from.byte ≤ result.byte) × (result.byte ≤ end) }
     ensures goes_on { from.byte + T.SIZE ≤ end → from.byte + T.SIZE ≤ result.byte }
-    ensures counted { result.count ≡ breaks_before (take end probe.old.text) result.byte }
-    ensures walk { WalksChunks probe.old probe.new T.SIZE from.byte result.byte }
+    ensures counted { result.count ≡ breaks_counted_before (take end probe.old.text) result.byte }
+    ensures reads { Reads probe.old probe.new from.byte 0 ((result.byte - from.byte) / T.SIZE) 0 }
 {
     let mut breaks = T::zero();
     let mut rounds = 0;
     let mut at = from.byte;
     'chunks: while rounds < T::MAX_ACC && T::SIZE <= end - at {
-        let chunk = probe.load(at);
-        breaks = breaks.add(count_breaks_in_chunk(probe, chunk, at, end));
+        breaks = breaks.add(count_breaks_in_chunk(probe, at, end));
         at += T::SIZE;
         rounds += 1;
     }
@@ -254,14 +261,14 @@ fn count_breaks_in_round<T: ByteChunk>(
 /// Skips whole chunks from a position on, while fewer breaks than the index are counted before their end.
 fn skip_chunks<T: ByteChunk>(probe: &mut Probe<'_, T>, from: Position, idx: usize) -> Position
     requires within { from.byte ≤ length probe.old.text }
-    requires counted { from.count ≡ breaks_before probe.old.text from.byte }
+    requires counted { from.count ≡ breaks_counted_before probe.old.text from.byte }
     requires below { from.count < idx }
     ensures reached { (from.byte ≤ result.byte) × (result.byte ≤ length probe.old.text) }
-    ensures counted { result.count ≡ breaks_before probe.old.text result.byte }
+    ensures counted { result.count ≡ breaks_counted_before probe.old.text result.byte }
     ensures below { result.count < idx }
     ensures stopped { (length probe.old.text < result.byte + T.SIZE)
-        ⊎ (idx ≤ breaks_before probe.old.text (result.byte + T.SIZE)) }
-    ensures walk { (to : ℕ) × (to ≤ result.byte + T.SIZE) × WalksChunks probe.old probe.new T.SIZE from.byte to }
+        ⊎ (idx ≤ breaks_counted_before probe.old.text (result.byte + T.SIZE)) }
+    ensures reads { Reads probe.old probe.new from.byte 0 ((result.byte - from.byte) / T.SIZE + 1) 0 }
 {
     let len = probe.len();
     let mut at = from;
@@ -278,134 +285,114 @@ fn skip_chunks<T: ByteChunk>(probe: &mut Probe<'_, T>, from: Position, idx: usiz
     at
 }
 
-/// Counts in the chunk at `at`, for one load and at most four peeks before `end`.
+/// Counts in the chunk at `at`, for one load and the peeks that it pays.
 fn sum_breaks_in_chunk<T: ByteChunk>(probe: &mut Probe<'_, T>, at: usize, end: usize) -> usize
     requires seen { at + T.SIZE ≤ end }
     requires within { end ≤ length probe.old.text }
-    ensures counted { breaks_before (take end probe.old.text) (at + T.SIZE)
-        ≡ breaks_before (take end probe.old.text) at + result }
-    ensures walk { WalksChunks probe.old probe.new T.SIZE at (at + T.SIZE) }
+    ensures counted { breaks_counted_before (take end probe.old.text) (at + T.SIZE)
+        ≡ breaks_counted_before (take end probe.old.text) at + result }
+    ensures reads { Reads probe.old probe.new at 0 1 0 }
 {
-    let chunk = probe.load(at);
-    count_breaks_in_chunk(probe, chunk, at, end).sum_bytes()
+    count_breaks_in_chunk(probe, at, end).sum_bytes()
 }
 
 /// 1 in each lane of the chunk at `at` where a break is counted, and 0 in the others.
-fn count_breaks_in_chunk<T: ByteChunk>(
-    probe: &mut Probe<'_, T>,
-    chunk: T,
-    at: usize,
-    end: usize,
-) -> T
+///
+/// It loads the chunk, and peeks at most at its last two bytes and the two behind it, where a lane says that a break may
+/// cross the chunk's end.
+fn count_breaks_in_chunk<T: ByteChunk>(probe: &mut Probe<'_, T>, at: usize, end: usize) -> T
     requires seen { at + T.SIZE ≤ end }
     requires within { end ≤ length probe.old.text }
-    requires loaded { T.lanes chunk ≡ take T.SIZE (drop at probe.old.text) }
     ensures lanes { HasLanes T.SIZE (λ j. break_at (take end probe.old.text) (at + j)) (T.lanes result) }
-    ensures peeks { Peeks probe.old probe.new 4 }
+    ensures reads { Reads probe.old probe.new at 0 1 0 }
 {
     prove!(end <= probe.len());
-    let edge = peek_at_edge(probe, at + T::SIZE, end);
+    let chunk = probe.load(at);
+    let narrow_breaks = count_narrow_breaks(probe, chunk, at, end);
+    add_wide_breaks(probe, chunk, narrow_breaks, at, end)
+}
+
+/// 1 in each lane of the chunk at `at` that is a break of one byte or the LF of CR LF.
+///
+/// Only where a lane is CR it peeks at the last byte, and only where that is CR at the one behind it.
+fn count_narrow_breaks<T: ByteChunk>(probe: &mut Probe<'_, T>, chunk: T, at: usize, end: usize) -> T
+    requires chunk { SeenChunk probe.old.text end at T.SIZE (T.lanes chunk) }
+    ensures lanes { HasLanes T.SIZE (λ j. narrow_break_at (take end probe.old.text) (at + j)) (T.lanes result) }
+    ensures reads { let last = slice_index probe.old.text (at + (T.SIZE - 1)) in
+        Reads probe.old probe.new 0 0 0 (1 + flag (is_carriage_return last)) }
+{
+    prove!(end <= probe.len());
     let ascii_breaks = chunk.bytes_between_127(0x09, 0x0E);
-    let narrow_breaks = uncount_crlf(chunk, ascii_breaks, edge);
-    let with_next_lines = add_next_lines(chunk, narrow_breaks, edge);
-    add_separators(chunk, with_next_lines, edge)
-}
-
-/// The bytes beside the end of a chunk: its last two, and the two after it, 0 for one that isn't before the end of the text.
-#[derive(Clone, Copy)]
-struct Edge {
-    last_but_one: u8,
-    last: u8,
-    next: u8,
-    after: u8,
-}
-
-/// The bytes beside the end of a chunk, by at most four peeks before `end`.
-fn peek_at_edge<T: ByteChunk>(probe: &mut Probe<'_, T>, chunk_end: usize, end: usize) -> Edge
-    requires long { 2 ≤ chunk_end }
-    requires seen { chunk_end ≤ end }
-    requires within { end ≤ length probe.old.text }
-    ensures last_but_one { result.last_but_one ≡ slice_index (take end probe.old.text) (chunk_end - 2) }
-    ensures last { result.last ≡ slice_index (take end probe.old.text) (chunk_end - 1) }
-    ensures next { result.next ≡ slice_index (take end probe.old.text) chunk_end }
-    ensures after { result.after ≡ slice_index (take end probe.old.text) (1 + chunk_end) }
-    ensures peeks { Peeks probe.old probe.new 4 }
-{
-    Edge {
-        last_but_one: probe.peek(chunk_end - 2),
-        last: probe.peek(chunk_end - 1),
-        next: peek_ahead(probe, chunk_end, 0, end),
-        after: peek_ahead(probe, chunk_end, 1, end),
-    }
-}
-
-/// Takes each CR with LF after it from the ASCII breaks of a chunk: the break is counted at its LF.
-fn uncount_crlf<T: ByteChunk>(chunk: T, ascii_breaks: T, edge: Edge) -> T
-    requires long { length (T.lanes chunk) ≡ T.SIZE }
-    requires last { edge.last ≡ slice_index (T.lanes chunk) (T.SIZE - 1) }
-    requires counted { T.lanes ascii_breaks ≡ map (is_between 0x09 0x0E) (T.lanes chunk) }
-    ensures { let byte = chunk_byte (T.lanes chunk) edge.next edge.after in
-        HasLanes T.SIZE (λ j. flag (is_narrow_break (byte j) (byte (1 + j)))) (T.lanes result) }
-{
-    let returns = chunk.cmp_eq_byte(b'\r');
-    if returns.is_zero() {
+    if chunk.cmp_eq_byte(b'\r').is_zero() {
         return ascii_breaks;
     }
-    let line_feeds = chunk.cmp_eq_byte(b'\n').shift_back_lex(1);
-    let inside = ascii_breaks.sub(returns.bitand(line_feeds));
-    if is_crlf(edge.last, edge.next) {
+    let inside = ascii_breaks.sub(pair_starts(chunk, b'\r', b'\n'));
+    if starts_crlf(probe, at + (T::SIZE - 1), end) {
         inside.dec_last_lex_byte()
     } else {
         inside
     }
 }
 
-/// Adds each U+0085 of a chunk, at its first byte.
-fn add_next_lines<T: ByteChunk>(chunk: T, narrow_breaks: T, edge: Edge) -> T
-    requires long { length (T.lanes chunk) ≡ T.SIZE }
-    requires last { edge.last ≡ slice_index (T.lanes chunk) (T.SIZE - 1) }
-    requires counted { let byte = chunk_byte (T.lanes chunk) edge.next edge.after in
-        HasLanes T.SIZE (λ j. flag (is_narrow_break (byte j) (byte (1 + j)))) (T.lanes narrow_breaks) }
-    ensures { let byte = chunk_byte (T.lanes chunk) edge.next edge.after in
-        HasLanes T.SIZE (λ j. flag (is_narrow_break (byte j) (byte (1 + j))) + flag (is_next_line (byte j) (byte (1 + j)))) (T.lanes result) }
+/// Whether CR LF starts at byte `at`: where that is CR, the byte behind it is peeked at too.
+fn starts_crlf<T: ByteChunk>(probe: &mut Probe<'_, T>, at: usize, end: usize) -> bool
+    requires seen { at < end }
+    requires within { end ≤ length probe.old.text }
+    ensures answer { let byte = slice_index (take end probe.old.text) in result ≡ is_crlf (byte at) (byte (1 + at)) }
+    ensures reads { Reads probe.old probe.new 0 0 0 (1 + flag (is_carriage_return (slice_index probe.old.text at))) }
 {
-    let firsts = chunk.cmp_eq_byte(0xC2);
-    if firsts.is_zero() {
-        return narrow_breaks;
-    }
-    let seconds = chunk.cmp_eq_byte(0x85).shift_back_lex(1);
-    let inside = narrow_breaks.add(firsts.bitand(seconds));
-    if is_next_line(edge.last, edge.next) {
-        inside.inc_nth_from_end_lex_byte(0)
-    } else {
-        inside
-    }
+    probe.peek(at) == b'\r' && peek_ahead(probe, at, 1, end) == b'\n'
 }
 
-/// Adds each U+2028 and U+2029 of a chunk, at its first byte.
-fn add_separators<T: ByteChunk>(chunk: T, breaks: T, edge: Edge) -> T
-    requires long { length (T.lanes chunk) ≡ T.SIZE }
-    requires last_but_one { edge.last_but_one ≡ slice_index (T.lanes chunk) (T.SIZE - 2) }
-    requires last { edge.last ≡ slice_index (T.lanes chunk) (T.SIZE - 1) }
-    requires counted { let byte = chunk_byte (T.lanes chunk) edge.next edge.after in
-        HasLanes T.SIZE (λ j. flag (is_narrow_break (byte j) (byte (1 + j))) + flag (is_next_line (byte j) (byte (1 + j)))) (T.lanes breaks) }
-    ensures { let byte = chunk_byte (T.lanes chunk) edge.next edge.after in
-        HasLanes T.SIZE (λ j. flag (is_break (byte j) (byte (1 + j)) (byte (2 + j)))) (T.lanes result) }
+/// Adds the breaks of several bytes, each at its first byte, to the others of the chunk at `at`.
+fn add_wide_breaks<T: ByteChunk>(
+    probe: &mut Probe<'_, T>,
+    chunk: T,
+    narrow_breaks: T,
+    at: usize,
+    end: usize,
+) -> T
+    requires chunk { SeenChunk probe.old.text end at T.SIZE (T.lanes chunk) }
+    requires counted { HasLanes T.SIZE (λ j. narrow_break_at (take end probe.old.text) (at + j)) (T.lanes narrow_breaks) }
+    ensures lanes { HasLanes T.SIZE (λ j. break_at (take end probe.old.text) (at + j)) (T.lanes result) }
+    ensures reads { let last = slice_index probe.old.text (at + (T.SIZE - 1)) in
+        Reads probe.old probe.new 0 0 0 (3 - 2 * flag (is_carriage_return last)) }
 {
-    let firsts = chunk.cmp_eq_byte(0xE2);
+    let next_lines = chunk.cmp_eq_byte(0xC2);
+    let separators = chunk.cmp_eq_byte(0xE2);
+    if next_lines.add(separators).is_zero() {
+        return narrow_breaks;
+    }
+    let with_next_lines = narrow_breaks.add(pair_starts(chunk, 0xC2, 0x85));
+    let inside = add_separators(chunk, separators, with_next_lines);
+    add_at_edge(probe, inside, at, end)
+}
+
+/// 1 in each lane that is the first byte and stands before a lane that is the second.
+fn pair_starts<T: ByteChunk>(chunk: T, first: u8, second: u8) -> T
+    requires long { length (T.lanes chunk) ≡ T.SIZE }
+    requires some { 0 < second }
+    ensures { let byte = slice_index (T.lanes chunk) in
+        HasLanes T.SIZE (λ j. flag (byte j == first && byte (1 + j) == second)) (T.lanes result) }
+{
+    chunk
+        .cmp_eq_byte(first)
+        .bitand(chunk.cmp_eq_byte(second).shift_back_lex(1))
+}
+
+/// Adds each U+2028 and U+2029 that stands in a chunk as a whole to its breaks, where `firsts` says which lanes are E2.
+fn add_separators<T: ByteChunk>(chunk: T, firsts: T, breaks: T) -> T
+    requires long { length (T.lanes chunk) ≡ T.SIZE }
+    requires first { T.lanes firsts ≡ map (is_byte 0xE2) (T.lanes chunk) }
+    requires as_long { length (T.lanes breaks) ≡ T.SIZE }
+    requires room { Each1 (λ lane. lane < 255) (T.lanes breaks) }
+    ensures { HasLanes T.SIZE (λ j. slice_index (T.lanes breaks) j + separator_at (T.lanes chunk) j) (T.lanes result) }
+{
     if firsts.is_zero() {
         return breaks;
     }
-    let seconds = chunk.cmp_eq_byte(0x80).shift_back_lex(1);
     let thirds = separator_ends(chunk).shift_back_lex(2);
-    let inside = breaks.add(firsts.bitand(seconds).bitand(thirds));
-    if is_separator(edge.last_but_one, edge.last, edge.next) {
-        inside.inc_nth_from_end_lex_byte(1)
-    } else if is_separator(edge.last, edge.next, edge.after) {
-        inside.inc_nth_from_end_lex_byte(0)
-    } else {
-        inside
-    }
+    breaks.add(pair_starts(chunk, 0xE2, 0x80).bitand(thirds))
 }
 
 /// 1 in each lane that ends U+2028 or U+2029 after E2 80: the bytes A8 and A9 differ in their lowest bit alone.
@@ -414,4 +401,31 @@ fn separator_ends<T: ByteChunk>(chunk: T) -> T
     ensures { T.lanes result ≡ map (λ lane. flag (ends_separator lane)) (T.lanes chunk) }
 {
     chunk.shr(1).bitand(T::splat(0x7F)).cmp_eq_byte(0x54)
+}
+
+/// Adds the break of several bytes that crosses the end of the chunk at `at`, if there is one.
+///
+/// `breaks` has those that are counted where no byte behind the chunk is seen.
+fn add_at_edge<T: ByteChunk>(probe: &mut Probe<'_, T>, breaks: T, at: usize, end: usize) -> T
+    requires seen { at + T.SIZE ≤ end }
+    requires within { end ≤ length probe.old.text }
+    requires counted { let inside = take (at + T.SIZE) probe.old.text in
+        HasLanes T.SIZE (λ j. narrow_break_at (take end probe.old.text) (at + j) + next_line_at inside (at + j)
+            + separator_at inside (at + j)) (T.lanes breaks) }
+    ensures lanes { HasLanes T.SIZE (λ j. break_at (take end probe.old.text) (at + j)) (T.lanes result) }
+    ensures reads { let last = slice_index probe.old.text (at + (T.SIZE - 1)) in
+        Reads probe.old probe.new 0 0 0 (3 - 2 * flag (is_carriage_return last)) }
+{
+    prove!(end <= probe.len());
+    let last = at + (T::SIZE - 1);
+    let byte = probe.peek(last);
+    if byte == 0x80 {
+        let last_but_one = probe.peek(last - 1);
+        if is_separator(last_but_one, 0x80, peek_ahead(probe, last, 1, end)) {
+            return breaks.inc_nth_from_end_lex_byte(1);
+        }
+    } else if starts_wide_break(probe, byte, last, end) {
+        return breaks.inc_nth_from_end_lex_byte(0);
+    }
+    breaks
 }

@@ -1,5 +1,4 @@
 pub mod Lanes
 pub mod Rounds
-pub mod BreakRounds
 pub mod CrlfChunks
 pub mod BreakChunks

@@ -1,7 +1,7 @@
 -- Sums of a number at each place.
 use Rattle.std.proofs.Common.{◌≡◌, ℕ, zero, suc, ◌+◌, ◌-◌, ◌<◌, ◌≤◌, Bool, true, false, cond, List, get_or, refl, arith, add-suc, add-zero, ap, ◌∙◌}
 use Rattle.std.specs.Prelude.{not}
-use Rattle.str_indices.specs.Bytes.{sum_below, mark, passing_before}
+use Rattle.str_indices.specs.Bytes.{sum_below, flag, mark, passing_before}
 
 -- up to m and then n places more
 pub sum_below-add : (f : ℕ → ℕ) (m n : ℕ) → sum_below f (m + n) ≡ sum_below f m + sum_below (λ j. f (m + j)) n
@@ -46,13 +46,14 @@ pub passing_or_not : (test : ℕ → Bool) (bytes : List ℕ) (n : ℕ)
 passing_or_not test bytes zero = refl
 passing_or_not test bytes (suc n) = omega (arith, mark-not test (get_or bytes n 0), passing_or_not test bytes n)
 
+-- a flag is one at most
+pub flag-le : (b : Bool) → flag b ≤ 1
+flag-le true = omega arith
+flag-le false = omega arith
+
 -- a byte counts one at most
 pub mark-le : (test : ℕ → Bool) (b : ℕ) → mark test b ≤ 1
-mark-le test b = at_most_one (test b)
-  where
-    at_most_one : (passes : Bool) → cond passes 1 0 ≤ 1
-    at_most_one true = omega arith
-    at_most_one false = omega arith
+mark-le test b = flag-le (test b)
 
 -- no more bytes pass than there are
 pub passing_before-le : (test : ℕ → Bool) (bytes : List ℕ) (n : ℕ) → passing_before test bytes n ≤ n

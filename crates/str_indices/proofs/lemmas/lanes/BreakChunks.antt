@@ -1,339 +1,401 @@
 -- The breaks of a chunk, lane by lane: those of one byte, then U+0085, then U+2028 and U+2029.
-use Rattle.std.proofs.Common.{◌≡◌, ℕ, ◌+◌, ◌-◌, ◌/◌, ◌%◌, ◌^◌, ◌<◌, ◌≤◌, inl, inr, Bool, true, false, cond, List, [], ◌∷◌, ◌++◌, map, take, drop, replicate, length, get_or, refl, arith, sym, ◌∙◌, ap, bit_and, slice_set}
-use Rattle.std.specs.Prelude.{sum, ◌==◌, ◌&&◌, nat_lt}
-use Rattle.std.specs.Simd.Lanes.{zip2, Each2}
-use Rattle.std.proofs.lemmas.Bool.{cases_lt}
+use Rattle.std.proofs.Common.{◌≡◌, ℕ, ◌+◌, ◌-◌, ◌/◌, ◌%◌, ◌^◌, ◌<◌, ◌≤◌, inl, inr, ◌≢◌, Bool, true, false, List, [], ◌∷◌, map, take, drop, replicate, length, get_or, refl, arith, sym, ◌∙◌, ap, bit_and, slice_set, ◌++◌}
+use Rattle.std.specs.Prelude.{sum, ◌==◌, ◌&&◌}
+use Rattle.std.specs.Simd.Lanes.{zip2, Each1, Each2}
+use Rattle.std.proofs.lemmas.Bool.{cases_lt, cases_eq, ne_eqb}
 use Rattle.std.proofs.lemmas.Bool.Decides.{nat_tests}
 use Rattle.std.proofs.lemmas.Nat.{and_mask}
-use Rattle.std.proofs.lemmas.List.{get_or-drop, get_or-take}
+use Rattle.std.proofs.lemmas.Simd.{Each2-of}
+use Rattle.std.proofs.lemmas.List.{get_or-drop, get_or-take, get_or_past, get_or-replicate, length-take}
 use Rattle.byte_chunk.specs.Lanes.{is_byte, is_between}
-use Rattle.str_indices.specs.Breaks.{HasLanes, flag, chunk_byte, is_ascii_break, is_crlf, is_narrow_break, is_next_line, is_separator, ends_separator, is_break, break_at, breaks_before}
-use Rattle.str_indices.proofs.lemmas.bytes.Sums.{sum_below-le}
-use Rattle.str_indices.proofs.lemmas.lanes.Lanes.{length-loaded, sum_below-chunk, lanes_same, lanes_map, lanes_zip2, lanes_shift, lanes_set, lanes_kept, and_of_flags, chunk_lanes, chunk_byte-behind, Each2-lanes}
+use Rattle.str_indices.specs.Bytes.{flag}
+use Rattle.str_indices.specs.Lanes.{HasLanes, SeenChunk}
+use Rattle.str_indices.specs.Breaks.{is_ascii_break, is_crlf, is_narrow_break, is_next_line, is_separator, ends_separator, is_break, narrow_break_at, next_line_at, separator_at, break_at, breaks_counted_before}
+use Rattle.str_indices.proofs.lemmas.bytes.Sums.{flag-le, sum_below-le}
+use Rattle.str_indices.proofs.lemmas.lanes.Lanes.{length-loaded, lanes_of, lanes_same, lanes_map, lanes_zip2, lanes_and, lanes_shift, lanes_set, lane_is_not, Each1-lanes, Each2-lanes}
 
--- a flag is one at most
-pub flag-le : (b : Bool) → flag b ≤ 1
-flag-le true = omega arith
-flag-le false = omega arith
+-- a break at most at each byte
+pub break_at-le : (bytes : List ℕ) (j : ℕ) → break_at bytes j ≤ 1
+break_at-le bytes j = flag-le (is_break (get_or bytes j 0) (get_or bytes (1 + j) 0) (get_or bytes (2 + j) 0))
+
+-- no more breaks than bytes are counted
+pub breaks_counted_before-le : (bytes : List ℕ) (n : ℕ) → breaks_counted_before bytes n ≤ n
+breaks_counted_before-le bytes n = sum_below-le (break_at bytes) (break_at-le bytes) n
+
+-- what is counted at the j-th byte of a chunk where of the breaks of several bytes those are seen that end in it
+abbrev pub inside_at : List ℕ → ℕ → ℕ → ℕ → ℕ → ℕ
+inside_at text end at size j =
+    narrow_break_at (take end text) (at + j) + next_line_at (take (at + size) text) (at + j) + separator_at
+    (take (at + size) text) (at + j)
+
+-- 1 where a break of several bytes is counted at a byte
+abbrev pub wide_at : List ℕ → ℕ → ℕ
+wide_at bytes j = next_line_at bytes j + separator_at bytes j
+
+-- whether a byte is CR and the next LF
+abbrev pub crlf_at : List ℕ → ℕ → Bool
+crlf_at bytes j = is_crlf (get_or bytes j 0) (get_or bytes (1 + j) 0)
 
 -- a CR before LF is an ASCII break
-crlf_is_ascii : (b next : ℕ) (inside : Bool) → flag (is_crlf b next && inside) ≤ flag (is_ascii_break b)
-crlf_is_ascii b next inside = grind (arith, nat_tests)
-
--- the bytes at the edge of a chunk
-pub record HasEdge (size : ℕ) (w : ℕ → ℕ) (last next after : ℕ) : Type 0 where
-  pub last_is : w (size - 1) ≡ last
-  pub next_is : w (1 + (size - 1)) ≡ next
-  pub after_is : w (2 + (size - 1)) ≡ after
-
--- a chunk's edge: its last byte and the two after it
-pub edge_of : (size : ℕ) (chunk : List ℕ) (last next after : ℕ) → 1 < size → length chunk ≡ size
-    → last ≡ get_or chunk (size - 1) 0 → HasEdge size (chunk_byte chunk next after) last next after
-edge_of size chunk last next after few long is_last =
-    let first : 1 + (size - 1) ≡ size + 0 = omega arith in
-    let second : 2 + (size - 1) ≡ size + 1 = omega arith in
-    record {
-      last_is = sym ((chunk_lanes size chunk next after long).each (size - 1) (omega arith)) ∙ sym is_last;
-      next_is = ap (chunk_byte chunk next after) first ∙ chunk_byte-behind chunk next after size 0 long;
-      after_is = ap (chunk_byte chunk next after) second ∙ chunk_byte-behind chunk next after size 1 long;
-    }
-
--- CRLF: taken off inside the chunk, and at its edge
-
--- 1 where a byte inside the chunk is CR before LF
-abbrev pub crlf_inside : ℕ → (ℕ → ℕ) → ℕ → ℕ
-crlf_inside size w j = flag (is_crlf (w j) (w (1 + j)) && nat_lt (1 + j) size)
-
--- what is left of the ASCII breaks without those inside the chunk
-abbrev pub left_inside : ℕ → (ℕ → ℕ) → ℕ → ℕ
-left_inside size w j = flag (is_ascii_break (w j)) - crlf_inside size w j
-
--- no lane borrows where the CRs before LF are taken off
-pub crlf_fits : (size : ℕ) (w : ℕ → ℕ) (chunk ascii pairs : List ℕ) → HasLanes size w chunk
-    → ascii ≡ map (is_between 0x09 0x0E) chunk → HasLanes size (crlf_inside size w) pairs
-    → Each2 (λ a b. b ≤ a) ascii pairs
-crlf_fits size w chunk ascii pairs bytes is_ascii is_pair =
-    Each2-lanes (λ a b. b ≤ a) size (λ j. flag (is_ascii_break (w j))) (crlf_inside size w) ascii pairs
-    (lanes_map (is_between 0x09 0x0E) size w chunk ascii bytes is_ascii) is_pair
-    (λ j l. crlf_is_ascii (w j) (w (1 + j)) (nat_lt (1 + j) size))
-
--- what is left then
-pub crlf_taken_off : (size : ℕ) (w : ℕ → ℕ) (chunk ascii pairs inside : List ℕ) → HasLanes size w chunk
-    → ascii ≡ map (is_between 0x09 0x0E) chunk → HasLanes size (crlf_inside size w) pairs
-    → inside ≡ zip2 (λ a b. a - b) ascii pairs → HasLanes size (left_inside size w) inside
-crlf_taken_off size w chunk ascii pairs inside bytes is_ascii is_pair taken =
-    lanes_zip2 (λ a b. a - b) size (λ j. flag (is_ascii_break (w j))) (crlf_inside size w) ascii pairs inside
-    (lanes_map (is_between 0x09 0x0E) size w chunk ascii bytes is_ascii) is_pair taken
-
--- at the edge a CR before LF has a lane that is 1
-pub last_is_counted : (size : ℕ) (w : ℕ → ℕ) (last next after : ℕ) (inside : List ℕ) → 1 < size
-    → HasEdge size w last next after → is_crlf last next ≡ true → HasLanes size (left_inside size w) inside
-    → 0 < get_or inside (size - 1) 0
-last_is_counted size w last next after inside few edge crosses h =
-    let one : left_inside size w (size - 1) ≡ 1 =
-    rw (edge.last_is, edge.next_is) (last_one size last next few crosses) in
-    omega (arith, h.each (size - 1) (omega arith))
-  where
-    last_one : (size last next : ℕ) → 1 < size → is_crlf last next ≡ true
-        → flag (is_ascii_break last) - flag (is_crlf last next && nat_lt (1 + (size - 1)) size) ≡ 1
-    last_one size last next few crosses = grind (arith, nat_tests)
-
--- a match at a place is found inside the chunk, or else at its edge
-less_once : (n : ℕ) (m : Bool) (j size : ℕ) → j < size
-    → cond (m && j == size - 1) (n - flag (m && nat_lt (1 + j) size) - 1)
-    (n - flag (m && nat_lt (1 + j) size)) ≡ n - flag m
-less_once n true j size within = grind (arith, nat_tests)
-less_once n false j size within = grind (arith, nat_tests)
+crlf_is_ascii : (b next : ℕ) → flag (is_crlf b next) ≤ flag (is_ascii_break b)
+crlf_is_ascii b next = grind (arith, nat_tests)
 
 -- an ASCII break that is no CR before LF
 narrow : (b next : ℕ) → flag (is_ascii_break b) - flag (is_crlf b next) ≡ flag (is_narrow_break b next)
 narrow b next = grind (arith, nat_tests)
 
--- the breaks of one byte
-abbrev pub narrow_at : (ℕ → ℕ) → ℕ → ℕ
-narrow_at w j = flag (is_narrow_break (w j) (w (1 + j)))
+-- CR before LF alone depends on the byte behind
+narrow_without : (b next : ℕ) → is_crlf b next ≡ false → flag (is_narrow_break b 0) ≡ flag (is_narrow_break b next)
+narrow_without b next none = grind (arith, nat_tests, none)
 
-pub narrow_crossing : (size : ℕ) (w : ℕ → ℕ) (last next after : ℕ) (inside result : List ℕ) → 1 < size
-    → HasEdge size w last next after → is_crlf last next ≡ true → HasLanes size (left_inside size w) inside
-    → result ≡ slice_set inside (size - 1) (get_or inside (size - 1) 0 - 1) → HasLanes size (narrow_at w) result
-narrow_crossing size w last next after inside result few edge crosses h is =
-    let m = λ (j : ℕ). is_crlf (w j) (w (1 + j)) in
-    let here : m (size - 1) ≡ true = rw (edge.last_is, edge.next_is) crosses in
-    lanes_same size _ (narrow_at w) result
-    (lanes_set (λ n. n - 1) m (size - 1) (size - 1) size (left_inside size w) inside result (omega arith) refl
-    here h is)
-    (λ j l. less_once (flag (is_ascii_break (w j))) (m j) j size l ∙ narrow (w j) (w (1 + j)))
-
-pub narrow_within : (size : ℕ) (w : ℕ → ℕ) (last next after : ℕ) (inside : List ℕ) → HasEdge size w last next after
-    → is_crlf last next ≡ false → HasLanes size (left_inside size w) inside → HasLanes size (narrow_at w) inside
-narrow_within size w last next after inside edge crosses h =
-    let m = λ (j : ℕ). is_crlf (w j) (w (1 + j)) in
-    let here : m (size - 1) ≡ false = rw (edge.last_is, edge.next_is) crosses in
-    lanes_same size _ (narrow_at w) inside
-    (lanes_kept (λ n. n - 1) m (size - 1) size (left_inside size w) inside here h)
-    (λ j l. less_once (flag (is_ascii_break (w j))) (m j) j size l ∙ narrow (w j) (w (1 + j)))
-
--- without CR the ASCII breaks are the breaks of one byte
-pub no_crlf : (size : ℕ) (w : ℕ → ℕ) (chunk ascii : List ℕ) → HasLanes size w chunk
-    → ascii ≡ map (is_between 0x09 0x0E) chunk → ((j : ℕ) → j < size → (w j == 0x0D) ≡ false)
-    → HasLanes size (narrow_at w) ascii
-no_crlf size w chunk ascii bytes is_ascii none =
-    lanes_same size (λ j. flag (is_ascii_break (w j))) (narrow_at w) ascii
-    (lanes_map (is_between 0x09 0x0E) size w chunk ascii bytes is_ascii)
-    (λ j l. rw (none j l) (and_true (is_ascii_break (w j))))
-  where
-    and_true : (b : Bool) → flag b ≡ flag (b && true)
-    and_true true = refl
-    and_true false = refl
-
--- U+0085: added inside the chunk, and at its edge
-
--- 1 where a byte inside the chunk begins U+0085
-abbrev pub next_line_inside : ℕ → (ℕ → ℕ) → ℕ → ℕ
-next_line_inside size w j = flag (is_next_line (w j) (w (1 + j)) && nat_lt (1 + j) size)
-
--- the breaks of one byte and U+0085
-abbrev pub next_line_at : (ℕ → ℕ) → ℕ → ℕ
-next_line_at w j = narrow_at w j + flag (is_next_line (w j) (w (1 + j)))
-
--- lanes of flags have room for one more each
-pub room_for_flags : (most size : ℕ) (f : ℕ → ℕ) (p : ℕ → Bool) (xs ys : List ℕ) → most < 255
-    → ((j : ℕ) → f j ≤ most) → HasLanes size f xs → HasLanes size (λ j. flag (p j)) ys
-    → Each2 (λ a b. a + b ≤ 255) xs ys
-room_for_flags most size f p xs ys small few h k = Each2-lanes (λ a b. a + b ≤ 255) size f (λ j. flag (p j)) xs ys h
-    k (λ j l. omega (arith, few j, flag-le (p j)))
-
--- a break of one byte is one at most, and so with U+0085 two
-pub next_line_at-le : (w : ℕ → ℕ) (j : ℕ) → next_line_at w j ≤ 2
-next_line_at-le w j = omega (
-  arith,
-  flag-le (is_narrow_break (w j) (w (1 + j))),
-  flag-le
-      (is_next_line (w j) (w (1 + j))),
-)
-
--- a match at a place is added inside the chunk, or else at its edge
-more_once : (n : ℕ) (m : Bool) (j size : ℕ) → j < size
-    → cond (m && j == size - 1) (n + flag (m && nat_lt (1 + j) size) + 1)
-    (n + flag (m && nat_lt (1 + j) size)) ≡ n + flag m
-more_once n true j size within = grind (arith, nat_tests)
-more_once n false j size within = grind (arith, nat_tests)
-
--- where U+0085 crosses the edge, the last lane gains one
-pub next_line_crossing : (size : ℕ) (w : ℕ → ℕ) (last next after k : ℕ) (inside result : List ℕ) → 1 < size
-    → k ≡ size - 1 → HasEdge size w last next after → is_next_line last next ≡ true
-    → HasLanes size (λ j. narrow_at w j + next_line_inside size w j) inside
-    → result ≡ slice_set inside k (get_or inside k 0 + 1) → HasLanes size (next_line_at w) result
-next_line_crossing size w last next after k inside result few at edge crosses h is =
-    let m = λ (j : ℕ). is_next_line (w j) (w (1 + j)) in
-    let here : m (size - 1) ≡ true = rw (edge.last_is, edge.next_is) crosses in
-    lanes_same size _ (next_line_at w) result
-    (lanes_set (λ n. n + 1) m (size - 1) k size (λ j. narrow_at w j + next_line_inside size w j) inside result
-    (omega arith) at here h is)
-    (λ j l. more_once (narrow_at w j) (m j) j size l)
-
--- where it does not, the lanes stay
-pub next_line_within : (size : ℕ) (w : ℕ → ℕ) (last next after : ℕ) (inside : List ℕ)
-    → HasEdge size w last next after → is_next_line last next ≡ false
-    → HasLanes size (λ j. narrow_at w j + next_line_inside size w j) inside → HasLanes size (next_line_at w) inside
-next_line_within size w last next after inside edge crosses h =
-    let m = λ (j : ℕ). is_next_line (w j) (w (1 + j)) in
-    let here : m (size - 1) ≡ false = rw (edge.last_is, edge.next_is) crosses in
-    lanes_same size _ (next_line_at w) inside
-    (lanes_kept (λ n. n + 1) m (size - 1) size (λ j. narrow_at w j + next_line_inside size w j) inside here h)
-    (λ j l. more_once (narrow_at w j) (m j) j size l)
-
--- without the first byte of U+0085 the lanes stay
-pub no_next_line : (size : ℕ) (w : ℕ → ℕ) (xs : List ℕ) → HasLanes size (narrow_at w) xs
-    → ((j : ℕ) → j < size → (w j == 0xC2) ≡ false) → HasLanes size (next_line_at w) xs
-no_next_line size w xs h none = lanes_same size (narrow_at w) (next_line_at w) xs h (λ j l. rw (none j l) (omega arith))
-
--- U+2028 and U+2029: added inside the chunk, and at its edge
-
--- whether a byte begins U+2028 or U+2029
-abbrev pub separates : (ℕ → ℕ) → ℕ → Bool
-separates w j = is_separator (w j) (w (1 + j)) (w (2 + j))
-
--- 1 where a byte inside the chunk begins U+2028 or U+2029
-abbrev pub separator_inside : ℕ → (ℕ → ℕ) → ℕ → ℕ
-separator_inside size w j = flag (separates w j && nat_lt (2 + j) size)
-
--- all three bytes inside the chunk
-pub separator_lanes : (size : ℕ) (w : ℕ → ℕ) (chunk pairs ends shifted found : List ℕ) → 2 < size
-    → HasLanes size w chunk → HasLanes size (λ j. flag ((w j == 0xE2 && w (1 + j) == 0x80) && nat_lt (1 + j) size))
-    pairs → ends ≡ map (λ lane. flag (ends_separator lane)) chunk → shifted ≡ drop 2 ends ++ replicate 2 0
-    → found ≡ zip2 bit_and pairs shifted
-    → HasLanes size (separator_inside size w) found
-separator_lanes size w chunk pairs ends shifted found few bytes is_pair is_end back both =
-    let pair = λ (j : ℕ). w j == 0xE2 && w (1 + j) == 0x80 in
-    let at_end = lanes_map (λ lane. flag (ends_separator lane)) size w chunk ends bytes is_end in
-    let before = lanes_shift 2 size (λ j. ends_separator (w j)) ends shifted few at_end back in
-    lanes_same size _ (separator_inside size w) found
-    (lanes_zip2 bit_and size (λ j. flag (pair j && nat_lt (1 + j) size))
-    (λ j. flag (ends_separator (w (2 + j)) && nat_lt (2 + j) size)) pairs shifted found is_pair before both)
-    (λ j l. and_of_flags (pair j && nat_lt (1 + j) size) (ends_separator (w (2 + j)) && nat_lt (2 + j) size)
-    ∙ all_three (pair j) (ends_separator (w (2 + j))) j size)
-  where
-    all_three : (a b : Bool) (j size : ℕ)
-        → flag ((a && nat_lt (1 + j) size) && (b && nat_lt (2 + j) size)) ≡ flag ((a && b) && nat_lt (2 + j) size)
-    all_three true true j size = grind (arith, nat_tests)
-    all_three true false j size = grind (arith, nat_tests)
-    all_three false b j size = refl
+-- at the edge a CR before LF counts where the LF is not seen, and then not
+return_counts : (b next : ℕ) → is_crlf b next ≡ true
+    → ◌≡◌ {A = ℕ} (flag (is_narrow_break b 0)) 1 × ◌≡◌ {A = ℕ} (flag (is_narrow_break b next)) 0
+return_counts b next here = (grind (arith, nat_tests, here), grind (arith, nat_tests, here))
 
 -- the kinds of breaks exclude each other
-kinds : (b next after : ℕ) → flag (is_narrow_break b next) + flag (is_next_line b next) + flag
-    (is_separator b next after) ≡ flag (is_break b next after)
+kinds : (b next after : ℕ) → flag (is_break b next after) ≡ flag (is_narrow_break b next) + flag
+    (is_next_line b next) + flag (is_separator b next after)
 kinds b next after = grind (arith, nat_tests)
 
--- the breaks of all kinds
-abbrev pub any_at : (ℕ → ℕ) → ℕ → ℕ
-any_at w j = flag (is_break (w j) (w (1 + j)) (w (2 + j)))
+-- so at each byte
+pub kinds_at : (bytes : List ℕ) (j : ℕ)
+    → break_at bytes j ≡ narrow_break_at bytes j + next_line_at bytes j + separator_at bytes j
+kinds_at bytes j = kinds (get_or bytes j 0) (get_or bytes (1 + j) 0) (get_or bytes (2 + j) 0)
 
--- without the first byte of U+2028 and U+2029 the lanes stay
-pub no_separator : (size : ℕ) (w : ℕ → ℕ) (xs : List ℕ) → HasLanes size (next_line_at w) xs
-    → ((j : ℕ) → j < size → (w j == 0xE2) ≡ false) → HasLanes size (any_at w) xs
-no_separator size w xs h none =
-    lanes_same size (next_line_at w) (any_at w) xs h
-    (λ j l. no_third (next_line_at w j) (w j) (w (1 + j)) (w (2 + j)) (none j l)
-    ∙ kinds (w j) (w (1 + j)) (w (2 + j)))
-  where
-    no_third : (n b next after : ℕ) → (b == 0xE2) ≡ false → n ≡ n + flag (is_separator b next after)
-    no_third n b next after none = rw none (omega arith)
+-- without its first byte there is no break of several bytes
+wide_without : (b next after : ℕ) → (b == 0xC2) ≡ false → (b == 0xE2) ≡ false
+    → flag (is_narrow_break b next) ≡ flag (is_break b next after)
+wide_without b next after no_next_line no_separator = grind (arith, nat_tests, no_next_line, no_separator)
 
--- the lanes before the edge is looked at
-abbrev pub any_inside : ℕ → (ℕ → ℕ) → ℕ → ℕ
-any_inside size w j = next_line_at w j + separator_inside size w j
+-- two flags are two at most
+flags-le : (a b : Bool) → flag a + flag b ≤ 2
+flags-le a b = omega (arith, flag-le a, flag-le b)
 
--- a separator at a place is added inside the chunk, or else at one of its last two bytes
-more_once_of_three : (n : ℕ) (m : Bool) (j size : ℕ) → j < size → 2 < size
-    → cond (m && j == size - 1) (cond (m && j == size - 2) (n + flag (m && nat_lt (2 + j) size) + 1)
-    (n + flag (m && nat_lt (2 + j) size)) + 1)
-    (cond (m && j == size - 2) (n + flag (m && nat_lt (2 + j) size) + 1)
-    (n + flag (m && nat_lt (2 + j) size))) ≡ n + flag m
-more_once_of_three n true j size within few = grind (arith, nat_tests)
-more_once_of_three n false j size within few = grind (arith, nat_tests)
+-- flags of no number above 0 are none
+none_of_two : (a b : Bool) → flag a + flag b ≡ 0 → (a ≡ false) × (b ≡ false)
+none_of_two true b zero_ = absurd (omega (arith, flag-le b))
+none_of_two false true zero_ = absurd (omega arith)
+none_of_two false false zero_ = (refl, refl)
 
--- no separator begins at each of two bytes in a row
-apart : (a b c d : ℕ) → is_separator a b c ≡ true → is_separator b c d ≡ false
-apart a b c d here = grind (arith, nat_tests)
+-- the breaks of several bytes where the byte behind is not seen
+no_next_line : (b : ℕ) → flag (is_next_line b 0) ≡ 0
+no_next_line b = grind (arith, nat_tests)
 
--- the lanes after both looks at the edge
-abbrev at_last_but_one : ℕ → (ℕ → ℕ) → ℕ → ℕ
-at_last_but_one size w j = cond (separates w j && j == size - 2) (any_inside size w j + 1) (any_inside size w j)
+no_separator : (b next : ℕ) → flag (is_separator b next 0) ≡ 0
+no_separator b next = grind (arith, nat_tests)
 
-both_looks : (size : ℕ) (w : ℕ → ℕ) (xs : List ℕ) → 2 < size
-    → HasLanes size (λ j. cond (separates w j && j == size - 1) (at_last_but_one size w j + 1)
-    (at_last_but_one size w j)) xs → HasLanes size (any_at w) xs
-both_looks size w xs few h =
-    lanes_same size _ (any_at w) xs h (λ j l. more_once_of_three (next_line_at w j) (separates w j) j size l few
-    ∙ kinds (w j) (w (1 + j)) (w (2 + j)))
+module _ {text : List ℕ} {end at size : ℕ} {chunk : List ℕ} (least : 4 ≤ size)
+    (seen : SeenChunk text end at size chunk) where
+  -- a chunk is as long as its type says
+  pub chunk_long : length chunk ≡ size
+  chunk_long = length-loaded text at size chunk (omega (arith, seen.seen, seen.within)) seen.loaded
 
--- the last byte but one
-pub record HasWideEdge (size : ℕ) (w : ℕ → ℕ) (before last next after : ℕ) : Type 0 where
-  pub before_is : w (size - 2) ≡ before
-  pub first_is : w (1 + (size - 2)) ≡ last
-  pub second_is : w (2 + (size - 2)) ≡ next
-  pub edge : HasEdge size w last next after
+  -- a lane is the byte of the text at its place
+  lane_is : (j p : ℕ) → j < size → p ≡ at + j → get_or chunk j 0 ≡ get_or (take end text) p 0
+  lane_is j p l here = rw here (ap (λ xs. get_or xs j 0) seen.loaded ∙ get_or-take size (drop at text) j 0 l
+      ∙ get_or-drop at text j 0 ∙ sym (get_or-take end text (at + j) 0 (omega (arith, seen.seen))))
 
--- a chunk's edge: its last two bytes and the two after it
-pub wide_edge_of : (size : ℕ) (chunk : List ℕ) (before last next after : ℕ) → 2 < size → length chunk ≡ size
-    → before ≡ get_or chunk (size - 2) 0 → last ≡ get_or chunk (size - 1) 0
-    → HasWideEdge size (chunk_byte chunk next after) before last next after
-wide_edge_of size chunk before last next after few long is_before is_last =
-    let edge = edge_of size chunk last next after (omega arith) long is_last in
-    let first : 1 + (size - 2) ≡ size - 1 = omega arith in
-    let second : 2 + (size - 2) ≡ 1 + (size - 1) = omega arith in
-    record {
-      before_is = sym ((chunk_lanes size chunk next after long).each (size - 2) (omega arith)) ∙ sym is_before;
-      first_is = ap (chunk_byte chunk next after) first ∙ edge.last_is;
-      second_is = ap (chunk_byte chunk next after) second ∙ edge.next_is;
-      edge = edge;
-    }
+  -- past the last lane is no byte, as in a text that is seen up to the chunk's end
+  lane_alone : (j p : ℕ) → p ≡ at + j → get_or chunk j 0 ≡ get_or (take (at + size) text) p 0
+  lane_alone j p here = elim (cases_lt j size) [
+    | inl inside ↦ lane_is j p inside here ∙ get_or-take end text p 0 (omega (arith, seen.seen))
+        ∙ sym (get_or-take (at + size) text p 0 (omega arith))
+    | inr past ↦ get_or_past chunk j 0 (omega (arith, chunk_long))
+        ∙ sym (get_or_past (take (at + size) text) p 0 (omega (arith, length-take (at + size) text)))
+  ]
 
--- a separator whose third byte alone is behind the chunk
-pub separator_crossing_by_one : (size : ℕ) (w : ℕ → ℕ) (before last next after k : ℕ) (inside result : List ℕ)
-    → 2 < size → k ≡ size - 2 → HasWideEdge size w before last next after → is_separator before last next ≡ true
-    → HasLanes size (any_inside size w) inside
-    → result ≡ slice_set inside k (get_or inside k 0 + 1) → HasLanes size (any_at w) result
-separator_crossing_by_one size w before last next after k inside result few at wide crosses h is =
-    let edge = wide.edge in
-    let here : separates w (size - 2) ≡ true = rw (wide.before_is, wide.first_is, wide.second_is) crosses in
-    let not_there : separates w (size - 1) ≡ false = rw (edge.last_is, edge.next_is, edge.after_is)
-    (apart before last next after crosses) in
-    both_looks size w result few (lanes_kept (λ n. n + 1) (separates w) (size - 1) size (at_last_but_one size w)
-    result not_there
-    (lanes_set (λ n. n + 1) (separates w) (size - 2) k size (any_inside size w) inside result (omega arith) at here h
-    is))
+  -- before the last lane the byte behind is in the chunk too
+  narrow_inside : (j : ℕ) → j < size → j ≢ size - 1 → narrow_break_at chunk j ≡ narrow_break_at (take end text) (at + j)
+  narrow_inside j l other =
+      rw (lane_is j (at + j) l refl, lane_is (1 + j) (1 + (at + j)) (before_last j l other) (omega arith)) refl
+    where
+      before_last : (j : ℕ) → j < size → j ≢ size - 1 → 1 + j < size
+      before_last j l other = elim (cases_lt (1 + j) size) [
+        | inl below ↦ below
+        | inr past ↦ absurd (other (omega arith))
+      ]
 
--- a separator whose second and third bytes are behind the chunk
-pub separator_crossing_by_two : (size : ℕ) (w : ℕ → ℕ) (before last next after k : ℕ) (inside result : List ℕ)
-    → 2 < size → k ≡ size - 1 → HasWideEdge size w before last next after → is_separator before last next ≡ false
-    → is_separator last next after ≡ true → HasLanes size (any_inside size w) inside
-    → result ≡ slice_set inside k (get_or inside k 0 + 1) → HasLanes size (any_at w) result
-separator_crossing_by_two size w before last next after k inside result few at wide not_there crosses h is =
-    let edge = wide.edge in
-    let none : separates w (size - 2) ≡ false = rw (wide.before_is, wide.first_is, wide.second_is) not_there in
-    let here : separates w (size - 1) ≡ true = rw (edge.last_is, edge.next_is, edge.after_is) crosses in
-    both_looks size w result few (lanes_set (λ n. n + 1) (separates w) (size - 1) k size (at_last_but_one size w)
-    inside result (omega arith) at here
-    (lanes_kept (λ n. n + 1) (separates w) (size - 2) size (any_inside size w) inside none h) is)
+  -- at the last lane no byte behind is in the chunk
+  narrow_last : narrow_break_at chunk (size - 1) ≡ flag (is_narrow_break (get_or (take end text) (at + (size - 1)) 0) 0)
+  narrow_last =
+      rw (lane_is (size - 1) (at + (size - 1)) (omega arith) refl, get_or_past chunk (1 + (size - 1)) 0
+      (omega (arith, chunk_long))) refl
 
--- no separator crosses the edge
-pub separator_within : (size : ℕ) (w : ℕ → ℕ) (before last next after : ℕ) (inside : List ℕ) → 2 < size
-    → HasWideEdge size w before last next after → is_separator before last next ≡ false
-    → is_separator last next after ≡ false → HasLanes size (any_inside size w) inside → HasLanes size (any_at w) inside
-separator_within size w before last next after inside few wide not_there not_here h =
-    let edge = wide.edge in
-    let none : separates w (size - 2) ≡ false = rw (wide.before_is, wide.first_is, wide.second_is) not_there in
-    let none' : separates w (size - 1) ≡ false = rw (edge.last_is, edge.next_is, edge.after_is) not_here in
-    both_looks size w inside few (lanes_kept (λ n. n + 1) (separates w) (size - 1) size (at_last_but_one size w)
-    inside none'
-    (lanes_kept (λ n. n + 1) (separates w) (size - 2) size (any_inside size w) inside none h))
+  module _ {ascii pairs : List ℕ} (is_ascii : ascii ≡ map (is_between 0x09 0x0E) chunk)
+      (is_pairs : HasLanes size (λ j. flag (is_crlf (get_or chunk j 0) (get_or chunk (1 + j) 0))) pairs) where
+    ascii_lanes : HasLanes size (λ j. flag (is_ascii_break (get_or chunk j 0))) ascii
+    ascii_lanes = lanes_map (is_between 0x09 0x0E) (lanes_of chunk_long) is_ascii
 
--- a lane that is to gain one is small
-pub lane_has_room : (most size place k : ℕ) (f : ℕ → ℕ) (xs : List ℕ) → most < 255 → place < size → k ≡ place
-    → ((j : ℕ) → f j ≤ most) → HasLanes size f xs → get_or xs k 0 < 255
-lane_has_room most size place k f xs small within at few h = rw at (omega (arith, h.each place within, few place))
+    -- no lane borrows where the CRs before LF are taken off
+    pub crlf_fits : Each2 (λ a b. b ≤ a) ascii pairs
+    crlf_fits = Each2-lanes (λ a b. b ≤ a) ascii_lanes is_pairs
+        (λ j l. crlf_is_ascii (get_or chunk j 0) (get_or chunk (1 + j) 0))
+
+    module _ {inside : List ℕ} (is_inside : inside ≡ zip2 (λ a b. a - b) ascii pairs) where
+      -- what is left then is counted in the chunk alone
+      inside_lanes : HasLanes size (narrow_break_at chunk) inside
+      inside_lanes = lanes_same (narrow_break_at chunk) (lanes_zip2 (λ a b. a - b) ascii_lanes is_pairs is_inside)
+          (λ j l. narrow (get_or chunk j 0) (get_or chunk (1 + j) 0))
+
+      -- where CR LF does not cross the chunk's end, that is what is counted
+      pub narrow_kept : crlf_at (take end text) (at + (size - 1)) ≡ false
+          → HasLanes size (λ j. narrow_break_at (take end text) (at + j)) inside
+      narrow_kept none = lanes_same (λ j. narrow_break_at (take end text) (at + j)) inside_lanes
+          (λ j l. elim (cases_eq j (size - 1)) [
+            | inl here ↦ rw here (narrow_last ∙ narrow_without (get_or (take end text) (at + (size - 1)) 0)
+                (get_or (take end text) (1 + (at + (size - 1))) 0) none)
+            | inr other ↦ narrow_inside j l other
+          ])
+
+      -- where it does, the last lane is 1 and has to be 0
+      module _ (crosses : crlf_at (take end text) (at + (size - 1)) ≡ true) where
+        last_lane : ◌≡◌ {A = ℕ} (get_or inside (size - 1) 0) 1 × ◌≡◌ {A = ℕ} (narrow_break_at (take end text)
+            (at + (size - 1))) 0
+        last_lane =
+            let counts = return_counts (get_or (take end text) (at + (size - 1)) 0)
+            (get_or (take end text) (1 + (at + (size - 1))) 0) crosses in
+            (inside_lanes.each (size - 1) (omega arith) ∙ narrow_last ∙ counts.0, counts.1)
+
+        pub last_is_counted : 0 < get_or inside (size - 1) 0
+        last_is_counted = omega (arith, last_lane.0)
+
+        pub narrow_crossing : {result : List ℕ}
+            → result ≡ slice_set inside (size - 1) (get_or inside (size - 1) 0 - 1)
+            → HasLanes size (λ j. narrow_break_at (take end text) (at + j)) result
+        narrow_crossing is = lanes_set (λ j. narrow_break_at (take end text) (at + j)) (size - 1)
+            (get_or inside (size - 1) 0 - 1) (omega arith) inside_lanes is (omega (arith, last_lane.0, last_lane.1))
+            narrow_inside
+
+  -- without CR the ASCII breaks are the breaks of one byte
+  pub no_crlf : {ascii returns : List ℕ} → ascii ≡ map (is_between 0x09 0x0E) chunk
+      → returns ≡ map (is_byte 0x0D) chunk → returns ≡ replicate size 0
+      → HasLanes size (λ j. narrow_break_at (take end text) (at + j)) ascii
+  no_crlf is_ascii is_returns none = lanes_same (λ j. narrow_break_at (take end text) (at + j))
+      (lanes_map (is_between 0x09 0x0E) (lanes_of chunk_long) is_ascii)
+      (λ j l. rw (← lane_is j (at + j) l refl) (without (get_or chunk j 0) (get_or (take end text) (1 + (at + j)) 0)
+      (lane_is_not chunk chunk_long 0x0D is_returns none j l)))
+    where
+      without : (b next : ℕ) → (b == 0x0D) ≡ false → flag (is_ascii_break b) ≡ flag (is_narrow_break b next)
+      without b next none = grind (arith, nat_tests, none)
+
+  module _ {next_lines separators : List ℕ} (is_next_lines : next_lines ≡ map (is_byte 0xC2) chunk)
+      (is_separators : separators ≡ map (is_byte 0xE2) chunk) where
+    -- no sum of the two passes a lane
+    pub firsts_fit : Each2 (λ a b. a + b ≤ 255) next_lines separators
+    firsts_fit = Each2-lanes (λ a b. a + b ≤ 255) (lanes_map (is_byte 0xC2) (lanes_of chunk_long) is_next_lines)
+        (lanes_map (is_byte 0xE2) (lanes_of chunk_long) is_separators)
+        (λ j l. omega (arith, flags-le (get_or chunk j 0 == 0xC2) (get_or chunk j 0 == 0xE2)))
+
+    -- where neither byte is found, the breaks of one byte are all
+    pub no_wide : {sums narrows : List ℕ} → sums ≡ zip2 (λ a b. a + b) next_lines separators → sums ≡ replicate size 0
+        → HasLanes size (λ j. narrow_break_at (take end text) (at + j)) narrows
+        → HasLanes size (λ j. break_at (take end text) (at + j)) narrows
+    no_wide {sums} summed none h = lanes_same (λ j. break_at (take end text) (at + j)) h (λ j l.
+        let here = get_or (take end text) (at + j) 0 in
+        let both = lanes_zip2 (λ a b. a + b) (lanes_map (is_byte 0xC2) (lanes_of chunk_long) is_next_lines)
+        (lanes_map (is_byte 0xE2) (lanes_of chunk_long) is_separators) summed in
+        let neither = none_of_two (here == 0xC2) (here == 0xE2) (rw (← lane_is j (at + j) l refl) (sym (both.each j l)
+        ∙ ap (λ xs. get_or xs j 0) none ∙ get_or-replicate size j 0 0 l)) in
+        wide_without here (get_or (take end text) (1 + (at + j)) 0) (get_or (take end text) (2 + (at + j)) 0) neither.0
+        neither.1)
+
+  module _ {narrows pairs : List ℕ} (is_narrow : HasLanes size (λ j. narrow_break_at (take end text) (at + j)) narrows)
+      (is_pairs : HasLanes size (next_line_at chunk) pairs) where
+    -- U+0085 fits beside the breaks of one byte
+    pub next_lines_fit : Each2 (λ a b. a + b ≤ 255) narrows pairs
+    next_lines_fit = Each2-lanes (λ a b. a + b ≤ 255) is_narrow is_pairs
+        (λ j l. omega (arith, flags-le (is_narrow_break (get_or (take end text) (at + j) 0)
+        (get_or (take end text) (1 + (at + j)) 0)) (is_next_line (get_or chunk j 0) (get_or chunk (1 + j) 0))))
+
+    module _ {sums : List ℕ} (is_sums : sums ≡ zip2 (λ a b. a + b) narrows pairs) where
+      with_next_lines : HasLanes size (λ j. narrow_break_at (take end text) (at + j) + next_line_at chunk j) sums
+      with_next_lines = lanes_zip2 (λ a b. a + b) is_narrow is_pairs is_sums
+
+      -- there is a lane for each byte
+      pub sums_long : length sums ≡ size
+      sums_long = with_next_lines.long
+
+      -- and room for separators
+      pub sums_small : Each1 (λ lane. lane < 255) sums
+      sums_small = Each1-lanes (λ lane. lane < 255) with_next_lines
+          (λ j l. omega (arith, flags-le (is_narrow_break (get_or (take end text) (at + j) 0)
+          (get_or (take end text) (1 + (at + j)) 0)) (is_next_line (get_or chunk j 0) (get_or chunk (1 + j) 0))))
+
+      -- with them the lanes hold what is counted where no byte behind the chunk is seen
+      pub inside_counted : {inside : List ℕ} → HasLanes size (λ j. get_or sums j 0 + separator_at chunk j) inside
+          → HasLanes size (inside_at text end at size) inside
+      inside_counted h = lanes_same (inside_at text end at size) h (λ j l.
+          rw (with_next_lines.each j l, lane_alone j (at + j) refl, lane_alone (1 + j) (1 + (at + j)) (omega arith),
+          lane_alone (2 + j) (2 + (at + j)) (omega arith)) refl)
+
+module _ {size : ℕ} (chunk : List ℕ) (least : 4 ≤ size) (long : length chunk ≡ size) where
+  -- the lanes that begin a separator of which all three bytes are in the chunk
+  pub separator_lanes : {pairs ends thirds found : List ℕ}
+      → HasLanes size (λ j. flag (get_or chunk j 0 == 0xE2 && get_or chunk (1 + j) 0 == 0x80)) pairs
+      → ends ≡ map (λ lane. flag (ends_separator lane)) chunk → thirds ≡ drop 2 ends ++ replicate 2 0
+      → found ≡ zip2 bit_and pairs thirds → HasLanes size (separator_at chunk) found
+  separator_lanes is_pairs is_ends is_thirds is_found =
+      lanes_and (λ j. get_or chunk j 0 == 0xE2 && get_or chunk (1 + j) 0 == 0x80)
+      (λ j. ends_separator (get_or chunk (2 + j) 0)) is_pairs
+      (lanes_shift 2 (omega arith) (λ j past. rw (get_or_past chunk j 0 (omega (arith, long))) refl)
+      (lanes_map (λ lane. flag (ends_separator lane)) (lanes_of long) is_ends) is_thirds) is_found
+
+  -- they fit in lanes that have room
+  pub separators_fit : (breaks : List ℕ) {found : List ℕ} → length breaks ≡ size → Each1 (λ lane. lane < 255) breaks
+      → HasLanes size (separator_at chunk) found → Each2 (λ a b. a + b ≤ 255) breaks found
+  separators_fit breaks {found} as_long room h =
+      Each2-of (λ a. a < 255) (λ b. b ≤ 1) (λ a b. a + b ≤ 255) (λ a b small one. omega arith) breaks found room
+      (Each1-lanes (λ lane. lane ≤ 1) h (λ j l. flag-le (is_separator (get_or chunk j 0) (get_or chunk (1 + j) 0)
+      (get_or chunk (2 + j) 0))))
+
+  -- without their first byte there is none
+  pub no_separators : {breaks firsts : List ℕ} → length breaks ≡ size → firsts ≡ map (is_byte 0xE2) chunk
+      → firsts ≡ replicate size 0 → HasLanes size (λ j. get_or breaks j 0 + separator_at chunk j) breaks
+  no_separators {breaks} as_long is_firsts none =
+      lanes_same (λ j. get_or breaks j 0 + separator_at chunk j) (lanes_of as_long)
+      (λ j l. rw (lane_is_not chunk long 0xE2 is_firsts none j l) (omega arith))
+
+-- a separator has its second byte
+no_second : (b c next : ℕ) → c ≢ 0x80 → flag (is_separator b c next) ≡ 0
+no_second b c next other = rw (ne_eqb c 0x80 other) (grind (arith, nat_tests))
+
+module _ (text : List ℕ) (end at size : ℕ) {breaks : List ℕ} (least : 4 ≤ size) (seen : at + size ≤ end)
+    (within : end ≤ length text) (counted : HasLanes size (inside_at text end at size) breaks) where
+  -- a byte of the chunk is seen in both texts
+  byte_seen : (p : ℕ) → p < at + size → get_or (take (at + size) text) p 0 ≡ get_or (take end text) p 0
+  byte_seen p before = get_or-take (at + size) text p 0 before ∙ sym (get_or-take end text p 0 (omega arith))
+
+  -- a byte behind it in one alone
+  byte_behind : (p : ℕ) → at + size ≤ p → get_or (take (at + size) text) p 0 ≡ 0
+  byte_behind p past = get_or_past (take (at + size) text) p 0 (omega (arith, length-take (at + size) text))
+
+  -- before the last two lanes all is counted
+  all_before : (j : ℕ) → 2 + j < size → inside_at text end at size j ≡ break_at (take end text) (at + j)
+  all_before j before =
+      rw (byte_seen (at + j) (omega arith), byte_seen (1 + (at + j)) (omega arith), byte_seen (2 + (at + j))
+      (omega arith)) (sym (kinds_at (take end text) (at + j)))
+
+  -- at the last but one a separator may cross the chunk's end
+  all_at_last_but_one : (j : ℕ) → 2 + j ≡ size → inside_at text end at size j + separator_at (take end text) (at + j)
+      ≡ break_at (take end text) (at + j)
+  all_at_last_but_one j here =
+      rw (byte_seen (at + j) (omega arith), byte_seen (1 + (at + j)) (omega arith), byte_behind (2 + (at + j))
+      (omega arith))
+      (omega (arith, kinds_at (take end text) (at + j), no_separator (get_or (take end text) (at + j) 0)
+      (get_or (take end text) (1 + (at + j)) 0)))
+
+  -- at the last any break of several bytes
+  all_at_last : (j : ℕ) → 1 + j ≡ size → inside_at text end at size j + wide_at (take end text) (at + j)
+      ≡ break_at (take end text) (at + j)
+  all_at_last j here =
+      rw (byte_seen (at + j) (omega arith), byte_behind (1 + (at + j)) (omega arith), byte_behind (2 + (at + j))
+      (omega arith))
+      (omega (arith, kinds_at (take end text) (at + j), no_next_line (get_or (take end text) (at + j) 0),
+      no_separator (get_or (take end text) (at + j) 0) 0))
+
+  -- so all is counted in each lane where none crosses
+  all_counted : (j : ℕ) → j < size → (2 + j ≡ size → separator_at (take end text) (at + j) ≡ 0)
+      → (1 + j ≡ size → wide_at (take end text) (at + j) ≡ 0)
+      → inside_at text end at size j ≡ break_at (take end text) (at + j)
+  all_counted j l no_separator_ no_wide_ = elim (cases_lt (2 + j) size) [
+    | inl before ↦ all_before j before
+    | inr past ↦ elim (cases_eq (2 + j) size) [
+      | inl here ↦ omega (arith, all_at_last_but_one j here, no_separator_ here)
+      | inr other ↦
+          let here : 1 + j ≡ size = last_of j size l past other in
+          omega (arith, all_at_last j here, no_wide_ here)
+    ]
+  ]
+    where
+      last_of : (j size : ℕ) → j < size → size ≤ 2 + j → 2 + j ≢ size → 1 + j ≡ size
+      last_of j size l past other = elim (cases_eq (1 + j) size) [
+        | inl here ↦ here
+        | inr neither ↦ elim (cases_lt (1 + j) size) [
+          | inl below ↦ absurd (other (omega arith))
+          | inr above ↦ absurd (neither (omega arith))
+        ]
+      ]
+
+  -- the last lane but one
+  last_but_one : (j : ℕ) → 2 + j ≡ size → at + j ≡ at + (size - 1) - 1
+  last_but_one j here = omega arith
+
+  -- where no break crosses the chunk's end
+  edge_kept : separator_at (take end text) (at + (size - 1) - 1) ≡ 0 → wide_at (take end text) (at + (size - 1)) ≡ 0
+      → HasLanes size (λ j. break_at (take end text) (at + j)) breaks
+  edge_kept no_separator_ no_wide_ = lanes_same (λ j. break_at (take end text) (at + j)) counted
+      (λ j l. all_counted j l (λ here. rw (last_but_one j here) no_separator_)
+      (λ here. let last : at + j ≡ at + (size - 1) = omega arith in rw last no_wide_))
+
+  -- where one begins at the last byte
+  last_gains : {result : List ℕ} → separator_at (take end text) (at + (size - 1) - 1) ≡ 0
+      → wide_at (take end text) (at + (size - 1)) ≡ 1
+      → result ≡ slice_set breaks (size - 1 - 0) (get_or breaks (size - 1 - 0) 0 + 1)
+      → HasLanes size (λ j. break_at (take end text) (at + j)) result
+  last_gains no_separator_ wide is =
+      let last : at + (size - 1 - 0) ≡ at + (size - 1) = omega arith in
+      let here : wide_at (take end text) (at + (size - 1 - 0)) ≡ 1 = rw last wide in
+      lanes_set (λ j. break_at (take end text) (at + j)) (size - 1 - 0)
+      (get_or breaks (size - 1 - 0) 0 + 1) (omega arith) counted is
+      (omega (arith, counted.each (size - 1 - 0) (omega arith), all_at_last (size - 1 - 0) (omega arith)))
+      (λ j l other. all_counted j l (λ here. rw (last_but_one j here) no_separator_)
+      (λ here. absurd (other (omega arith))))
+
+  -- where one begins at the last byte but one
+  last_but_one_gains : {result : List ℕ} → separator_at (take end text) (at + (size - 1) - 1) ≡ 1
+      → wide_at (take end text) (at + (size - 1)) ≡ 0
+      → result ≡ slice_set breaks (size - 1 - 1) (get_or breaks (size - 1 - 1) 0 + 1)
+      → HasLanes size (λ j. break_at (take end text) (at + j)) result
+  last_but_one_gains separator no_wide_ is =
+      let last : at + (size - 1 - 1) ≡ at + (size - 1) - 1 = omega arith in
+      let here : separator_at (take end text) (at + (size - 1 - 1)) ≡ 1 = rw last separator in
+      lanes_set (λ j. break_at (take end text) (at + j)) (size - 1 - 1)
+      (get_or breaks (size - 1 - 1) 0 + 1) (omega arith) counted is
+      (omega (arith, counted.each (size - 1 - 1) (omega arith), all_at_last_but_one (size - 1 - 1) (omega arith)))
+      (λ j l other. all_counted j l (λ here. absurd (other (omega arith)))
+      (λ here. let last : at + j ≡ at + (size - 1) = omega arith in rw last no_wide_))
+
+  -- where the last byte is the second of a separator
+  module _ {before next : ℕ} (second : get_or text (at + (size - 1)) 0 ≡ 0x80)
+      (is_before : before ≡ get_or text (at + (size - 1) - 1) 0)
+      (is_next : next ≡ get_or (take end text) (1 + (at + (size - 1))) 0) where
+    no_wide_here : wide_at (take end text) (at + (size - 1)) ≡ 0
+    no_wide_here = rw (get_or-take end text (at + (size - 1)) 0 (omega arith), second) refl
+
+    separator_here : separator_at (take end text) (at + (size - 1) - 1) ≡ flag (is_separator before 0x80 next)
+    separator_here =
+        let last : 1 + (at + (size - 1) - 1) ≡ at + (size - 1) = omega arith in
+        let behind : 2 + (at + (size - 1) - 1) ≡ 1 + (at + (size - 1)) = omega arith in
+        rw (last, behind, get_or-take end text (at + (size - 1)) 0 (omega arith), second,
+        get_or-take end text (at + (size - 1) - 1) 0 (omega arith), ← is_before, ← is_next) refl
+
+    pub separator_crosses : {result : List ℕ} → is_separator before 0x80 next ≡ true
+        → result ≡ slice_set breaks (size - 1 - 1) (get_or breaks (size - 1 - 1) 0 + 1)
+        → HasLanes size (λ j. break_at (take end text) (at + j)) result
+    separator_crosses crosses is = last_but_one_gains (separator_here ∙ ap flag crosses) no_wide_here is
+
+    pub separator_kept : is_separator before 0x80 next ≡ false
+        → HasLanes size (λ j. break_at (take end text) (at + j)) breaks
+    separator_kept stays = edge_kept (separator_here ∙ ap flag stays) no_wide_here
+
+  -- where it is not
+  module _ (other : get_or text (at + (size - 1)) 0 ≢ 0x80) where
+    no_separator_here : separator_at (take end text) (at + (size - 1) - 1) ≡ 0
+    no_separator_here =
+        let last : 1 + (at + (size - 1) - 1) ≡ at + (size - 1) = omega arith in
+        rw (last, get_or-take end text (at + (size - 1)) 0 (omega arith))
+        (no_second (get_or (take end text) (at + (size - 1) - 1) 0) (get_or text (at + (size - 1)) 0)
+        (get_or (take end text) (2 + (at + (size - 1) - 1)) 0) other)
+
+    pub wide_crosses : {result : List ℕ} → wide_at (take end text) (at + (size - 1)) ≡ 1
+        → result ≡ slice_set breaks (size - 1 - 0) (get_or breaks (size - 1 - 0) 0 + 1)
+        → HasLanes size (λ j. break_at (take end text) (at + j)) result
+    wide_crosses wide is = last_gains no_separator_here wide is
+
+    pub wide_kept : wide_at (take end text) (at + (size - 1)) ≡ 0
+        → HasLanes size (λ j. break_at (take end text) (at + j)) breaks
+    wide_kept none = edge_kept no_separator_here none
 
 -- a byte is A8 or A9 exactly where its half is 54
 half_ends : (half lane : ℕ) → half % 128 ≡ lane / 2 → is_byte 0x54 (bit_and half 0x7F) ≡ flag (ends_separator lane)
@@ -354,59 +416,3 @@ halves_end (lane ∷ lanes) (half ∷ halves) same =
     let first : half % 2 ^ (8 - 1) ≡ lane / 2 ^ 1 = cc in
     let rest : map (λ x. x % 2 ^ (8 - 1)) halves ≡ map (λ x. x / 2 ^ 1) lanes = cc in
     rw (half_ends half lane first, halves_end lanes halves rest) refl
-
--- the bytes of a chunk that was loaded from a text, and the two after it, are those of the text before `end`
-chunk_bytes : (text chunk : List ℕ) (at size end next after k : ℕ) → chunk ≡ take size (drop at text)
-    → at + size ≤ end → end ≤ length text → next ≡ get_or (take end text) (at + size) 0
-    → after ≡ get_or (take end text) (1 + (at + size)) 0 → k < size + 2
-    → chunk_byte chunk next after k ≡ get_or (take end text) (at + k) 0
-chunk_bytes text chunk at size end next after k loaded seen within is_next is_after near =
-    let long = length-loaded text at size chunk (omega arith) loaded in
-    elim (cases_lt k size) [
-      | inl inside ↦
-          sym ((chunk_lanes size chunk next after long).each k inside) ∙ ap (λ xs. get_or xs k 0) loaded
-          ∙ get_or-take size (drop at text) k 0 inside ∙ get_or-drop at text k 0
-          ∙ sym (get_or-take end text (at + k) 0 (omega arith))
-      | inr past ↦ elim (cases_lt k (size + 1)) [
-        | inl first ↦
-            let here : k ≡ size + 0 = omega arith in
-            let there : at + (size + 0) ≡ at + size = omega arith in
-            rw here (chunk_byte-behind chunk next after size 0 long ∙ is_next
-            ∙ ap (λ n. get_or (take end text) n 0) (sym there))
-        | inr second ↦
-            let here : k ≡ size + 1 = omega arith in
-            let there : at + (size + 1) ≡ 1 + (at + size) = omega arith in
-            rw here (chunk_byte-behind chunk next after size 1 long ∙ is_after
-            ∙ ap (λ n. get_or (take end text) n 0) (sym there))
-      ]
-    ]
-
--- so the lanes hold the breaks that are counted at the bytes of the text
-pub any_is_break_at : (text chunk : List ℕ) (at size end next after : ℕ) (result : List ℕ)
-    → chunk ≡ take size (drop at text) → at + size ≤ end → end ≤ length text
-    → next ≡ get_or (take end text) (at + size) 0 → after ≡ get_or (take end text) (1 + (at + size)) 0
-    → HasLanes size (any_at (chunk_byte chunk next after)) result
-    → HasLanes size (λ j. break_at (take end text) (at + j)) result
-any_is_break_at text chunk at size end next after result loaded seen within is_next is_after h =
-    let byte = λ (k : ℕ) (near : k < size + 2). chunk_bytes text chunk at size end next after k loaded seen within
-    is_next is_after near in
-    lanes_same size (any_at (chunk_byte chunk next after)) (λ j. break_at (take end text) (at + j)) result h (λ j l.
-    let first : at + (1 + j) ≡ 1 + (at + j) = omega arith in
-    let second : at + (2 + j) ≡ 2 + (at + j) = omega arith in
-    rw (byte j (omega arith), byte (1 + j) (omega arith), byte (2 + j) (omega arith), first, second) refl)
-
--- a break at most at each byte
-pub break_at-le : (bytes : List ℕ) (j : ℕ) → break_at bytes j ≤ 1
-break_at-le bytes j = flag-le (is_break (get_or bytes j 0) (get_or bytes (1 + j) 0) (get_or bytes (2 + j) 0))
-
--- no more breaks than bytes are counted
-pub breaks_before-le : (bytes : List ℕ) (n : ℕ) → breaks_before bytes n ≤ n
-breaks_before-le bytes n = sum_below-le (break_at bytes) (break_at-le bytes) n
-
--- the breaks go on over a chunk by the sum of its lanes
-pub breaks_in_chunk : (bytes : List ℕ) (at size : ℕ) (lanes : List ℕ)
-    → HasLanes size (λ j. break_at bytes (at + j)) lanes
-    → breaks_before bytes (at + size) ≡ breaks_before bytes at + sum lanes
-breaks_in_chunk bytes at size lanes h =
-    ap (λ n. breaks_before bytes (at + n)) (sym h.long)
-    ∙ sum_below-chunk (break_at bytes) at lanes (λ j l. h.each j (omega (arith, h.long)))

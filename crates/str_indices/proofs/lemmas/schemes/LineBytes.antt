@@ -8,21 +8,21 @@ use Rattle.std.proofs.lemmas.Bool.{and_parts, ne_eqb, cases_lt, cases_Bool, eqb-
 use Rattle.std.proofs.lemmas.Bool.Decides.{nat_tests}
 use Rattle.str_indices.specs.Text.{carriage_return, line_feed, size, cut}
 use Rattle.str_indices.specs.Schemes.{Lines, is_end, break_characters, Scheme, ends, count, from_byte_idx, to_byte_idx, ends_up_to}
-use Rattle.str_indices.specs.Breaks.{flag, is_break, break_at, is_crlf, is_narrow_break, ends_separator, breaks_before}
+use Rattle.str_indices.specs.Breaks.{is_break, break_at, is_crlf, is_narrow_break, ends_separator, breaks_counted_before}
 use Rattle.str_indices.proofs.lemmas.texts.Ends.{first_placed, end_weight, ends_from, ends_from-increases, rank_past, rank_before, end_count_total}
 use Rattle.str_indices.proofs.lemmas.bytes.Characters.{IsTrailing, by_encoding, get_or-behind, later_trailing}
 use Rattle.str_indices.proofs.lemmas.bytes.Walks.{AddsAtFirst, begun, begun_zero, begun-cons, walk_is, size-chars, walk_to_boundary}
 use Rattle.std.proofs.lemmas.List.{get_or-take, get_or_past, length-take}
 use Rattle.std.proofs.lemmas.Str.{encodes-chars, scalars-chars, len_utf8_bounds}
 use Rattle.str_indices.specs.Relations.{IsBoundary}
-use Rattle.str_indices.specs.Bytes.{is_trailing, is_middle}
+use Rattle.str_indices.specs.Bytes.{flag, is_trailing, is_middle}
 use Rattle.str_indices.proofs.lemmas.texts.Sizes.{size-cons}
 use Rattle.str_indices.proofs.lemmas.bytes.Sums.{sum_below-same, sum_below-le-sum_below}
 use Rattle.str_indices.proofs.lemmas.texts.Increasing.{rank, rank_none}
 use Rattle.str_indices.proofs.lemmas.texts.Cuts.{cut_from, cut_from_fits, cut_from_stops, cut_is}
 use Rattle.str_indices.proofs.lemmas.bytes.BoundaryBytes.{boundary_begins, boundary_behind_ascii, boundary-le-cut, cut_boundary}
 use Rattle.str_indices.proofs.lemmas.texts.EndSets.{end_at_reached}
-use Rattle.str_indices.proofs.lemmas.lanes.BreakChunks.{breaks_before-le}
+use Rattle.str_indices.proofs.lemmas.lanes.BreakChunks.{breaks_counted_before-le}
 
 -- whether a character is one of the seven
 abbrev is_break_character : ℕ → Bool
@@ -166,16 +166,16 @@ ends_at_cut s cs byte = rank_at_cut s 0 cs byte ∙ ap (rank (ends s cs)) (zero-
 
 -- the breaks before a boundary are the line breaks at or before it
 breaks_at_boundary : (bytes : List ℕ) → IsUtf8 bytes → (p : ℕ) → p ≤ length bytes → IsBoundary (chars bytes) p
-    → breaks_before bytes p ≡ ends_up_to Lines (chars bytes) p
+    → breaks_counted_before bytes p ≡ ends_up_to Lines (chars bytes) p
 breaks_at_boundary bytes utf8 p within b =
     let cs = chars bytes in
-    ap (λ t. breaks_before t p) (sym (encodes-chars bytes utf8))
+    ap (λ t. breaks_counted_before t p) (sym (encodes-chars bytes utf8))
     ∙ walk_is break_at (end_weight Lines) breaks_add cs p (scalars-chars bytes utf8)
     (omega (arith, size-chars bytes utf8)) ∙ begun_at_boundary Lines cs p b
 
 -- the breaks of the bytes before a boundary, as a text by itself, are the line breaks of the cut text
 pub breaks_in_cut : (bytes : List ℕ) → IsUtf8 bytes → (p : ℕ) → IsBoundary (chars bytes) p
-    → breaks_before (take p bytes) p ≡ count Lines (cut (chars bytes) p)
+    → breaks_counted_before (take p bytes) p ≡ count Lines (cut (chars bytes) p)
 breaks_in_cut bytes utf8 p b = walk_to_boundary break_at (end_weight Lines) breaks_add bytes utf8 p b
     ∙ sym (end_count_total Lines (cut (chars bytes) p))
 
@@ -230,7 +230,7 @@ less_at_last bytes j leads =
 
 -- before a boundary one break more is counted where the bytes from there on are not seen, if that parts CR from LF
 breaks_cut_off : (bytes : List ℕ) (p : ℕ) → is_trailing (get_or bytes p 0) ≡ false
-    → breaks_before (take p bytes) p ≡ breaks_before bytes p + flag (is_middle bytes p)
+    → breaks_counted_before (take p bytes) p ≡ breaks_counted_before bytes p + flag (is_middle bytes p)
 breaks_cut_off bytes zero leads = refl
 breaks_cut_off bytes (suc j) leads =
     omega (
@@ -290,8 +290,8 @@ moved_is_whole bytes utf8 byte end here moved =
 -- place, the line begins at the text's end.
 pub line_begins : (bytes : List ℕ) → IsUtf8 bytes → (k reached at : ℕ) → reached ≤ at → at ≤ length bytes
     → IsBoundary (chars bytes) at → ((p : ℕ) → IsBoundary (chars bytes) p → reached ≤ p → at ≤ p)
-    → (reached < length bytes → k ≤ breaks_before bytes reached)
-    → ((d : ℕ) → d < reached → breaks_before bytes d < k) → at ≡ to_byte_idx Lines (chars bytes) k
+    → (reached < length bytes → k ≤ breaks_counted_before bytes reached)
+    → ((d : ℕ) → d < reached → breaks_counted_before bytes d < k) → at ≡ to_byte_idx Lines (chars bytes) k
 line_begins bytes utf8 k reached at from within b least stopped first =
     let cs = chars bytes in
     let whole = size-chars bytes utf8 in
@@ -316,29 +316,15 @@ line_begins bytes utf8 k reached at from within b least stopped first =
       | inr late ↦ absurd (omega (arith, least place at_cut late))
     ])
 
--- where less than a chunk is left, or the chunk at `at` reaches k, the first place before which k breaks are counted
--- is at most its end
-pub line_is_near : (bytes : List ℕ) (at size k place : ℕ)
-    → (length bytes < at + size) ⊎ (k ≤ breaks_before bytes (at + size)) → place ≤ length bytes
-    → ((d : ℕ) → at ≤ d → d < place → breaks_before bytes d < k) → place ≤ at + size
-line_is_near bytes at size k place stopped within first =
-    elim stopped [
-      | inl short ↦ omega arith
-      | inr reaches ↦ elim (cases_lt (at + size) place) [
-        | inl past ↦ absurd (omega (arith, first (at + size) (omega arith) past))
-        | inr near ↦ near
-      ]
-    ]
-
 -- where fewer than k breaks are counted before a place, fewer are before an earlier one
-pub fewer_before : (bytes : List ℕ) (k at d : ℕ) → breaks_before bytes at < k → d ≤ at → breaks_before bytes d < k
+pub fewer_before : (bytes : List ℕ) (k at d : ℕ) → breaks_counted_before bytes at < k → d ≤ at → breaks_counted_before bytes d < k
 fewer_before bytes k at d fewer before = omega (arith, sum_below-le-sum_below (break_at bytes) d at before)
 
 -- a walk over no more bytes than numbers that fit stops at no count but goes on to its end
-pub walks_on : (bytes : List ℕ) (count at to most : ℕ) → at ≤ to → to ≤ most → count ≡ breaks_before bytes at
+pub walks_on : (bytes : List ℕ) (count at to most : ℕ) → at ≤ to → to ≤ most → count ≡ breaks_counted_before bytes at
     → (at < to → count ≡ most) → at ≡ to
 walks_on bytes count at to most within fits counted stopped =
     elim (cases_lt at to) [
-      | inl before ↦ absurd (omega (arith, stopped before, breaks_before-le bytes at))
+      | inl before ↦ absurd (omega (arith, stopped before, breaks_counted_before-le bytes at))
       | inr there ↦ omega arith
     ]
