@@ -1,3 +1,5 @@
 pub mod Costs
 pub mod PassBounds
 pub mod PassWalks
+pub mod Quotients
+pub mod Places
