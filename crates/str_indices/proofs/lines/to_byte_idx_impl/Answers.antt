@@ -1,8 +1,11 @@
-use Rattle.std.proofs.Common.{◌≡◌, ◌+◌, ◌-◌, ◌/◌, length, min, take, inl, inr, arith, ap, ◌∙◌}
+use Rattle.std.proofs.Common.{◌≡◌, ◌+◌, ◌-◌, ◌/◌, ◌<◌, length, min, take, inl, inr, arith, ap, ◌∙◌}
 use Rattle.std.proofs.lemmas.Bool.{cases_lt}
 use Rattle.std.proofs.lemmas.List.{take_all}
-use Rattle.str_indices.proofs.lemmas.schemes.LineBytes.{fewer_before, line_begins, line_is_near}
-use Rattle.str_indices.proofs.lemmas.passes.PassWalks.{peeks_after_pass, pass_of_walks, chunks_before}
+use Rattle.str_indices.specs.Breaks.{breaks_counted_before}
+use Rattle.str_indices.proofs.lemmas.schemes.LineBytes.{fewer_before, line_begins}
+use Rattle.str_indices.proofs.lemmas.passes.Costs.{anywhere, then_, weaken}
+use Rattle.str_indices.proofs.lemmas.passes.Places.{place_is_near}
+use Rattle.str_indices.proofs.lemmas.passes.Quotients.{quotient-le}
 use Rattle.str_indices.proofs.lines.to_byte_idx_impl.Goals as goal
 
 pub returns-then-led-idx-clause-answer : goal.returns-then-led-idx-clause-answer
@@ -12,7 +15,7 @@ returns-then-led-idx-clause-answer g c =
     let found = c.boundary_at_or_after in
     let whole : take c.len-len.result text ≡ text =
     take_all c.len-len.result text (omega (arith, c.len-len.ensures.len)) in
-    let same = led.ensures.walk.text_kept in
+    let same = led.ensures.reads.text_kept in
     let counted = rw whole at led.ensures.counted in
     let first = rw whole at led.ensures.first in
     let answer = line_begins text c.len-len.ensures.utf8 c.args.idx led.result.byte found.result
@@ -28,12 +31,11 @@ returns-clause-answer g c =
     let chunks = c.skip_chunks-chunked in
     let rest = c.count_breaks_up_to-reached in
     let found = c.boundary_at_or_after-2 in
-    let (to, near, walk) = chunks.ensures.walk in
     let whole : take c.len-len.result text ≡ text =
     take_all c.len-len.result text (omega (arith, c.len-len.ensures.len)) in
-    let same_led = led.ensures.walk.text_kept in
-    let same_chunked = walk.text_kept ∙ same_led in
-    let same = rest.ensures.walk.text_kept ∙ same_chunked in
+    let same_led = led.ensures.reads.text_kept in
+    let same_chunked = chunks.ensures.reads.text_kept ∙ same_led in
+    let same = rest.ensures.reads.text_kept ∙ same_chunked in
     let skipped = rw same_led at chunks.ensures.counted in
     let counted = rw (same_chunked, whole) at rest.ensures.counted in
     let first = rw (same_chunked, whole) at rest.ensures.first in
@@ -57,27 +59,21 @@ returns-clause-pass g c =
     let chunks = c.skip_chunks-chunked in
     let rest = c.count_breaks_up_to-reached in
     let found = c.boundary_at_or_after-2 in
-    let (to, near, walk) = chunks.ensures.walk in
-    let same_led = led.ensures.walk.text_kept in
+    let same_led = led.ensures.reads.text_kept in
     let whole : take c.len-len.result text ≡ text =
     take_all c.len-len.result text (omega (arith, c.len-len.ensures.len)) in
-    let first = rw (walk.text_kept ∙ same_led, whole) at rest.ensures.first in
+    let first = rw (chunks.ensures.reads.text_kept ∙ same_led, whole) at rest.ensures.first in
     let all_led : led.result.byte ≡ c.min-first_chunk.result =
     elim (cases_lt led.result.byte c.min-first_chunk.result) [
       | inl stopped ↦ absurd (c.if-led-idx.false (led.ensures.stopped stopped))
       | inr reached ↦ omega (arith, led.ensures.reached.1)
     ] in
-    let reached = line_is_near text chunks.result.byte size c.args.idx rest.result.byte
+    let near = place_is_near (breaks_counted_before text) (length text) chunks.result.byte size c.args.idx rest.result.byte
     (rw same_led at chunks.ensures.stopped) (omega (arith, rest.ensures.reached.1, c.len-len.ensures.len)) first in
-    let bound = pass_of_walks c.args.probe.now led.new.probe chunks.new.probe rest.new.probe size led.result.byte to
-    (led.result.byte - 0) (rest.result.byte - chunks.result.byte) (led.result.byte + size + 4)
-    (found.result / size + 5)
-    led.ensures.walk walk rest.ensures.walk (omega (arith, reached))
-    (omega (
-      arith,
-      chunks_before led.new.probe chunks.new.probe size led.result.byte to found.result least walk
-          (omega (arith, near, rest.ensures.reached.0, found.ensures.reached.0)),
-    )) in
-    rw (all_led ∙ c.min-first_chunk.ensures ∙ ap (λ n. min c.args.lead n) c.len-len.ensures.len) at
-    (peeks_after_pass c.args.probe.now rest.new.probe found.new.probe led.result.byte (led.result.byte + size + 4)
-    (found.result / size + 5) 0 3 bound found.ensures.peeks)
+    let few = quotient-le (chunks.result.byte - led.result.byte) found.result size (omega (arith, least))
+    (omega (arith, rest.ensures.reached.0, found.ensures.reached.0)) in
+    weaken (then_ (then_ (then_ (anywhere led.result.byte led.ensures.reads) chunks.ensures.reads)
+    (anywhere led.result.byte rest.ensures.reads)) (anywhere led.result.byte found.ensures.reads))
+    (omega (arith, all_led, c.min-first_chunk.ensures, c.len-len.ensures.len))
+    (omega (arith, all_led, c.min-first_chunk.ensures, c.len-len.ensures.len, near, rest.ensures.reached.0))
+    (omega (arith, few)) (omega arith)
