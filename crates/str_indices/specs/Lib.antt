@@ -3,7 +3,6 @@ pub mod Schemes
 pub mod Relations
 pub mod Examples
 pub mod Bytes
-pub mod PassBound
 pub mod Reads
 pub mod Breaks
 pub mod Lanes

@@ -1,14 +1,14 @@
-use Rattle.std.proofs.Common.{◌≡◌, ◌-◌, ◌≤◌, take}
-use Rattle.str_indices.specs.Breaks.{breaks_before}
-use Rattle.str_indices.specs.PassBound.{WalksChunks}
+use Rattle.std.proofs.Common.{◌≡◌, ◌-◌, ◌/◌, ◌≤◌, take}
+use Rattle.str_indices.specs.Breaks.{breaks_counted_before}
+use Rattle.str_indices.specs.Reads.{Reads}
 use Rattle.str_indices.proofs.lines.count_breaks_in_chunks.Given as goal
 
 abbrev pub invariant-rounds : goal.invariant-rounds
 invariant-rounds g l = record {
   from_low : l.initial.at.byte ≤ l.at.byte;
   to_high : l.at.byte ≤ l.end;
-  counted : l.at.count ≡ breaks_before (take l.end l.initial.probe.text) l.at.byte;
-  walk : WalksChunks l.initial.probe l.probe g.T.ByteChunk.SIZE l.initial.at.byte l.at.byte;
+  counted : l.at.count ≡ breaks_counted_before (take l.end l.initial.probe.text) l.at.byte;
+  reads : Reads l.initial.probe l.probe l.initial.at.byte 0 ((l.at.byte - l.initial.at.byte) / g.T.ByteChunk.SIZE) 0;
 }
 
 abbrev pub decreases-rounds : goal.decreases-rounds

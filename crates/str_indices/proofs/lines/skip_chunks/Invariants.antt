@@ -1,15 +1,15 @@
-use Rattle.std.proofs.Common.{◌≡◌, ◌-◌, ◌<◌, ◌≤◌, length}
-use Rattle.str_indices.specs.Breaks.{breaks_before}
-use Rattle.str_indices.specs.PassBound.{WalksChunks}
+use Rattle.std.proofs.Common.{◌≡◌, ◌-◌, ◌/◌, ◌<◌, ◌≤◌, length}
+use Rattle.str_indices.specs.Breaks.{breaks_counted_before}
+use Rattle.str_indices.specs.Reads.{Reads}
 use Rattle.str_indices.proofs.lines.skip_chunks.Given as goal
 
 abbrev pub invariant-chunks : goal.invariant-chunks
 invariant-chunks g l = record {
   from_low : l.initial.at.byte ≤ l.at.byte;
   to_high : l.at.byte ≤ length l.initial.probe.text;
-  counted : l.at.count ≡ breaks_before l.initial.probe.text l.at.byte;
+  counted : l.at.count ≡ breaks_counted_before l.initial.probe.text l.at.byte;
   below : l.at.count < l.idx;
-  walk : WalksChunks l.initial.probe l.probe g.T.ByteChunk.SIZE l.initial.at.byte l.at.byte;
+  reads : Reads l.initial.probe l.probe l.initial.at.byte 0 ((l.at.byte - l.initial.at.byte) / g.T.ByteChunk.SIZE) 0;
 }
 
 abbrev pub decreases-chunks : goal.decreases-chunks

@@ -1,8 +1,11 @@
-use Rattle.std.proofs.Common.{◌≡◌, ◌+◌, ◌-◌, ◌/◌, length, min, take, inl, inr, arith, ap, ◌∙◌}
+use Rattle.std.proofs.Common.{◌≡◌, ◌+◌, ◌-◌, ◌/◌, ◌<◌, length, min, take, inl, inr, arith, ap, ◌∙◌}
 use Rattle.std.proofs.lemmas.Bool.{cases_lt}
 use Rattle.std.proofs.lemmas.List.{take_all}
-use Rattle.str_indices.proofs.lemmas.schemes.LineBytes.{fewer_before, line_begins, line_is_near}
-use Rattle.str_indices.proofs.lemmas.passes.PassWalks.{peeks_after_pass, pass_of_walks, chunks_before}
+use Rattle.str_indices.specs.Breaks.{break_at, breaks_counted_before}
+use Rattle.str_indices.proofs.lemmas.schemes.LineBytes.{line_begins}
+use Rattle.str_indices.proofs.lemmas.passes.Costs.{then_}
+use Rattle.str_indices.proofs.lemmas.passes.Passes.{placing_pass}
+use Rattle.str_indices.proofs.lemmas.passes.Places.{first_of_all, place_is_near}
 use Rattle.str_indices.proofs.lines.to_byte_idx_impl.Goals as goal
 
 pub returns-then-led-idx-clause-answer : goal.returns-then-led-idx-clause-answer
@@ -12,7 +15,7 @@ returns-then-led-idx-clause-answer g c =
     let found = c.boundary_at_or_after in
     let whole : take c.len-len.result text ≡ text =
     take_all c.len-len.result text (omega (arith, c.len-len.ensures.len)) in
-    let same = led.ensures.walk.text_kept in
+    let same = led.ensures.reads.text_kept in
     let counted = rw whole at led.ensures.counted in
     let first = rw whole at led.ensures.first in
     let answer = line_begins text c.len-len.ensures.utf8 c.args.idx led.result.byte found.result
@@ -28,12 +31,11 @@ returns-clause-answer g c =
     let chunks = c.skip_chunks-chunked in
     let rest = c.count_breaks_up_to-reached in
     let found = c.boundary_at_or_after-2 in
-    let (to, near, walk) = chunks.ensures.walk in
     let whole : take c.len-len.result text ≡ text =
     take_all c.len-len.result text (omega (arith, c.len-len.ensures.len)) in
-    let same_led = led.ensures.walk.text_kept in
-    let same_chunked = walk.text_kept ∙ same_led in
-    let same = rest.ensures.walk.text_kept ∙ same_chunked in
+    let same_led = led.ensures.reads.text_kept in
+    let same_chunked = chunks.ensures.reads.text_kept ∙ same_led in
+    let same = rest.ensures.reads.text_kept ∙ same_chunked in
     let skipped = rw same_led at chunks.ensures.counted in
     let counted = rw (same_chunked, whole) at rest.ensures.counted in
     let first = rw (same_chunked, whole) at rest.ensures.first in
@@ -41,11 +43,7 @@ returns-clause-answer g c =
     found.ensures.reached.0 (omega (arith, found.ensures.reached.1, ap length same))
     (rw same at found.ensures.boundary) (rw same at found.ensures.least)
     (λ inside. omega (arith, counted, rest.ensures.stopped (omega (arith, c.len-len.ensures.len))))
-    (λ d before. elim (cases_lt d chunks.result.byte) [
-      | inl early ↦ fewer_before text c.args.idx chunks.result.byte d (omega (arith, skipped, chunks.ensures.below))
-          (omega arith)
-      | inr late ↦ first d late before
-    ]) in
+    (first_of_all (break_at text) c.args.idx chunks.result.byte rest.result.byte (omega (arith, skipped, chunks.ensures.below)) first) in
     omega (arith, answer)
 
 pub returns-clause-pass : goal.returns-clause-pass
@@ -57,27 +55,17 @@ returns-clause-pass g c =
     let chunks = c.skip_chunks-chunked in
     let rest = c.count_breaks_up_to-reached in
     let found = c.boundary_at_or_after-2 in
-    let (to, near, walk) = chunks.ensures.walk in
-    let same_led = led.ensures.walk.text_kept in
+    let same_led = led.ensures.reads.text_kept in
     let whole : take c.len-len.result text ≡ text =
     take_all c.len-len.result text (omega (arith, c.len-len.ensures.len)) in
-    let first = rw (walk.text_kept ∙ same_led, whole) at rest.ensures.first in
+    let first = rw (chunks.ensures.reads.text_kept ∙ same_led, whole) at rest.ensures.first in
     let all_led : led.result.byte ≡ c.min-first_chunk.result =
     elim (cases_lt led.result.byte c.min-first_chunk.result) [
       | inl stopped ↦ absurd (c.if-led-idx.false (led.ensures.stopped stopped))
       | inr reached ↦ omega (arith, led.ensures.reached.1)
     ] in
-    let reached = line_is_near text chunks.result.byte size c.args.idx rest.result.byte
+    let near = place_is_near (breaks_counted_before text) (length text) chunks.result.byte size c.args.idx rest.result.byte
     (rw same_led at chunks.ensures.stopped) (omega (arith, rest.ensures.reached.1, c.len-len.ensures.len)) first in
-    let bound = pass_of_walks c.args.probe.now led.new.probe chunks.new.probe rest.new.probe size led.result.byte to
-    (led.result.byte - 0) (rest.result.byte - chunks.result.byte) (led.result.byte + size + 4)
-    (found.result / size + 5)
-    led.ensures.walk walk rest.ensures.walk (omega (arith, reached))
-    (omega (
-      arith,
-      chunks_before led.new.probe chunks.new.probe size led.result.byte to found.result least walk
-          (omega (arith, near, rest.ensures.reached.0, found.ensures.reached.0)),
-    )) in
-    rw (all_led ∙ c.min-first_chunk.ensures ∙ ap (λ n. min c.args.lead n) c.len-len.ensures.len) at
-    (peeks_after_pass c.args.probe.now rest.new.probe found.new.probe led.result.byte (led.result.byte + size + 4)
-    (found.result / size + 5) 0 3 bound found.ensures.peeks)
+    placing_pass size c.args.lead _ least found.result (omega (arith, all_led)) led.ensures.reads chunks.ensures.reads
+    (then_ rest.ensures.reads found.ensures.reads) (omega (arith, rest.ensures.reached.0, found.ensures.reached.0))
+    (omega (arith, near)) (omega arith)
