@@ -15,6 +15,7 @@ use crate::places::{Position, boundary_at_or_before};
 use byte_chunk::{ByteChunk, Chunk, Probe};
 
 /// How many chars the text has; an empty text has none.
+#[tactic(auto, using(crate::proofs::lemmas::bytes::Walks::cut_at_end, crate::proofs::lemmas::bytes::Walks::boundary_at_end))]
 pub fn count(text: &str) -> usize
     ensures { result ≡ count Chars (chars text.now) }
 {

@@ -22,6 +22,7 @@ mod tests;
 /// How many line breaks the text has.
 ///
 /// That is one less than its lines: behind a break at the end of the text an empty line begins.
+#[tactic(auto, using(crate::proofs::lemmas::bytes::Walks::cut_at_end, crate::proofs::lemmas::bytes::Walks::boundary_at_end))]
 pub fn count_breaks(text: &str) -> usize
     ensures { result ≡ count Lines (chars text.now) }
 {
@@ -411,7 +412,7 @@ fn add_at_edge<T: ByteChunk>(probe: &mut Probe<'_, T>, breaks: T, at: usize, end
     requires within { end ≤ length probe.old.text }
     requires counted { let inside = take (at + T.SIZE) probe.old.text in
         HasLanes T.SIZE (λ j. narrow_break_at (take end probe.old.text) (at + j) + next_line_at inside (at + j)
-            + separator_at inside (at + j)) (T.lanes breaks) }
+        + separator_at inside (at + j)) (T.lanes breaks) }
     ensures lanes { HasLanes T.SIZE (λ j. break_at (take end probe.old.text) (at + j)) (T.lanes result) }
     ensures reads { let last = slice_index probe.old.text (at + (T.SIZE - 1)) in
         Reads probe.old probe.new 0 0 0 (3 - 2 * flag (is_carriage_return last)) }

@@ -18,6 +18,7 @@ mod tests;
 /// How many line breaks the text has: LF, CR and CRLF, which is one break.
 ///
 /// That is one less than its lines: behind a break at the end of the text an empty line begins.
+#[tactic(auto, using(crate::proofs::lemmas::bytes::Walks::cut_at_end, crate::proofs::lemmas::bytes::Walks::boundary_at_end))]
 pub fn count_breaks(text: &str) -> usize
     ensures { result ≡ count Crlf (chars text.now) }
 {

@@ -20,6 +20,7 @@ use crate::places::{Position, boundary_at_or_before};
 use byte_chunk::{ByteChunk, Chunk, Probe};
 
 /// How many UTF-16 code units the text would take.
+#[tactic(auto, using(crate::proofs::lemmas::bytes::Walks::cut_at_end, crate::proofs::lemmas::bytes::Walks::boundary_at_end))]
 pub fn count(text: &str) -> usize
     ensures { result ≡ count Utf16 (chars text.now) }
 {
@@ -27,6 +28,7 @@ pub fn count(text: &str) -> usize
 }
 
 /// How many surrogate pairs the text would have in UTF-16: one for each char of four bytes.
+#[tactic(auto, using(crate::proofs::lemmas::bytes::Walks::cut_at_end, crate::proofs::lemmas::bytes::Walks::boundary_at_end))]
 pub fn count_surrogates(text: &str) -> usize
     ensures { result ≡ surrogates (chars text.now) }
 {

@@ -7,8 +7,11 @@ use Rattle.str_indices.proofs.chars.to_byte_idx_impl.Goals as goal
 pub returns-then-led-first_chunk-clause-answer : goal.returns-then-led-first_chunk-clause-answer
 returns-then-led-first_chunk-clause-answer g c =
     let led = c.walk_to_char-led in
-    omega (arith, char_found c.args.probe.now.text c.len-len.ensures.utf8 led.result.byte c.args.idx (omega arith)
-    (omega (arith, led.ensures.counted, led.ensures.at_most)) (led.ensures.stopped (omega arith)))
+    omega (
+      arith,
+      char_found c.args.probe.now.text c.len-len.ensures.utf8 led.result.byte c.args.idx (omega arith)
+          (omega (arith, led.ensures.counted, led.ensures.at_most)) (led.ensures.stopped (omega arith)),
+    )
 
 pub returns-clause-answer : goal.returns-clause-answer
 returns-clause-answer g c =
@@ -16,8 +19,11 @@ returns-clause-answer g c =
     let same = c.skip_chunks-chunked.ensures.reads.text_kept ∙ c.walk_to_char-led.ensures.reads.text_kept in
     let counted = rw same at rest.ensures.counted in
     let stopped = rw same at rest.ensures.stopped in
-    omega (arith, char_reached c.args.probe.now.text c.len-len.ensures.utf8 rest.result.byte c.args.idx (omega (arith, rest.ensures.reached.1))
-    (omega (arith, rest.ensures.at_most)) (λ inside. stopped (omega arith)))
+    omega (
+      arith,
+      char_reached c.args.probe.now.text c.len-len.ensures.utf8 rest.result.byte c.args.idx (omega (arith, rest.ensures.reached.1))
+          (omega (arith, rest.ensures.at_most)) (λ inside. stopped (omega arith)),
+    )
 
 pub returns-clause-pass : goal.returns-clause-pass
 returns-clause-pass g c =

@@ -119,8 +119,11 @@ module _ {text : List ℕ} {end at size : ℕ} {chunk : List ℕ} (least : 4 ≤
   -- at the last lane no byte behind is in the chunk
   narrow_last : narrow_break_at chunk (size - 1) ≡ flag (is_narrow_break (get_or (take end text) (at + (size - 1)) 0) 0)
   narrow_last =
-      rw (lane_is (size - 1) (at + (size - 1)) (omega arith) refl, get_or_past chunk (1 + (size - 1)) 0
-      (omega (arith, chunk_long))) refl
+      rw (
+        lane_is (size - 1) (at + (size - 1)) (omega arith) refl,
+        get_or_past chunk (1 + (size - 1)) 0
+            (omega (arith, chunk_long)),
+      ) refl
 
   module _ {ascii pairs : List ℕ} (is_ascii : ascii ≡ map (is_between 0x09 0x0E) chunk)
       (is_pairs : HasLanes size (λ j. flag (is_crlf (get_or chunk j 0) (get_or chunk (1 + j) 0))) pairs) where
@@ -205,8 +208,11 @@ module _ {text : List ℕ} {end at size : ℕ} {chunk : List ℕ} (least : 4 ≤
     -- U+0085 fits beside the breaks of one byte
     pub next_lines_fit : Each2 (λ a b. a + b ≤ 255) narrows pairs
     next_lines_fit = Each2-lanes (λ a b. a + b ≤ 255) is_narrow is_pairs
-        (λ j l. omega (arith, flags-le (is_narrow_break (get_or (take end text) (at + j) 0)
-        (get_or (take end text) (1 + (at + j)) 0)) (is_next_line (get_or chunk j 0) (get_or chunk (1 + j) 0))))
+        (λ j l. omega (
+          arith,
+          flags-le (is_narrow_break (get_or (take end text) (at + j) 0)
+              (get_or (take end text) (1 + (at + j)) 0)) (is_next_line (get_or chunk j 0) (get_or chunk (1 + j) 0)),
+        ))
 
     module _ {sums : List ℕ} (is_sums : sums ≡ zip2 (λ a b. a + b) narrows pairs) where
       with_next_lines : HasLanes size (λ j. narrow_break_at (take end text) (at + j) + next_line_at chunk j) sums
@@ -219,15 +225,22 @@ module _ {text : List ℕ} {end at size : ℕ} {chunk : List ℕ} (least : 4 ≤
       -- and room for separators
       pub sums_small : Each1 (λ lane. lane < 255) sums
       sums_small = Each1-lanes (λ lane. lane < 255) with_next_lines
-          (λ j l. omega (arith, flags-le (is_narrow_break (get_or (take end text) (at + j) 0)
-          (get_or (take end text) (1 + (at + j)) 0)) (is_next_line (get_or chunk j 0) (get_or chunk (1 + j) 0))))
+          (λ j l. omega (
+            arith,
+            flags-le (is_narrow_break (get_or (take end text) (at + j) 0)
+                (get_or (take end text) (1 + (at + j)) 0)) (is_next_line (get_or chunk j 0) (get_or chunk (1 + j) 0)),
+          ))
 
       -- with them the lanes hold what is counted where no byte behind the chunk is seen
       pub inside_counted : {inside : List ℕ} → HasLanes size (λ j. get_or sums j 0 + separator_at chunk j) inside
           → HasLanes size (inside_at text end at size) inside
       inside_counted h = lanes_same (inside_at text end at size) h (λ j l.
-          rw (with_next_lines.each j l, lane_alone j (at + j) refl, lane_alone (1 + j) (1 + (at + j)) (omega arith),
-          lane_alone (2 + j) (2 + (at + j)) (omega arith)) refl)
+          rw (
+            with_next_lines.each j l,
+            lane_alone j (at + j) refl,
+            lane_alone (1 + j) (1 + (at + j)) (omega arith),
+            lane_alone (2 + j) (2 + (at + j)) (omega arith),
+          ) refl)
 
 module _ {size : ℕ} (chunk : List ℕ) (least : 4 ≤ size) (long : length chunk ≡ size) where
   -- the lanes that begin a separator of which all three bytes are in the chunk
@@ -273,26 +286,46 @@ module _ (text : List ℕ) (end at size : ℕ) {breaks : List ℕ} (least : 4 �
   -- before the last two lanes all is counted
   all_before : (j : ℕ) → 2 + j < size → inside_at text end at size j ≡ break_at (take end text) (at + j)
   all_before j before =
-      rw (byte_seen (at + j) (omega arith), byte_seen (1 + (at + j)) (omega arith), byte_seen (2 + (at + j))
-      (omega arith)) (sym (kinds_at (take end text) (at + j)))
+      rw (
+        byte_seen (at + j) (omega arith),
+        byte_seen (1 + (at + j)) (omega arith),
+        byte_seen (2 + (at + j))
+            (omega arith),
+      ) (sym (kinds_at (take end text) (at + j)))
 
   -- at the last but one a separator may cross the chunk's end
   all_at_last_but_one : (j : ℕ) → 2 + j ≡ size → inside_at text end at size j + separator_at (take end text) (at + j)
       ≡ break_at (take end text) (at + j)
   all_at_last_but_one j here =
-      rw (byte_seen (at + j) (omega arith), byte_seen (1 + (at + j)) (omega arith), byte_behind (2 + (at + j))
-      (omega arith))
-      (omega (arith, kinds_at (take end text) (at + j), no_separator (get_or (take end text) (at + j) 0)
-      (get_or (take end text) (1 + (at + j)) 0)))
+      rw (
+        byte_seen (at + j) (omega arith),
+        byte_seen (1 + (at + j)) (omega arith),
+        byte_behind (2 + (at + j))
+            (omega arith),
+      )
+      (omega (
+        arith,
+        kinds_at (take end text) (at + j),
+        no_separator (get_or (take end text) (at + j) 0)
+            (get_or (take end text) (1 + (at + j)) 0),
+      ))
 
   -- at the last any break of several bytes
   all_at_last : (j : ℕ) → 1 + j ≡ size → inside_at text end at size j + wide_at (take end text) (at + j)
       ≡ break_at (take end text) (at + j)
   all_at_last j here =
-      rw (byte_seen (at + j) (omega arith), byte_behind (1 + (at + j)) (omega arith), byte_behind (2 + (at + j))
-      (omega arith))
-      (omega (arith, kinds_at (take end text) (at + j), no_next_line (get_or (take end text) (at + j) 0),
-      no_separator (get_or (take end text) (at + j) 0) 0))
+      rw (
+        byte_seen (at + j) (omega arith),
+        byte_behind (1 + (at + j)) (omega arith),
+        byte_behind (2 + (at + j))
+            (omega arith),
+      )
+      (omega (
+        arith,
+        kinds_at (take end text) (at + j),
+        no_next_line (get_or (take end text) (at + j) 0),
+        no_separator (get_or (take end text) (at + j) 0) 0,
+      ))
 
   -- so all is counted in each lane where none crosses
   all_counted : (j : ℕ) → j < size → (2 + j ≡ size → separator_at (take end text) (at + j) ≡ 0)
@@ -367,8 +400,15 @@ module _ (text : List ℕ) (end at size : ℕ) {breaks : List ℕ} (least : 4 �
     separator_here =
         let last : 1 + (at + (size - 1) - 1) ≡ at + (size - 1) = omega arith in
         let behind : 2 + (at + (size - 1) - 1) ≡ 1 + (at + (size - 1)) = omega arith in
-        rw (last, behind, get_or-take end text (at + (size - 1)) 0 (omega arith), second,
-        get_or-take end text (at + (size - 1) - 1) 0 (omega arith), ← is_before, ← is_next) refl
+        rw (
+          last,
+          behind,
+          get_or-take end text (at + (size - 1)) 0 (omega arith),
+          second,
+          get_or-take end text (at + (size - 1) - 1) 0 (omega arith),
+          ← is_before,
+          ← is_next,
+        ) refl
 
     pub separator_crosses : {result : List ℕ} → is_separator before 0x80 next ≡ true
         → result ≡ slice_set breaks (size - 1 - 1) (get_or breaks (size - 1 - 1) 0 + 1)

@@ -49,6 +49,9 @@ sum_bytes-requires g c = lanes_summable c.chunks.invariant.lanes g.T.ByteChunk.M
 pub overflow_add-result : goal.overflow_add-result
 overflow_add-result g c =
     omega (
-      arith, c.requires.counted, c.chunks.invariant.lanes.counted, c.sum_bytes.ensures,
+      arith,
+      c.requires.counted,
+      c.chunks.invariant.lanes.counted,
+      c.sum_bytes.ensures,
       breaks_counted_before-le (take c.args.end c.args.probe.now.text) c.chunks.at,
     )

@@ -11,8 +11,12 @@ pub returns-then-led-idx-clause-answer : goal.returns-then-led-idx-clause-answer
 returns-then-led-idx-clause-answer g c =
     let led = c.walk_to_line-led in
     let behind = rw (ap (λ p. p.text) led.ensures.turns) at c.behind_crlf.ensures.behind in
-    omega (arith, behind, line_begins c.args.probe.now.text c.len-len.ensures.utf8 c.args.idx led.result.byte
-    (omega (arith, led.ensures.reached.1)) (λ _. omega (arith, led.ensures.counted)) (λ d before. led.ensures.first d (omega arith) before))
+    omega (
+      arith,
+      behind,
+      line_begins c.args.probe.now.text c.len-len.ensures.utf8 c.args.idx led.result.byte
+          (omega (arith, led.ensures.reached.1)) (λ _. omega (arith, led.ensures.counted)) (λ d before. led.ensures.first d (omega arith) before),
+    )
 
 pub returns-clause-answer : goal.returns-clause-answer
 returns-clause-answer g c =
@@ -25,10 +29,14 @@ returns-clause-answer g c =
     let skipped = rw same_ready at chunks.ensures.counted in
     let counted = rw same at rest.ensures.counted in
     let behind = rw (ap (λ p. p.text) rest.ensures.turns ∙ same) at c.behind_crlf-2.ensures.behind in
-    omega (arith, behind, line_begins text c.len-len.ensures.utf8 c.args.idx rest.result.byte (omega (arith, rest.ensures.reached.1))
-    (λ inside. omega (arith, rest.ensures.stopped (omega arith)))
-    (first_of_all (break_start text) c.args.idx chunks.result.byte rest.result.byte (omega (arith, skipped, chunks.ensures.below))
-    (rw same at rest.ensures.first)))
+    omega (
+      arith,
+      behind,
+      line_begins text c.len-len.ensures.utf8 c.args.idx rest.result.byte (omega (arith, rest.ensures.reached.1))
+          (λ inside. omega (arith, rest.ensures.stopped (omega arith)))
+          (first_of_all (break_start text) c.args.idx chunks.result.byte rest.result.byte (omega (arith, skipped, chunks.ensures.below))
+          (rw same at rest.ensures.first)),
+    )
 
 pub returns-clause-pass : goal.returns-clause-pass
 returns-clause-pass g c =

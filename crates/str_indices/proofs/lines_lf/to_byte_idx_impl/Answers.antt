@@ -10,8 +10,11 @@ pub returns-then-led-idx-clause-answer : goal.returns-then-led-idx-clause-answer
 returns-then-led-idx-clause-answer g c =
     let text = c.args.probe.now.text in
     let led = c.walk_to_line-led in
-    omega (arith, line_begins text c.len-len.ensures.utf8 c.args.idx led.result.byte (omega (arith, led.ensures.reached.1))
-    (λ _. omega (arith, led.ensures.counted)) (λ d before. led.ensures.first d (omega arith) before))
+    omega (
+      arith,
+      line_begins text c.len-len.ensures.utf8 c.args.idx led.result.byte (omega (arith, led.ensures.reached.1))
+          (λ _. omega (arith, led.ensures.counted)) (λ d before. led.ensures.first d (omega arith) before),
+    )
 
 pub returns-clause-answer : goal.returns-clause-answer
 returns-clause-answer g c =
@@ -23,9 +26,12 @@ returns-clause-answer g c =
     let same = chunks.ensures.reads.text_kept ∙ led.ensures.reads.text_kept in
     let counted = rw same at rest.ensures.counted in
     let first = rw same at rest.ensures.first in
-    omega (arith, line_begins text c.len-len.ensures.utf8 c.args.idx rest.result.byte (omega (arith, rest.ensures.reached.1))
-    (λ inside. omega (arith, rest.ensures.stopped (omega arith)))
-    (passing_first_of_all is_line_feed text c.args.idx chunks.result.byte rest.result.byte (omega (arith, skipped, chunks.ensures.below)) first))
+    omega (
+      arith,
+      line_begins text c.len-len.ensures.utf8 c.args.idx rest.result.byte (omega (arith, rest.ensures.reached.1))
+          (λ inside. omega (arith, rest.ensures.stopped (omega arith)))
+          (passing_first_of_all is_line_feed text c.args.idx chunks.result.byte rest.result.byte (omega (arith, skipped, chunks.ensures.below)) first),
+    )
 
 pub returns-clause-pass : goal.returns-clause-pass
 returns-clause-pass g c =

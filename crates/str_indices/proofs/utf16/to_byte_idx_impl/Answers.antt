@@ -9,8 +9,11 @@ use Rattle.str_indices.proofs.utf16.to_byte_idx_impl.Goals as goal
 pub returns-then-led-first_chunk-clause-answer : goal.returns-then-led-first_chunk-clause-answer
 returns-then-led-first_chunk-clause-answer g c =
     let led = c.walk_to_unit-led in
-    omega (arith, unit_reached c.args.probe.now.text c.len-len.ensures.utf8 led.result.byte c.args.idx (omega arith)
-    (omega (arith, led.ensures.counted, led.ensures.at_most)) (λ _. led.ensures.stopped (omega arith)))
+    omega (
+      arith,
+      unit_reached c.args.probe.now.text c.len-len.ensures.utf8 led.result.byte c.args.idx (omega arith)
+          (omega (arith, led.ensures.counted, led.ensures.at_most)) (λ _. led.ensures.stopped (omega arith)),
+    )
 
 pub returns-clause-answer : goal.returns-clause-answer
 returns-clause-answer g c =
@@ -18,8 +21,11 @@ returns-clause-answer g c =
     let same = c.skip_chunks-chunked.ensures.reads.text_kept ∙ c.skip_rounds-in_rounds.ensures.reads.text_kept ∙ c.walk_to_unit-led.ensures.reads.text_kept in
     let counted = rw same at rest.ensures.counted in
     let stopped = rw same at rest.ensures.stopped in
-    omega (arith, unit_reached c.args.probe.now.text c.len-len.ensures.utf8 rest.result.byte c.args.idx (omega (arith, rest.ensures.reached.1))
-    (omega (arith, rest.ensures.at_most)) (λ inside. stopped (omega arith)))
+    omega (
+      arith,
+      unit_reached c.args.probe.now.text c.len-len.ensures.utf8 rest.result.byte c.args.idx (omega (arith, rest.ensures.reached.1))
+          (omega (arith, rest.ensures.at_most)) (λ inside. stopped (omega arith)),
+    )
 
 pub returns-clause-pass : goal.returns-clause-pass
 returns-clause-pass g c =
