@@ -7,8 +7,9 @@
 --     break_at bytes j              1 where a break is counted at the j-th byte, else 0
 --     breaks_before bytes n         how many breaks are counted at the first n bytes
 --     HasLanes size f lanes         there are `size` lanes, and f of its place in each
-use Rattle.std.specs.Prelude.{ℕ, ◌≡◌, ◌+◌, ◌<◌, Bool, not, ◌==◌, ◌&&◌, ◌||◌, nat_lt, if◌then◌else◌, List, [], ◌∷◌, ◌++◌, length, slice_index}
+use Rattle.std.specs.Prelude.{ℕ, ◌≡◌, ◌+◌, ◌<◌, Bool, not, ◌==◌, ◌&&◌, ◌||◌, nat_lt, List, [], ◌∷◌, ◌++◌, length, slice_index}
 use Rattle.str_indices.specs.Bytes.{sum_below}
+pub use Rattle.str_indices.specs.Bytes.{flag}
 
 abbrev pub is_ascii_break : ℕ → Bool
 is_ascii_break b = nat_lt 0x09 b && nat_lt b 0x0E
@@ -32,9 +33,6 @@ is_narrow_break b next = is_ascii_break b && not (is_crlf b next)
 
 abbrev pub is_break : ℕ → ℕ → ℕ → Bool
 is_break b next after = is_narrow_break b next || is_next_line b next || is_separator b next after
-
-abbrev pub flag : Bool → ℕ
-flag b = if b then 1 else 0
 
 abbrev pub break_at : List ℕ → ℕ → ℕ
 break_at bytes j = flag (is_break (slice_index bytes j) (slice_index bytes (1 + j)) (slice_index bytes (2 + j)))

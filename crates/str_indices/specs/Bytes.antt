@@ -1,5 +1,6 @@
 -- What the kernels count of a text's bytes.
 --     sum_below f n                    f 0 + f 1 + .. up to n, without n
+--     flag b                           1 for true, 0 for false
 --     mark test b                      1 for a byte that passes the test, else 0
 --     passing_before test bytes n      how many of the first n bytes pass the test
 --     is_trailing b                    whether a byte doesn't begin its character
@@ -20,8 +21,11 @@ abbrev pub sum_below : (ℕ → ℕ) → ℕ → ℕ
 sum_below f zero = 0
 sum_below f (suc n) = sum_below f n + f n
 
+abbrev pub flag : Bool → ℕ
+flag b = if b then 1 else 0
+
 abbrev pub mark : (ℕ → Bool) → ℕ → ℕ
-mark test b = if test b then 1 else 0
+mark test b = flag (test b)
 
 abbrev pub passing_before : (ℕ → Bool) → List ℕ → ℕ → ℕ
 passing_before test bytes n = sum_below (λ j. mark test (slice_index bytes j)) n

@@ -1,7 +1,8 @@
 -- Sums of a number at each place.
-use Rattle.std.proofs.Common.{◌≡◌, ℕ, zero, suc, ◌+◌, ◌-◌, ◌<◌, ◌≤◌, Bool, true, false, cond, List, get_or, refl, arith, add-suc, add-zero, ap, ◌∙◌}
+use Rattle.std.proofs.Common.{◌≡◌, ℕ, zero, suc, ◌+◌, ◌-◌, ◌<◌, ◌≤◌, ◌⊎◌, inl, inr, Bool, true, false, List, get_or, refl, arith, add-suc, add-zero, ap, ◌∙◌}
 use Rattle.std.specs.Prelude.{not}
-use Rattle.str_indices.specs.Bytes.{sum_below, mark, passing_before}
+use Rattle.std.proofs.lemmas.Bool.{cases_lt}
+use Rattle.str_indices.specs.Bytes.{sum_below, flag, mark, passing_before}
 
 -- up to m and then n places more
 pub sum_below-add : (f : ℕ → ℕ) (m n : ℕ) → sum_below f (m + n) ≡ sum_below f m + sum_below (λ j. f (m + j)) n
@@ -32,27 +33,24 @@ sum_below-le f one (suc n) = omega (arith, one n, sum_below-le f one n)
 pub sum_below-more : (f : ℕ → ℕ) → ((j : ℕ) → f j ≤ 1) → (m n : ℕ) → sum_below f (m + n) ≤ sum_below f m + n
 sum_below-more f one m n = omega (arith, sum_below-add f m n, sum_below-le (λ j. f (m + j)) (λ j. one (m + j)) n)
 
--- one of two tests that exclude each other
+-- a flag is at most one
+flag-le : (b : Bool) → flag b ≤ 1
+flag-le true = omega arith
+flag-le false = omega arith
+
+-- a byte counts one at most
+pub mark-le : (test : ℕ → Bool) (b : ℕ) → mark test b ≤ 1
+mark-le test b = flag-le (test b)
+
+-- a byte passes a test or doesn't
 mark-not : (test : ℕ → Bool) (b : ℕ) → mark (λ x. not (test x)) b + mark test b ≡ 1
-mark-not test b = either (test b)
-  where
-    either : (passes : Bool) → ◌≡◌ {A = ℕ} (cond (not passes) 1 0 + cond passes 1 0) 1
-    either true = refl
-    either false = refl
+mark-not test b = grind arith
 
 -- each byte passes a test or doesn't
 pub passing_or_not : (test : ℕ → Bool) (bytes : List ℕ) (n : ℕ)
     → passing_before (λ b. not (test b)) bytes n + passing_before test bytes n ≡ n
 passing_or_not test bytes zero = refl
 passing_or_not test bytes (suc n) = omega (arith, mark-not test (get_or bytes n 0), passing_or_not test bytes n)
-
--- a byte counts one at most
-pub mark-le : (test : ℕ → Bool) (b : ℕ) → mark test b ≤ 1
-mark-le test b = at_most_one (test b)
-  where
-    at_most_one : (passes : Bool) → cond passes 1 0 ≤ 1
-    at_most_one true = omega arith
-    at_most_one false = omega arith
 
 -- among n bytes more at most n more pass
 pub passing_before-more : (test : ℕ → Bool) (bytes : List ℕ) (m n : ℕ)
@@ -83,14 +81,31 @@ pub sum_below-le-sum_below : (f : ℕ → ℕ) (m n : ℕ) → m ≤ n → sum_b
 sum_below-le-sum_below f m n le = let whole : m + (n - m) ≡ n =
     omega arith in omega (arith, sum_below-add f m (n - m), ap (sum_below f) whole)
 
+-- where the sum up to a place is below k, so it is up to an earlier one
+pub sum_below-earlier : (f : ℕ → ℕ) (k at d : ℕ) → sum_below f at < k → d ≤ at → sum_below f d < k
+sum_below-earlier f k at d below before = omega (arith, sum_below-le-sum_below f d at before)
+
 -- where fewer than k bytes pass before a place, fewer than k do before an earlier one
 pub passing_before-earlier : (test : ℕ → Bool) (bytes : List ℕ) (k at : ℕ) → passing_before test bytes at < k
     → (d : ℕ) → d < at → passing_before test bytes d < k
 passing_before-earlier test bytes k at fewer d before =
-    omega (arith, sum_below-le-sum_below (λ j. mark test (get_or bytes j 0)) d at (omega arith))
+    sum_below-earlier (λ j. mark test (get_or bytes j 0)) k at d fewer (omega arith)
 
 -- places that add nothing leave a sum as it is
 pub sum_below-still : (f : ℕ → ℕ) (m n : ℕ) → ((j : ℕ) → j < n → f (m + j) ≡ 0) → sum_below f (m + n) ≡ sum_below f m
 sum_below-still f m zero none = rw add-zero refl
 sum_below-still f m (suc n) none = rw add-suc
     (omega (arith, sum_below-still f m n (λ j h. none j (omega arith)), none n (omega arith)))
+
+-- Where fewer than `size` places are left behind `at`, or the sum up to their end reaches k, the first place up to
+-- which it does is at most there.
+pub first_is_near : (f : ℕ → ℕ) (long at size k place : ℕ) → (long < at + size) ⊎ (k ≤ sum_below f (at + size))
+    → place ≤ long → ((d : ℕ) → at ≤ d → d < place → sum_below f d < k) → place ≤ at + size
+first_is_near f long at size k place stopped within first =
+    elim (cases_lt (at + size) place) [
+      | inr near ↦ near
+      | inl past ↦ elim stopped [
+        | inl short ↦ omega arith
+        | inr reaches ↦ absurd (omega (arith, first (at + size) (omega arith) past))
+      ]
+    ]
