@@ -1,4 +1,5 @@
 pub mod Sums
-pub mod Walks
 pub mod Characters
+pub mod Walks
 pub mod BoundaryBytes
+pub mod EndBytes

@@ -1,5 +1,5 @@
 -- Sums of a number at each place.
-use Rattle.std.proofs.Common.{◌≡◌, ℕ, zero, suc, ◌+◌, ◌-◌, ◌<◌, ◌≤◌, Bool, true, false, cond, List, get_or, refl, arith, add-suc, add-zero, ap, ◌∙◌}
+use Rattle.std.proofs.Common.{◌≡◌, ℕ, zero, suc, ◌+◌, ◌-◌, ◌<◌, ◌≤◌, Bool, true, false, List, get_or, refl, arith, add-suc, add-zero, ap, ◌∙◌}
 use Rattle.std.specs.Prelude.{not}
 use Rattle.str_indices.specs.Bytes.{sum_below, flag, mark, passing_before}
 
@@ -32,21 +32,7 @@ sum_below-le f one (suc n) = omega (arith, one n, sum_below-le f one n)
 pub sum_below-more : (f : ℕ → ℕ) → ((j : ℕ) → f j ≤ 1) → (m n : ℕ) → sum_below f (m + n) ≤ sum_below f m + n
 sum_below-more f one m n = omega (arith, sum_below-add f m n, sum_below-le (λ j. f (m + j)) (λ j. one (m + j)) n)
 
--- one of two tests that exclude each other
-mark-not : (test : ℕ → Bool) (b : ℕ) → mark (λ x. not (test x)) b + mark test b ≡ 1
-mark-not test b = either (test b)
-  where
-    either : (passes : Bool) → ◌≡◌ {A = ℕ} (cond (not passes) 1 0 + cond passes 1 0) 1
-    either true = refl
-    either false = refl
-
--- each byte passes a test or doesn't
-pub passing_or_not : (test : ℕ → Bool) (bytes : List ℕ) (n : ℕ)
-    → passing_before (λ b. not (test b)) bytes n + passing_before test bytes n ≡ n
-passing_or_not test bytes zero = refl
-passing_or_not test bytes (suc n) = omega (arith, mark-not test (get_or bytes n 0), passing_or_not test bytes n)
-
--- a flag is one at most
+-- a flag is at most one
 pub flag-le : (b : Bool) → flag b ≤ 1
 flag-le true = omega arith
 flag-le false = omega arith
@@ -55,9 +41,20 @@ flag-le false = omega arith
 pub mark-le : (test : ℕ → Bool) (b : ℕ) → mark test b ≤ 1
 mark-le test b = flag-le (test b)
 
+-- a byte passes a test or doesn't
+mark-not : (test : ℕ → Bool) (b : ℕ) → mark (λ x. not (test x)) b + mark test b ≡ 1
+mark-not test b = grind arith
+
+-- each byte passes a test or doesn't
+pub passing_or_not : (test : ℕ → Bool) (bytes : List ℕ) (n : ℕ)
+    → passing_before (λ b. not (test b)) bytes n + passing_before test bytes n ≡ n
+passing_or_not test bytes zero = refl
+passing_or_not test bytes (suc n) = omega (arith, mark-not test (get_or bytes n 0), passing_or_not test bytes n)
+
 -- no more bytes pass than there are
 pub passing_before-le : (test : ℕ → Bool) (bytes : List ℕ) (n : ℕ) → passing_before test bytes n ≤ n
-passing_before-le test bytes n = sum_below-le (λ j. mark test (get_or bytes j 0)) (λ j. mark-le test (get_or bytes j 0)) n
+passing_before-le test bytes n =
+    sum_below-le (λ j. mark test (get_or bytes j 0)) (λ j. mark-le test (get_or bytes j 0)) n
 
 -- among n bytes more at most n more pass
 pub passing_before-more : (test : ℕ → Bool) (bytes : List ℕ) (m n : ℕ)
@@ -71,28 +68,14 @@ pub passing_before-between : (test : ℕ → Bool) (bytes : List ℕ) (m n : ℕ
 passing_before-between test bytes m n le = let whole : m + (n - m) ≡ n =
     omega arith in omega (arith, passing_before-more test bytes m (n - m), ap (passing_before test bytes) whole)
 
--- What three parts of a pass counted, each in the text as it then was, adds up to what the whole text counts.
-pub counted_in_parts : (counted : List ℕ → ℕ → ℕ) (text led chunked : List ℕ) (first at end a b c : ℕ)
-    → counted text 0 ≡ 0 → led ≡ text → chunked ≡ led
-    → counted text first ≡ counted text 0 + a → counted led at ≡ counted led first + b
-    → counted chunked end ≡ counted chunked at + c → counted text end ≡ a + b + c
-counted_in_parts counted text led chunked first at end a b c none same_led same_chunked in_leading in_chunks in_rest =
-    let led_at = ap (λ t. counted t at) same_led in
-    let led_first = ap (λ t. counted t first) same_led in
-    let chunked_at = ap (λ t. counted t at) (same_chunked ∙ same_led) in
-    let chunked_end = ap (λ t. counted t end) (same_chunked ∙ same_led) in
-    omega arith
-
 -- a sum over more places is no less
 pub sum_below-le-sum_below : (f : ℕ → ℕ) (m n : ℕ) → m ≤ n → sum_below f m ≤ sum_below f n
 sum_below-le-sum_below f m n le = let whole : m + (n - m) ≡ n =
     omega arith in omega (arith, sum_below-add f m (n - m), ap (sum_below f) whole)
 
--- where fewer than k bytes pass before a place, fewer than k do before an earlier one
-pub passing_before-earlier : (test : ℕ → Bool) (bytes : List ℕ) (k at : ℕ) → passing_before test bytes at < k
-    → (d : ℕ) → d < at → passing_before test bytes d < k
-passing_before-earlier test bytes k at fewer d before =
-    omega (arith, sum_below-le-sum_below (λ j. mark test (get_or bytes j 0)) d at (omega arith))
+-- where the sum up to a place is below k, so it is up to an earlier one
+pub sum_below-earlier : (f : ℕ → ℕ) (k at d : ℕ) → sum_below f at < k → d ≤ at → sum_below f d < k
+sum_below-earlier f k at d below before = omega (arith, sum_below-le-sum_below f d at before)
 
 -- places that add nothing leave a sum as it is
 pub sum_below-still : (f : ℕ → ℕ) (m n : ℕ) → ((j : ℕ) → j < n → f (m + j) ≡ 0) → sum_below f (m + n) ≡ sum_below f m

@@ -1,14 +1,15 @@
 -- The counts of one text in several schemes, and of two texts that are joined.
-use Rattle.std.proofs.Common.{ℕ, ◌≤◌, List, [], ◌∷◌, get_or, arith, cond, ◌≡◌, suc, ◌+◌, ◌-◌, ◌++◌, length, refl, Bool, true}
+use Rattle.std.proofs.Common.{ℕ, ◌≤◌, List, [], ◌∷◌, get_or, arith, cond, ◌≡◌, ◌+◌, ◌++◌}
 use Rattle.std.specs.Prelude.{◌==◌, ◌&&◌, not}
 use Rattle.std.specs.Char.{char_set_contains}
 use Rattle.std.proofs.lemmas.Bool.Decides.{nat_tests}
-use Rattle.str_indices.specs.Schemes.{Scheme, Lf, Crlf, Lines, break_characters, end_count, count, Chars, Utf16, is_break_end, is_end, surrogates}
-use Rattle.str_indices.proofs.lemmas.bytes.Walks.{total}
-use Rattle.str_indices.proofs.lemmas.texts.Ends.{end_weight, end_count_total, first_placed, count_characters, count_line_feeds}
+use Rattle.str_indices.specs.Schemes.{Scheme, Lf, Crlf, Lines, break_characters, end_count, count, Chars, Utf16, surrogates}
+use Rattle.str_indices.proofs.lemmas.texts.Sizes.{total}
+use Rattle.str_indices.proofs.lemmas.texts.Seams.{crlf_has_return, lines_has_return, end_count-append}
+use Rattle.str_indices.proofs.lemmas.texts.Ends.{end_weight, end_count_total, count_characters, count_line_feeds}
 use Rattle.std.proofs.lemmas.List.Sums.{sum_by-append}
-use Rattle.str_indices.specs.Text.{weight, line_feed, carriage_return}
-use Rattle.str_indices.specs.Joins.{ends_in_return, starts_with_feed, joins_crlf}
+use Rattle.str_indices.specs.Text.{weight}
+use Rattle.str_indices.specs.Joins.{joins_crlf}
 use Rattle.str_indices.proofs.lemmas.texts.Units.{count-units}
 
 -- a sum of larger numbers is larger
@@ -46,60 +47,6 @@ count-Lf-le-count-Crlf cs = end_count-le-end_count Lf Crlf (λ c after. lf_withi
 pub count-Crlf-le-count-Lines : (cs : List ℕ) → count Crlf cs ≤ count Lines cs
 count-Crlf-le-count-Lines cs = end_count-le-end_count Crlf Lines (λ c after. crlf_within_lines c (get_or after 0 0)) cs
 
--- a text of one character ends in CR where that character is CR
-ends_in_return-one : (c : ℕ) → ends_in_return (c ∷ []) ≡ (c == carriage_return)
-ends_in_return-one c = grind (arith, nat_tests)
-
--- the first of several characters doesn't matter there
-ends_in_return-cons : (c d : ℕ) (cs : List ℕ) → ends_in_return (c ∷ d ∷ cs) ≡ ends_in_return (d ∷ cs)
-ends_in_return-cons c d cs =
-    let place : length (c ∷ d ∷ cs) - 1 ≡ suc (length (d ∷ cs) - 1) = omega arith in
-    rw place
-
--- a text starts with LF where its first character is LF
-starts_with_feed_is : (cs : List ℕ) → starts_with_feed cs ≡ (get_or cs 0 0 == line_feed)
-starts_with_feed_is [] = refl
-starts_with_feed_is (c ∷ cs) = grind (arith, nat_tests)
-
--- in a set with CR a character breaks the line at the end of the text, and behind the seam too unless it makes a CRLF
--- there
-break_at_seam : (in_set : Bool) (c next : ℕ) → (c ≡ 13 → in_set ≡ true)
-    → ◌≡◌ {A = ℕ} (cond (in_set && not (c == 13 && next == 10)) 1 0 + cond (c == 13 && next == 10) 1 0)
-    (cond (in_set && not (c == 13 && 0 == 10)) 1 0)
-break_at_seam in_set c next return = grind (arith, nat_tests)
-
--- a scheme of line breaks that has CR among them
-module _ (s : Scheme) (breaks : (c : ℕ) (cs : List ℕ)
-    → is_end s (first_placed 0 c cs) ≡ is_break_end (break_characters s) (first_placed 0 c cs))
-    (has_return : char_set_contains (break_characters s) 13 ≡ true) where
-  -- the last character before the seam
-  end_weight-seam : (c : ℕ) (cs : List ℕ) → end_weight s c cs + cond (joins_crlf (c ∷ []) cs) 1 0 ≡ end_weight s c []
-  end_weight-seam c cs = rw (breaks c cs, breaks c [], ends_in_return-one c, starts_with_feed_is cs)
-      (break_at_seam (char_set_contains (break_characters s) c) c (get_or cs 0 0)
-      (λ is_return. rw is_return has_return))
-
-  -- any other character weighs the same, whatever follows the next
-  end_weight-next : (c d : ℕ) (cs ds : List ℕ) → end_weight s c (d ∷ cs) ≡ end_weight s c (d ∷ ds)
-  end_weight-next c d cs ds = rw (breaks c (d ∷ cs), breaks c (d ∷ ds))
-
-  -- the sum over the characters is one less exactly where the seam makes a CRLF
-  total-append : (a b : List ℕ) → total (end_weight s) (a ++ b) + cond (joins_crlf a b) 1 0 ≡ total (end_weight s)
-      a + total (end_weight s) b
-  total-append [] b = omega arith
-  total-append (c ∷ []) b = omega (arith, end_weight-seam c b)
-  total-append (c ∷ d ∷ a) b = rw (ends_in_return-cons c d a)
-      (omega (arith, total-append (d ∷ a) b, end_weight-next c d (a ++ b) a))
-
-  -- joined, two texts lose one break exactly where the seam makes a CRLF
-  end_count-append : (a b : List ℕ) → end_count s (a ++ b) + cond (joins_crlf a b) 1 0 ≡ end_count s a + end_count s b
-  end_count-append a b = omega (
-    arith,
-    end_count_total s a,
-    end_count_total s b,
-    end_count_total s (a ++ b),
-    total-append a b,
-  )
-
 -- characters
 pub count-Chars-append : (a b : List ℕ) → count Chars (a ++ b) ≡ count Chars a + count Chars b
 count-Chars-append a b = omega (
@@ -131,9 +78,9 @@ count-Lf-append a b = omega (
 
 -- line breaks by LF, CR and CRLF
 pub count-Crlf-append : (a b : List ℕ) → count Crlf (a ++ b) + cond (joins_crlf a b) 1 0 ≡ count Crlf a + count Crlf b
-count-Crlf-append = end_count-append Crlf (λ _ _. refl) refl
+count-Crlf-append = end_count-append Crlf crlf_has_return
 
 -- line breaks by all seven characters
 pub count-Lines-append : (a b : List ℕ) → count Lines (a ++ b) + cond (joins_crlf a b) 1 0 ≡ count Lines a + count
     Lines b
-count-Lines-append = end_count-append Lines (λ _ _. refl) refl
+count-Lines-append = end_count-append Lines lines_has_return

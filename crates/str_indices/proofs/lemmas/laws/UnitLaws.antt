@@ -9,7 +9,7 @@ use Rattle.str_indices.specs.Schemes.{Utf16, units, boundary_at_units, count}
 use Rattle.str_indices.specs.Relations.{IsBoundary, IsGreatestWithin}
 use Rattle.str_indices.specs.Starts.{IsSecondUnit}
 use Rattle.str_indices.proofs.lemmas.texts.Sizes.{size-cons, size-append, boundary_beside}
-use Rattle.str_indices.proofs.lemmas.texts.Cuts.{cut_is}
+use Rattle.str_indices.proofs.lemmas.texts.Cuts.{cut_is, cut_goes_on, cut_front}
 use Rattle.str_indices.proofs.lemmas.texts.Units.{units_at, units-le-units, count-units, weight_is_one_or_two, boundary_at_units_is_greatest}
 
 -- before the byte index of k there are at most k units
@@ -31,29 +31,36 @@ boundary_at_units-le cs i j le =
     let first = boundary_at_units_is_greatest cs i in
     (boundary_at_units_is_greatest cs j).greatest (boundary_at_units cs i) first.boundary (omega (arith, first.fits))
 
+-- a text that takes bytes takes units
+some_units : (cs : List ℕ) → 0 < size cs → 0 < sum_by weight cs
+some_units [] some = absurd (omega arith)
+some_units (c ∷ cs) some = elim (weight_is_one_or_two c) [
+  | inl one ↦ omega (arith, sum_by-cons weight c cs)
+  | inr two ↦ omega (arith, sum_by-cons weight c cs)
+]
+
+-- more units are before a boundary than before an earlier byte index
+units-lt-units : (cs : List ℕ) (b p : ℕ) → IsBoundary cs p → b < p → units cs b < units cs p
+units-lt-units cs b p at less =
+    let parts = cut_is cs b in
+    let (more, is) = cut_goes_on cs (cut cs b) parts.rest p parts.split (omega (arith, parts.at.fits)) in
+    let sizes = ap size is ∙ size-append (cut cs b) more in
+    let whole = ap size (cut_front cs p at) in
+    let some = some_units more (omega (arith, at.place, parts.at.fits)) in
+    omega (arith, ap (sum_by weight) is, sum_by-append weight (cut cs b) more)
+
 -- from a byte index to its units and back is at or before it
 pub boundary_at_units-units-le : (cs : List ℕ) (b : ℕ) → boundary_at_units cs (units cs b) ≤ b
-boundary_at_units-units-le cs b = before (cut_is cs b).rest (cut_is cs b).split
-  where
-    answer : IsGreatestWithin cs (units cs b) (boundary_at_units cs (units cs b))
-    answer = boundary_at_units_is_greatest cs (units cs b)
-
-    fits : size (cut cs b) ≤ b
-    fits = omega (arith, (cut_is cs b).fits)
-
-    before : (rest : List ℕ) → cs ≡ cut cs b ++ rest → boundary_at_units cs (units cs b) ≤ b
-    before [] split =
-        let whole = ap size split ∙ size-append (cut cs b) [] in
-        let parts = ap size answer.boundary.split ∙ size-append answer.boundary.front answer.boundary.back in
-        omega (arith, fits, answer.boundary.place)
-    before (c ∷ after) split =
-        elim (boundary_beside weight cs (cut cs b) c after split (boundary_at_units cs (units cs b)) answer.boundary) [
-          | inl earlier ↦ omega (arith, fits, earlier.0)
-          | inr later ↦ absurd (elim (weight_is_one_or_two c) [
-            | inl one ↦ omega (arith, later.1, answer.fits)
-            | inr two ↦ omega (arith, later.1, answer.fits)
-          ])
-        ]
+boundary_at_units-units-le cs b =
+    let p = boundary_at_units cs (units cs b) in
+    elim (cases_lt b p) [
+      | inl past ↦ absurd (omega (
+        arith,
+        units-lt-units cs b p (boundary_at_units_is_greatest cs (units cs b)).boundary past,
+        units-boundary_at_units-le cs (units cs b),
+      ))
+      | inr within ↦ within
+    ]
 
 -- behind the byte index of k the text ends, or its next character takes it past k units
 next_is_past : (cs : List ℕ) (k : ℕ) (answer : IsGreatestWithin cs k (boundary_at_units cs k)) (c : ℕ)
@@ -78,11 +85,10 @@ next_is_past cs k answer c after next =
           absurd (omega (arith, answer.boundary.place, size-cons c []))
     ]
 
--- from an index to its byte index and back is the index, or the count, or for a pair's second unit the first
-units_or_first_of_pair : (cs : List ℕ) (k : ℕ)
-    → (units cs (boundary_at_units cs k) ≡ min k (count Utf16 cs)) ⊎ (IsSecondUnit cs
-    k × (units cs (boundary_at_units cs k) + 1 ≡ k))
-units_or_first_of_pair cs k = by_rest answer.boundary.back refl
+-- an index comes back, or the count, or it is a pair's second unit
+pub units_or_second_unit : (cs : List ℕ) (k : ℕ)
+    → (units cs (boundary_at_units cs k) ≡ min k (count Utf16 cs)) ⊎ IsSecondUnit cs k
+units_or_second_unit cs k = by_rest answer.boundary.back refl
   where
     answer : IsGreatestWithin cs k (boundary_at_units cs k)
     answer = boundary_at_units_is_greatest cs k
@@ -97,8 +103,7 @@ units_or_first_of_pair cs k = by_rest answer.boundary.back refl
     whole = count-units cs ∙ ap (sum_by weight) answer.boundary.split ∙ sum_by-append weight front answer.boundary.back
 
     by_rest : (rest : List ℕ) → answer.boundary.back ≡ rest
-        → (units cs (boundary_at_units cs k) ≡ min k (count Utf16 cs)) ⊎ (IsSecondUnit cs
-        k × (units cs (boundary_at_units cs k) + 1 ≡ k))
+        → (units cs (boundary_at_units cs k) ≡ min k (count Utf16 cs)) ⊎ IsSecondUnit cs k
     by_rest [] none = inl (omega (arith, before, whole, ap (sum_by weight) none, answer.fits))
     by_rest (c ∷ after) next =
         let past = next_is_past cs k answer c after next in
@@ -106,44 +111,30 @@ units_or_first_of_pair cs k = by_rest answer.boundary.back refl
           | inr all ↦ inl (omega (arith, before, whole, answer.fits))
           | inl less ↦ elim (weight_is_one_or_two c) [
             | inl one ↦ absurd (omega arith)
-            | inr two ↦ inr (
-              record {
-                front = front;
-                character = c;
-                back = after;
-                split = answer.boundary.split
-                    ∙ ap (λ r. front ++ r) next;
-                pair = two;
-                first_unit = omega arith;
-              },
-              omega (arith, before),
-            )
+            | inr two ↦ inr (record {
+              front = front;
+              character = c;
+              back = after;
+              split = answer.boundary.split ∙ ap (λ r. front ++ r) next;
+              pair = two;
+              first_unit = omega arith;
+            })
           ]
         ]
 
 -- the second unit of a pair has the byte index of the first
 pub units-second_unit : (cs : List ℕ) (k : ℕ) → IsSecondUnit cs k → units cs (boundary_at_units cs k) + 1 ≡ k
 units-second_unit cs k second =
-    elim (units_or_first_of_pair cs k) [
-      | inr first ↦ first.1
-      | inl all ↦
-          let answer = boundary_at_units_is_greatest cs k in
-          let before = units_at cs (boundary_at_units cs k) answer.boundary in
-          let whole = count-units cs ∙ ap (sum_by weight) second.split
-          ∙ sum_by-append weight second.front (second.character ∷ second.back) in
-          let rest = sum_by-cons weight second.character second.back in
-          absurd (elim (boundary_beside weight cs second.front second.character second.back second.split
-          (boundary_at_units cs k) answer.boundary) [
-            | inl earlier ↦ omega (arith, earlier.1, second.pair, second.first_unit)
-            | inr later ↦ omega (arith, later.1, second.pair, second.first_unit, answer.fits)
-          ])
-    ]
-
--- an index comes back, or the count, or it is a pair's second unit
-pub units_or_second_unit : (cs : List ℕ) (k : ℕ)
-    → (units cs (boundary_at_units cs k) ≡ min k (count Utf16 cs)) ⊎ IsSecondUnit cs k
-units_or_second_unit cs k =
-    elim (units_or_first_of_pair cs k) [
-      | inl all ↦ inl all
-      | inr first ↦ inr first.0
+    let front = second.front in
+    let back = second.character ∷ second.back in
+    let answer = boundary_at_units_is_greatest cs k in
+    let first : IsBoundary cs (size front) = record { front = front; back = back; split = second.split; place = refl } in
+    let units_first = units_at cs (size front) first in
+    let reaches = answer.greatest (size front) first (omega (arith, second.first_unit)) in
+    elim (boundary_beside weight cs front second.character second.back second.split (boundary_at_units cs k)
+    answer.boundary) [
+      | inl here ↦
+          let same : boundary_at_units cs k ≡ size front = omega (arith, here.0) in
+          omega (arith, ap (units cs) same, second.first_unit)
+      | inr later ↦ absurd (omega (arith, later.1, second.pair, second.first_unit, answer.fits))
     ]

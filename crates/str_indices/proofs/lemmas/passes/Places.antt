@@ -2,7 +2,7 @@
 use Rattle.std.proofs.Common.{ℕ, Bool, List, get_or, ◌+◌, ◌<◌, ◌≤◌, ◌⊎◌, inl, inr, arith}
 use Rattle.std.proofs.lemmas.Bool.{cases_lt}
 use Rattle.str_indices.specs.Bytes.{sum_below, mark, passing_before}
-use Rattle.str_indices.proofs.lemmas.bytes.Sums.{sum_below-le-sum_below}
+use Rattle.str_indices.proofs.lemmas.bytes.Sums.{sum_below-earlier}
 
 -- where less than a chunk is left, or the chunk at `at` reaches k, the first place from there on before which k are counted is
 -- at most its end
@@ -22,7 +22,7 @@ pub first_of_all : (f : ℕ → ℕ) (k from place : ℕ) → sum_below f from <
     → ((d : ℕ) → from ≤ d → d < place → sum_below f d < k) → (d : ℕ) → d < place → sum_below f d < k
 first_of_all f k from place fewer first d before =
     elim (cases_lt d from) [
-      | inl early ↦ omega (arith, sum_below-le-sum_below f d from (omega arith))
+      | inl early ↦ sum_below-earlier f k from d fewer (omega arith)
       | inr late ↦ first d late before
     ]
 

@@ -1,30 +1,37 @@
 -- The characters of a text, from its leading and its trailing bytes.
-use Rattle.std.proofs.Common.{◌≡◌, ℕ, suc, ◌+◌, ◌<◌, ◌≤◌, ◌⊎◌, inl, inr, Bool, true, false, cond, List, [], ◌∷◌, ◌++◌, length, get_or, refl, arith, sym, ◌∙◌, ap, add-one, chars, IsUtf8}
+use Rattle.std.proofs.Common.{◌≡◌, ℕ, ◌+◌, ◌<◌, ◌≤◌, ◌⊎◌, inl, inr, Bool, true, false, cond, List, length, get_or, refl, arith, sym, ◌∙◌, ap, add-one, chars, IsUtf8}
 use Rattle.std.specs.Prelude.{not}
-use Rattle.std.specs.Char.{len_utf8}
 use Rattle.std.proofs.lemmas.Bool.{cases_lt}
 use Rattle.str_indices.specs.Text.{size, cut}
-use Rattle.str_indices.specs.Schemes.{count, to_byte_idx, is_end, Chars}
+use Rattle.str_indices.specs.Schemes.{count, ends, to_byte_idx, Chars}
 use Rattle.str_indices.specs.Relations.{IsBoundary}
-use Rattle.str_indices.specs.Bytes.{mark, passing_before, is_trailing, is_leading}
-use Rattle.str_indices.proofs.lemmas.texts.Sizes.{size-cons}
+use Rattle.str_indices.specs.Bytes.{mark, flag, passing_before, is_trailing, is_leading}
+use Rattle.std.proofs.Math.Utf8.{encodes}
 use Rattle.str_indices.proofs.lemmas.bytes.Sums.{sum_below-le-sum_below, passing_or_not}
-use Rattle.str_indices.proofs.lemmas.texts.Ends.{ends_from, end_count_total, ReadsAlone}
-use Rattle.str_indices.proofs.lemmas.texts.Cuts.{cut_seam, cut_all}
-use Rattle.str_indices.proofs.lemmas.bytes.Characters.{characters_add}
-use Rattle.str_indices.proofs.lemmas.bytes.Walks.{bytes_to_boundary, boundary_at_end, size-chars}
-use Rattle.str_indices.proofs.lemmas.texts.EndSets.{end_at-past}
+use Rattle.str_indices.proofs.lemmas.texts.Increasing.{select-rank}
+use Rattle.str_indices.proofs.lemmas.texts.Ends.{ReadsAlone, count_characters, end_count-cut}
+use Rattle.str_indices.proofs.lemmas.bytes.Characters.{first_byte, is_trailing_later}
+use Rattle.str_indices.proofs.lemmas.bytes.Walks.{AddsAtFirst, bytes_to_boundary, boundary_at_end, cut_at_end, size-chars}
+use Rattle.str_indices.proofs.lemmas.texts.EndSets.{ends_increase_within, end_at-select, end_at-past, zero_or_end}
 use Rattle.str_indices.proofs.lemmas.bytes.BoundaryBytes.{begins_boundary, leading_among_four}
 
 -- each character ends at an end of `Chars`
 pub reads_alone : ReadsAlone Chars
 reads_alone c cs ds = refl
 
+-- a character is counted at its leading byte
+characters_add : AddsAtFirst (λ b _ _. is_leading b) (λ _ _. 1)
+characters_add = record {
+  first = λ c cs s t. ap (λ trails. flag (not trails)) (first_byte c (encodes cs) s);
+  later = λ b next after trailing. ap (λ trails. flag (not trails)) (is_trailing_later b trailing);
+}
+
 -- before a boundary as many bytes begin a character as the cut text has characters
 pub leading_at_boundary : (bytes : List ℕ) → IsUtf8 bytes → (end : ℕ) → IsBoundary (chars bytes) end
     → passing_before is_leading bytes end ≡ count Chars (cut (chars bytes) end)
-leading_at_boundary bytes utf8 end b = bytes_to_boundary (mark is_leading) (λ _ _. 1) characters_add bytes utf8 end b
-    ∙ sym (end_count_total Chars (cut (chars bytes) end))
+leading_at_boundary bytes utf8 end b =
+    bytes_to_boundary (λ b _ _. is_leading b) (λ _. 1) characters_add bytes utf8 end b
+    ∙ sym (count_characters (cut (chars bytes) end))
 
 -- the bytes before a boundary are the characters of the cut text and the trailing bytes
 pub characters_and_trailing : (bytes : List ℕ) → IsUtf8 bytes → (end : ℕ) → IsBoundary (chars bytes) end
@@ -32,32 +39,14 @@ pub characters_and_trailing : (bytes : List ℕ) → IsUtf8 bytes → (end : ℕ
 characters_and_trailing bytes utf8 end b =
     omega (arith, leading_at_boundary bytes utf8 end b, passing_or_not is_trailing bytes end)
 
--- the ends of `Chars` behind a beginning that is not empty
-end_of_front : (start c : ℕ) (front back : List ℕ) (d : ℕ)
-    → get_or (ends_from (is_end Chars) start (c ∷ front ++ back)) (length front) d ≡ start + size (c ∷ front)
-end_of_front start c [] back d = omega (arith, size-cons c [])
-end_of_front start c (x ∷ front) back d = end_of_front (start + len_utf8 c) x front back d
-    ∙ omega (arith, size-cons c (x ∷ front), size-cons x front)
-
--- as many characters as a beginning has end where it ends
-to_byte_idx-front : (front back : List ℕ) → to_byte_idx Chars (front ++ back) (length front) ≡ size front
-to_byte_idx-front [] back = refl
-to_byte_idx-front (c ∷ front) back = end_of_front 0 c front back (size (c ∷ front ++ back)) ∙ omega arith
-
--- there are as many ends of `Chars` as characters
-count-length : (start : ℕ) (cs : List ℕ) → length (ends_from (is_end Chars) start cs) ≡ length cs
-count-length start [] = refl
-count-length start (c ∷ cs) = ap suc (count-length (start + len_utf8 c) cs)
-
 -- a boundary with k leading bytes before it is where the k-th character ends
-pub boundary_of_char : (bytes : List ℕ) → IsUtf8 bytes → (i k : ℕ) → IsBoundary (chars bytes) i
+boundary_of_char : (bytes : List ℕ) → IsUtf8 bytes → (i k : ℕ) → IsBoundary (chars bytes) i
     → passing_before is_leading bytes i ≡ k → i ≡ to_byte_idx Chars (chars bytes) k
 boundary_of_char bytes utf8 i k b counted =
-    let front_is : cut (chars bytes) i ≡ b.front = rw (b.split, ← b.place) (cut_seam b.front b.back) in
-    let many : length b.front ≡ k = sym (count-length 0 b.front) ∙ ap (count Chars) (sym front_is)
-    ∙ sym (leading_at_boundary bytes utf8 i b) ∙ counted in
-    sym (ap (λ t. to_byte_idx Chars t k) b.split ∙ ap (to_byte_idx Chars (b.front ++ b.back)) (sym many)
-    ∙ to_byte_idx-front b.front b.back ∙ b.place)
+    let cs = chars bytes in
+    let up_to = sym (end_count-cut Chars reads_alone cs i) ∙ sym (leading_at_boundary bytes utf8 i b) ∙ counted in
+    sym (select-rank (ends Chars cs) (size cs) (ends_increase_within Chars cs) i (zero_or_end cs i b))
+    ∙ sym (end_at-select Chars cs _) ∙ ap (to_byte_idx Chars cs) up_to
 
 -- a byte that begins the character after the k-th is where the k-th ends
 pub char_found : (bytes : List ℕ) → IsUtf8 bytes → (i k : ℕ) → i < length bytes
@@ -74,18 +63,17 @@ char_found bytes utf8 i k below at_most passed =
     marked false some = (refl, refl)
 
 -- where the text begins no more than k characters, the k-th ends with the text
-pub char_past : (bytes : List ℕ) → IsUtf8 bytes → (k : ℕ) → passing_before is_leading bytes (length bytes) ≤ k
+char_past : (bytes : List ℕ) → IsUtf8 bytes → (k : ℕ) → passing_before is_leading bytes (length bytes) ≤ k
     → length bytes ≡ to_byte_idx Chars (chars bytes) k
 char_past bytes utf8 k at_most =
+    let b = boundary_at_end bytes utf8 in
+    let whole = size-chars bytes utf8 in
     elim (cases_lt (passing_before is_leading bytes (length bytes)) k) [
-      | inr all ↦ boundary_of_char bytes utf8 (length bytes) k (boundary_at_end bytes utf8) (omega arith)
-      | inl fewer ↦ sym (end_at-past Chars (chars bytes) k
-          (omega (
-            arith,
-            leading_at_boundary bytes utf8 (length bytes) (boundary_at_end bytes utf8),
-            ap (count Chars)
-                (cut_all (chars bytes) (length bytes) (omega (arith, size-chars bytes utf8))),
-          )) ∙ size-chars bytes utf8)
+      | inr all ↦ boundary_of_char bytes utf8 (length bytes) k b (omega arith)
+      | inl fewer ↦
+          let counted = leading_at_boundary bytes utf8 (length bytes) b
+          ∙ ap (count Chars) (cut_at_end bytes utf8) in
+          omega (arith, end_at-past Chars (chars bytes) k (omega arith))
     ]
 
 -- a chunk has as many leading bytes as its trailing bytes leave

@@ -1,29 +1,23 @@
 -- The UTF-16 code units of a text, from its leading bytes and the first bytes of its characters of four bytes.
-use Rattle.std.proofs.Common.{◌≡◌, ◌≢◌, ℕ, ◌+◌, ◌-◌, ◌<◌, ◌≤◌, inl, inr, Bool, true, false, cond, List, [], ◌∷◌, ◌++◌, length, get_or, refl, arith, sym, ◌∙◌, ap, add-one, chars, IsUtf8, bit_and}
+use Rattle.std.proofs.Common.{◌≡◌, ℕ, zero, suc, ◌+◌, ◌-◌, ◌<◌, ◌≤◌, ◌⊎◌, inl, inr, true, false, cond, List, ◌++◌, length, get_or, refl, arith, sym, ◌∙◌, ap, add-one, add-zero, add-suc, chars, IsUtf8, bit_and, ◌/◌}
 use Rattle.std.specs.Prelude.{◌==◌, nat_le, sum_by}
 use Rattle.std.specs.Char.{len_utf8}
-use Rattle.std.proofs.Math.Utf8.{encode, scalar}
+use Rattle.std.proofs.Math.Utf8.{encode, encodes, scalar}
 use Rattle.std.proofs.lemmas.Bool.{cases_lt, cases_eq, cases_Bool, ne_eqb, agree_below_at, lt-leb, le-leb, eqb-true}
-use Rattle.std.proofs.lemmas.List.Sums.{sum_by-cons, sum_by-le-sum_by}
+use Rattle.std.proofs.lemmas.List.Sums.{sum_by-le-sum_by}
 use Rattle.std.proofs.lemmas.Nat.{and_assoc}
-use Rattle.std.proofs.lemmas.Str.{encodes-chars, scalars-chars, len_utf8_bounds, length-encode}
+use Rattle.std.proofs.lemmas.Str.{len_utf8_bounds, length-encode}
 use Rattle.str_indices.specs.Text.{size, cut, weight}
 use Rattle.str_indices.specs.Schemes.{count, Chars, Utf16, units, surrogates, boundary_at_units}
 use Rattle.str_indices.specs.Relations.{IsBoundary}
-use Rattle.str_indices.specs.Bytes.{mark, passing_before, is_trailing, is_leading, begins_four_bytes, units_before}
-use Rattle.str_indices.proofs.lemmas.texts.Sizes.{size-cons, size-append}
-use Rattle.str_indices.proofs.lemmas.bytes.Sums.{sum_below-le-sum_below, mark-le, passing_or_not, passing_before-between}
-use Rattle.str_indices.proofs.lemmas.texts.Ends.{count_characters}
-use Rattle.str_indices.proofs.lemmas.texts.Cuts.{cut_all}
-use Rattle.str_indices.proofs.lemmas.bytes.Characters.{by_encoding, adds_by_byte, characters_add}
-use Rattle.str_indices.proofs.lemmas.bytes.Walks.{AddsAtFirst, total, begun, begun_zero, begun-cons, begun_all, walk_is, bytes_to_boundary, boundary_at_end, size-chars}
+use Rattle.str_indices.specs.Bytes.{flag, mark, passing_before, is_trailing, is_leading, begins_four_bytes, units_before, byte_before}
+use Rattle.str_indices.proofs.lemmas.texts.Sizes.{size-append, boundary_beside}
+use Rattle.str_indices.proofs.lemmas.texts.Units.{units_at, boundary_at_units_is_greatest, count-units, count-characters-surrogates}
+use Rattle.str_indices.proofs.lemmas.bytes.Sums.{sum_below-le-sum_below, sum_below-still, mark-le, passing_or_not, passing_before-between}
+use Rattle.str_indices.proofs.lemmas.bytes.Characters.{by_size}
+use Rattle.str_indices.proofs.lemmas.bytes.Walks.{AddsAtFirst, bytes_to_boundary, boundary_at_end, size-chars}
+use Rattle.str_indices.proofs.lemmas.bytes.BoundaryBytes.{begins_at, begins_boundary}
 use Rattle.str_indices.proofs.lemmas.schemes.CharBytes.{CountsLeading, leading_at_boundary}
-use Rattle.str_indices.proofs.lemmas.bytes.BoundaryBytes.{begins_boundary}
-use Rattle.str_indices.proofs.lemmas.texts.Units.{units_at, boundary_at_units_is_greatest}
-
--- one for a character that takes a surrogate pair
-abbrev pair : ℕ → List ℕ → ℕ
-pair c _ = mark (λ x. weight x == 2) c
 
 -- the mask of a first byte of four, as a range
 four_range : (b : ℕ) → b < 256 → begins_four_bytes b ≡ nat_le 240 b
@@ -33,240 +27,166 @@ four_range b below = agree_below_at begins_four_bytes (nat_le 240) 256 b refl be
 four_low : (b : ℕ) → b < 240 → begins_four_bytes b ≡ false
 four_low b low = rw (four_range b (omega arith), lt-leb 240 b low)
 
--- a byte from 240 on does
-four_high : (b : ℕ) → 240 ≤ b → b < 256 → begins_four_bytes b ≡ true
-four_high b high below = rw (four_range b below, le-leb 240 b high)
-
--- a character takes a surrogate pair where its first byte begins four
-pair_first : (c : ℕ) (rest : List ℕ) → scalar c ≡ true
-    → mark begins_four_bytes (get_or (encode c ++ rest) 0 0) ≡ pair c []
-pair_first c rest s =
-    by_encoding (λ bs. mark begins_four_bytes (get_or (bs ++ rest) 0 0) ≡ cond (cond (length bs == 4) 2 1 == 2) 1 0) c s
-    (λ e. rw (e.bytes) (low c (omega (arith, e.below))))
-    (λ e. rw (e.bytes) (low e.first (omega (arith, e.first_high))))
-    (λ e. rw (e.bytes) (low e.first (omega (arith, e.first_high))))
-    (λ e. rw (e.bytes) (high e.first e.first_low (omega (arith, e.first_high))))
-    ∙ ap (λ n. cond (cond (n == 4) 2 1 == 2) 1 0) (length-encode c)
-  where
-    low : (b : ℕ) → b < 240 → mark begins_four_bytes b ≡ 0
-    low b l = rw (four_low b l)
-
-    high : (b : ℕ) → 240 ≤ b → b < 256 → mark begins_four_bytes b ≡ 1
-    high b h l = rw (four_high b h l)
+-- the first byte of a character begins four exactly where the character takes a surrogate pair
+four_first : (c : ℕ) (rest : List ℕ) → scalar c ≡ true
+    → begins_four_bytes (get_or (encode c ++ rest) 0 0) ≡ (weight c == 2)
+four_first c rest s =
+    by_size (λ bs. begins_four_bytes (get_or (bs ++ rest) 0 0) ≡ (cond (length bs == 4) 2 1 == 2)) c s
+    (λ ascii. four_low c (omega arith))
+    (λ from below. four_low (192 + c / 64) (omega arith))
+    (λ from below. four_low (224 + c / 4096) (omega arith))
+    (λ from below. four_range (240 + c / 262144) (omega arith) ∙ le-leb 240 (240 + c / 262144) (omega arith))
+    ∙ ap (λ n. cond (n == 4) 2 1 == 2) (length-encode c)
 
 -- a surrogate pair is counted at the first byte of its character
-pairs_add : AddsAtFirst (λ bytes j. mark begins_four_bytes (get_or bytes j 0)) pair
-pairs_add = adds_by_byte (mark begins_four_bytes) (λ c. pair c []) pair_first
-    (λ b t. let high = t.high in ap (λ p. cond p 1 0) (four_low b (omega arith)))
-
--- the surrogate pairs of a text, character by character
-total_pairs : (cs : List ℕ) → total pair cs ≡ surrogates cs
-total_pairs [] = refl
-total_pairs (c ∷ cs) = ap (λ n. pair c cs + n) (total_pairs cs) ∙ sym (sum_by-cons (mark (λ x. weight x == 2)) c cs)
+pairs_add : AddsAtFirst (λ b _ _. begins_four_bytes b) (λ c _. mark (λ x. weight x == 2) c)
+pairs_add = record {
+  first = λ c cs s t. ap flag (four_first c (encodes cs) s);
+  later = λ b next after trailing. let high = trailing.high in ap flag (four_low b (omega arith));
+}
 
 -- before a boundary as many bytes begin four as the cut text has surrogate pairs
 pairs_at_boundary : (bytes : List ℕ) → IsUtf8 bytes → (end : ℕ) → IsBoundary (chars bytes) end
     → passing_before begins_four_bytes bytes end ≡ surrogates (cut (chars bytes) end)
-pairs_at_boundary bytes utf8 end b = bytes_to_boundary (mark begins_four_bytes) pair pairs_add bytes utf8 end b
-    ∙ total_pairs (cut (chars bytes) end)
+pairs_at_boundary = bytes_to_boundary (λ b _ _. begins_four_bytes b) (mark (λ x. weight x == 2)) pairs_add
 
--- a character of fewer than four bytes takes no pair
-no_pair : (c : ℕ) (cs : List ℕ) → len_utf8 c ≤ 3 → pair c cs ≡ 0
-no_pair c cs short = let other : len_utf8 c ≢ 4 = omega arith in rw (ne_eqb (len_utf8 c) 4 other)
+-- a character of four bytes begins with a leading byte
+four_leads : (b : ℕ) → begins_four_bytes b ≡ true → is_trailing b ≡ false
+four_leads b four =
+    let masked : bit_and b 0xF0 ≡ 0xF0 = eqb-true (bit_and b 0xF0) 0xF0 four in
+    let both : bit_and b 0xC0 ≡ 0xC0 = sym (and_assoc 0xC0 b 0xF0) ∙ ap (λ x. bit_and x 0xC0) masked in
+    rw both
 
--- no character of four bytes begins among the last three bytes before the end of a beginning
-begun_last_three : (front back : List ℕ) → begun pair (front ++ back) (size front - 3) ≡ begun pair (front ++ back)
-    (size front)
-begun_last_three [] back = refl
-begun_last_three (c ∷ front) back =
-    let bounds = len_utf8_bounds c in
-    let sizes = size-cons c front in
-    let rest = begun_last_three front back in
-    let whole = begun-cons pair c (front ++ back) (size (c ∷ front)) (omega arith) in
-    let behind : size (c ∷ front) - len_utf8 c ≡ size front = omega arith in
-    let whole_rest = ap (begun pair (front ++ back)) behind in
-    elim (cases_lt 3 (size (c ∷ front))) [
-      | inl more ↦
-          let cut_off = begun-cons pair c (front ++ back) (size (c ∷ front) - 3) (omega arith) in
-          let same : size (c ∷ front) - 3 - len_utf8 c ≡ size front - 3 = omega arith in
-          omega (arith, ap (begun pair (front ++ back)) same)
-      | inr few ↦
-          let none : size (c ∷ front) - 3 ≡ 0 = omega arith in
-          let none_rest : size front - 3 ≡ 0 = omega arith in
-          let short = no_pair c (front ++ back) (omega arith) in
-          omega (
-            arith,
-            ap (begun pair (c ∷ front ++ back)) none,
-            ap (begun pair (front ++ back)) none_rest,
-            begun_zero pair (c ∷ front ++ back),
-            begun_zero pair (front ++ back),
-          )
+-- no boundary stands within four bytes whose first begins four
+no_boundary_in_four : (bytes : List ℕ) → IsUtf8 bytes → (i : ℕ) → i < length bytes
+    → begins_four_bytes (get_or bytes i 0) ≡ true → (p : ℕ) → IsBoundary (chars bytes) p → (p ≤ i) ⊎ (i + 4 ≤ p)
+no_boundary_in_four bytes utf8 i below four p b =
+    let begins = begins_boundary bytes utf8 i (omega arith) (λ _. four_leads (get_or bytes i 0) four) in
+    let at = begins_at bytes utf8 i begins below in
+    let c = at.character in
+    let pair : weight c ≡ 2 = eqb-true (weight c) 2 (sym (four_first c (encodes at.back) at.is_scalar)
+    ∙ ap begins_four_bytes (sym at.byte) ∙ four) in
+    let long = four_wide c pair in
+    elim (boundary_beside (λ _. 0) (chars bytes) at.front c at.back at.split p b) [
+      | inl before ↦ inl (omega (arith, before.0, at.place))
+      | inr behind ↦ inr (omega (arith, behind.0, at.place))
     ]
-
--- the walk over bytes that counts at first bytes, against the same over the characters
-passing_is_begun : (test : ℕ → Bool) (v : ℕ → List ℕ → ℕ) → AddsAtFirst (λ bytes j. mark test (get_or bytes j 0)) v
-    → (bytes : List ℕ) → IsUtf8 bytes → (i : ℕ) → i ≤ length bytes
-    → passing_before test bytes i ≡ begun v (chars bytes) i
-passing_is_begun test v adds bytes utf8 i within =
-    ap (λ t. passing_before test t i) (sym (encodes-chars bytes utf8))
-    ∙ walk_is (λ t j. mark test (get_or t j 0)) v adds (chars bytes) i (scalars-chars bytes utf8)
-    (omega (arith, size-chars bytes utf8))
+  where
+    four_wide : (c : ℕ) → weight c ≡ 2 → len_utf8 c ≡ 4
+    four_wide c pair = elim (cases_eq (len_utf8 c) 4) [
+      | inl four ↦ four
+      | inr other ↦ absurd (let one : ◌≡◌ {A = ℕ} (weight c) 1 = rw (ne_eqb (len_utf8 c) 4 other) in omega arith)
+    ]
 
 -- The last three bytes before a boundary need no look: the bytes before them begin all the characters of four bytes.
 pub pairs_before_last_three : (bytes : List ℕ) → IsUtf8 bytes → (end : ℕ) → end ≤ length bytes
-    → IsBoundary (chars bytes) end → passing_before begins_four_bytes bytes (end - 3) ≡ surrogates
-    (cut (chars bytes) end)
+    → IsBoundary (chars bytes) end
+    → passing_before begins_four_bytes bytes (end - 3) ≡ surrogates (cut (chars bytes) end)
 pairs_before_last_three bytes utf8 end within b =
-    let last_three : begun pair (chars bytes) (end - 3) ≡ begun pair (chars bytes) end =
-    rw (b.split, ← b.place) (begun_last_three b.front b.back) in
-    passing_is_begun begins_four_bytes pair pairs_add bytes utf8 (end - 3) (omega arith)
-    ∙ last_three ∙ sym (passing_is_begun begins_four_bytes pair pairs_add bytes utf8 end within)
-    ∙ pairs_at_boundary bytes utf8 end b
-
--- a character takes one unit, and one more where it takes a pair
-weights_split : (cs : List ℕ) → sum_by weight cs ≡ sum_by (λ _. 1) cs + surrogates cs
-weights_split [] = refl
-weights_split (c ∷ cs) =
+    let f = λ (j : ℕ). mark begins_four_bytes (get_or bytes j 0) in
+    let last = end - (end - 3) in
+    let whole : end - 3 + last ≡ end = omega arith in
     omega (
       arith,
-      sum_by-cons weight c cs,
-      sum_by-cons {X = ℕ} (λ _. 1) c cs,
-      sum_by-cons (mark (λ x. weight x == 2))
-          c cs,
-      one_or_two (len_utf8 c == 4),
-      weights_split cs,
+      ap (passing_before begins_four_bytes bytes) whole,
+      sum_below-still f (end - 3) last (λ j l. none (end - 3 + j) (omega arith) (omega arith)),
+      pairs_at_boundary bytes utf8 end b,
     )
   where
-    one_or_two : (four : Bool) → ◌≡◌ {A = ℕ} (cond four 2 1) (1 + cond (cond four 2 1 == 2) 1 0)
-    one_or_two true = refl
-    one_or_two false = refl
-
--- the units before a place are the characters and the surrogate pairs of the text that is cut there
-units_split : (cs : List ℕ) (p : ℕ) → units cs p ≡ count Chars (cut cs p) + surrogates (cut cs p)
-units_split cs p = omega (arith, weights_split (cut cs p), count_characters (cut cs p))
-
--- the units of a whole text are those of its characters
-count_units : (cs : List ℕ) → count Utf16 cs ≡ sum_by weight cs
-count_units cs = ap (sum_by weight) (cut_all cs (size cs) (omega arith))
+    none : (i : ℕ) → i < end → end < i + 4 → mark begins_four_bytes (get_or bytes i 0) ≡ 0
+    none i before near = elim (cases_Bool (begins_four_bytes (get_or bytes i 0))) [
+      | inr other ↦ rw other refl
+      | inl four ↦ absurd (elim (no_boundary_in_four bytes utf8 i (omega arith) four end b) [
+        | inl at ↦ omega arith
+        | inr behind ↦ omega arith
+      ])
+    ]
 
 -- the units of a cut text are those before the place where it is cut
 pub count-cut : (cs : List ℕ) (end : ℕ) → count Utf16 (cut cs end) ≡ units cs end
-count-cut cs end = count_units (cut cs end)
+count-cut cs end = count-units (cut cs end)
 
 -- the units of a cut text are its characters and its surrogate pairs
 pub units_of_cut : (cs : List ℕ) (end : ℕ)
     → count Utf16 (cut cs end) ≡ count Chars (cut cs end) + surrogates (cut cs end)
-units_of_cut cs end = count-cut cs end ∙ units_split cs end
-
--- a character takes at least as many bytes as units
-weight-le : (c : ℕ) → weight c ≤ len_utf8 c
-weight-le c =
-    elim (cases_eq (len_utf8 c) 4) [
-      | inl four ↦ rw four (omega arith)
-      | inr other ↦ rw (ne_eqb (len_utf8 c) 4 other) (omega (arith, len_utf8_bounds c))
-    ]
+units_of_cut cs end = count-characters-surrogates (cut cs end)
 
 -- a text takes at least as many bytes as units
 pub count-le-size : (cs : List ℕ) → count Utf16 cs ≤ size cs
-count-le-size cs = omega (arith, count_units cs, sum_by-le-sum_by weight len_utf8 cs weight-le)
+count-le-size cs = omega (arith, count-units cs, sum_by-le-sum_by weight len_utf8 cs weight-le)
+  where
+    weight-le : (c : ℕ) → weight c ≤ len_utf8 c
+    weight-le c = elim (cases_eq (len_utf8 c) 4) [
+      | inl four ↦ rw four (omega arith)
+      | inr other ↦ rw (ne_eqb (len_utf8 c) 4 other) (omega (arith, len_utf8_bounds c))
+    ]
 
 -- before a boundary the units that the bytes show are those of the characters
 units_at_boundary : (bytes : List ℕ) → IsUtf8 bytes → (p : ℕ) → IsBoundary (chars bytes) p
     → units_before bytes p ≡ units (chars bytes) p
 units_at_boundary bytes utf8 p b = omega (
   arith,
-  units_split (chars bytes) p,
+  count-cut (chars bytes) p,
+  units_of_cut (chars bytes) p,
   leading_at_boundary bytes utf8 p b,
   pairs_at_boundary bytes utf8 p b,
 )
 
 -- more bytes show no fewer units
 units_before-le-units_before : (bytes : List ℕ) (m n : ℕ) → m ≤ n → units_before bytes m ≤ units_before bytes n
-units_before-le-units_before bytes m n le =
-    omega (
-      arith,
-      sum_below-le-sum_below (λ j. mark is_leading (get_or bytes j 0)) m n le,
-      sum_below-le-sum_below
-          (λ j. mark begins_four_bytes (get_or bytes j 0)) m n le,
-    )
+units_before-le-units_before bytes m n le = omega (
+  arith,
+  sum_below-le-sum_below (λ j. mark is_leading (get_or bytes j 0)) m n le,
+  sum_below-le-sum_below (λ j. mark begins_four_bytes (get_or bytes j 0)) m n le,
+)
 
 -- no place in a text has more units before it than the text has bytes
 pub units_before-le : (bytes : List ℕ) → IsUtf8 bytes → (i : ℕ) → i ≤ length bytes → units_before bytes i ≤ length bytes
-units_before-le bytes utf8 i within =
-    let cs = chars bytes in
-    let whole = size-chars bytes utf8 in
-    let all = ap (units cs) whole in
-    omega (
-      arith,
-      units_before-le-units_before bytes i (length bytes) within,
-      units_at_boundary bytes utf8
-          (length bytes) (boundary_at_end bytes utf8),
-      count-le-size cs,
-    )
+units_before-le bytes utf8 i within = omega (
+  arith,
+  units_before-le-units_before bytes i (length bytes) within,
+  units_at_boundary bytes utf8 (length bytes) (boundary_at_end bytes utf8),
+  ap (units (chars bytes)) (size-chars bytes utf8),
+  size-chars bytes utf8,
+  count-le-size (chars bytes),
+)
 
--- a character takes at least one byte for each of its units
-pair_bounds : (c : ℕ) (cs : List ℕ) → (1 + pair c cs ≤ len_utf8 c) × (pair c cs ≤ 1)
-pair_bounds c cs =
-    let one = mark-le (λ x. weight x == 2) c in
-    let bounds = len_utf8_bounds c in
-    elim (cases_lt 3 (len_utf8 c)) [
-      | inl four ↦ (omega arith, one)
-      | inr short ↦ (omega (arith, no_pair c cs short), one)
+-- behind a byte that begins four stands no leading byte
+leads_or_behind_four : (bytes : List ℕ) → IsUtf8 bytes → (n : ℕ) → n < length bytes
+    → mark is_leading (get_or bytes n 0) + mark begins_four_bytes (byte_before bytes n) ≤ 1
+leads_or_behind_four bytes utf8 zero below = omega (arith, mark-le is_leading (get_or bytes 0 0))
+leads_or_behind_four bytes utf8 (suc n) below =
+    elim (cases_Bool (begins_four_bytes (get_or bytes n 0))) [
+      | inr other ↦ rw other (omega (arith, mark-le is_leading (get_or bytes (suc n) 0)))
+      | inl four ↦ elim (cases_Bool (is_trailing (get_or bytes (suc n) 0))) [
+        | inl trails ↦ rw (four, trails) (omega arith)
+        | inr leads ↦
+            let next = begins_boundary bytes utf8 (suc n) (omega arith) (λ _. leads) in
+            absurd (elim (no_boundary_in_four bytes utf8 n (omega arith) four (suc n) next) [
+              | inl at ↦ omega arith
+              | inr behind ↦ omega arith
+            ])
+      ]
     ]
 
--- one for each character
-abbrev one : ℕ → List ℕ → ℕ
-one c cs = 1
-
--- among n bytes begin characters of at most n + 1 units
-begun_units : (cs : List ℕ) (i n : ℕ) → begun one cs (i + n) + begun pair cs (i + n) ≤ begun one cs i + begun pair cs
-    i + n + 1
-begun_units [] i n = omega (arith, begun_all one [] (i + n) (omega arith), begun_all pair [] (i + n) (omega arith))
-begun_units (c ∷ cs) i n =
-    elim (cases_lt 0 n) [
-      | inr none ↦ let same : i + n ≡ i =
-          omega arith in omega (arith, ap (begun one (c ∷ cs)) same, ap (begun pair (c ∷ cs)) same)
-      | inl some ↦
-          let far = begun-cons one c cs (i + n) (omega arith) in
-          let far' = begun-cons pair c cs (i + n) (omega arith) in
-          let bounds = pair_bounds c cs in
-          elim (cases_lt 0 i) [
-            | inl later ↦
-                let near = begun-cons one c cs i later in
-                let near' = begun-cons pair c cs i later in
-                let m = (i + n - len_utf8 c) - (i - len_utf8 c) in
-                let place : i - len_utf8 c + m ≡ i + n - len_utf8 c = omega arith in
-                omega (arith, begun_units cs (i - len_utf8 c) m, ap (begun one cs) place, ap (begun pair cs) place)
-            | inr first ↦ elim (cases_lt n (len_utf8 c)) [
-              | inl inside ↦
-                  let none : i + n - len_utf8 c ≡ 0 = omega arith in
-                  omega (arith, ap (begun one cs) none, ap (begun pair cs) none, begun_zero one cs, begun_zero pair cs)
-              | inr beyond ↦
-                  let place : 0 + (n - len_utf8 c) ≡ i + n - len_utf8 c = omega arith in
-                  omega (
-                    arith,
-                    begun_units cs 0 (n - len_utf8 c),
-                    ap (begun one cs) place,
-                    ap (begun pair cs) place,
-                    begun_zero one cs,
-                    begun_zero pair cs,
-                  )
-            ]
-          ]
-    ]
+-- n bytes more show at most n units more, and one more behind a byte that begins four
+units_before-step : (bytes : List ℕ) → IsUtf8 bytes → (i n : ℕ) → i + n ≤ length bytes
+    → units_before bytes (i + n) ≤ units_before bytes i + n + mark begins_four_bytes (byte_before bytes (i + n))
+units_before-step bytes utf8 i zero within = rw add-zero (omega arith)
+units_before-step bytes utf8 i (suc n) within = rw add-suc (omega (
+  arith,
+  units_before-step bytes utf8 i n (omega arith),
+  leads_or_behind_four bytes utf8 (i + n) (omega arith),
+))
 
 -- n bytes more show at most n + 1 units more, since the last may begin a character of two
 pub units_before-more : (bytes : List ℕ) → IsUtf8 bytes → (i n : ℕ) → i + n ≤ length bytes
     → units_before bytes (i + n) ≤ units_before bytes i + n + 1
-units_before-more bytes utf8 i n within =
-    omega (
-      arith,
-      begun_units (chars bytes) i n,
-      passing_is_begun is_leading one characters_add bytes utf8 i (omega arith),
-      passing_is_begun is_leading one characters_add bytes utf8 (i + n) within,
-      passing_is_begun begins_four_bytes pair pairs_add bytes utf8 i (omega arith),
-      passing_is_begun begins_four_bytes pair pairs_add bytes utf8 (i + n) within,
-    )
+units_before-more bytes utf8 i n within = omega (
+  arith,
+  units_before-step bytes utf8 i n within,
+  mark-le begins_four_bytes (byte_before bytes (i + n)),
+)
 
 -- what the trailing bytes and the first bytes of four between two places leave and add
 pub units_between : (bytes : List ℕ) (from at trailing fours count : ℕ) → from ≤ at → count ≡ units_before bytes from
@@ -284,13 +204,6 @@ units_count_leading bytes m n le = omega (
   sum_below-le-sum_below
       (λ j. mark begins_four_bytes (get_or bytes j 0)) m n le,
 )
-
--- a character of four bytes begins with a leading byte
-four_leads : (b : ℕ) → begins_four_bytes b ≡ true → is_trailing b ≡ false
-four_leads b four =
-    let masked : bit_and b 0xF0 ≡ 0xF0 = eqb-true (bit_and b 0xF0) 0xF0 four in
-    let both : bit_and b 0xC0 ≡ 0xC0 = sym (and_assoc 0xC0 b 0xF0) ∙ ap (λ x. bit_and x 0xC0) masked in
-    rw both
 
 -- one byte more
 pub units_before-next : (bytes : List ℕ) (i : ℕ)

@@ -1,101 +1,111 @@
 -- What a text cut at a byte index is: the longest beginning that fits before the index.
-use Rattle.std.proofs.Common.{◌≡◌, ℕ, ◌+◌, ◌<◌, ◌≤◌, inl, inr, List, [], ◌∷◌, ◌++◌, length, map, min, refl, arith, sym, ◌∙◌, ap}
+use Rattle.std.proofs.Common.{◌≡◌, ℕ, ◌+◌, ◌<◌, ◌≤◌, inl, inr, List, [], ◌∷◌, ◌++◌, length, map, min, refl, arith, sym, ◌∙◌, ap, append-nil}
 use Rattle.std.specs.Prelude.{filter, nat_le}
 use Rattle.std.specs.Char.{len_utf8}
 use Rattle.std.proofs.lemmas.Bool.{cases_lt, le-leb, lt-leb}
+use Rattle.std.proofs.lemmas.List.{length-append}
 use Rattle.std.proofs.lemmas.Str.{len_utf8_bounds}
 use Rattle.str_indices.specs.Text.{size, placed, cut}
-use Rattle.str_indices.specs.Relations.{IsLongestCut}
-use Rattle.str_indices.proofs.lemmas.texts.Sizes.{size-cons}
+use Rattle.str_indices.specs.Relations.{IsLongestCut, IsBoundary}
+use Rattle.str_indices.proofs.lemmas.texts.Sizes.{size-cons, size-append}
 
 -- the characters that end at or before `end`, in a text that begins at `start`
-abbrev pub cut_from : ℕ → List ℕ → ℕ → List ℕ
+abbrev cut_from : ℕ → List ℕ → ℕ → List ℕ
 cut_from start cs end = map (λ p. p.character) (filter (λ p. nat_le p.end end) (placed start cs))
 
 -- a first character that fits is kept
-pub cut_from_fits : (start c : ℕ) (cs : List ℕ) (end : ℕ) → start + len_utf8 c ≤ end
+cut_from_fits : (start c : ℕ) (cs : List ℕ) (end : ℕ) → start + len_utf8 c ≤ end
     → cut_from start (c ∷ cs) end ≡ c ∷ cut_from (start + len_utf8 c) cs end
 cut_from_fits start c cs end fits = rw (le-leb (start + len_utf8 c) end fits)
 
 -- nothing fits before the text's own beginning
-pub cut_from_none : (start : ℕ) (cs : List ℕ) (end : ℕ) → end ≤ start → cut_from start cs end ≡ []
+cut_from_none : (start : ℕ) (cs : List ℕ) (end : ℕ) → end ≤ start → cut_from start cs end ≡ []
 cut_from_none start [] end none = refl
 cut_from_none start (c ∷ cs) end none =
-    let bounds = len_utf8_bounds c in
-    let beyond : end < start + len_utf8 c = omega arith in
+    let beyond : end < start + len_utf8 c = omega (arith, len_utf8_bounds c) in
     rw (lt-leb (start + len_utf8 c) end beyond) (cut_from_none (start + len_utf8 c) cs end (omega arith))
 
 -- where the first character does not fit, none does
-pub cut_from_stops : (start c : ℕ) (cs : List ℕ) (end : ℕ) → end < start + len_utf8 c → cut_from start (c ∷ cs) end ≡ []
+cut_from_stops : (start c : ℕ) (cs : List ℕ) (end : ℕ) → end < start + len_utf8 c → cut_from start (c ∷ cs) end ≡ []
 cut_from_stops start c cs end beyond = rw (lt-leb (start + len_utf8 c) end beyond)
     (cut_from_none (start + len_utf8 c) cs end (omega arith))
 
--- the text is its cut and then a rest; the cut ends at or before `end`, and with the rest's first character it would
--- not
-pub record IsCut (start : ℕ) (cs : List ℕ) (end : ℕ) : Type 0 where
-  pub rest : List ℕ
-  pub split : cs ≡ cut_from start cs end ++ rest
-  pub fits : start + size (cut_from start cs end) ≤ end
-  pub longest : (c : ℕ) (after : List ℕ) → rest ≡ c ∷ after → end < start + size (cut_from start cs end) + len_utf8 c
+-- front ends at or before `end`, and with the first character of the rest it would not, in a text that begins at
+-- `start`
+pub record IsCutAt (start : ℕ) (front rest : List ℕ) (end : ℕ) : Type 0 where
+  pub fits : start + size front ≤ end
+  pub longest : (c : ℕ) (after : List ℕ) → rest ≡ c ∷ after → end < start + size front + len_utf8 c
 
--- the cut of a text whose first character does not fit
-cut_from_is_nothing : (start c : ℕ) (cs : List ℕ) (end : ℕ) → start ≤ end → end < start + len_utf8 c
-    → IsCut start (c ∷ cs) end
-cut_from_is_nothing start c cs end within beyond =
-    let nothing = cut_from_stops start c cs end beyond in
-    record {
-      rest = c ∷ cs;
-      split = rw nothing;
-      fits = rw nothing (omega arith);
-      longest = λ d after same. let first : c ≡ d = cc in rw (nothing, ← first) (omega arith);
-    }
+-- behind the first character the rest of such a beginning is one
+pub IsCutAt-behind : (start c : ℕ) (front rest : List ℕ) (end : ℕ) → IsCutAt start (c ∷ front) rest end
+    → IsCutAt (start + len_utf8 c) front rest end
+IsCutAt-behind start c front rest end at = record {
+  fits = omega (arith, at.fits, size-cons c front);
+  longest = λ d after same. omega (arith, at.longest d after same, size-cons c front);
+}
 
--- the cut of a text that begins at `start`
-pub cut_from_is : (start : ℕ) (cs : List ℕ) (end : ℕ) → start ≤ end → IsCut start cs end
-cut_from_is start [] end within = record { rest = []; split = refl; fits = omega arith; longest = λ c after same. cc }
-cut_from_is start (c ∷ cs) end within =
+-- such a beginning is the cut
+cut_from_front : (start : ℕ) (front rest : List ℕ) (end : ℕ) → IsCutAt start front rest end
+    → cut_from start (front ++ rest) end ≡ front
+cut_from_front start [] [] end at = refl
+cut_from_front start [] (c ∷ after) end at = cut_from_stops start c after end (omega (arith, at.longest c after refl))
+cut_from_front start (c ∷ front) rest end at =
+    let behind = IsCutAt-behind start c front rest end at in
+    cut_from_fits start c (front ++ rest) end (omega (arith, behind.fits))
+    ∙ ap (λ r. c ∷ r) (cut_from_front (start + len_utf8 c) front rest end behind)
+
+-- there is such a beginning
+longest_front : (start : ℕ) (cs : List ℕ) (end : ℕ) → start ≤ end
+    → (front : List ℕ) × (rest : List ℕ) × (cs ≡ front ++ rest) × IsCutAt start front rest end
+longest_front start [] end within =
+    ([], [], refl, record { fits = omega arith; longest = λ c after same. cc })
+longest_front start (c ∷ cs) end within =
     elim (cases_lt end (start + len_utf8 c)) [
-      | inl beyond ↦ cut_from_is_nothing start c cs end within beyond
+      | inl beyond ↦ (
+        [],
+        c ∷ cs,
+        refl,
+        record {
+          fits = omega arith;
+          longest = λ d after same. let first : len_utf8 c ≡ len_utf8 d = cc in omega arith;
+        },
+      )
       | inr fits ↦
-          let more = cut_from_is (start + len_utf8 c) cs end fits in
-          let kept = cut_from_fits start c cs end fits in
-          let sizes = size-cons c (cut_from (start + len_utf8 c) cs end) in
-          record {
-            rest = more.rest;
-            split = rw kept (ap (λ r. c ∷ r) more.split);
-            fits = rw kept (omega arith);
-            longest = λ d after same. rw kept (omega (arith, more.longest d after same));
-          }
+          let (front, rest, split, at) = longest_front (start + len_utf8 c) cs end fits in (
+            c ∷ front,
+            rest,
+            ap (λ r. c ∷ r) split,
+            record {
+              fits = omega (arith, at.fits, size-cons c front);
+              longest = λ d after same. omega (arith, at.longest d after same, size-cons c front);
+            },
+          )
     ]
 
--- the cut of a text
-pub cut_is : (cs : List ℕ) (end : ℕ) → IsCut 0 cs end
-cut_is cs end = cut_from_is 0 cs end (omega arith)
+-- the text is its cut and then a rest
+pub record IsCut (cs : List ℕ) (end : ℕ) : Type 0 where
+  pub rest : List ℕ
+  pub split : cs ≡ cut cs end ++ rest
+  pub at : IsCutAt 0 (cut cs end) rest end
 
--- a beginning that ends at `end` is the cut there, in a text that begins at `start`
-cut_from_seam : (start : ℕ) (front back : List ℕ) (end : ℕ) → start + size front ≡ end
-    → cut_from start (front ++ back) end ≡ front
-cut_from_seam start [] back end place = cut_from_none start back end (omega arith)
-cut_from_seam start (c ∷ front) back end place =
-    let sizes = size-cons c front in
-    cut_from_fits start c (front ++ back) end (omega arith)
-    ∙ ap (λ r. c ∷ r) (cut_from_seam (start + len_utf8 c) front back end (omega arith))
+-- the cut of a text
+pub cut_is : (cs : List ℕ) (end : ℕ) → IsCut cs end
+cut_is cs end =
+    let (front, rest, split, at) = longest_front 0 cs end (omega arith) in
+    let same : cut cs end ≡ front = ap (λ t. cut t end) split ∙ cut_from_front 0 front rest end at in
+    record { rest = rest; split = rw same split; at = rw same at }
 
 -- cut where a beginning ends, the text is that beginning
 pub cut_seam : (front back : List ℕ) → cut (front ++ back) (size front) ≡ front
-cut_seam front back = cut_from_seam 0 front back (size front) (omega arith)
-
--- a text that ends at or before `end` is its own cut, where it begins at `start`
-cut_from_all : (start : ℕ) (cs : List ℕ) (end : ℕ) → start + size cs ≤ end → cut_from start cs end ≡ cs
-cut_from_all start [] end fits = refl
-cut_from_all start (c ∷ cs) end fits =
-    let sizes = size-cons c cs in
-    cut_from_fits start c cs end (omega arith)
-    ∙ ap (λ r. c ∷ r) (cut_from_all (start + len_utf8 c) cs end (omega arith))
+cut_seam front back = cut_from_front 0 front back (size front) (record {
+  fits = omega arith;
+  longest = λ c after same. omega (arith, len_utf8_bounds c);
+})
 
 -- cut at or past its end, the text is whole
 pub cut_all : (cs : List ℕ) (end : ℕ) → size cs ≤ end → cut cs end ≡ cs
-cut_all cs end fits = cut_from_all 0 cs end (omega arith)
+cut_all cs end fits = ap (λ t. cut t end) (sym (append-nil cs))
+    ∙ cut_from_front 0 cs [] end (record { fits = omega arith; longest = λ c after same. cc })
 
 -- cut at the lesser of a byte index and the text's end, the text is as if cut at the byte index
 pub cut_at_least : (cs : List ℕ) (end least : ℕ) → least ≡ min end (size cs) → cut cs least ≡ cut cs end
@@ -105,14 +115,19 @@ cut_at_least cs end least here =
       | inr past ↦ cut_all cs least (omega arith) ∙ sym (cut_all cs end past)
     ]
 
--- no beginning that fits has more characters than the cut, in a text that begins at `start`
-length-le-cut_from : (start : ℕ) (front back : List ℕ) (end : ℕ) → start + size front ≤ end
-    → length front ≤ length (cut_from start (front ++ back) end)
-length-le-cut_from start [] back end fits = omega arith
-length-le-cut_from start (c ∷ front) back end fits =
+-- the cut goes on from each beginning that fits, in a text that begins at `start`
+cut_from_goes_on : (start : ℕ) (front back : List ℕ) (end : ℕ) → start + size front ≤ end
+    → (more : List ℕ) × (cut_from start (front ++ back) end ≡ front ++ more)
+cut_from_goes_on start [] back end fits = (cut_from start back end, refl)
+cut_from_goes_on start (c ∷ front) back end fits =
     let sizes = size-cons c front in
-    let shorter = length-le-cut_from (start + len_utf8 c) front back end (omega arith) in
-    rw (cut_from_fits start c (front ++ back) end (omega arith)) (omega arith)
+    let (more, is) = cut_from_goes_on (start + len_utf8 c) front back end (omega arith) in
+    (more, cut_from_fits start c (front ++ back) end (omega arith) ∙ ap (λ r. c ∷ r) is)
+
+-- the cut goes on from each beginning that fits
+pub cut_goes_on : (cs front back : List ℕ) (end : ℕ) → cs ≡ front ++ back → size front ≤ end
+    → (more : List ℕ) × (cut cs end ≡ front ++ more)
+cut_goes_on cs front back end split fits = rw split (cut_from_goes_on 0 front back end (omega arith))
 
 -- the cut is the longest beginning of the text that fits
 pub cut_is_longest : (cs : List ℕ) (end : ℕ) → IsLongestCut cs end (cut cs end)
@@ -121,6 +136,18 @@ cut_is_longest cs end =
     record {
       back = is_cut.rest;
       split = is_cut.split;
-      fits = omega arith;
-      longest = λ other rest split fits. rw split (length-le-cut_from 0 other rest end (omega arith));
+      fits = omega (arith, is_cut.at.fits);
+      longest = λ other rest split fits.
+          let (more, is) = cut_goes_on cs other rest end split fits in
+          omega (arith, ap length is, length-append other more);
     }
+
+-- a boundary at or before a place is at or before where the text is cut there
+pub boundary-le-cut : (cs : List ℕ) (p end : ℕ) → IsBoundary cs p → p ≤ end → p ≤ size (cut cs end)
+boundary-le-cut cs p end b le =
+    let (more, is) = cut_goes_on cs b.front b.back end b.split (omega (arith, b.place)) in
+    omega (arith, ap size is, size-append b.front more, b.place)
+
+-- cut at a boundary, the text is the beginning that ends there
+pub cut_front : (cs : List ℕ) (p : ℕ) (b : IsBoundary cs p) → cut cs p ≡ b.front
+cut_front cs p b = rw (b.split, ← b.place) (cut_seam b.front b.back)

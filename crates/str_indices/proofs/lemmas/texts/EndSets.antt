@@ -1,6 +1,5 @@
--- The ends of a text against the relations that say what they are; the boundaries; the k-th end as the least place
--- with k ends at or before it.
-use Rattle.std.proofs.Common.{◌≡◌, ℕ, ◌+◌, ◌<◌, ◌↔◌, inl, inr, List, [], ◌∷◌, ◌++◌, get_or, refl, arith, All, Bool, true, sym, ◌∙◌, ap, zero-add, add-zero, reverse, subst, zero, suc, length, ◌≤◌}
+-- The ends of a text against the relations that say what they are; the boundaries; where a walk to the k-th end stops.
+use Rattle.std.proofs.Common.{◌≡◌, ℕ, ◌+◌, ◌<◌, ◌↔◌, ◌⊎◌, inl, inr, List, [], ◌∷◌, ◌++◌, get_or, refl, arith, All, Bool, true, sym, ◌∙◌, ap, zero-add, add-zero, reverse, subst, zero, suc, length, ◌≤◌}
 use Rattle.std.specs.Prelude.{Contains, ◌==◌, slice_index, nat_le}
 use Rattle.std.specs.List.Sorted.{IsStrictlyIncreasing}
 use Rattle.std.specs.Char.{len_utf8, char_set_contains}
@@ -9,10 +8,10 @@ use Rattle.std.proofs.lemmas.Str.{len_utf8_bounds}
 use Rattle.std.proofs.lemmas.List.{reverse-append, append-nil, get_or_past}
 use Rattle.std.proofs.lemmas.List.Elements.{All-nil, All-cons, All-weaker, All-contains, Contains-append_left, Contains-append_right, Contains-get_or}
 use Rattle.str_indices.specs.Text.{size, Placed, is_crlf_middle, line_feed, carriage_return}
-use Rattle.str_indices.specs.Schemes.{Scheme, Chars, Utf16, Lf, Crlf, Lines, is_break_end, is_end, ends, end_at, end_count, ends_up_to}
+use Rattle.str_indices.specs.Schemes.{Scheme, Chars, Utf16, is_break_end, is_end, ends, end_at, end_count, ends_up_to}
 use Rattle.str_indices.specs.Relations.{IsEndOf, IsCrlfMiddle, IsBreakEnd, IsCharacterEnd, IsEnd, IsBoundary}
 use Rattle.str_indices.proofs.lemmas.texts.Sizes.{size-cons, size-append}
-use Rattle.str_indices.proofs.lemmas.texts.Increasing.{IncreasesWithin, IsStrictlyIncreasing-within, select, adjunction, rank_all}
+use Rattle.str_indices.proofs.lemmas.texts.Increasing.{IncreasesWithin, IsStrictlyIncreasing-within, select, adjunction, rank_all, rank-select, select-le-high}
 use Rattle.str_indices.proofs.lemmas.texts.Ends.{ends_from, first_placed, ends_from_passes, ends_from_fails, ends_from-increases}
 use Rattle.std.proofs.lemmas.List.Sums.{count_by-le-length}
 
@@ -105,71 +104,66 @@ line_feed_first : (back : List ℕ) → slice_index back 0 == line_feed ≡ true
 line_feed_first [] is_feed = cc
 line_feed_first (c ∷ rest) is_feed = (rest, ap (λ x. x ∷ rest) (eqb-true c line_feed is_feed))
 
--- a carriage return that ends at p and a line feed after it make a CRLF middle
-crlf_middle_of : (cs : List ℕ) (c p : ℕ) (end : IsEndOf cs c p) (rest : List ℕ) → c ≡ carriage_return
-    → end.back ≡ line_feed ∷ rest → IsCrlfMiddle cs p
-crlf_middle_of cs c p end rest is_return feed = record {
-  front = end.front;
-  back = rest;
-  split = rw (is_return, feed) at end.split;
-  place = rw is_return at end.place;
-}
-
 -- the test of a CRLF middle says what the relation says
 is_crlf_middle_iff : (cs : List ℕ) (c p : ℕ) (end : IsEndOf cs c p)
     → (is_crlf_middle (first_placed (size end.front) c end.back) ≡ true) ↔ IsCrlfMiddle cs p
 is_crlf_middle_iff cs c p end = (
   λ passes.
       let both = and_parts (c == carriage_return) (slice_index end.back 0 == line_feed) passes in
-      let feed = line_feed_first end.back both.1 in
-      crlf_middle_of cs c p end feed.0 (eqb-true c carriage_return both.0) feed.1,
+      let (rest, feed) = line_feed_first end.back both.1 in
+      let is_return = eqb-true c carriage_return both.0 in
+      record {
+        front = end.front;
+        back = rest;
+        split = rw (is_return, feed) at end.split;
+        place = rw is_return at end.place;
+      },
   λ middle.
       let same = same_split (end.front ++ c ∷ []) end.back (middle.front ++ carriage_return ∷ [])
       (line_feed ∷ middle.back) (sym end.split ∙ middle.split) (end.place ∙ sym middle.place) in
       rw (same_last end.front middle.front c carriage_return same.0, same.1),
 )
 
--- an end at which the test passes is listed
-end_of_listed : (test : Placed → Bool) (cs : List ℕ) (c p : ℕ) (end : IsEndOf cs c p)
+-- a character ends at a boundary
+IsBoundary-end_of : (cs : List ℕ) (c p : ℕ) → IsEndOf cs c p → IsBoundary cs p
+IsBoundary-end_of cs c p end =
+    record { front = end.front ++ c ∷ []; back = end.back; split = end.split; place = end.place }
+
+-- at a place that is listed a character ends at which the test passes
+passes_where_listed : (test : Placed → Bool) (cs : List ℕ) (p : ℕ) → Contains (ends_from test 0 cs) p
+    → (c : ℕ) × (end : IsEndOf cs c p) × (test (first_placed (size end.front) c end.back) ≡ true)
+passes_where_listed test cs p has =
+    let at = All-contains (PassesAt test 0 cs) (ends_from test 0 cs) p (PassesAt-each test 0 cs) has in
+    let place = sym (zero-add (size (at.front ++ at.character ∷ []))) ∙ at.place in (
+      at.character,
+      record { front = at.front; back = at.back; split = at.split; place = place },
+      rw zero-add at at.passes,
+    )
+
+-- where a character ends at which the test passes, its end is listed
+listed_where_passes : (test : Placed → Bool) (cs : List ℕ) (c p : ℕ) (end : IsEndOf cs c p)
     → test (first_placed (size end.front) c end.back) ≡ true → Contains (ends_from test 0 cs) p
-end_of_listed test cs c p end passes = rw end.split
+listed_where_passes test cs c p end passes = rw end.split
     (Contains-ends_from test 0 end.front c end.back p (zero-add _ ∙ end.place) (rw zero-add passes))
 
--- each listed break is one
-break_listed_is : (set cs : List ℕ) (p : ℕ) → PassesAt (is_break_end set) 0 cs p → IsBreakEnd set cs p
-break_listed_is set cs p at =
-    let both = and_parts (char_set_contains set at.character) _ at.passes in
-    let end : IsEndOf cs at.character p =
-    record { front = at.front; back = at.back; split = at.split; place = sym (zero-add _) ∙ at.place } in
-    record {
-      character = at.character;
-      end_of = end;
-      in_set = both.0;
-      not_middle = λ middle. both_ways _ (not-true _ both.1) ((is_crlf_middle_iff cs at.character p end).1 middle);
-    }
-
--- each break is listed
-break_is_listed : (set cs : List ℕ) (p : ℕ) → IsBreakEnd set cs p → Contains (ends_from (is_break_end set) 0 cs) p
-break_is_listed set cs p h =
-    let no_middle = false_from_ne_true _ (λ passes. h.not_middle
-    ((is_crlf_middle_iff cs h.character p h.end_of).0 passes)) in
-    end_of_listed (is_break_end set) cs h.character p h.end_of (and_from _ _ h.in_set (not_from_false _ no_middle))
-
--- each listed character end is one
-character_listed_is : (cs : List ℕ) (p : ℕ) → PassesAt (λ _. true) 0 cs p → IsCharacterEnd cs p
-character_listed_is cs p at =
-    let bounds = len_utf8_bounds at.character in
-    let sizes = size-append at.front (at.character ∷ []) in
-    record {
-      boundary = record {
-        front = at.front ++ at.character ∷ [];
-        back = at.back;
-        split = at.split;
-        place =
-            sym (zero-add _) ∙ at.place;
-      };
-      above = omega (arith, at.place, size-cons at.character []);
-    }
+-- the breaks that are listed are those of the relation
+breaks_are : (set cs : List ℕ) (p : ℕ) → Contains (ends_from (is_break_end set) 0 cs) p ↔ IsBreakEnd set cs p
+breaks_are set cs p = (
+  λ has.
+      let (c, end, passes) = passes_where_listed (is_break_end set) cs p has in
+      let both = and_parts (char_set_contains set c) _ passes in
+      record {
+        character = c;
+        end_of = end;
+        in_set = both.0;
+        not_middle = λ middle. both_ways _ (not-true _ both.1) ((is_crlf_middle_iff cs c p end).1 middle);
+      },
+  λ h.
+      let no_middle = false_from_ne_true _ (λ passes. h.not_middle
+      ((is_crlf_middle_iff cs h.character p h.end_of).0 passes)) in
+      listed_where_passes (is_break_end set) cs h.character p h.end_of
+      (and_from _ _ h.in_set (not_from_false _ no_middle)),
+)
 
 -- a text that is not empty has a last character
 last_of : (c : ℕ) (cs : List ℕ) → (front : List ℕ) × (last : ℕ) × (c ∷ cs ≡ front ++ last ∷ [])
@@ -180,41 +174,33 @@ last_of c (d ∷ cs) = let rest = last_of d cs in (c ∷ rest.0, rest.1, ap (λ 
 end_of_boundary : (front back : List ℕ) (p : ℕ) → size front ≡ p → 0 < p → (c : ℕ) × IsEndOf (front ++ back) c p
 end_of_boundary [] back p place above = absurd (omega arith)
 end_of_boundary (c ∷ front) back p place above =
-    let last = last_of c front in (
-      last.1,
+    let (before, last, split) = last_of c front in
+    (last, record { front = before; back = back; split = ap (λ f. f ++ back) split; place = sym (ap size split) ∙ place })
+
+-- the character ends that are listed are those of the relation
+characters_are : (cs : List ℕ) (p : ℕ) → Contains (ends_from (λ _. true) 0 cs) p ↔ IsCharacterEnd cs p
+characters_are cs p = (
+  λ has.
+      let (c, end, passes) = passes_where_listed (λ _. true) cs p has in
       record {
-        front = last.0;
-        back = back;
-        split = ap (λ f. f ++ back) last.2;
-        place = sym (ap size last.2)
-            ∙ place;
+        boundary = IsBoundary-end_of cs c p end;
+        above = omega (arith, end.place, size-append end.front (c ∷ []), size-cons c [], len_utf8_bounds c);
       },
-    )
-
--- each character end is listed
-character_is_listed : (cs : List ℕ) (p : ℕ) → IsCharacterEnd cs p → Contains (ends_from (λ _. true) 0 cs) p
-character_is_listed cs p h =
-    let end = end_of_boundary h.boundary.front h.boundary.back p h.boundary.place h.above in
-    rw h.boundary.split (end_of_listed (λ _. true) _ end.0 p end.1 refl)
-
--- at a place that is listed the test passes
-passes_where_listed : (test : Placed → Bool) (cs : List ℕ) (p : ℕ) → Contains (ends_from test 0 cs) p
-    → PassesAt test 0 cs p
-passes_where_listed test cs p has = All-contains (PassesAt test 0 cs) (ends_from test 0 cs) p
-    (PassesAt-each test 0 cs) has
+  λ h.
+      let end = end_of_boundary h.boundary.front h.boundary.back p h.boundary.place h.above in
+      rw h.boundary.split (listed_where_passes (λ _. true) _ end.0 p end.1 refl),
+)
 
 -- the elements of `ends s cs` are the ends of the text in the scheme
 pub ends_are : (s : Scheme) (cs : List ℕ) (p : ℕ) → Contains (ends s cs) p ↔ IsEnd s cs p
-ends_are Chars cs p = (λ has. character_listed_is cs p (passes_where_listed _ cs p has), character_is_listed cs p)
-ends_are Utf16 cs p = (λ has. character_listed_is cs p (passes_where_listed _ cs p has), character_is_listed cs p)
-ends_are Lf cs p = (λ has. break_listed_is _ cs p (passes_where_listed _ cs p has), break_is_listed _ cs p)
-ends_are Crlf cs p = (λ has. break_listed_is _ cs p (passes_where_listed _ cs p has), break_is_listed _ cs p)
-ends_are Lines cs p = (λ has. break_listed_is _ cs p (passes_where_listed _ cs p has), break_is_listed _ cs p)
+ends_are Chars cs p = characters_are cs p
+ends_are Utf16 cs p = characters_are cs p
+ends_are s cs p = breaks_are _ cs p
 
 -- they increase strictly, each is above 0, and the last is at most the text's size
 pub ends_increase_within : (s : Scheme) (cs : List ℕ) → IncreasesWithin 0 (ends s cs) (size cs)
 ends_increase_within s cs = subst (IncreasesWithin 0 (ends s cs)) (zero-add (size cs))
-    (ends_from-increases (is_end s) 0 cs)
+    (ends_from-increases (is_end s) 0 0 cs (omega arith))
 
 -- each element of `ends s cs` is below the next
 pub ends_increase : (s : Scheme) (cs : List ℕ) → IsStrictlyIncreasing (ends s cs)
@@ -228,23 +214,11 @@ IsBoundary-start cs = record { front = []; back = cs; split = refl; place = refl
 IsBoundary-size : (cs : List ℕ) → IsBoundary cs (size cs)
 IsBoundary-size cs = record { front = cs; back = []; split = sym (append-nil cs); place = refl }
 
--- a character ends at a boundary
-IsBoundary-end_of : (cs : List ℕ) (c p : ℕ) → IsEndOf cs c p → IsBoundary cs p
-IsBoundary-end_of cs c p end = record {
-  front = end.front ++ c ∷ [];
-  back = end.back;
-  split = end.split;
-  place =
-      end.place;
-}
-
 -- an end in a scheme is a boundary
 IsBoundary-end : (s : Scheme) (cs : List ℕ) (p : ℕ) → IsEnd s cs p → IsBoundary cs p
 IsBoundary-end Chars cs p end = end.boundary
 IsBoundary-end Utf16 cs p end = end.boundary
-IsBoundary-end Lf cs p end = IsBoundary-end_of cs end.character p end.end_of
-IsBoundary-end Crlf cs p end = IsBoundary-end_of cs end.character p end.end_of
-IsBoundary-end Lines cs p end = IsBoundary-end_of cs end.character p end.end_of
+IsBoundary-end s cs p end = IsBoundary-end_of cs end.character p end.end_of
 
 -- whatever the index, `end_at` answers a boundary
 pub IsBoundary-end_at : (s : Scheme) (cs : List ℕ) (k : ℕ) → IsBoundary cs (end_at s cs k)
@@ -255,23 +229,18 @@ IsBoundary-end_at s cs (suc k) =
       | inr past ↦ rw (get_or_past (ends s cs) k (size cs) past) (IsBoundary-size cs)
     ]
 
+-- a boundary is 0 or an end of `Chars`
+pub zero_or_end : (cs : List ℕ) (p : ℕ) → IsBoundary cs p → (p ≡ 0) ⊎ Contains (ends Chars cs) p
+zero_or_end cs p at =
+    elim (cases_lt 0 p) [
+      | inl above ↦ inr ((ends_are Chars cs p).1 (record { boundary = at; above = above }))
+      | inr first ↦ inl (omega arith)
+    ]
+
 -- `end_at` takes the k-th of the ends
-end_at-select : (s : Scheme) (cs : List ℕ) (k : ℕ) → end_at s cs k ≡ select (ends s cs) (size cs) k
+pub end_at-select : (s : Scheme) (cs : List ℕ) (k : ℕ) → end_at s cs k ≡ select (ends s cs) (size cs) k
 end_at-select s cs zero = refl
 end_at-select s cs (suc k) = refl
-
--- the least byte index with k ends at or before it is the k-th end
-end_at_is_least : (s : Scheme) (cs : List ℕ) (k e : ℕ) → k ≤ ends_up_to s cs e
-    → ((d : ℕ) → d < e → ends_up_to s cs d < k) → e ≡ end_at s cs k
-end_at_is_least s cs k e reached first =
-    let place = select (ends s cs) (size cs) k in
-    let within : k ≤ end_count s cs = omega (arith, count_by-le-length (λ p. nat_le p e) (ends s cs)) in
-    let at_most = (adjunction (ends s cs) (size cs) e k (ends_increase_within s cs) within).1 reached in
-    elim (cases_lt place e) [
-      | inl before ↦ absurd (let fewer = first place before in let enough =
-          (adjunction (ends s cs) (size cs) place k (ends_increase_within s cs) within).0 (omega arith) in omega arith)
-      | inr here ↦ omega (arith, end_at-select s cs k)
-    ]
 
 -- past the last end, `end_at` answers the text's size
 pub end_at-past : (s : Scheme) (cs : List ℕ) (k : ℕ) → end_count s cs < k → end_at s cs k ≡ size cs
@@ -279,20 +248,28 @@ end_at-past s cs zero fewer = absurd (omega arith)
 end_at-past s cs (suc k) fewer = get_or_past (ends s cs) k (size cs) (omega arith)
 
 -- all ends are at or before the text's size
-ends_up_to-size : (s : Scheme) (cs : List ℕ) → ends_up_to s cs (size cs) ≡ end_count s cs
-ends_up_to-size s cs = rank_all 0 (ends s cs) (size cs) (size cs) (ends_increase_within s cs) (omega arith)
+pub ends_up_to-all : (s : Scheme) (cs : List ℕ) (byte : ℕ) → size cs ≤ byte → ends_up_to s cs byte ≡ end_count s cs
+ends_up_to-all s cs byte past = rank_all 0 (ends s cs) (size cs) byte (ends_increase_within s cs) past
 
 -- a walk that stops where it first has k ends behind it, or else at the text's size, stops at what `end_at` answers
 pub end_at_reached : (s : Scheme) (cs : List ℕ) (k e : ℕ) → e ≤ size cs → (e < size cs → k ≤ ends_up_to s cs e)
     → ((d : ℕ) → d < e → ends_up_to s cs d < k) → e ≡ end_at s cs k
 end_at_reached s cs k e within stopped first =
-    elim (cases_lt (ends_up_to s cs e) k) [
-      | inr reached ↦ end_at_is_least s cs k e reached first
-      | inl fewer ↦
-          elim (cases_lt e (size cs)) [
-            | inl inside ↦ absurd (let reached = stopped inside in omega arith)
-            | inr past ↦
-                let end : e ≡ size cs = omega arith in
-                end ∙ sym (end_at-past s cs k (omega (arith, ends_up_to-size s cs, ap (ends_up_to s cs) end)))
-          ]
+    let increases = ends_increase_within s cs in
+    let place = select (ends s cs) (size cs) k in
+    let same = end_at-select s cs k in
+    let most = select-le-high (ends s cs) (size cs) increases k in
+    elim (cases_lt place e) [
+      | inl before ↦
+          let fewer = first place before in
+          let ranked = rank-select (ends s cs) (size cs) increases k in
+          absurd (omega (arith, end_at-past s cs k (omega arith)))
+      | inr from ↦ elim (cases_lt e place) [
+        | inr here ↦ omega arith
+        | inl short ↦
+            let reached = stopped (omega arith) in
+            let within' = count_by-le-length (λ p. nat_le p e) (ends s cs) in
+            let at_most = (adjunction (ends s cs) (size cs) increases e k (omega arith)).1 reached in
+            absurd (omega arith)
+      ]
     ]

@@ -1,17 +1,15 @@
 -- The ends of a text: where they are, how many there are, what each character adds to them, and those of a cut text.
-use Rattle.std.proofs.Common.{◌≡◌, ℕ, ◌+◌, inl, inr, List, [], ◌∷◌, map, arith, Bool, true, false, length, refl, cond, sym, ◌∙◌, ap, ◌<◌, ◌≤◌}
+use Rattle.std.proofs.Common.{◌≡◌, ℕ, ◌+◌, inl, inr, List, [], ◌∷◌, ◌++◌, map, arith, Bool, true, false, length, refl, cond, sym, ◌∙◌, ap, ◌<◌, ◌≤◌}
 use Rattle.std.specs.Prelude.{filter, sum_by, count_by, ◌==◌}
 use Rattle.std.specs.Char.{len_utf8}
-use Rattle.std.proofs.lemmas.Bool.{cases_Bool, cases_lt}
+use Rattle.std.proofs.lemmas.Bool.{cases_Bool}
 use Rattle.std.proofs.lemmas.Str.{len_utf8_bounds}
 use Rattle.str_indices.specs.Text.{size, Placed, placed, cut}
-use Rattle.str_indices.proofs.lemmas.texts.Sizes.{size-cons}
-use Rattle.str_indices.proofs.lemmas.texts.Increasing.{IncreasesWithin, IncreasesWithin-lower, rank, rank_none, rank_above, rank_at_most}
+use Rattle.str_indices.proofs.lemmas.texts.Sizes.{size-cons, total, total_front, total_alone, total_front_alone}
+use Rattle.str_indices.proofs.lemmas.texts.Increasing.{IncreasesWithin, rank, rank_none, rank_above, rank_at_most}
 use Rattle.std.proofs.lemmas.Bool.Decides.{nat_tests}
-use Rattle.std.proofs.lemmas.List.Sums.{sum_by-cons}
-use Rattle.str_indices.specs.Schemes.{Chars, Lf, is_end, count, Scheme, Utf16, Crlf, Lines, end_count, ends_up_to}
-use Rattle.str_indices.proofs.lemmas.bytes.Walks.{total}
-use Rattle.str_indices.proofs.lemmas.texts.Cuts.{cut_from, cut_from_fits, cut_from_stops, cut_is, cut_seam}
+use Rattle.str_indices.specs.Schemes.{Chars, Lf, is_end, count, Scheme, end_count, ends_up_to}
+use Rattle.str_indices.proofs.lemmas.texts.Cuts.{IsCutAt, IsCutAt-behind, cut_is, cut_seam}
 
 -- where the characters end at which the test passes, in a text that begins at `start`
 abbrev pub ends_from : (Placed → Bool) → ℕ → List ℕ → List ℕ
@@ -32,136 +30,109 @@ pub ends_from_fails : (test : Placed → Bool) (start c : ℕ) (cs : List ℕ) �
 ends_from_fails test start c cs fails = rw fails
 
 -- the ends increase, from above the text's beginning up to at most its own end
-pub ends_from-increases : (test : Placed → Bool) (start : ℕ) (cs : List ℕ)
-    → IncreasesWithin start (ends_from test start cs) (start + size cs)
-ends_from-increases test start [] = omega arith
-ends_from-increases test start (c ∷ cs) =
-    let bounds = len_utf8_bounds c in
+pub ends_from-increases : (test : Placed → Bool) (low start : ℕ) (cs : List ℕ) → low ≤ start
+    → IncreasesWithin low (ends_from test start cs) (start + size cs)
+ends_from-increases test low start [] le = omega arith
+ends_from-increases test low start (c ∷ cs) le =
+    let above : low < start + len_utf8 c = omega (arith, len_utf8_bounds c) in
     let last : start + size (c ∷ cs) ≡ start + len_utf8 c + size cs = omega (arith, size-cons c cs) in
-    let rest = ends_from-increases test (start + len_utf8 c) cs in
     rw last (elim (cases_Bool (test (first_placed start c cs))) [
-      | inl passes ↦ rw (ends_from_passes test start c cs passes) (omega arith, rest)
+      | inl passes ↦ rw (ends_from_passes test start c cs passes)
+          (above, ends_from-increases test (start + len_utf8 c) (start + len_utf8 c) cs (omega arith))
       | inr fails ↦ rw (ends_from_fails test start c cs fails)
-          (IncreasesWithin-lower start (start + len_utf8 c) _ _ (omega arith) rest)
+          (ends_from-increases test low (start + len_utf8 c) cs (omega arith))
     ])
-
--- one more character in front: the ends of the rest, and one where the test passes
-pub count_from-cons : (test : Placed → Bool) (start c : ℕ) (cs : List ℕ)
-    → length (ends_from test start (c ∷ cs)) ≡ cond (test (first_placed start c cs)) 1 0 + length
-    (ends_from test (start + len_utf8 c) cs)
-count_from-cons test start c cs =
-    elim (cases_Bool (test (first_placed start c cs))) [
-      | inl passes ↦ rw passes (omega arith)
-      | inr fails ↦ rw fails (omega arith)
-    ]
-
--- the number of ends of a test that reads the character alone
-pub count_from_by : (test : Placed → Bool) (p : ℕ → Bool)
-    → ((start c : ℕ) (cs : List ℕ) → test (first_placed start c cs) ≡ p c) → (start : ℕ) (cs : List ℕ)
-    → length (ends_from test start cs) ≡ count_by p cs
-count_from_by test p same start [] = refl
-count_from_by test p same start (c ∷ cs) =
-    count_from-cons test start c cs
-    ∙ rw (same start c cs, count_from_by test p same (start + len_utf8 c) cs)
-    (sym (sum_by-cons (λ x. cond (p x) 1 0) c cs))
-
--- each character counts one in `Chars`
-pub count_characters : (cs : List ℕ) → count Chars cs ≡ sum_by (λ _. 1) cs
-count_characters cs = count_from_by (is_end Chars) (λ _. true) (λ _ _ _. refl) 0 cs
-
--- a line feed ends a line in `Lf`, whatever stands beside it
-pub is_end-Lf : (start c : ℕ) (cs : List ℕ) → is_end Lf (first_placed start c cs) ≡ (c == 10)
-is_end-Lf start c cs = grind (arith, nat_tests)
-
--- each line feed counts one in `Lf`
-pub count_line_feeds : (cs : List ℕ) → count Lf cs ≡ count_by (λ c. c == 10) cs
-count_line_feeds cs = count_from_by (is_end Lf) (λ c. c == 10) is_end-Lf 0 cs
 
 -- one where the character c, with those after it, ends at an end of the scheme
 abbrev pub end_weight : Scheme → ℕ → List ℕ → ℕ
 end_weight s c cs = cond (is_end s (first_placed 0 c cs)) 1 0
 
 -- whether a character ends at an end doesn't depend on where the text begins
-pub is_end_anywhere : (s : Scheme) (start c : ℕ) (cs : List ℕ)
+is_end_anywhere : (s : Scheme) (start c : ℕ) (cs : List ℕ)
     → is_end s (first_placed start c cs) ≡ is_end s (first_placed 0 c cs)
 is_end_anywhere Chars start c cs = refl
-is_end_anywhere Utf16 start c cs = refl
-is_end_anywhere Lf start c cs = refl
-is_end_anywhere Crlf start c cs = refl
-is_end_anywhere Lines start c cs = refl
+is_end_anywhere s start c cs = refl
 
--- one more character in front
-pub end_count_from-cons : (s : Scheme) (start c : ℕ) (cs : List ℕ)
-    → length (ends_from (is_end s) start (c ∷ cs)) ≡ end_weight s c cs + length
-    (ends_from (is_end s) (start + len_utf8 c) cs)
-end_count_from-cons s start c cs = count_from-cons (is_end s) start c cs ∙ rw (is_end_anywhere s start c cs)
-
--- the ends of a text that begins at `start` are as many as the sum
+-- the ends of a text that begins at `start` are as many as its characters weigh
 total_ends_from : (s : Scheme) (start : ℕ) (cs : List ℕ)
     → length (ends_from (is_end s) start cs) ≡ total (end_weight s) cs
 total_ends_from s start [] = refl
 total_ends_from s start (c ∷ cs) =
-    end_count_from-cons s start c cs ∙ ap (λ n. end_weight s c cs + n) (total_ends_from s (start + len_utf8 c) cs)
+    let rest = total_ends_from s (start + len_utf8 c) cs in
+    rw (is_end_anywhere s start c cs) (elim (cases_Bool (is_end s (first_placed 0 c cs))) [
+      | inl passes ↦ rw passes (omega arith)
+      | inr fails ↦ rw fails (omega arith)
+    ])
 
 -- the ends of a text are as many as its characters weigh
 pub end_count_total : (s : Scheme) (cs : List ℕ) → end_count s cs ≡ total (end_weight s) cs
 end_count_total s cs = total_ends_from s 0 cs
 
+-- each character counts one in `Chars`
+pub count_characters : (cs : List ℕ) → count Chars cs ≡ sum_by (λ _. 1) cs
+count_characters cs = end_count_total Chars cs ∙ total_alone (end_weight Chars) (λ _. 1) (λ c after. refl) cs
+
+-- a line feed ends a line in `Lf`, whatever stands beside it
+pub end_weight-Lf : (c : ℕ) (cs : List ℕ) → end_weight Lf c cs ≡ cond (c == 10) 1 0
+end_weight-Lf c cs = grind (arith, nat_tests)
+
+-- each line feed counts one in `Lf`
+pub count_line_feeds : (cs : List ℕ) → count Lf cs ≡ count_by (λ c. c == 10) cs
+count_line_feeds cs = end_count_total Lf cs ∙ total_alone (end_weight Lf) (λ c. cond (c == 10) 1 0) end_weight-Lf cs
+
 -- up to a byte index at or past the first character's end
-pub rank_past : (s : Scheme) (start c : ℕ) (cs : List ℕ) (byte : ℕ) → start + len_utf8 c ≤ byte
-    → rank (ends_from (is_end s) start (c ∷ cs)) byte ≡ end_weight s c cs + rank
-    (ends_from (is_end s) (start + len_utf8 c) cs) byte
+rank_past : (s : Scheme) (start c : ℕ) (cs : List ℕ) (byte : ℕ) → start + len_utf8 c ≤ byte
+    → rank (ends_from (is_end s) start (c ∷ cs)) byte
+    ≡ end_weight s c cs + rank (ends_from (is_end s) (start + len_utf8 c) cs) byte
 rank_past s start c cs byte past =
-    elim (cases_Bool (is_end s (first_placed start c cs))) [
-      | inl passes ↦ rw (
-        ends_from_passes (is_end s) start c cs passes,
-        rank_at_most (start + len_utf8 c)
-            (ends_from (is_end s) (start + len_utf8 c) cs) byte past,
-        sym (is_end_anywhere s start c cs) ∙ passes,
-      )
-          (omega arith)
-      | inr fails ↦ rw (ends_from_fails (is_end s) start c cs fails, sym (is_end_anywhere s start c cs) ∙ fails)
-          (omega arith)
-    ]
+    let rest = ends_from (is_end s) (start + len_utf8 c) cs in
+    rw (is_end_anywhere s start c cs) (elim (cases_Bool (is_end s (first_placed 0 c cs))) [
+      | inl passes ↦ rw passes (omega (arith, rank_at_most (start + len_utf8 c) rest byte past))
+      | inr fails ↦ rw fails (omega arith)
+    ])
 
 -- before the first character's end
-pub rank_before : (s : Scheme) (start c : ℕ) (cs : List ℕ) (byte : ℕ) → byte < start + len_utf8 c
+rank_before : (s : Scheme) (start c : ℕ) (cs : List ℕ) (byte : ℕ) → byte < start + len_utf8 c
     → rank (ends_from (is_end s) start (c ∷ cs)) byte ≡ 0
 rank_before s start c cs byte before =
-    let rest = rank_none (start + len_utf8 c) (ends_from (is_end s) (start + len_utf8 c) cs)
-    (start + len_utf8 c + size cs) byte (ends_from-increases (is_end s) (start + len_utf8 c) cs) (omega arith) in
+    let place = start + len_utf8 c in
+    let rest = ends_from (is_end s) place cs in
+    let none = rank_none place rest (place + size cs) byte
+    (ends_from-increases (is_end s) place place cs (omega arith)) (omega arith) in
     elim (cases_Bool (is_end s (first_placed start c cs))) [
-      | inl passes ↦ rw (ends_from_passes (is_end s) start c cs passes)
-          (rank_above (start + len_utf8 c) (ends_from (is_end s) (start + len_utf8 c) cs) byte before ∙ rest)
-      | inr fails ↦ rw (ends_from_fails (is_end s) start c cs fails) rest
+      | inl passes ↦ rw passes (rank_above place rest byte before ∙ none)
+      | inr fails ↦ rw fails none
     ]
+
+-- up to a byte index are the ends of the beginning that is cut off there, in a text that begins at `start`
+rank_of_front : (s : Scheme) (start : ℕ) (front rest : List ℕ) (byte : ℕ) → IsCutAt start front rest byte
+    → rank (ends_from (is_end s) start (front ++ rest)) byte ≡ total_front (end_weight s) front rest
+rank_of_front s start [] [] byte at = refl
+rank_of_front s start [] (c ∷ after) byte at = rank_before s start c after byte (omega (arith, at.longest c after refl))
+rank_of_front s start (c ∷ front) rest byte at =
+    let behind = IsCutAt-behind start c front rest byte at in
+    rank_past s start c (front ++ rest) byte (omega (arith, behind.fits))
+    ∙ ap (λ n. end_weight s c (front ++ rest) + n) (rank_of_front s (start + len_utf8 c) front rest byte behind)
+
+-- up to a byte index are the ends of the beginning that is cut off there
+pub ends_up_to_cut : (s : Scheme) (cs : List ℕ) (byte : ℕ)
+    → ends_up_to s cs byte ≡ total_front (end_weight s) (cut cs byte) (cut_is cs byte).rest
+ends_up_to_cut s cs byte =
+    let parts = cut_is cs byte in
+    ap (λ t. ends_up_to s t byte) parts.split ∙ rank_of_front s 0 (cut cs byte) parts.rest byte parts.at
 
 -- whether a character ends at an end of the scheme is read from the character alone
 abbrev pub ReadsAlone : Scheme → Type 0
 ReadsAlone s = (c : ℕ) (cs ds : List ℕ) → end_weight s c cs ≡ end_weight s c ds
 
-module _ (s : Scheme) (alone : ReadsAlone s) where
-  length-cut_from : (start : ℕ) (cs : List ℕ) (end : ℕ)
-      → length (ends_from (is_end s) start (cut_from start cs end)) ≡ rank (ends_from (is_end s) start cs) end
-  length-cut_from start [] end = refl
-  length-cut_from start (c ∷ cs) end =
-      elim (cases_lt end (start + len_utf8 c)) [
-        | inl beyond ↦ rw (cut_from_stops start c cs end beyond) (sym (rank_before s start c cs end beyond))
-        | inr fits ↦ rw (cut_from_fits start c cs end fits)
-            (omega (
-              arith,
-              end_count_from-cons s start c (cut_from (start + len_utf8 c) cs end),
-              alone c
-                  (cut_from (start + len_utf8 c) cs end) cs,
-              length-cut_from (start + len_utf8 c) cs end,
-              rank_past s
-                  start c cs end fits,
-            ))
-      ]
-
-  -- the ends of a cut text are those of the whole text up to there
-  pub end_count-cut : (cs : List ℕ) (end : ℕ) → end_count s (cut cs end) ≡ ends_up_to s cs end
-  end_count-cut cs end = length-cut_from 0 cs end
+-- the ends of a cut text are then those of the whole text up to there
+pub end_count-cut : (s : Scheme) → ReadsAlone s → (cs : List ℕ) (end : ℕ)
+    → end_count s (cut cs end) ≡ ends_up_to s cs end
+end_count-cut s alone cs end =
+    let f = λ (c : ℕ). end_weight s c [] in
+    end_count_total s (cut cs end) ∙ total_alone (end_weight s) f (λ c after. alone c after []) (cut cs end)
+    ∙ sym (ends_up_to_cut s cs end
+    ∙ total_front_alone (end_weight s) f (λ c after. alone c after []) (cut cs end) (cut_is cs end).rest)
 
 -- a text that is cut where it was cut stays as it is
 pub cut-cut : (cs : List ℕ) (end : ℕ) → cut cs (size (cut cs end)) ≡ cut cs end

@@ -16,21 +16,15 @@ IncreasesWithin low (e ∷ es) high = (low < e) × IncreasesWithin e es high
 -- low is at most high
 pub low_le_high : (low : ℕ) (es : List ℕ) (high : ℕ) → IncreasesWithin low es high → low ≤ high
 low_le_high low [] high h = h
-low_le_high low (e ∷ es) high h = let rest = low_le_high e es high h.1 in omega (arith, h.0)
+low_le_high low (e ∷ es) high h = omega (arith, low_le_high e es high h.1, h.0)
 
 -- each number is above low
-pub low_lt_each : (low : ℕ) (es : List ℕ) (high k d : ℕ) → IncreasesWithin low es high → k < length es
+low_lt_each : (low : ℕ) (es : List ℕ) (high k d : ℕ) → IncreasesWithin low es high → k < length es
     → low < get_or es k d
 low_lt_each low [] high k d h inside = absurd (omega arith)
 low_lt_each low (e ∷ es) high zero d h inside = h.0
-low_lt_each low (e ∷ es) high (suc k) d h inside = let rest = low_lt_each e es high k d h.1 (omega arith) in
-    omega (arith, h.0)
-
--- a lower bound may be lowered
-pub IncreasesWithin-lower : (low low' : ℕ) (es : List ℕ) (high : ℕ) → low ≤ low' → IncreasesWithin low' es high
-    → IncreasesWithin low es high
-IncreasesWithin-lower low low' [] high le h = omega arith
-IncreasesWithin-lower low low' (e ∷ es) high le h = (omega (arith, h.0), h.1)
+low_lt_each low (e ∷ es) high (suc k) d h inside =
+    omega (arith, h.0, low_lt_each e es high k d h.1 (omega arith))
 
 -- each number is below the next
 pub IsStrictlyIncreasing-within : (low : ℕ) (es : List ℕ) (high : ℕ) → IncreasesWithin low es high
@@ -66,8 +60,15 @@ rank_all low (e ∷ es) high b h le =
     let last = low_le_high e es high h.1 in
     rank_at_most e es b (omega arith) ∙ ap suc (rank_all e es high b h.1 le)
 
+-- no fewer numbers are at most a greater one
+pub rank-le-rank : (es : List ℕ) (i j : ℕ) → i ≤ j → rank es i ≤ rank es j
+rank-le-rank es i j le = sum_by-le-sum_by (λ e. cond (nat_le e i) 1 0) (λ e. cond (nat_le e j) 1 0) es at_most_both
+  where
+    at_most_both : (e : ℕ) → cond (nat_le e i) 1 0 ≤ cond (nat_le e j) 1 0
+    at_most_both e = grind (arith, nat_tests)
+
 -- the k-th number, counted from 0, has k others below it
-pub rank-get_or : (low : ℕ) (es : List ℕ) (high k d : ℕ) → IncreasesWithin low es high → k < length es
+rank-get_or : (low : ℕ) (es : List ℕ) (high k d : ℕ) → IncreasesWithin low es high → k < length es
     → rank es (get_or es k d) ≡ suc k
 rank-get_or low [] high k d h inside = absurd (omega arith)
 rank-get_or low (e ∷ es) high zero d h inside = rank_at_most e es e (omega arith)
@@ -82,17 +83,20 @@ get_or_le_iff : (low : ℕ) (es : List ℕ) (high k d b : ℕ) → IncreasesWith
 get_or_le_iff low [] high k d b h inside = absurd (omega arith)
 get_or_le_iff low (e ∷ es) high zero d b h inside =
     elim (cases_lt b e) [
-      | inl above ↦ let none = rank_above e es b above
-          ∙ rank_none e es high b h.1 (omega arith) in (λ le. absurd (omega arith), λ lt. absurd (omega arith))
+      | inl above ↦
+          let none = rank_above e es b above ∙ rank_none e es high b h.1 (omega arith) in
+          (λ le. absurd (omega arith), λ lt. absurd (omega arith))
       | inr le ↦ let one = rank_at_most e es b le in (λ _. omega arith, λ _. le)
     ]
 get_or_le_iff low (e ∷ es) high (suc k) d b h inside =
     let rest = get_or_le_iff e es high k d b h.1 (omega arith) in
-    let higher = low_lt_each e es high k d h.1 (omega arith) in
     elim (cases_lt b e) [
-      | inl above ↦ let none = rank_above e es b above
-          ∙ rank_none e es high b h.1 (omega arith) in (λ le. absurd (omega arith), λ lt. absurd (omega arith))
-      | inr le ↦ let one = rank_at_most e es b le in
+      | inl above ↦
+          let none = rank_none e es high b h.1 (omega arith) in
+          let none' = rank_above e es b above in
+          (λ l. absurd (let more = rest.0 l in omega arith), λ lt. absurd (omega arith))
+      | inr le ↦
+          let one = rank_at_most e es b le in
           (λ l. let more = rest.0 l in omega arith, λ lt. rest.1 (omega arith))
     ]
 
@@ -101,93 +105,61 @@ abbrev pub select : List ℕ → ℕ → ℕ → ℕ
 select es high zero = 0
 select es high (suc k) = get_or es k high
 
--- for k up to their number, the k-th is at most b exactly where at least k of them are
-pub adjunction : (es : List ℕ) (high b k : ℕ) → IncreasesWithin 0 es high → k ≤ length es
-    → (select es high k ≤ b) ↔ (k ≤ rank es b)
-adjunction es high b zero h le = (λ _. omega arith, λ _. omega arith)
-adjunction es high b (suc k) h le =
-    let iff = get_or_le_iff 0 es high k high b h (omega arith) in
-    (λ l. let more = iff.0 l in omega arith, λ r. iff.1 (omega arith))
-
--- as many numbers are at most the k-th as k says, or all of them
-pub rank-select : (es : List ℕ) (high k : ℕ) → IncreasesWithin 0 es high
-    → rank es (select es high k) ≡ min k (length es)
-rank-select es high zero h = rank_none 0 es high 0 h (omega arith) ∙ omega arith
-rank-select es high (suc k) h =
-    elim (cases_lt k (length es)) [
-      | inl inside ↦ rank-get_or 0 es high k high h inside ∙ omega arith
-      | inr past ↦ rw (get_or_past es k high past) (rank_all 0 es high high h (omega arith) ∙ omega arith)
-    ]
-
--- no number is above high
-get_or-le-high : (low : ℕ) (es : List ℕ) (high k d : ℕ) → IncreasesWithin low es high → k < length es
-    → get_or es k d ≤ high
-get_or-le-high low [] high k d h inside = absurd (omega arith)
-get_or-le-high low (e ∷ es) high zero d h inside = low_le_high e es high h.1
-get_or-le-high low (e ∷ es) high (suc k) d h inside = get_or-le-high e es high k d h.1 (omega arith)
-
--- a number that is at most i is at most j, where i is
-at_most_both : (e i j : ℕ) → i ≤ j → cond (nat_le e i) 1 0 ≤ cond (nat_le e j) 1 0
-at_most_both e i j le = grind (arith, nat_tests)
-
--- no fewer numbers are at most a greater one
-pub rank-le-rank : (es : List ℕ) (i j : ℕ) → i ≤ j → rank es i ≤ rank es j
-rank-le-rank es i j le = sum_by-le-sum_by (λ e. cond (nat_le e i) 1 0) (λ e. cond (nat_le e j) 1 0) es
-    (λ e. at_most_both e i j le)
-
--- the k-th number, up to their number, is one of them, or 0
-pub select_is_member : (es : List ℕ) (high k : ℕ) → k ≤ length es
-    → Contains es (select es high k) ⊎ (select es high k ≡ 0)
-select_is_member es high zero inside = inr refl
-select_is_member es high (suc k) inside = inl (Contains-get_or es k high (omega arith))
-
 module _ (es : List ℕ) (high : ℕ) (increases : IncreasesWithin 0 es high) where
+  -- for k up to their number, the k-th is at most b exactly where at least k of them are
+  pub adjunction : (b k : ℕ) → k ≤ length es → (select es high k ≤ b) ↔ (k ≤ rank es b)
+  adjunction b zero le = (λ _. omega arith, λ _. omega arith)
+  adjunction b (suc k) le =
+      let iff = get_or_le_iff 0 es high k high b increases (omega arith) in
+      (λ l. let more = iff.0 l in omega arith, λ r. iff.1 (omega arith))
+
   -- the k-th number is at most high
-  select-le-high : (k : ℕ) → select es high k ≤ high
+  pub select-le-high : (k : ℕ) → select es high k ≤ high
   select-le-high zero = omega arith
   select-le-high (suc k) =
       elim (cases_lt k (length es)) [
-        | inl inside ↦ get_or-le-high 0 es high k high increases inside
+        | inl inside ↦ (adjunction high (suc k) (omega arith)).1
+            (omega (arith, rank_all 0 es high high increases (omega arith)))
         | inr past ↦ omega (arith, get_or_past es k high past)
+      ]
+
+  -- as many numbers are at most the k-th as k says, or all of them
+  pub rank-select : (k : ℕ) → rank es (select es high k) ≡ min k (length es)
+  rank-select zero = rank_none 0 es high 0 increases (omega arith) ∙ omega arith
+  rank-select (suc k) =
+      elim (cases_lt k (length es)) [
+        | inl inside ↦ rank-get_or 0 es high k high increases inside ∙ omega arith
+        | inr past ↦ rw (get_or_past es k high past) (rank_all 0 es high high increases (omega arith) ∙ omega arith)
       ]
 
   -- the i-th number is at most each one after it
   pub select-le-select : (i j : ℕ) → i ≤ j → select es high i ≤ select es high j
-  select-le-select i j le =
-      elim (cases_lt (length es) j) [
-        | inl past ↦ past_last j past
-        | inr inside ↦ (adjunction es high (select es high j) i increases (omega arith)).1
-            (omega (arith, rank-select es high j increases))
+  select-le-select i zero le = let first : i ≡ 0 = omega arith in rw first (omega arith)
+  select-le-select i (suc j) le =
+      elim (cases_lt j (length es)) [
+        | inr past ↦ omega (arith, select-le-high i, get_or_past es j high past)
+        | inl inside ↦ (adjunction (select es high (suc j)) i (omega arith)).1 (omega (arith, rank-select (suc j)))
       ]
-    where
-      past_last : (j : ℕ) → length es < j → select es high i ≤ select es high j
-      past_last zero past = absurd (omega arith)
-      past_last (suc j) past = omega (arith, select-le-high i, get_or_past es j high (omega arith))
 
   -- of as many numbers as are at most b, the last is at most b
   pub select-rank-le : (b : ℕ) → select es high (rank es b) ≤ b
-  select-rank-le b = (adjunction es high b (rank es b) increases (count_by-le-length (λ e. nat_le e b) es)).1
-      (omega arith)
+  select-rank-le b = (adjunction b (rank es b) (count_by-le-length (λ e. nat_le e b) es)).1 (omega arith)
 
-  -- each number is the last of those that are at most it
-  select-rank : (e : ℕ) → Contains es e → select es high (rank es e) ≡ e
-  select-rank e (k, inside, is) =
+  -- the k-th number, up to their number, is one of them, or 0
+  pub select_is_member : (k : ℕ) → k ≤ length es → Contains es (select es high k) ⊎ (select es high k ≡ 0)
+  select_is_member zero inside = inr refl
+  select_is_member (suc k) inside = inl (Contains-get_or es k high (omega arith))
+
+  -- each number, and 0, is the last of those that are at most it
+  pub select-rank : (e : ℕ) → (e ≡ 0) ⊎ Contains es e → select es high (rank es e) ≡ e
+  select-rank e (inl none) = rw (none, rank_none 0 es high 0 increases (omega arith)) refl
+  select-rank e (inr (k, inside, is)) =
       let ranked : rank es e ≡ suc k = ap (rank es) (sym is) ∙ rank-get_or 0 es high k e increases inside in
       ap (select es high) ranked ∙ get_or_default es k high e inside ∙ is
 
-  -- a number of the list is at most the k-th exactly where no more than k are at most it
-  member_adjunction : (e k : ℕ) → Contains es e → (e ≤ select es high k) ↔ (rank es e ≤ k)
+  -- such a number is at most the k-th exactly where no more than k are at most it
+  pub member_adjunction : (e k : ℕ) → (e ≡ 0) ⊎ Contains es e → (e ≤ select es high k) ↔ (rank es e ≤ k)
   member_adjunction e k has = (
-    λ le. omega (arith, rank-le-rank es e (select es high k) le, rank-select es high k increases),
+    λ le. omega (arith, rank-le-rank es e (select es high k) le, rank-select k),
     λ within. omega (arith, select-le-select (rank es e) k within, select-rank e has),
   )
-
-  -- and so is 0
-  pub zero_or_member_adjunction : (e k : ℕ) → (e ≡ 0) ⊎ Contains es e → (e ≤ select es high k) ↔ (rank es e ≤ k)
-  zero_or_member_adjunction e k (inl none) =
-      (λ _. omega (arith, rank_none 0 es high e increases (omega arith)), λ _. omega arith)
-  zero_or_member_adjunction e k (inr has) = member_adjunction e k has
-
-  -- each number that is at most b is at most that last one
-  pub member-le-select : (b e : ℕ) → Contains es e → e ≤ b → e ≤ select es high (rank es b)
-  member-le-select b e has le = (member_adjunction e (rank es b) has).1 (rank-le-rank es e b le)

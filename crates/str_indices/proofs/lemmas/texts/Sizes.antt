@@ -1,5 +1,5 @@
--- How many bytes a text takes, by its parts, and what stands before each of two places where it is split.
-use Rattle.std.proofs.Common.{◌≡◌, ℕ, ◌+◌, List, ◌∷◌, ◌++◌, ◌≤◌, ◌⊎◌, inl, inr, [], refl, arith, sym, ◌∙◌, ap}
+-- Sums over the characters of a text: its bytes, and what stands before each of two places where it is split.
+use Rattle.std.proofs.Common.{◌≡◌, ℕ, ◌+◌, List, ◌∷◌, ◌++◌, ◌≤◌, ◌⊎◌, inl, inr, [], refl, arith, sym, ◌∙◌, ap, append-nil}
 use Rattle.std.specs.Char.{len_utf8}
 use Rattle.std.proofs.lemmas.List.Sums.{sum_by-cons, sum_by-append}
 use Rattle.str_indices.specs.Text.{size}
@@ -29,12 +29,11 @@ compare_splits (x ∷ a) b (y ∷ front) c back same =
     ]
 
 -- A boundary is at or before the place where a character begins, and no more is before it than there, or it is at or
--- behind the
--- place where the character ends, and no less is before it than there.
+-- behind the place where the character ends, and no less is before it than there.
 pub boundary_beside : (w : ℕ → ℕ) (cs front : List ℕ) (c : ℕ) (back : List ℕ) → cs ≡ front ++ c ∷ back
     → (p : ℕ) (at : IsBoundary cs p)
-    → ((p ≤ size front) × (sum_by w at.front ≤ sum_by w front)) ⊎ ((size front + len_utf8 c ≤ p) × (sum_by w
-    front + w c ≤ sum_by w at.front))
+    → ((p ≤ size front) × (sum_by w at.front ≤ sum_by w front))
+    ⊎ ((size front + len_utf8 c ≤ p) × (sum_by w front + w c ≤ sum_by w at.front))
 boundary_beside w cs front c back split p at =
     elim (compare_splits at.front at.back front c back (sym at.split ∙ split)) [
       | inl shorter ↦
@@ -46,3 +45,32 @@ boundary_beside w cs front c back split p at =
           let sums = ap (sum_by w) longer.1 ∙ sum_by-append w front (c ∷ longer.0) in
           inr (omega (arith, at.place, size-cons c longer.0), omega (arith, sum_by-cons w c longer.0))
     ]
+
+-- the sum of what v says of each character and those behind it
+abbrev pub total : (ℕ → List ℕ → ℕ) → List ℕ → ℕ
+total v [] = 0
+total v (c ∷ cs) = v c cs + total v cs
+
+-- the same over the characters of a beginning, where a text goes on behind it
+abbrev pub total_front : (ℕ → List ℕ → ℕ) → List ℕ → List ℕ → ℕ
+total_front v [] back = 0
+total_front v (c ∷ front) back = v c (front ++ back) + total_front v front back
+
+-- over a beginning, and then over the rest
+pub total-append : (v : ℕ → List ℕ → ℕ) (front back : List ℕ)
+    → total v (front ++ back) ≡ total_front v front back + total v back
+total-append v [] back = omega arith
+total-append v (c ∷ front) back = omega (arith, total-append v front back)
+
+-- where v is f of the character alone, whatever goes on behind a beginning
+pub total_front_alone : (v : ℕ → List ℕ → ℕ) (f : ℕ → ℕ) → ((c : ℕ) (cs : List ℕ) → v c cs ≡ f c)
+    → (front back : List ℕ) → total_front v front back ≡ sum_by f front
+total_front_alone v f alone [] back = refl
+total_front_alone v f alone (c ∷ front) back =
+    omega (arith, alone c (front ++ back), total_front_alone v f alone front back, sum_by-cons f c front)
+
+-- where v is f of the character alone, over the whole text
+pub total_alone : (v : ℕ → List ℕ → ℕ) (f : ℕ → ℕ) → ((c : ℕ) (cs : List ℕ) → v c cs ≡ f c) → (cs : List ℕ)
+    → total v cs ≡ sum_by f cs
+total_alone v f alone cs =
+    omega (arith, ap (total v) (append-nil cs), total-append v cs [], total_front_alone v f alone cs [])

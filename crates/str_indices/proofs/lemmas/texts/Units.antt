@@ -4,11 +4,11 @@ use Rattle.std.specs.Prelude.{filter, fold, nat_le, ◌==◌, sum_by, Contains}
 use Rattle.std.proofs.lemmas.Bool.{cases_lt, cases_Bool, both_ways, le-leb, leb-true}
 use Rattle.std.proofs.lemmas.List.Elements.{All-nil, All-cons, All-head, All-tail, All-weaker, All-filter, All-contains, All-contains_itself, Contains-append_right, filter_passes}
 use Rattle.std.specs.Char.{len_utf8}
-use Rattle.std.proofs.lemmas.List.Sums.{sum_by-cons}
-use Rattle.str_indices.specs.Text.{size, weight}
+use Rattle.std.proofs.lemmas.List.Sums.{sum_by-cons, sum_by-append}
+use Rattle.str_indices.specs.Text.{size, weight, cut}
 use Rattle.str_indices.specs.Schemes.{Chars, Utf16, ends, units, boundaries, boundary_at_units, count, surrogates}
 use Rattle.str_indices.specs.Relations.{IsBoundary, IsGreatestWithin}
-use Rattle.str_indices.proofs.lemmas.texts.Cuts.{cut_from, cut_from_fits, cut_from_stops, cut_seam, cut_all}
+use Rattle.str_indices.proofs.lemmas.texts.Cuts.{cut_is, cut_goes_on, cut_front, cut_all}
 use Rattle.str_indices.proofs.lemmas.texts.Ends.{count_characters}
 use Rattle.str_indices.proofs.lemmas.texts.EndSets.{ends_are, IsBoundary-start}
 
@@ -51,7 +51,7 @@ All-from_filter test P (x ∷ xs) all =
 
 -- the units before a boundary are those of the beginning that ends there
 pub units_at : (cs : List ℕ) (p : ℕ) (at : IsBoundary cs p) → units cs p ≡ sum_by weight at.front
-units_at cs p at = rw (at.split, ← at.place) (ap (sum_by weight) (cut_seam at.front at.back))
+units_at cs p at = ap (sum_by weight) (cut_front cs p at)
 
 -- each place that `boundaries` lists is a boundary
 boundaries_are : (cs : List ℕ) → All (IsBoundary cs) (boundaries cs)
@@ -147,23 +147,9 @@ sum_by-weight (c ∷ cs) = omega (
 pub count-characters-surrogates : (cs : List ℕ) → count Utf16 cs ≡ count Chars cs + surrogates cs
 count-characters-surrogates cs = omega (arith, count-units cs, sum_by-weight cs, count_characters cs)
 
--- no fewer units are before a greater byte index, in a text that begins at `start`
-units_from-le : (start : ℕ) (cs : List ℕ) (i j : ℕ) → i ≤ j
-    → sum_by weight (cut_from start cs i) ≤ sum_by weight (cut_from start cs j)
-units_from-le start [] i j le = omega arith
-units_from-le start (c ∷ cs) i j le =
-    elim (cases_lt i (start + len_utf8 c)) [
-      | inl beyond ↦ rw (cut_from_stops start c cs i beyond) (omega arith)
-      | inr fits ↦ rw (cut_from_fits start c cs i fits, cut_from_fits start c cs j (omega arith))
-          (omega (
-            arith,
-            sum_by-cons weight c (cut_from (start + len_utf8 c) cs i),
-            sum_by-cons weight c
-                (cut_from (start + len_utf8 c) cs j),
-            units_from-le (start + len_utf8 c) cs i j le,
-          ))
-    ]
-
 -- no fewer units are before a greater byte index
 pub units-le-units : (cs : List ℕ) (i j : ℕ) → i ≤ j → units cs i ≤ units cs j
-units-le-units cs i j le = units_from-le 0 cs i j le
+units-le-units cs i j le =
+    let parts = cut_is cs i in
+    let (more, is) = cut_goes_on cs (cut cs i) parts.rest j parts.split (omega (arith, parts.at.fits)) in
+    omega (arith, ap (sum_by weight) is, sum_by-append weight (cut cs i) more)

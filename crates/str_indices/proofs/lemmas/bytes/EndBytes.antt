@@ -1,0 +1,151 @@
+-- The ends of a scheme by the bytes at which they are counted: up to the place where the text is cut, and whether the
+-- cut parts CR from LF.
+use Rattle.std.proofs.Common.{◌≡◌, ℕ, zero, suc, ◌+◌, ◌-◌, ◌<◌, ◌≤◌, inl, inr, Bool, true, false, List, [], ◌∷◌, ◌++◌, length, get_or, refl, arith, sym, ◌∙◌, ap, ap₂, subst, chars, IsUtf8}
+use Rattle.std.specs.Prelude.{◌==◌, ◌&&◌, not}
+use Rattle.std.specs.Char.{len_utf8, char_set_contains}
+use Rattle.std.proofs.Math.Utf8.{encode, encodes, scalar, scalars}
+use Rattle.std.proofs.lemmas.Bool.{cases_lt, and_parts, ne_eqb, eqb-true}
+use Rattle.std.proofs.lemmas.Bool.Decides.{nat_tests}
+use Rattle.std.proofs.lemmas.List.{get_or_past}
+use Rattle.std.proofs.lemmas.Str.{encodes-chars, scalars-chars, encode_ascii, len_utf8_ascii, len_utf8_bounds}
+use Rattle.str_indices.specs.Text.{size, cut, line_feed, carriage_return}
+use Rattle.str_indices.specs.Schemes.{Scheme, break_characters, end_count, ends_up_to}
+use Rattle.str_indices.specs.Relations.{IsBoundary}
+use Rattle.str_indices.specs.Joins.{ends_in_return, joins_crlf}
+use Rattle.str_indices.specs.Bytes.{flag, sum_below, is_line_feed, is_carriage_return, byte_before, is_middle}
+use Rattle.str_indices.proofs.lemmas.texts.Sizes.{size-cons}
+use Rattle.str_indices.proofs.lemmas.texts.Cuts.{cut_is}
+use Rattle.str_indices.proofs.lemmas.texts.Ends.{end_weight, ends_up_to_cut}
+use Rattle.str_indices.proofs.lemmas.texts.Seams.{HasReturn, ends_in_return-cons, ends_in_return-one, starts_with_feed_is, end_count-cut_seam}
+use Rattle.str_indices.proofs.lemmas.bytes.Characters.{IsTrailing, by_width, get_or-behind, later_trailing, scalars_parts}
+use Rattle.str_indices.proofs.lemmas.bytes.Walks.{AddsAtFirst, counted_at, walk_to_cut, get_or-at_boundary}
+use Rattle.str_indices.proofs.lemmas.bytes.BoundaryBytes.{still_behind_cut}
+
+module _ (s : Scheme) (test : ℕ → ℕ → ℕ → Bool) (adds : AddsAtFirst test (end_weight s)) where
+  -- before the place where the text is cut the ends are counted that are up to there
+  pub ends_by_walk : (bytes : List ℕ) → IsUtf8 bytes → (end : ℕ)
+      → sum_below (counted_at test bytes) (size (cut (chars bytes) end)) ≡ ends_up_to s (chars bytes) end
+  ends_by_walk bytes utf8 end = walk_to_cut test (end_weight s) adds bytes utf8 end
+      ∙ sym (ends_up_to_cut s (chars bytes) end)
+
+  -- where they are counted at ASCII bytes alone, so it is at each byte index
+  pub ends_by_ascii_walk : ((b next after : ℕ) → 128 ≤ b → flag (test b next after) ≡ 0) → (bytes : List ℕ)
+      → IsUtf8 bytes → (end : ℕ) → end ≤ length bytes
+      → sum_below (counted_at test bytes) end ≡ ends_up_to s (chars bytes) end
+  ends_by_ascii_walk none bytes utf8 end within =
+      still_behind_cut (counted_at test bytes) bytes utf8 end within
+      (λ j wide. none (get_or bytes j 0) (get_or bytes (1 + j) 0) (get_or bytes (2 + j) 0) wide)
+      ∙ ends_by_walk bytes utf8 end
+
+-- the next character is LF exactly where the next byte is
+pub next_line_feed : (cs : List ℕ) → scalars cs ≡ true
+    → is_line_feed (get_or (encodes cs) 0 0) ≡ is_line_feed (get_or cs 0 0)
+next_line_feed [] s = refl
+next_line_feed (c ∷ cs) s = by_width (λ bs. is_line_feed (get_or (bs ++ encodes cs) 0 0) ≡ is_line_feed c) c
+    (and_parts (scalar c) (scalars cs) s).0 (λ ascii. refl) (λ first others wide. neither first wide.low wide.from)
+  where
+    neither : (b : ℕ) → 192 ≤ b → 128 ≤ c → is_line_feed b ≡ is_line_feed c
+    neither b past past' = grind (arith, nat_tests)
+
+-- a test that counts the breaks of a scheme, at the first byte of each character that is one
+pub adds_breaks : (s : Scheme) → HasReturn s → (test : ℕ → ℕ → ℕ → Bool)
+    → ((c next after : ℕ) → c < 128
+    → test c next after ≡ (char_set_contains (break_characters s) c && not (c == carriage_return && next == line_feed)))
+    → ((c : ℕ) (rest : List ℕ) → scalar c ≡ true → 128 ≤ c
+    → test (get_or (encode c ++ rest) 0 0) (get_or (encode c ++ rest) 1 0) (get_or (encode c ++ rest) 2 0)
+    ≡ char_set_contains (break_characters s) c)
+    → ((b next after : ℕ) → IsTrailing b → flag (test b next after) ≡ 0) → AddsAtFirst test (end_weight s)
+adds_breaks s has test at_ascii at_wide later = record { first = first; later = later }
+  where
+    and_true : (b : Bool) → b ≡ (b && true)
+    and_true true = refl
+    and_true false = refl
+
+    first : (c : ℕ) (cs : List ℕ) → scalar c ≡ true → scalars cs ≡ true
+        → counted_at test (encode c ++ encodes cs) 0 ≡ end_weight s c cs
+    first c cs is_scalar are_scalars = ap flag (rw (has.breaks c cs) (elim (cases_lt c 128) [
+      | inl ascii ↦ rw (encode_ascii c ascii) (at_ascii c (get_or (encodes cs) 0 0) (get_or (encodes cs) 1 0) ascii
+          ∙ ap (λ b. char_set_contains (break_characters s) c && not (c == carriage_return && b))
+          (next_line_feed cs are_scalars))
+      | inr wide ↦ at_wide c (encodes cs) is_scalar wide
+          ∙ rw (ne_eqb c carriage_return (λ same. omega arith)) (and_true (char_set_contains (break_characters s) c))
+    ]))
+
+-- the byte before a place behind the start
+byte_before-at : (bytes : List ℕ) (n : ℕ) → 0 < n → byte_before bytes n ≡ get_or bytes (n - 1) 0
+byte_before-at bytes zero above = absurd (omega arith)
+byte_before-at bytes (suc n) above = let place : suc n - 1 ≡ n = omega arith in rw place refl
+
+-- the last byte of a character is CR where the character is
+last_byte_is_return : (c : ℕ) (rest : List ℕ) → scalar c ≡ true
+    → is_carriage_return (get_or (encode c ++ rest) (len_utf8 c - 1) 0) ≡ is_carriage_return c
+last_byte_is_return c rest s =
+    elim (cases_lt c 128) [
+      | inl ascii ↦ rw (encode_ascii c ascii, len_utf8_ascii c ascii) refl
+      | inr wide ↦
+          let trailing = later_trailing c s rest (len_utf8 c - 1) (omega (arith, several c wide))
+          (omega (arith, len_utf8_bounds c)) in
+          neither c (get_or (encode c ++ rest) (len_utf8 c - 1) 0) wide trailing.low
+    ]
+  where
+    several : (c : ℕ) → 128 ≤ c → 1 < len_utf8 c
+    several c wide = grind (arith, nat_tests)
+
+    neither : (c b : ℕ) → 128 ≤ c → 128 ≤ b → is_carriage_return b ≡ is_carriage_return c
+    neither c b past past' = grind (arith, nat_tests)
+
+-- the byte before a seam is CR where the text before it ends in CR
+return_at_seam : (front back : List ℕ) → scalars (front ++ back) ≡ true
+    → is_carriage_return (byte_before (encodes (front ++ back)) (size front)) ≡ ends_in_return front
+return_at_seam [] back s = refl
+return_at_seam (c ∷ []) back s =
+    let bytes = encode c ++ encodes back in
+    let bounds = len_utf8_bounds c in
+    let place : size (c ∷ []) - 1 ≡ len_utf8 c - 1 = omega (arith, size-cons c []) in
+    ap is_carriage_return (byte_before-at bytes (size (c ∷ [])) (omega (arith, size-cons c []))
+    ∙ ap (λ n. get_or bytes n 0) place)
+    ∙ last_byte_is_return c (encodes back) (and_parts (scalar c) (scalars back) s).0 ∙ sym (ends_in_return-one c)
+return_at_seam (c ∷ d ∷ front) back s =
+    let parts = and_parts (scalar c) (scalars (d ∷ front ++ back)) s in
+    let rest = encodes (d ∷ front ++ back) in
+    let n = size (d ∷ front) in
+    let some : 0 < n = omega (arith, size-cons d front, len_utf8_bounds d) in
+    let sizes = size-cons c (d ∷ front) in
+    ap is_carriage_return (byte_before-at (encode c ++ rest) (size (c ∷ d ∷ front)) (omega arith)
+    ∙ get_or-behind c rest (n - 1) (size (c ∷ d ∷ front) - 1) (omega arith) ∙ sym (byte_before-at rest n some))
+    ∙ return_at_seam (d ∷ front) back parts.1 ∙ sym (ends_in_return-cons c d front)
+
+-- the place where the text is cut stands between CR and LF where the cut parts CR from LF
+middle_at_cut : (bytes : List ℕ) → IsUtf8 bytes → (end : ℕ)
+    → is_middle bytes (size (cut (chars bytes) end))
+    ≡ joins_crlf (cut (chars bytes) end) (cut_is (chars bytes) end).rest
+middle_at_cut bytes utf8 end =
+    let cs = chars bytes in
+    let front = cut cs end in
+    let parts = cut_is cs end in
+    let all = subst (λ t. scalars t ≡ true) parts.split (scalars-chars bytes utf8) in
+    let before = ap (λ t. is_carriage_return (byte_before t (size front)))
+    (sym (encodes-chars bytes utf8) ∙ ap encodes parts.split) ∙ return_at_seam front parts.rest all in
+    let b : IsBoundary cs (size front) =
+    record { front = front; back = parts.rest; split = parts.split; place = refl } in
+    let behind = ap is_line_feed (get_or-at_boundary bytes utf8 (size front) b)
+    ∙ next_line_feed parts.rest (scalars_parts front parts.rest all).1 ∙ sym (starts_with_feed_is parts.rest) in
+    ap₂ (λ a b. a && b) before behind
+
+-- a cut text has the breaks up to the cut, and one more where the cut parts CR from LF
+pub breaks_of_cut_text : (s : Scheme) → HasReturn s → (bytes : List ℕ) → IsUtf8 bytes → (end : ℕ)
+    → end_count s (cut (chars bytes) end)
+    ≡ ends_up_to s (chars bytes) end + flag (is_middle bytes (size (cut (chars bytes) end)))
+breaks_of_cut_text s has bytes utf8 end = end_count-cut_seam s has (chars bytes) end
+    ∙ ap (λ b. ends_up_to s (chars bytes) end + flag b) (sym (middle_at_cut bytes utf8 end))
+
+-- behind a place between CR and LF stands a byte, which is LF
+pub feed_at_middle : (bytes : List ℕ) (n : ℕ) → is_middle bytes n ≡ true
+    → (n < length bytes) × (get_or bytes n 0 ≡ line_feed)
+feed_at_middle bytes n middle =
+    let both = and_parts (is_carriage_return (byte_before bytes n)) (is_line_feed (get_or bytes n 0)) middle in
+    let feed = eqb-true (get_or bytes n 0) line_feed both.1 in
+    elim (cases_lt n (length bytes)) [
+      | inl inside ↦ (inside, feed)
+      | inr past ↦ absurd (omega (arith, get_or_past bytes n 0 past))
+    ]
