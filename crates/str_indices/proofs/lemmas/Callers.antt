@@ -1,8 +1,7 @@
--- What the proofs of other crates may cite: where a text may be sliced, and where an index past its bytes goes.
+-- What the proofs of other crates may cite: where std lets a text be sliced.
 --     IsCharBoundary-from_boundary    std lets a text be sliced at each boundary
 --     IsBoundary-from_char_boundary   and nowhere else
 --     IsCharBoundary-to_byte_idx      each conversion to a byte index answers such a place
---     to_byte_idx-past                an index above the number of bytes goes to the end of the text
 use Rattle.std.proofs.Common.{◌≡◌, ℕ, ◌≤◌, inl, inr, List, length, get_or, take, drop, arith, true, false, sym, ◌∙◌, ap, subst, chars, IsUtf8, IsCharBoundary}
 use Rattle.std.proofs.lemmas.Bool.{cases_lt}
 use Rattle.std.proofs.lemmas.List.{take-append-drop, length-take-le}
