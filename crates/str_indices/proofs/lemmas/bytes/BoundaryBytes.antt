@@ -1,5 +1,5 @@
 -- Boundaries of a text, by its bytes: where the byte is no trailing byte.
-use Rattle.std.proofs.Common.{◌≡◌, ℕ, zero, suc, ◌+◌, ◌-◌, ◌<◌, ◌≤◌, inl, inr, List, [], ◌∷◌, ◌++◌, length, get_or, refl, arith, true, false, sym, ◌∙◌, ap, subst, append-nil, chars, IsUtf8, IsCharBoundary, Fits, w8}
+use Rattle.std.proofs.Common.{◌≡◌, ℕ, zero, suc, ◌+◌, ◌-◌, ◌<◌, ◌≤◌, inl, inr, List, [], ◌∷◌, ◌++◌, length, get_or, refl, arith, true, false, sym, ◌∙◌, ap, subst, append-nil, chars, IsUtf8}
 use Rattle.std.specs.Char.{len_utf8}
 use Rattle.std.proofs.Math.Utf8.{encode, encodes, scalar, scalars}
 use Rattle.std.proofs.lemmas.Bool.{cases_lt, and_parts}
@@ -9,7 +9,7 @@ use Rattle.str_indices.specs.Relations.{IsBoundary}
 use Rattle.str_indices.specs.Bytes.{is_trailing}
 use Rattle.str_indices.proofs.lemmas.texts.Sizes.{size-cons}
 use Rattle.str_indices.proofs.lemmas.texts.Cuts.{cut_from, cut_from_fits, cut_from_stops, cut_is}
-use Rattle.str_indices.proofs.lemmas.bytes.Characters.{by_encoding, get_or-behind, later_trailing, first_byte, is_trailing_ascii, is_trailing_first, is_trailing_later}
+use Rattle.str_indices.proofs.lemmas.bytes.Characters.{by_encoding, get_or-behind, later_trailing, first_byte, is_trailing_later}
 use Rattle.str_indices.proofs.lemmas.texts.EndSets.{IsBoundary-start}
 use Rattle.str_indices.proofs.lemmas.bytes.Walks.{size-chars, size-cut}
 
@@ -147,16 +147,6 @@ pub trailing_above_start : (bytes : List ℕ) → IsUtf8 bytes → (i : ℕ) →
 trailing_above_start bytes utf8 zero below trails = let clash : true ≡ false = sym trails
     ∙ boundary_begins bytes utf8 0 (IsBoundary-start (chars bytes)) below in cc
 trailing_above_start bytes utf8 (suc i) below trails = omega arith
-
--- where std lets a text be cut is a boundary
-pub char_boundary : (bytes : List ℕ) → IsUtf8 bytes → ((k : ℕ) → Fits w8 (get_or bytes k 0)) → (i : ℕ)
-    → IsCharBoundary bytes i → IsBoundary (chars bytes) i
-char_boundary bytes utf8 fit i b = begins_boundary bytes utf8 i (omega (arith, b.0))
-    (λ inside. leads (get_or bytes i 0) (fit i).fits (b.1 inside))
-  where
-    leads : (byte : ℕ) → byte < 256 → (128 ≤ byte → 192 ≤ byte) → is_trailing byte ≡ false
-    leads byte below above = elim (cases_lt byte 128)
-        [ inl ascii ↦ is_trailing_ascii byte ascii | inr wide ↦ is_trailing_first byte (above wide) below ]
 
 -- no boundary stands before the end of some trailing bytes
 pub no_boundary_before : (bytes : List ℕ) → IsUtf8 bytes → (from at : ℕ) → at ≤ length bytes
