@@ -55,11 +55,24 @@ pub fn byte_of(text: &str, position: Position) -> usize
         result ≡ to_byte_idx Utf16 cs (from_byte_idx Utf16 cs (to_byte_idx line_scheme cs position.line) + position.character) }
     ensures boundary { IsCharBoundary text.now result }
 {
-    // A sum that is cut to `usize::MAX` goes to the text's end, as the whole sum does.
-    laws::past_end(text);
     let line_start = lines::to_byte_idx(text, position.line);
-    let unit = utf16::from_byte_idx(text, line_start).saturating_add(position.character);
-    utf16::to_byte_idx(text, unit)
+    let line_units = utf16::from_byte_idx(text, line_start);
+    byte_of_unit(text, line_units, position.character)
+}
+
+/// The byte index where the char begins that has the unit `more` units behind unit `from`.
+fn byte_of_unit(text: &str, from: usize, more: usize) -> usize
+    ensures answer { result ≡ to_byte_idx Utf16 (chars text.now) (from + more) }
+    ensures boundary { IsCharBoundary text.now result }
+{
+    match from.checked_add(more) {
+        Some(unit) => utf16::to_byte_idx(text, unit),
+        // No text has so many units.
+        None => {
+            laws::past_end(text);
+            text.len()
+        }
+    }
 }
 
 /// From a byte index to its position and back: the greatest boundary at or before the byte.

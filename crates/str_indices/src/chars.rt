@@ -34,6 +34,8 @@ pub fn from_byte_idx(text: &str, byte_idx: usize) -> usize
 /// Converts a char index to the byte index where that char begins.
 ///
 /// Any index past the last char gives the length of the text in bytes.
+///
+/// The text may be sliced at the answer.
 pub fn to_byte_idx(text: &str, char_idx: usize) -> usize
     ensures answer { result ≡ to_byte_idx Chars (chars text.now) char_idx }
     ensures boundary { IsCharBoundary text.now result }

@@ -120,17 +120,17 @@ pub fn monotone(text: &str, i: usize, j: usize)
         to_byte_idx s (chars text.now) i ≤ to_byte_idx s (chars text.now) j }
 {}
 
-/// An index that is at least the text's length in bytes goes to its end: no text has more chars, UTF-16 code units or line
-/// breaks than bytes.
+/// An index that is at least the text's length in bytes goes to its end: no text has more chars, UTF-16 code units or
+/// line breaks than bytes.
 ///
 /// A caller that adds to an index relies on it: where the sum does not fit `usize`, `usize::MAX` goes to the same byte.
 pub fn past_end(text: &str)
     ensures { (s : Scheme) (k : ℕ) → length text.now ≤ k → to_byte_idx s (chars text.now) k ≡ length text.now }
 {}
 
-/// Each conversion to a byte index answers a place between characters. Three definitions compute what a relation says:
-/// `ends`, in increasing order, the places with `IsEnd`; `cut` the text with `IsLongestCut`; and `to_byte_idx` in UTF-16
-/// the place with `IsGreatestWithin`.
+/// Each conversion to a byte index answers a place between characters, and these places are where `std` lets the text be
+/// sliced. Three definitions compute what a relation says: `ends`, in increasing order, the places with `IsEnd`; `cut`
+/// the text with `IsLongestCut`; and `to_byte_idx` in UTF-16 the place with `IsGreatestWithin`.
 ///
 /// A position mapper of a language server relies on it: the text may be split at each byte index that a conversion
 /// answers.

@@ -39,6 +39,8 @@ pub fn from_byte_idx(text: &str, byte_idx: usize) -> usize
 /// Converts a line index to the byte index where that line begins: 0, or right behind a line break.
 ///
 /// An index past the last line gives the length of the text in bytes.
+///
+/// The text may be sliced at the answer.
 pub fn to_byte_idx(text: &str, line_idx: usize) -> usize
     ensures answer { result ≡ to_byte_idx Lf (chars text.now) line_idx }
     ensures boundary { IsCharBoundary text.now result }

@@ -46,7 +46,10 @@ pub fn from_byte_idx(text: &str, byte_idx: usize) -> usize
 
 /// Converts a UTF-16 code unit index to the byte index where the char of that unit begins.
 ///
-/// The second unit of a surrogate pair belongs to its char. An index past the last unit gives the length of the text in bytes.
+/// The second unit of a surrogate pair belongs to its char. An index past the last unit gives the length of the
+/// text in bytes.
+///
+/// The text may be sliced at the answer.
 pub fn to_byte_idx(text: &str, utf16_idx: usize) -> usize
     ensures answer { result ≡ to_byte_idx Utf16 (chars text.now) utf16_idx }
     ensures boundary { IsCharBoundary text.now result }

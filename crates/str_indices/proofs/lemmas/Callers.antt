@@ -1,8 +1,7 @@
--- What the proofs of other crates may cite: where a text may be sliced, and where an index past its bytes goes.
+-- What the proofs of other crates may cite: where std lets a text be sliced.
 --     IsCharBoundary-from_boundary    std lets a text be sliced at each boundary
 --     IsBoundary-from_char_boundary   and nowhere else
 --     IsCharBoundary-to_byte_idx      each conversion to a byte index answers such a place
---     to_byte_idx-past                an index above the number of bytes goes to the end of the text
 use Rattle.std.proofs.Common.{◌≡◌, ℕ, ◌≤◌, inl, inr, List, length, get_or, take, drop, arith, true, false, sym, ◌∙◌, ap, subst, chars, IsUtf8, IsCharBoundary}
 use Rattle.std.proofs.lemmas.Bool.{cases_lt}
 use Rattle.std.proofs.lemmas.List.{take-append-drop, length-take-le}
@@ -15,7 +14,7 @@ use Rattle.str_indices.proofs.lemmas.texts.Sizes.{size-append}
 use Rattle.str_indices.proofs.lemmas.laws.CharacterLaws.{IsBoundary-to_byte_idx}
 use Rattle.str_indices.proofs.lemmas.bytes.Characters.{is_trailing_later}
 use Rattle.str_indices.proofs.lemmas.bytes.Walks.{size-chars}
-use Rattle.str_indices.proofs.lemmas.bytes.BoundaryBytes.{boundary_begins}
+use Rattle.str_indices.proofs.lemmas.bytes.BoundaryBytes.{boundary_begins, std_boundary}
 
 -- std lets a text be sliced at each boundary
 pub IsCharBoundary-from_boundary : (bytes : List ℕ) → IsUtf8 bytes → (p : ℕ) → IsBoundary (chars bytes) p
@@ -36,14 +35,7 @@ IsCharBoundary-from_boundary bytes utf8 p at =
 -- a place where std lets a text be sliced is a boundary
 pub IsBoundary-from_char_boundary : (bytes : List ℕ) → IsUtf8 bytes → (p : ℕ) → IsCharBoundary bytes p
     → IsBoundary (chars bytes) p
-IsBoundary-from_char_boundary bytes utf8 p at =
-    let front_utf8 = IsUtf8-take bytes p utf8 at in
-    record {
-      front = chars (take p bytes);
-      back = chars (drop p bytes);
-      split = ap chars (sym (take-append-drop p bytes)) ∙ chars-append (take p bytes) (drop p bytes) front_utf8;
-      place = size-chars (take p bytes) front_utf8 ∙ length-take-le p bytes at.0;
-    }
+IsBoundary-from_char_boundary bytes utf8 p at = std_boundary bytes utf8 p at
 
 -- what a conversion to a byte index answers is a place where std lets the text be sliced
 pub IsCharBoundary-to_byte_idx : (s : Scheme) (bytes : List ℕ) → IsUtf8 bytes → (k p : ℕ)

@@ -1,5 +1,5 @@
 -- Boundaries of a text, by its bytes: where the byte is no trailing byte.
-use Rattle.std.proofs.Common.{◌≡◌, ℕ, zero, suc, ◌+◌, ◌-◌, ◌<◌, ◌≤◌, inl, inr, List, [], ◌∷◌, ◌++◌, length, get_or, refl, arith, true, false, take, drop, sym, ◌∙◌, ap, subst, chars, IsUtf8, IsCharBoundary, Fits, w8}
+use Rattle.std.proofs.Common.{◌≡◌, ℕ, zero, suc, ◌+◌, ◌-◌, ◌<◌, ◌≤◌, inl, inr, List, [], ◌∷◌, ◌++◌, length, get_or, refl, arith, true, false, take, drop, sym, ◌∙◌, ap, subst, chars, IsUtf8, IsCharBoundary}
 use Rattle.std.proofs.Math.Utf8.{encode, encodes, scalar, scalars}
 use Rattle.std.proofs.lemmas.Bool.{cases_lt, and_parts}
 use Rattle.std.proofs.lemmas.List.{take-append-drop, length-take-le}
@@ -24,11 +24,6 @@ std_boundary bytes utf8 i b =
       split = ap chars (sym (take-append-drop i bytes)) ∙ chars-append (take i bytes) (drop i bytes) before;
       place = size-chars (take i bytes) before ∙ length-take-le i bytes b.0;
     }
-
--- where std lets a text be cut is a boundary
-pub char_boundary : (bytes : List ℕ) → IsUtf8 bytes → ((k : ℕ) → Fits w8 (get_or bytes k 0)) → (i : ℕ)
-    → IsCharBoundary bytes i → IsBoundary (chars bytes) i
-char_boundary bytes utf8 fit i b = std_boundary bytes utf8 i b
 
 -- where a byte is no trailing byte, and at the end, there is a boundary
 pub begins_boundary : (bytes : List ℕ) → IsUtf8 bytes → (i : ℕ) → i ≤ length bytes
