@@ -49,8 +49,9 @@ pub fn position_of(text: &str, byte: usize) -> Position
 /// The byte index where the char at a position begins.
 ///
 /// The second unit of a surrogate pair belongs to its char. An offset past the end of the line is not cut back to it,
-/// but goes on into the lines behind. A position past the end of the text gives the text's length in bytes. The text may
-/// be sliced at the answer.
+/// but goes on into the lines behind. A position past the end of the text gives the text's length in bytes.
+///
+/// The text may be sliced at the answer.
 pub fn byte_of(text: &str, position: Position) -> usize
     ensures answer { let cs = chars text.now in
         result ≡ to_byte_idx Utf16 cs
