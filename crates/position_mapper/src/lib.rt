@@ -50,9 +50,12 @@ pub fn position_of(text: &str, byte: usize) -> Position
 ///
 /// The second unit of a surrogate pair belongs to its char. An offset past the end of the line is not cut back to it,
 /// but goes on into the lines behind. A position past the end of the text gives the text's length in bytes.
+///
+/// The text may be sliced at the answer.
 pub fn byte_of(text: &str, position: Position) -> usize
     ensures answer { let cs = chars text.now in
-        result ≡ to_byte_idx Utf16 cs (from_byte_idx Utf16 cs (to_byte_idx line_scheme cs position.line) + position.character) }
+        result ≡ to_byte_idx Utf16 cs
+        (from_byte_idx Utf16 cs (to_byte_idx line_scheme cs position.line) + position.character) }
     ensures boundary { IsCharBoundary text.now result }
 {
     let line_start = lines::to_byte_idx(text, position.line);

@@ -1,5 +1,5 @@
-use Rattle.std.proofs.Common.{◌≡◌, arith, chars, subst}
-use Rattle.str_indices.specs.Schemes.{Utf16, from_byte_idx, to_byte_idx}
+use Rattle.std.proofs.Common.{arith, chars, subst}
+use Rattle.str_indices.specs.Schemes.{Utf16}
 use Rattle.str_indices.specs.Starts.{IsGreatestBoundary}
 use Rattle.position_mapper.proofs.round_trip.Goals as goal
 

@@ -15,7 +15,7 @@ use Rattle.str_indices.proofs.lemmas.texts.EndSets.{ends_increase_within}
 use Rattle.str_indices.proofs.lemmas.texts.Units.{boundary_at_units_is_greatest}
 use Rattle.str_indices.proofs.lemmas.bytes.Walks.{size-chars}
 
--- of increasing numbers up to a bound, the k-th is the bound where so many bring one to it, and there are none behind it
+-- of numbers that increase up to a bound, the k-th is the bound where so many must have reached it
 get_or-past : (low : ℕ) (es : List ℕ) (high k : ℕ) → IncreasesWithin low es high → high ≤ low + suc k
     → get_or es k high ≡ high
 get_or-past low [] high k h past = refl
