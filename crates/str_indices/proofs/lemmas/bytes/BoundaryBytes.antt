@@ -193,6 +193,6 @@ still_behind_cut f bytes utf8 end within none =
     omega (
       arith,
       ap (sum_below f) fits,
-      sum_below-still f place (end - place)
-          (λ j l. none (place + j) (wide_behind_cut bytes utf8 end (place + j) (omega arith) (omega arith) (omega arith))),
+      sum_below-still f place (end - place) (λ j l.
+          none (place + j) (wide_behind_cut bytes utf8 end (place + j) (omega arith) (omega arith) (omega arith))),
     )

@@ -133,8 +133,7 @@ end_is_near counted leads text led seen same same' utf8 at size k end stopped wi
             absurd (omega (
               arith,
               leads text (at + size) end (omega arith),
-              sum_below-le-sum_below f (at + size + 4)
-                  end far,
+              sum_below-le-sum_below f (at + size + 4) end far,
             ))
       ]
     ]

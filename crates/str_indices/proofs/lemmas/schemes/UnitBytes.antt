@@ -199,16 +199,13 @@ units_between bytes from at trailing fours count le counted in_trailing in_fours
 
 -- units grow by at least one at each leading byte
 pub units_count_leading : CountsLeading units_before
-units_count_leading bytes m n le = omega (
-  arith,
-  sum_below-le-sum_below
-      (λ j. mark begins_four_bytes (get_or bytes j 0)) m n le,
-)
+units_count_leading bytes m n le =
+    omega (arith, sum_below-le-sum_below (λ j. mark begins_four_bytes (get_or bytes j 0)) m n le)
 
 -- one byte more
 pub units_before-next : (bytes : List ℕ) (i : ℕ)
-    → units_before bytes (i + 1) ≡ units_before bytes
-    i + (mark is_leading (get_or bytes i 0) + mark begins_four_bytes (get_or bytes i 0))
+    → units_before bytes (i + 1)
+    ≡ units_before bytes i + (mark is_leading (get_or bytes i 0) + mark begins_four_bytes (get_or bytes i 0))
 units_before-next bytes i = omega (
   arith,
   ap (passing_before is_leading bytes) (add-one i),
@@ -234,14 +231,8 @@ shows_unit bytes i more =
 
 -- a boundary is no further than the end of the text
 boundary_within : (bytes : List ℕ) → IsUtf8 bytes → (p : ℕ) → IsBoundary (chars bytes) p → p ≤ length bytes
-boundary_within bytes utf8 p b = omega (
-  arith,
-  b.place,
-  ap size b.split,
-  size-append b.front b.back,
-  size-chars bytes
-      utf8,
-)
+boundary_within bytes utf8 p b =
+    omega (arith, b.place, ap size b.split, size-append b.front b.back, size-chars bytes utf8)
 
 -- a boundary with at most k units before it, and more before the next byte, if there is one, is where the conversion
 -- of k answers
