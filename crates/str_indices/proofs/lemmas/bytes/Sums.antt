@@ -30,7 +30,7 @@ pub sum_below-more : (f : ℕ → ℕ) → ((j : ℕ) → f j ≤ 1) → (m n : 
 sum_below-more f one m n = omega (arith, sum_below-add f m n, sum_below-le (λ j. f (m + j)) (λ j. one (m + j)) n)
 
 -- a flag is at most one
-flag-le : (b : Bool) → flag b ≤ 1
+pub flag-le : (b : Bool) → flag b ≤ 1
 flag-le true = omega arith
 flag-le false = omega arith
 

@@ -7,9 +7,9 @@ use Rattle.std.proofs.lemmas.Bool.{cases_lt, cases_Bool}
 use Rattle.std.proofs.lemmas.Bool.Decides.{nat_tests}
 use Rattle.str_indices.specs.Text.{carriage_return, line_feed, size, cut}
 use Rattle.str_indices.specs.Schemes.{Lines, break_characters, count, from_byte_idx, to_byte_idx, ends_up_to}
-use Rattle.str_indices.specs.Breaks.{flag, is_break, break_at, breaks_before}
+use Rattle.str_indices.specs.Breaks.{is_break, break_at, breaks_before}
 use Rattle.str_indices.specs.Relations.{IsBoundary}
-use Rattle.str_indices.specs.Bytes.{is_middle}
+use Rattle.str_indices.specs.Bytes.{flag, is_middle}
 use Rattle.str_indices.proofs.lemmas.texts.Cuts.{cut_is}
 use Rattle.str_indices.proofs.lemmas.texts.Ends.{end_weight, end_count_total, cut-cut}
 use Rattle.str_indices.proofs.lemmas.texts.Seams.{lines_has_return}

@@ -6,13 +6,13 @@ use Rattle.std.proofs.Math.Utf8.{encode, encodes, scalar}
 use Rattle.std.proofs.lemmas.Bool.{cases_lt, cases_eq, cases_Bool, ne_eqb, agree_below_at, lt-leb, le-leb, eqb-true}
 use Rattle.std.proofs.lemmas.List.Sums.{sum_by-le-sum_by}
 use Rattle.std.proofs.lemmas.Nat.{and_assoc}
-use Rattle.std.proofs.lemmas.Str.{len_utf8_bounds, length-encode}
+use Rattle.std.proofs.lemmas.Str.{length-encode}
 use Rattle.str_indices.specs.Text.{size, cut, weight}
 use Rattle.str_indices.specs.Schemes.{count, Chars, Utf16, units, surrogates, boundary_at_units}
 use Rattle.str_indices.specs.Relations.{IsBoundary}
 use Rattle.str_indices.specs.Bytes.{flag, mark, passing_before, is_trailing, is_leading, begins_four_bytes, units_before, byte_before}
 use Rattle.str_indices.proofs.lemmas.texts.Sizes.{size-append, boundary_beside}
-use Rattle.str_indices.proofs.lemmas.texts.Units.{units_at, boundary_at_units_is_greatest, count-units, count-characters-surrogates}
+use Rattle.str_indices.proofs.lemmas.texts.Units.{units_at, boundary_at_units_is_greatest, count-units, count-characters-surrogates, weight-le}
 use Rattle.str_indices.proofs.lemmas.bytes.Sums.{sum_below-le-sum_below, sum_below-still, mark-le, passing_or_not, passing_before-between}
 use Rattle.str_indices.proofs.lemmas.bytes.Characters.{by_size}
 use Rattle.str_indices.proofs.lemmas.bytes.Walks.{AddsAtFirst, bytes_to_boundary, boundary_at_end, size-chars}
@@ -114,12 +114,6 @@ units_of_cut cs end = count-characters-surrogates (cut cs end)
 -- a text takes at least as many bytes as units
 pub count-le-size : (cs : List ℕ) → count Utf16 cs ≤ size cs
 count-le-size cs = omega (arith, count-units cs, sum_by-le-sum_by weight len_utf8 cs weight-le)
-  where
-    weight-le : (c : ℕ) → weight c ≤ len_utf8 c
-    weight-le c = elim (cases_eq (len_utf8 c) 4) [
-      | inl four ↦ rw four (omega arith)
-      | inr other ↦ rw (ne_eqb (len_utf8 c) 4 other) (omega (arith, len_utf8_bounds c))
-    ]
 
 -- before a boundary the units that the bytes show are those of the characters
 units_at_boundary : (bytes : List ℕ) → IsUtf8 bytes → (p : ℕ) → IsBoundary (chars bytes) p

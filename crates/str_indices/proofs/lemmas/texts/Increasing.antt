@@ -14,7 +14,7 @@ IncreasesWithin low [] high = low ≤ high
 IncreasesWithin low (e ∷ es) high = (low < e) × IncreasesWithin e es high
 
 -- low is at most high
-low_le_high : (low : ℕ) (es : List ℕ) (high : ℕ) → IncreasesWithin low es high → low ≤ high
+pub low_le_high : (low : ℕ) (es : List ℕ) (high : ℕ) → IncreasesWithin low es high → low ≤ high
 low_le_high low [] high h = h
 low_le_high low (e ∷ es) high h = omega (arith, low_le_high e es high h.1, h.0)
 

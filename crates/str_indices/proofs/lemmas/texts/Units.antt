@@ -1,9 +1,10 @@
 -- The UTF-16 code units before a place, and the greatest boundary before which a text takes at most so many.
 use Rattle.std.proofs.Common.{◌≡◌, ℕ, ◌≤◌, inl, inr, List, [], ◌∷◌, max, arith, All, Bool, true, ◌+◌, ◌⊎◌, refl, false, cond, ap}
 use Rattle.std.specs.Prelude.{filter, fold, nat_le, ◌==◌, sum_by, Contains}
-use Rattle.std.proofs.lemmas.Bool.{cases_lt, cases_Bool, both_ways, le-leb, leb-true}
+use Rattle.std.proofs.lemmas.Bool.{cases_lt, cases_eq, cases_Bool, both_ways, le-leb, leb-true, ne_eqb}
 use Rattle.std.proofs.lemmas.List.Elements.{All-nil, All-cons, All-head, All-tail, All-weaker, All-filter, All-contains, All-contains_itself, Contains-append_right, filter_passes}
 use Rattle.std.specs.Char.{len_utf8}
+use Rattle.std.proofs.lemmas.Str.{len_utf8_bounds}
 use Rattle.std.proofs.lemmas.List.Sums.{sum_by-cons, sum_by-append}
 use Rattle.str_indices.specs.Text.{size, weight, cut}
 use Rattle.str_indices.specs.Schemes.{Chars, Utf16, ends, units, boundaries, boundary_at_units, count, surrogates}
@@ -114,6 +115,14 @@ weight_is_one_or_two c = by_test (len_utf8 c == 4)
     by_test : (four : Bool) → (◌≡◌ {A = ℕ} (cond four 2 1) 1) ⊎ (◌≡◌ {A = ℕ} (cond four 2 1) 2)
     by_test true = inr refl
     by_test false = inl refl
+
+-- a character takes at least as many bytes as units
+pub weight-le : (c : ℕ) → weight c ≤ len_utf8 c
+weight-le c =
+    elim (cases_eq (len_utf8 c) 4) [
+      | inl four ↦ rw four (omega arith)
+      | inr other ↦ rw (ne_eqb (len_utf8 c) 4 other) (omega (arith, len_utf8_bounds c))
+    ]
 
 -- the characters take one unit each, and one more for each surrogate pair
 sum_by-weight : (cs : List ℕ) → sum_by weight cs ≡ sum_by (λ _. 1) cs + surrogates cs
