@@ -115,8 +115,7 @@ CountsLeading counted = (bytes : List ℕ) (m n : ℕ) → m ≤ n
     → passing_before is_leading bytes n + counted bytes m ≤ passing_before is_leading bytes m + counted bytes n
 
 -- Where less than a chunk is left, or what the chunk at `at` counts reaches k, a place with at most k counted before
--- it is less
--- than four bytes behind the chunk.
+-- it is less than four bytes behind the chunk.
 pub end_is_near : (counted : List ℕ → ℕ → ℕ) → CountsLeading counted → (text led seen : List ℕ) → led ≡ text
     → seen ≡ text → IsUtf8 text → (at size k end : ℕ) → (length led < at + size) ⊎ (k ≤ counted led (at + size))
     → end ≤ length text → counted seen end ≤ k → end < at + size + 4
