@@ -29,8 +29,8 @@ frog = 0x1F438
 
 -- Hel🐸lo world! こん🐸にち🐸🐸は!
 abbrev greeting_with_frogs : Text
-greeting_with_frogs = codes "Hel" ++ frog ∷ codes "lo world! " ++ 0x3053 ∷ 0x3093 ∷ frog ∷ 0x306B ∷ 0x3061 ∷ frog ∷
-    frog ∷ 0x306F ∷ codes "!"
+greeting_with_frogs = codes "Hel" ++ frog ∷ codes "lo world! "
+    ++ 0x3053 ∷ 0x3093 ∷ frog ∷ 0x306B ∷ 0x3061 ∷ frog ∷ frog ∷ 0x306F ∷ codes "!"
 
 -- aaaaaaa🐸b
 abbrev letters_around_frog : Text
@@ -52,26 +52,33 @@ next_line_after_accent = 0xE9 ∷ next_line ∷ codes "x"
 
 -- seven breaks by `Lines`; LF is in three of them, one of which is CRLF
 abbrev seven_breaks : Text
-seven_breaks = line_feed ∷ codes "Hello" ++ carriage_return ∷ line_feed ∷ 0x305B ∷ vertical_tab ∷ 0x304B ∷
-    form_feed ∷ 0x3044 ∷ next_line ∷ codes ". There" ++ line_feed ∷ codes "is something." ++ paragraph_separator ∷ []
+seven_breaks = line_feed ∷ codes "Hello"
+    ++ carriage_return ∷ line_feed ∷ 0x305B ∷ vertical_tab ∷ 0x304B ∷ form_feed ∷ 0x3044 ∷ next_line ∷ codes ". There"
+    ++ line_feed ∷ codes "is something."
+    ++ paragraph_separator ∷ []
 
 -- eight breaks by `Lines`, of each kind
 abbrev every_break : Text
-every_break = line_feed ∷ codes "Hello" ++ carriage_return ∷ line_feed ∷ carriage_return ∷ 0x305B ∷ vertical_tab ∷
-    0x304B ∷ form_feed ∷ 0x3044 ∷ next_line ∷ codes ". There" ++ line_separator ∷ codes "is something." ++ paragraph_separator ∷ []
+every_break = line_feed ∷ codes "Hello"
+    ++ carriage_return ∷ line_feed ∷ carriage_return ∷ 0x305B ∷ vertical_tab ∷ 0x304B ∷ form_feed ∷ 0x3044 ∷ next_line
+    ∷ codes ". There"
+    ++ line_separator ∷ codes "is something."
+    ++ paragraph_separator ∷ []
 
 -- Characters
 
-five_greetings_have_54_characters : count Chars
-    (greeting ++ codes " " ++ greeting ++ codes " " ++ greeting ++ codes " " ++ greeting ++ codes " " ++ greeting) ≡ 54
+five_greetings_have_54_characters :
+    count Chars
+    (greeting ++ codes " " ++ greeting ++ codes " " ++ greeting ++ codes " " ++ greeting ++ codes " " ++ greeting)
+    ≡ 54
 five_greetings_have_54_characters = refl
 
-byte_inside_a_character_is_before_its_end : map (from_byte_idx Chars sekai) (0 ∷ 2 ∷ 3 ∷ 8 ∷ 9 ∷ 12 ∷ []) ≡ 0 ∷ 0 ∷
-    1 ∷ 2 ∷ 3 ∷ 3 ∷ []
+byte_inside_a_character_is_before_its_end : map (from_byte_idx Chars sekai) (0 ∷ 2 ∷ 3 ∷ 8 ∷ 9 ∷ 12 ∷ [])
+    ≡ 0 ∷ 0 ∷ 1 ∷ 2 ∷ 3 ∷ 3 ∷ []
 byte_inside_a_character_is_before_its_end = refl
 
-each_character_begins_at_its_byte : map (to_byte_idx Chars greeting) (0 ∷ 1 ∷ 2 ∷ 5 ∷ 6 ∷ 8 ∷ 9 ∷ 10 ∷ []) ≡ 0 ∷ 1 ∷
-    2 ∷ 5 ∷ 6 ∷ 12 ∷ 15 ∷ 16 ∷ []
+each_character_begins_at_its_byte : map (to_byte_idx Chars greeting) (0 ∷ 1 ∷ 2 ∷ 5 ∷ 6 ∷ 8 ∷ 9 ∷ 10 ∷ [])
+    ≡ 0 ∷ 1 ∷ 2 ∷ 5 ∷ 6 ∷ 12 ∷ 15 ∷ 16 ∷ []
 each_character_begins_at_its_byte = refl
 
 -- UTF-16 code units
@@ -82,16 +89,18 @@ frogs_have_two_units_each = refl
 frogs_are_surrogate_pairs : surrogates greeting_with_frogs ≡ 4
 frogs_are_surrogate_pairs = refl
 
-units_count_from_the_end_of_the_frog : map (from_byte_idx Utf16 greeting_with_frogs)
-    (3 ∷ 6 ∷ 7 ∷ 26 ∷ 27 ∷ 45 ∷ 46 ∷ []) ≡ 3 ∷ 3 ∷ 5 ∷ 17 ∷ 19 ∷ 27 ∷ 27 ∷ []
+units_count_from_the_end_of_the_frog :
+    map (from_byte_idx Utf16 greeting_with_frogs) (3 ∷ 6 ∷ 7 ∷ 26 ∷ 27 ∷ 45 ∷ 46 ∷ [])
+    ≡ 3 ∷ 3 ∷ 5 ∷ 17 ∷ 19 ∷ 27 ∷ 27 ∷ []
 units_count_from_the_end_of_the_frog = refl
 
-second_unit_is_at_the_byte_of_the_first : map (to_byte_idx Utf16 greeting_with_frogs)
-    (17 ∷ 18 ∷ 19 ∷ 27 ∷ 28 ∷ []) ≡ 23 ∷ 23 ∷ 27 ∷ 45 ∷ 45 ∷ []
+second_unit_is_at_the_byte_of_the_first :
+    map (to_byte_idx Utf16 greeting_with_frogs) (17 ∷ 18 ∷ 19 ∷ 27 ∷ 28 ∷ [])
+    ≡ 23 ∷ 23 ∷ 27 ∷ 45 ∷ 45 ∷ []
 second_unit_is_at_the_byte_of_the_first = refl
 
-unit_past_the_last_is_at_the_size : map (to_byte_idx Utf16 letters_around_frog) (7 ∷ 8 ∷ 9 ∷ 10 ∷ 11 ∷ []) ≡ 7 ∷ 7 ∷
-    11 ∷ 12 ∷ 12 ∷ []
+unit_past_the_last_is_at_the_size : map (to_byte_idx Utf16 letters_around_frog) (7 ∷ 8 ∷ 9 ∷ 10 ∷ 11 ∷ [])
+    ≡ 7 ∷ 7 ∷ 11 ∷ 12 ∷ 12 ∷ []
 unit_past_the_last_is_at_the_size = refl
 
 many_frogs_have_twice_as_many_units : count Utf16 (replicate 1025 frog) ≡ 2050
@@ -102,8 +111,9 @@ last_units_of_many_frogs = refl
 
 -- Lines, by all three sets of breaks
 
-crlf_counts_from_behind_its_line_feed : map (λ s. map (from_byte_idx s letters_around_crlf) (2 ∷ 3 ∷ []))
-    line_schemes ≡ replicate 3 (0 ∷ 1 ∷ [])
+crlf_counts_from_behind_its_line_feed :
+    map (λ s. map (from_byte_idx s letters_around_crlf) (2 ∷ 3 ∷ [])) line_schemes
+    ≡ replicate 3 (0 ∷ 1 ∷ [])
 crlf_counts_from_behind_its_line_feed = refl
 
 line_begins_behind_crlf : map (λ s. to_byte_idx s letters_around_crlf 1) line_schemes ≡ replicate 3 3
@@ -112,8 +122,9 @@ line_begins_behind_crlf = refl
 many_line_feeds_are_as_many_breaks : map (λ s. count s (replicate 4097 line_feed)) line_schemes ≡ replicate 3 4097
 many_line_feeds_are_as_many_breaks = refl
 
-line_past_the_last_is_at_the_size : map (λ s. map (to_byte_idx s (replicate 4097 line_feed)) (4096 ∷ 4098 ∷ []))
-    line_schemes ≡ replicate 3 (4096 ∷ 4097 ∷ [])
+line_past_the_last_is_at_the_size :
+    map (λ s. map (to_byte_idx s (replicate 4097 line_feed)) (4096 ∷ 4098 ∷ [])) line_schemes
+    ≡ replicate 3 (4096 ∷ 4097 ∷ [])
 line_past_the_last_is_at_the_size = refl
 
 -- Lines, by LF alone
@@ -157,12 +168,14 @@ line_begins_behind_next_line = refl
 empty_text_counts_nothing : map (λ s. count s []) every_scheme ≡ replicate 5 0
 empty_text_counts_nothing = refl
 
-nothing_is_before_any_byte_of_the_empty_text : map (λ s. map (from_byte_idx s []) (0 ∷ greatest_index ∷ []))
-    every_scheme ≡ replicate 5 (0 ∷ 0 ∷ [])
+nothing_is_before_any_byte_of_the_empty_text :
+    map (λ s. map (from_byte_idx s []) (0 ∷ greatest_index ∷ [])) every_scheme
+    ≡ replicate 5 (0 ∷ 0 ∷ [])
 nothing_is_before_any_byte_of_the_empty_text = refl
 
-any_index_of_the_empty_text_is_at_byte_0 : map (λ s. map (to_byte_idx s []) (0 ∷ greatest_index ∷ []))
-    every_scheme ≡ replicate 5 (0 ∷ 0 ∷ [])
+any_index_of_the_empty_text_is_at_byte_0 :
+    map (λ s. map (to_byte_idx s []) (0 ∷ greatest_index ∷ [])) every_scheme
+    ≡ replicate 5 (0 ∷ 0 ∷ [])
 any_index_of_the_empty_text_is_at_byte_0 = refl
 
 -- Cuts

@@ -15,8 +15,7 @@ pub record IsGreatestBoundary (text : Text) (byte p : ℕ) : Type 0 where
   pub greatest : (q : ℕ) → IsBoundary text q → q ≤ byte → q ≤ p
 
 -- p is an end or 0, at or before the byte index, and no greater end is. Ends are above 0, so that p is 0 only where
--- no end
--- is at or before the byte index.
+-- no end is at or before the byte index.
 pub record IsGreatestEnd (s : Scheme) (text : Text) (byte p : ℕ) : Type 0 where
   pub end_or_zero : IsEnd s text p ⊎ (p ≡ 0)
   pub at_or_before : p ≤ byte

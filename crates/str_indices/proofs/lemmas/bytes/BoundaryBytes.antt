@@ -15,8 +15,8 @@ use Rattle.str_indices.proofs.lemmas.bytes.Characters.{first_byte, is_trailing_l
 use Rattle.str_indices.proofs.lemmas.bytes.Walks.{size-chars, get_or-at_boundary}
 
 -- where std lets a text be cut is a boundary
-pub std_boundary : (bytes : List ℕ) → IsUtf8 bytes → (i : ℕ) → IsCharBoundary bytes i → IsBoundary (chars bytes) i
-std_boundary bytes utf8 i b =
+pub IsBoundary-from_char_boundary : (bytes : List ℕ) → IsUtf8 bytes → (i : ℕ) → IsCharBoundary bytes i → IsBoundary (chars bytes) i
+IsBoundary-from_char_boundary bytes utf8 i b =
     let before = IsUtf8-take bytes i utf8 b in
     record {
       front = chars (take i bytes);
@@ -28,7 +28,7 @@ std_boundary bytes utf8 i b =
 -- where a byte is no trailing byte, and at the end, there is a boundary
 pub begins_boundary : (bytes : List ℕ) → IsUtf8 bytes → (i : ℕ) → i ≤ length bytes
     → (i < length bytes → is_trailing (get_or bytes i 0) ≡ false) → IsBoundary (chars bytes) i
-begins_boundary bytes utf8 i le first = std_boundary bytes utf8 i (
+begins_boundary bytes utf8 i le first = IsBoundary-from_char_boundary bytes utf8 i (
   le,
   λ inside wide. elim (cases_lt (get_or bytes i 0) 192) [
     | inr begins ↦ begins
@@ -175,7 +175,7 @@ wide_behind_cut bytes utf8 end j below behind before =
     elim (cases_lt (get_or bytes j 0) 128) [
       | inr wide ↦ wide
       | inl ascii ↦
-          let next = std_boundary bytes utf8 (j + 1) (IsCharBoundary-after_ascii bytes j utf8 below ascii) in
+          let next = IsBoundary-from_char_boundary bytes utf8 (j + 1) (IsCharBoundary-after_ascii bytes j utf8 below ascii) in
           absurd (omega (arith, boundary-le-cut (chars bytes) (j + 1) end next (omega arith)))
     ]
 
@@ -188,6 +188,6 @@ still_behind_cut f bytes utf8 end within none =
     omega (
       arith,
       ap (sum_below f) fits,
-      sum_below-still f place (end - place)
-          (λ j l. none (place + j) (wide_behind_cut bytes utf8 end (place + j) (omega arith) (omega arith) (omega arith))),
+      sum_below-still f place (end - place) (λ j l.
+          none (place + j) (wide_behind_cut bytes utf8 end (place + j) (omega arith) (omega arith) (omega arith))),
     )

@@ -87,19 +87,18 @@ is_trailing_ascii b h = rw (trailing_range b (omega arith), lt-leb 128 b h)
 
 -- nor is a byte from 192 on
 pub is_trailing_first : (b : ℕ) → 192 ≤ b → b < 256 → is_trailing b ≡ false
-is_trailing_first b g h = let above : 128 ≤ b =
-    omega arith in rw (trailing_range b h, le-leb 128 b above, le-ltb b 192 g)
+is_trailing_first b g h = rw (trailing_range b h, le-leb 128 b (omega arith), le-ltb b 192 g)
 
 -- the bytes between are
 pub is_trailing_later : (b : ℕ) → IsTrailing b → is_trailing b ≡ true
-is_trailing_later b t = let low = t.low in let high =
-    t.high in rw (trailing_range b (omega arith), le-leb 128 b low, lt-ltb b 192 high)
+is_trailing_later b t = rw (trailing_range b (omega (arith, t.high)), le-leb 128 b t.low, lt-ltb b 192 t.high)
 
 -- the bytes behind a character
 pub get_or-behind : (c : ℕ) (bytes : List ℕ) (j k : ℕ) → k ≡ len_utf8 c + j
     → get_or (encode c ++ bytes) k 0 ≡ get_or bytes j 0
-get_or-behind c bytes j k e = let at : k ≡ length (encode c) + j = omega (arith, length-encode c) in rw at
-    (get_or-append-add (encode c) bytes j 0)
+get_or-behind c bytes j k e =
+    let at : k ≡ length (encode c) + j = omega (arith, length-encode c) in
+    rw at (get_or-append-add (encode c) bytes j 0)
 
 -- every byte of a character behind its first is a trailing byte
 pub later_trailing : (c : ℕ) → scalar c ≡ true → (rest : List ℕ) (j : ℕ) → 0 < j → j < len_utf8 c

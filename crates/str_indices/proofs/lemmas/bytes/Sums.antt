@@ -16,12 +16,8 @@ sum_below-front f (suc n) = omega (arith, sum_below-front f n)
 -- numbers that agree below n have one sum there
 pub sum_below-same : (f g : ℕ → ℕ) (n : ℕ) → ((j : ℕ) → j < n → f j ≡ g j) → sum_below f n ≡ sum_below g n
 sum_below-same f g zero same = refl
-sum_below-same f g (suc n) same = omega (
-  arith,
-  sum_below-same f g n (λ j h. same j (omega arith)),
-  same n
-      (omega arith),
-)
+sum_below-same f g (suc n) same =
+    omega (arith, sum_below-same f g n (λ j h. same j (omega arith)), same n (omega arith))
 
 -- with at most one at each place, the sum is at most the number of places
 pub sum_below-le : (f : ℕ → ℕ) → ((j : ℕ) → f j ≤ 1) → (n : ℕ) → sum_below f n ≤ n
@@ -65,13 +61,15 @@ passing_before-more test bytes m n = sum_below-more (λ j. mark test (get_or byt
 -- between two places no more bytes pass than stand there
 pub passing_before-between : (test : ℕ → Bool) (bytes : List ℕ) (m n : ℕ) → m ≤ n
     → passing_before test bytes n ≤ passing_before test bytes m + (n - m)
-passing_before-between test bytes m n le = let whole : m + (n - m) ≡ n =
-    omega arith in omega (arith, passing_before-more test bytes m (n - m), ap (passing_before test bytes) whole)
+passing_before-between test bytes m n le =
+    let whole : m + (n - m) ≡ n = omega arith in
+    omega (arith, passing_before-more test bytes m (n - m), ap (passing_before test bytes) whole)
 
 -- a sum over more places is no less
 pub sum_below-le-sum_below : (f : ℕ → ℕ) (m n : ℕ) → m ≤ n → sum_below f m ≤ sum_below f n
-sum_below-le-sum_below f m n le = let whole : m + (n - m) ≡ n =
-    omega arith in omega (arith, sum_below-add f m (n - m), ap (sum_below f) whole)
+sum_below-le-sum_below f m n le =
+    let whole : m + (n - m) ≡ n = omega arith in
+    omega (arith, sum_below-add f m (n - m), ap (sum_below f) whole)
 
 -- where the sum up to a place is below k, so it is up to an earlier one
 pub sum_below-earlier : (f : ℕ → ℕ) (k at d : ℕ) → sum_below f at < k → d ≤ at → sum_below f d < k

@@ -45,7 +45,8 @@ pub get_or-at_boundary : (bytes : List ℕ) → IsUtf8 bytes → (p : ℕ) (b : 
     → get_or bytes p 0 ≡ get_or (encodes b.back) 0 0
 get_or-at_boundary bytes utf8 p b =
     let place : p ≡ length (encodes b.front) + 0 = omega (arith, b.place, length-encodes b.front) in
-    rw (encodes-split bytes utf8 b.front b.back b.split, place) (get_or-append-add (encodes b.front) (encodes b.back) 0 0)
+    rw (encodes-split bytes utf8 b.front b.back b.split, place)
+    (get_or-append-add (encodes b.front) (encodes b.back) 0 0)
 
 -- the bytes before a boundary are those of the text that ends there
 take-boundary : (bytes : List ℕ) → IsUtf8 bytes → (p : ℕ) (b : IsBoundary (chars bytes) p)

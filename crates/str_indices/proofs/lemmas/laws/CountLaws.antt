@@ -21,22 +21,19 @@ total-le-total v w each (c ∷ cs) = omega (arith, each c cs, total-le-total v w
 -- where each character that ends a line in one scheme ends one in the other, that has no fewer breaks
 end_count-le-end_count : (s t : Scheme) → ((c : ℕ) (cs : List ℕ) → end_weight s c cs ≤ end_weight t c cs)
     → (cs : List ℕ) → end_count s cs ≤ end_count t cs
-end_count-le-end_count s t each cs = omega (
-  arith,
-  end_count_total s cs,
-  end_count_total t cs,
-  total-le-total
-      (end_weight s) (end_weight t) each cs,
-)
+end_count-le-end_count s t each cs =
+    omega (arith, end_count_total s cs, end_count_total t cs, total-le-total (end_weight s) (end_weight t) each cs)
 
 -- a character and the next, by the first two sets
-lf_within_crlf : (c next : ℕ) → cond (char_set_contains (break_characters Lf) c && not (c == 13 && next == 10)) 1
-    0 ≤ cond (char_set_contains (break_characters Crlf) c && not (c == 13 && next == 10)) 1 0
+lf_within_crlf : (c next : ℕ)
+    → cond (char_set_contains (break_characters Lf) c && not (c == 13 && next == 10)) 1 0
+    ≤ cond (char_set_contains (break_characters Crlf) c && not (c == 13 && next == 10)) 1 0
 lf_within_crlf c next = grind (arith, nat_tests)
 
 -- a character and the next, by the last two sets
-crlf_within_lines : (c next : ℕ) → cond (char_set_contains (break_characters Crlf) c && not (c == 13 && next == 10))
-    1 0 ≤ cond (char_set_contains (break_characters Lines) c && not (c == 13 && next == 10)) 1 0
+crlf_within_lines : (c next : ℕ)
+    → cond (char_set_contains (break_characters Crlf) c && not (c == 13 && next == 10)) 1 0
+    ≤ cond (char_set_contains (break_characters Lines) c && not (c == 13 && next == 10)) 1 0
 crlf_within_lines c next = grind (arith, nat_tests)
 
 -- LF alone breaks no more lines than LF, CR and CRLF
@@ -72,8 +69,7 @@ count-Lf-append a b = omega (
   count_line_feeds a,
   count_line_feeds b,
   count_line_feeds (a ++ b),
-  sum_by-append
-      (λ c. cond (c == 10) 1 0) a b,
+  sum_by-append (λ c. cond (c == 10) 1 0) a b,
 )
 
 -- line breaks by LF, CR and CRLF
@@ -81,6 +77,6 @@ pub count-Crlf-append : (a b : List ℕ) → count Crlf (a ++ b) + cond (joins_c
 count-Crlf-append = end_count-append Crlf crlf_has_return
 
 -- line breaks by all seven characters
-pub count-Lines-append : (a b : List ℕ) → count Lines (a ++ b) + cond (joins_crlf a b) 1 0 ≡ count Lines a + count
-    Lines b
+pub count-Lines-append : (a b : List ℕ)
+    → count Lines (a ++ b) + cond (joins_crlf a b) 1 0 ≡ count Lines a + count Lines b
 count-Lines-append = end_count-append Lines lines_has_return

@@ -73,14 +73,9 @@ next_is_past cs k answer c after next =
     elim (cases_lt k (sum_by weight front + weight c)) [
       | inl past ↦ past
       | inr within ↦
+          let split = answer.boundary.split ∙ ap (λ r. front ++ r) next ∙ sym (append_assoc front (c ∷ []) after) in
           let longer : IsBoundary cs (size (front ++ c ∷ [])) =
-          record {
-            front = front ++ c ∷ [];
-            back = after;
-            split = answer.boundary.split
-                ∙ ap (λ r. front ++ r) next ∙ sym (append_assoc front (c ∷ []) after);
-            place = refl;
-          } in
+          record { front = front ++ c ∷ []; back = after; split = split; place = refl } in
           let greatest = answer.greatest (size (front ++ c ∷ [])) longer (omega (arith, sum_by-cons weight c [])) in
           absurd (omega (arith, answer.boundary.place, size-cons c []))
     ]
@@ -128,7 +123,8 @@ units-second_unit cs k second =
     let front = second.front in
     let back = second.character ∷ second.back in
     let answer = boundary_at_units_is_greatest cs k in
-    let first : IsBoundary cs (size front) = record { front = front; back = back; split = second.split; place = refl } in
+    let split = second.split in
+    let first : IsBoundary cs (size front) = record { front = front; back = back; split = split; place = refl } in
     let units_first = units_at cs (size front) first in
     let reaches = answer.greatest (size front) first (omega (arith, second.first_unit)) in
     elim (boundary_beside weight cs front second.character second.back second.split (boundary_at_units cs k)

@@ -121,8 +121,7 @@ no_middle_behind_feed : (b next : ℕ) → b ≡ 10 → ◌≡◌ {A = ℕ} (con
 no_middle_behind_feed b next feed = rw feed refl
 
 -- The first byte before which k breaks start, or else the text's end, is where line k begins; where it stands between
--- CR and LF,
--- the line begins behind the LF.
+-- CR and LF, the line begins behind the LF.
 pub line_begins : (bytes : List ℕ) → IsUtf8 bytes → (k at : ℕ) → at ≤ length bytes
     → (at < length bytes → breaks_before bytes at ≡ k) → ((d : ℕ) → d < at → breaks_before bytes d < k)
     → at + mark (is_middle bytes) at ≡ to_byte_idx Crlf (chars bytes) k
@@ -145,8 +144,9 @@ line_begins bytes utf8 k at within stopped first =
           (λ _. omega (arith, stopped inside, up_to (suc at) (omega arith), behind))
           (λ d before. elim (cases_lt d at) [
             | inl earlier ↦ omega (arith, first d earlier, up_to d (omega arith))
-            | inr here ↦ let same : d ≡ at =
-                omega arith in rw same (omega (arith, stopped inside, up_to at within, one))
+            | inr here ↦
+                let same : d ≡ at = omega arith in
+                rw same (omega (arith, stopped inside, up_to at within, one))
           ]) in
           omega (arith, one, found)
     ]

@@ -6,13 +6,13 @@ use Rattle.std.proofs.Math.Utf8.{encode, encodes, scalar}
 use Rattle.std.proofs.lemmas.Bool.{cases_lt, cases_eq, cases_Bool, ne_eqb, agree_below_at, lt-leb, le-leb, eqb-true}
 use Rattle.std.proofs.lemmas.List.Sums.{sum_by-le-sum_by}
 use Rattle.std.proofs.lemmas.Nat.{and_assoc}
-use Rattle.std.proofs.lemmas.Str.{len_utf8_bounds, length-encode}
+use Rattle.std.proofs.lemmas.Str.{length-encode}
 use Rattle.str_indices.specs.Text.{size, cut, weight}
 use Rattle.str_indices.specs.Schemes.{count, Chars, Utf16, units, surrogates, boundary_at_units}
 use Rattle.str_indices.specs.Relations.{IsBoundary}
 use Rattle.str_indices.specs.Bytes.{flag, mark, passing_before, is_trailing, is_leading, begins_four_bytes, units_before, byte_before}
 use Rattle.str_indices.proofs.lemmas.texts.Sizes.{size-append, boundary_beside}
-use Rattle.str_indices.proofs.lemmas.texts.Units.{units_at, boundary_at_units_is_greatest, count-units, count-characters-surrogates}
+use Rattle.str_indices.proofs.lemmas.texts.Units.{units_at, boundary_at_units_is_greatest, count-units, count-characters-surrogates, weight-le}
 use Rattle.str_indices.proofs.lemmas.bytes.Sums.{sum_below-le-sum_below, sum_below-still, mark-le, passing_or_not, passing_before-between}
 use Rattle.str_indices.proofs.lemmas.bytes.Characters.{by_size}
 use Rattle.str_indices.proofs.lemmas.bytes.Walks.{AddsAtFirst, bytes_to_boundary, boundary_at_end, size-chars}
@@ -114,12 +114,6 @@ units_of_cut cs end = count-characters-surrogates (cut cs end)
 -- a text takes at least as many bytes as units
 pub count-le-size : (cs : List ℕ) → count Utf16 cs ≤ size cs
 count-le-size cs = omega (arith, count-units cs, sum_by-le-sum_by weight len_utf8 cs weight-le)
-  where
-    weight-le : (c : ℕ) → weight c ≤ len_utf8 c
-    weight-le c = elim (cases_eq (len_utf8 c) 4) [
-      | inl four ↦ rw four (omega arith)
-      | inr other ↦ rw (ne_eqb (len_utf8 c) 4 other) (omega (arith, len_utf8_bounds c))
-    ]
 
 -- before a boundary the units that the bytes show are those of the characters
 units_at_boundary : (bytes : List ℕ) → IsUtf8 bytes → (p : ℕ) → IsBoundary (chars bytes) p
@@ -199,16 +193,13 @@ units_between bytes from at trailing fours count le counted in_trailing in_fours
 
 -- units grow by at least one at each leading byte
 pub units_count_leading : CountsLeading units_before
-units_count_leading bytes m n le = omega (
-  arith,
-  sum_below-le-sum_below
-      (λ j. mark begins_four_bytes (get_or bytes j 0)) m n le,
-)
+units_count_leading bytes m n le =
+    omega (arith, sum_below-le-sum_below (λ j. mark begins_four_bytes (get_or bytes j 0)) m n le)
 
 -- one byte more
 pub units_before-next : (bytes : List ℕ) (i : ℕ)
-    → units_before bytes (i + 1) ≡ units_before bytes
-    i + (mark is_leading (get_or bytes i 0) + mark begins_four_bytes (get_or bytes i 0))
+    → units_before bytes (i + 1)
+    ≡ units_before bytes i + (mark is_leading (get_or bytes i 0) + mark begins_four_bytes (get_or bytes i 0))
 units_before-next bytes i = omega (
   arith,
   ap (passing_before is_leading bytes) (add-one i),
@@ -234,14 +225,8 @@ shows_unit bytes i more =
 
 -- a boundary is no further than the end of the text
 boundary_within : (bytes : List ℕ) → IsUtf8 bytes → (p : ℕ) → IsBoundary (chars bytes) p → p ≤ length bytes
-boundary_within bytes utf8 p b = omega (
-  arith,
-  b.place,
-  ap size b.split,
-  size-append b.front b.back,
-  size-chars bytes
-      utf8,
-)
+boundary_within bytes utf8 p b =
+    omega (arith, b.place, ap size b.split, size-append b.front b.back, size-chars bytes utf8)
 
 -- a boundary with at most k units before it, and more before the next byte, if there is one, is where the conversion
 -- of k answers

@@ -40,8 +40,8 @@ PassesAt-first test start c cs passes = record {
 PassesAt-rest : (test : Placed → Bool) (start c : ℕ) (cs : List ℕ) (p : ℕ) → PassesAt test (start + len_utf8 c) cs p
     → PassesAt test start (c ∷ cs) p
 PassesAt-rest test start c cs p at =
-    let before : start + len_utf8 c + size at.front ≡ start + size (c ∷ at.front) =
-    omega (arith, size-cons c at.front) in
+    let sizes = size-cons c at.front in
+    let before : start + len_utf8 c + size at.front ≡ start + size (c ∷ at.front) = omega arith in
     record {
       front = c ∷ at.front;
       character = at.character;
@@ -175,7 +175,8 @@ end_of_boundary : (front back : List ℕ) (p : ℕ) → size front ≡ p → 0 <
 end_of_boundary [] back p place above = absurd (omega arith)
 end_of_boundary (c ∷ front) back p place above =
     let (before, last, split) = last_of c front in
-    (last, record { front = before; back = back; split = ap (λ f. f ++ back) split; place = sym (ap size split) ∙ place })
+    let place' = sym (ap size split) ∙ place in
+    (last, record { front = before; back = back; split = ap (λ f. f ++ back) split; place = place' })
 
 -- the character ends that are listed are those of the relation
 characters_are : (cs : List ℕ) (p : ℕ) → Contains (ends_from (λ _. true) 0 cs) p ↔ IsCharacterEnd cs p

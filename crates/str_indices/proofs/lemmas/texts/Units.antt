@@ -1,16 +1,17 @@
 -- The UTF-16 code units before a place, and the greatest boundary before which a text takes at most so many.
 use Rattle.std.proofs.Common.{◌≡◌, ℕ, ◌≤◌, inl, inr, List, [], ◌∷◌, max, arith, All, Bool, true, ◌+◌, ◌⊎◌, refl, false, cond, ap}
 use Rattle.std.specs.Prelude.{filter, fold, nat_le, ◌==◌, sum_by, Contains}
-use Rattle.std.proofs.lemmas.Bool.{cases_lt, cases_Bool, both_ways, le-leb, leb-true}
+use Rattle.std.proofs.lemmas.Bool.{cases_lt, cases_eq, cases_Bool, both_ways, le-leb, leb-true, ne_eqb}
 use Rattle.std.proofs.lemmas.List.Elements.{All-nil, All-cons, All-head, All-tail, All-weaker, All-filter, All-contains, All-contains_itself, Contains-append_right, filter_passes}
 use Rattle.std.specs.Char.{len_utf8}
+use Rattle.std.proofs.lemmas.Str.{len_utf8_bounds}
 use Rattle.std.proofs.lemmas.List.Sums.{sum_by-cons, sum_by-append}
 use Rattle.str_indices.specs.Text.{size, weight, cut}
 use Rattle.str_indices.specs.Schemes.{Chars, Utf16, ends, units, boundaries, boundary_at_units, count, surrogates}
 use Rattle.str_indices.specs.Relations.{IsBoundary, IsGreatestWithin}
 use Rattle.str_indices.proofs.lemmas.texts.Cuts.{cut_is, cut_goes_on, cut_front, cut_all}
 use Rattle.str_indices.proofs.lemmas.texts.Ends.{count_characters}
-use Rattle.str_indices.proofs.lemmas.texts.EndSets.{ends_are, IsBoundary-start}
+use Rattle.str_indices.proofs.lemmas.texts.EndSets.{ends_are, zero_or_end, IsBoundary-start}
 
 -- a maximum is at least what it starts from
 le-fold_max : (a : ℕ) (xs : List ℕ) → a ≤ fold max a xs
@@ -62,10 +63,9 @@ boundaries_are cs = All-cons (IsBoundary cs) 0 (ends Chars cs) (IsBoundary-start
 -- `boundaries` lists each boundary
 boundary_is_listed : (cs : List ℕ) (p : ℕ) → IsBoundary cs p → Contains (boundaries cs) p
 boundary_is_listed cs p at =
-    elim (cases_lt 0 p) [
-      | inl above ↦ Contains-append_right (0 ∷ []) (ends Chars cs) p
-          ((ends_are Chars cs p).1 (record { boundary = at; above = above }))
-      | inr first ↦ (0, omega arith, omega arith)
+    elim (zero_or_end cs p at) [
+      | inl first ↦ (0, omega arith, omega arith)
+      | inr listed ↦ Contains-append_right (0 ∷ []) (ends Chars cs) p listed
     ]
 
 -- p is a boundary before which the text takes at most this many units
@@ -73,26 +73,17 @@ record FitsWithin (cs : List ℕ) (k p : ℕ) : Type 0 where
   boundary : IsBoundary cs p
   fits : sum_by weight boundary.front ≤ k
 
--- the beginning of the text is such a boundary
-start_fits : (cs : List ℕ) (k : ℕ) → FitsWithin cs k 0
-start_fits cs k = record { boundary = record { front = []; back = cs; split = refl; place = refl }; fits = omega arith }
-
--- so is a boundary that passes the test of `boundary_at_units`
-fits_where_passes : (cs : List ℕ) (k p : ℕ) → IsBoundary cs p → nat_le (units cs p) k ≡ true → FitsWithin cs k p
-fits_where_passes cs k p at passes = record {
-  boundary = at;
-  fits =
-      rw (units_at cs p at) at (leb-true (units cs p) k passes);
-}
-
--- so is the answer of `boundary_at_units`
+-- the answer of `boundary_at_units` is such a boundary
 answer_fits : (cs : List ℕ) (k : ℕ) → FitsWithin cs k (boundary_at_units cs k)
 answer_fits cs k =
     let test = λ (p : ℕ). nat_le (units cs p) k in
     let listed = All-filter test (IsBoundary cs) (boundaries cs) (boundaries_are cs) in
     let passing = filter_passes test (boundaries cs) in
-    fold_max_holds (FitsWithin cs k) 0 (filter test (boundaries cs)) (start_fits cs k)
-    (λ i d inside. fits_where_passes cs k _ (listed i d inside) (passing i d inside))
+    fold_max_holds (FitsWithin cs k) 0 (filter test (boundaries cs))
+    (record { boundary = record { front = []; back = cs; split = refl; place = refl }; fits = omega arith })
+    (λ i d inside.
+    let at = listed i d inside in
+    record { boundary = at; fits = rw (units_at cs _ at) at (leb-true (units cs _) k (passing i d inside)) })
 
 -- no such boundary is greater than that answer
 answer_is_most : (cs : List ℕ) (k p : ℕ) → FitsWithin cs k p → p ≤ boundary_at_units cs k
@@ -125,23 +116,26 @@ weight_is_one_or_two c = by_test (len_utf8 c == 4)
     by_test true = inr refl
     by_test false = inl refl
 
--- one unit, and one more where there are two
-one_and_second : (four : Bool) → ◌≡◌ {A = ℕ} (cond four 2 1) (1 + cond (cond four 2 1 == 2) 1 0)
-one_and_second true = refl
-one_and_second false = refl
+-- a character takes at least as many bytes as units
+pub weight-le : (c : ℕ) → weight c ≤ len_utf8 c
+weight-le c =
+    elim (cases_eq (len_utf8 c) 4) [
+      | inl four ↦ rw four (omega arith)
+      | inr other ↦ rw (ne_eqb (len_utf8 c) 4 other) (omega (arith, len_utf8_bounds c))
+    ]
 
 -- the characters take one unit each, and one more for each surrogate pair
 sum_by-weight : (cs : List ℕ) → sum_by weight cs ≡ sum_by (λ _. 1) cs + surrogates cs
 sum_by-weight [] = refl
-sum_by-weight (c ∷ cs) = omega (
-  arith,
-  sum_by-cons weight c cs,
-  sum_by-cons {X = ℕ} (λ _. 1) c cs,
-  sum_by-cons
-      (λ x. cond (weight x == 2) 1 0) c cs,
-  one_and_second (len_utf8 c == 4),
-  sum_by-weight cs,
-)
+sum_by-weight (c ∷ cs) =
+    let weights = sum_by-cons weight c cs in
+    let ones = sum_by-cons {X = ℕ} (λ _. 1) c cs in
+    let pairs = sum_by-cons (λ x. cond (weight x == 2) 1 0) c cs in
+    let rest = sum_by-weight cs in
+    elim (weight_is_one_or_two c) [
+      | inl one ↦ let none : ◌≡◌ {A = ℕ} (cond (weight c == 2) 1 0) 0 = rw one in omega arith
+      | inr two ↦ let pair : ◌≡◌ {A = ℕ} (cond (weight c == 2) 1 0) 1 = rw two in omega arith
+    ]
 
 -- a text has one unit for each character, and one more for each surrogate pair
 pub count-characters-surrogates : (cs : List ℕ) → count Utf16 cs ≡ count Chars cs + surrogates cs
