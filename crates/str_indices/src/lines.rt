@@ -10,7 +10,7 @@ ghost use Rattle.str_indices.specs.Schemes.{count, from_byte_idx, to_byte_idx, L
 ghost use Rattle.str_indices.specs.Relations.{IsBoundary};
 ghost use Rattle.str_indices.specs.Bytes.{flag, is_carriage_return, is_middle};
 ghost use Rattle.str_indices.specs.Breaks.{is_crlf, is_separator, narrow_break_at, next_line_at, separator_at, break_at, breaks_counted_before, ends_separator};
-ghost use Rattle.str_indices.specs.Lanes.{HasLanes, SeenChunk};
+ghost use Rattle.str_indices.specs.Lanes.{HasLanes};
 ghost use Rattle.str_indices.specs.Reads.{Reads, leading_bytes, pass_turns, pass_loads};
 
 use crate::places::{Position, boundary_at_or_after, boundary_at_or_before, is_not_crlf_middle};
@@ -315,7 +315,9 @@ fn count_breaks_in_chunk<T: ByteChunk>(probe: &mut Probe<'_, T>, at: usize, end:
 ///
 /// Only where a lane is CR it peeks at the last byte, and only where that is CR at the one behind it.
 fn count_narrow_breaks<T: ByteChunk>(probe: &mut Probe<'_, T>, chunk: T, at: usize, end: usize) -> T
-    requires chunk { SeenChunk probe.old.text end at T.SIZE (T.lanes chunk) }
+    requires seen { at + T.SIZE ≤ end }
+    requires within { end ≤ length probe.old.text }
+    requires chunk { HasLanes T.SIZE (λ j. slice_index (take end probe.old.text) (at + j)) (T.lanes chunk) }
     ensures lanes { HasLanes T.SIZE (λ j. narrow_break_at (take end probe.old.text) (at + j)) (T.lanes result) }
     ensures reads { let last = slice_index probe.old.text (at + (T.SIZE - 1)) in
         Reads probe.old probe.new 0 0 0 (1 + flag (is_carriage_return last)) }
@@ -351,7 +353,9 @@ fn add_wide_breaks<T: ByteChunk>(
     at: usize,
     end: usize,
 ) -> T
-    requires chunk { SeenChunk probe.old.text end at T.SIZE (T.lanes chunk) }
+    requires seen { at + T.SIZE ≤ end }
+    requires within { end ≤ length probe.old.text }
+    requires chunk { HasLanes T.SIZE (λ j. slice_index (take end probe.old.text) (at + j)) (T.lanes chunk) }
     requires counted { HasLanes T.SIZE (λ j. narrow_break_at (take end probe.old.text) (at + j)) (T.lanes narrow_breaks) }
     ensures lanes { HasLanes T.SIZE (λ j. break_at (take end probe.old.text) (at + j)) (T.lanes result) }
     ensures reads { let last = slice_index probe.old.text (at + (T.SIZE - 1)) in
@@ -408,8 +412,8 @@ fn separator_ends<T: ByteChunk>(chunk: T) -> T
 fn add_at_edge<T: ByteChunk>(probe: &mut Probe<'_, T>, breaks: T, at: usize, end: usize) -> T
     requires seen { at + T.SIZE ≤ end }
     requires within { end ≤ length probe.old.text }
-    requires counted { let inside = take (at + T.SIZE) probe.old.text in
-        HasLanes T.SIZE (λ j. narrow_break_at (take end probe.old.text) (at + j) + next_line_at inside (at + j)
+    requires counted { let bytes = take end probe.old.text in let inside = take (at + T.SIZE) bytes in
+        HasLanes T.SIZE (λ j. narrow_break_at bytes (at + j) + next_line_at inside (at + j)
             + separator_at inside (at + j)) (T.lanes breaks) }
     ensures lanes { HasLanes T.SIZE (λ j. break_at (take end probe.old.text) (at + j)) (T.lanes result) }
     ensures reads { let last = slice_index probe.old.text (at + (T.SIZE - 1)) in

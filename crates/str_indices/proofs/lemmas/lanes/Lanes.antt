@@ -69,8 +69,8 @@ lanes_map u {size} {f} {xs} {ys} h is = rw is (record {
 pub lanes_loaded : (u : ℕ → ℕ) (text : List ℕ) (at size : ℕ) {lanes counts : List ℕ} → at + size ≤ length text
     → lanes ≡ take size (drop at text) → counts ≡ map u lanes → HasLanes size (λ j. u (get_or text (at + j) 0)) counts
 lanes_loaded u text at size {lanes} {counts} within loaded mapped =
-    let long = length-loaded text at size lanes within loaded in
-    lanes_same (λ j. u (get_or text (at + j) 0)) (lanes_map u (lanes_of long) mapped)
+    lanes_same (λ j. u (get_or text (at + j) 0))
+    (lanes_map u (lanes_of (length-loaded text at size lanes within loaded)) mapped)
     (λ j l. ap u (ap (λ xs. get_or xs j 0) loaded ∙ get_or-take size (drop at text) j 0 l ∙ get_or-drop at text j 0))
 
 -- what u adds over such a chunk
