@@ -9,7 +9,7 @@ use Rattle.std.proofs.lemmas.Simd.{Each2-of}
 use Rattle.std.proofs.lemmas.List.{get_or-take, get_or_past, get_or-replicate, length-take}
 use Rattle.byte_chunk.specs.Lanes.{is_byte, is_between}
 use Rattle.str_indices.specs.Bytes.{flag}
-use Rattle.str_indices.specs.Lanes.{HasLanes}
+use Rattle.str_indices.specs.Lanes.{HasLanes, IsChunk}
 use Rattle.str_indices.specs.Breaks.{is_ascii_break, is_crlf, is_narrow_break, is_next_line, is_separator, ends_separator, is_break, narrow_break_at, next_line_at, separator_at, break_at, breaks_counted_before}
 use Rattle.str_indices.proofs.lemmas.bytes.Sums.{flag-le, sum_below-le}
 use Rattle.str_indices.proofs.lemmas.lanes.Lanes.{lanes_of, lanes_same, lanes_map, lanes_zip2, lanes_and, lanes_shift, lanes_set, lane_is_not, Each1-lanes, Each2-lanes}
@@ -71,8 +71,11 @@ inside_at bytes at size j =
     narrow_break_at bytes (at + j) + next_line_at (take (at + size) bytes) (at + j) + separator_at
     (take (at + size) bytes) (at + j)
 
-module _ (bytes : List ℕ) (at : ℕ) {size : ℕ} {chunk : List ℕ} (least : 4 ≤ size)
-    (is_chunk : HasLanes size (λ j. get_or bytes (at + j) 0) chunk) where
+module _ {bytes : List ℕ} {at size : ℕ} {chunk : List ℕ} (least : 4 ≤ size)
+    (is_chunk : IsChunk bytes at size chunk) where
+  chunk_lanes : HasLanes size (λ j. get_or bytes (at + j) 0) chunk
+  chunk_lanes = record { long = is_chunk.long; each = is_chunk.each }
+
   -- the byte behind, except at the last lane
   lane_behind : (j : ℕ) → j < size → j ≢ size - 1 → get_or chunk (1 + j) 0 ≡ get_or bytes (1 + (at + j)) 0
   lane_behind j l other =
@@ -92,7 +95,7 @@ module _ (bytes : List ℕ) (at : ℕ) {size : ℕ} {chunk : List ℕ} (least : 
       → returns ≡ map (is_byte 0x0D) chunk → returns ≡ replicate size 0
       → HasLanes size (λ j. narrow_break_at bytes (at + j)) ascii
   no_crlf is_ascii is_returns none = lanes_same (λ j. narrow_break_at bytes (at + j))
-      (lanes_map (is_between 0x09 0x0E) is_chunk is_ascii)
+      (lanes_map (is_between 0x09 0x0E) chunk_lanes is_ascii)
       (λ j l. without (get_or bytes (at + j) 0) (get_or bytes (1 + (at + j)) 0)
       (rw (is_chunk.each j l) at (lane_is_not chunk is_chunk.long 0x0D is_returns none j l)))
     where
@@ -103,8 +106,8 @@ module _ (bytes : List ℕ) (at : ℕ) {size : ℕ} {chunk : List ℕ} (least : 
       (is_pairs : HasLanes size (λ j. flag (is_crlf (get_or chunk j 0) (get_or chunk (1 + j) 0))) pairs) where
     -- no lane borrows where the CRs before LF are taken off
     pub crlf_fits : Each2 (λ a b. b ≤ a) ascii pairs
-    crlf_fits = Each2-lanes (λ a b. b ≤ a) (lanes_map (is_between 0x09 0x0E) (lanes_of is_chunk.long) is_ascii) is_pairs
-        (λ j l. crlf_is_ascii (get_or chunk j 0) (get_or chunk (1 + j) 0))
+    crlf_fits = Each2-lanes (λ a b. b ≤ a) (lanes_map (is_between 0x09 0x0E) (lanes_of is_chunk.long) is_ascii)
+        is_pairs (λ j l. crlf_is_ascii (get_or chunk j 0) (get_or chunk (1 + j) 0))
 
     module _ {inside : List ℕ} (is_inside : inside ≡ zip2 (λ a b. a - b) ascii pairs) where
       -- what is left then is counted in the chunk alone
@@ -121,8 +124,9 @@ module _ (bytes : List ℕ) (at : ℕ) {size : ℕ} {chunk : List ℕ} (least : 
       -- at the last one more, where CR LF crosses the chunk's end
       inside_last : narrow_break_at chunk (size - 1) ≡ narrow_break_at bytes (at + (size - 1)) + flag
           (is_crlf (get_or bytes (at + (size - 1)) 0) (get_or bytes (1 + (at + (size - 1))) 0))
-      inside_last = rw (is_chunk.each (size - 1) (omega arith), get_or_past chunk (1 + (size - 1)) 0
-          (omega (arith, is_chunk.long)))
+      inside_last =
+          let past = get_or_past chunk (1 + (size - 1)) 0 (omega (arith, is_chunk.long)) in
+          rw (is_chunk.each (size - 1) (omega arith), past)
           (narrow_alone (get_or bytes (at + (size - 1)) 0) (get_or bytes (1 + (at + (size - 1))) 0))
 
       -- where it does not, nothing is to be done
@@ -134,25 +138,28 @@ module _ (bytes : List ℕ) (at : ℕ) {size : ℕ} {chunk : List ℕ} (least : 
             | inr other ↦ inside_same j l other
           ])
 
-      module _ (crosses : is_crlf (get_or bytes (at + (size - 1)) 0) (get_or bytes (1 + (at + (size - 1))) 0) ≡ true)
-          where
-        -- where it does, the last lane is not 0
-        pub last_is_counted : 0 < get_or inside (size - 1) 0
-        last_is_counted = omega (arith, inside_lanes.each (size - 1) (omega arith), inside_last, ap flag crosses)
+      -- where it does, the last lane is not 0
+      pub last_is_counted : is_crlf (get_or bytes (at + (size - 1)) 0) (get_or bytes (1 + (at + (size - 1))) 0) ≡ true
+          → 0 < get_or inside (size - 1) 0
+      last_is_counted crosses =
+          omega (arith, inside_lanes.each (size - 1) (omega arith), inside_last, ap flag crosses)
 
-        -- and one is taken from it
-        pub narrow_crossing : {result : List ℕ} → result ≡ slice_set inside (size - 1) (get_or inside (size - 1) 0 - 1)
-            → HasLanes size (λ j. narrow_break_at bytes (at + j)) result
-        narrow_crossing is = lanes_set (λ j. narrow_break_at bytes (at + j)) (size - 1) (get_or inside (size - 1) 0 - 1)
-            (omega arith) inside_lanes is
-            (omega (arith, inside_lanes.each (size - 1) (omega arith), inside_last, ap flag crosses)) inside_same
+      -- and one is taken from it
+      pub narrow_crossing : {result : List ℕ}
+          → is_crlf (get_or bytes (at + (size - 1)) 0) (get_or bytes (1 + (at + (size - 1))) 0) ≡ true
+          → result ≡ slice_set inside (size - 1) (get_or inside (size - 1) 0 - 1)
+          → HasLanes size (λ j. narrow_break_at bytes (at + j)) result
+      narrow_crossing crosses is =
+          lanes_set (λ j. narrow_break_at bytes (at + j)) (size - 1) (get_or inside (size - 1) 0 - 1)
+          (omega arith) inside_lanes is
+          (omega (arith, inside_lanes.each (size - 1) (omega arith), inside_last, ap flag crosses)) inside_same
 
   module _ {next_lines separators : List ℕ} (is_next_lines : next_lines ≡ map (is_byte 0xC2) chunk)
       (is_separators : separators ≡ map (is_byte 0xE2) chunk) where
     -- no sum of the two passes a lane
     pub firsts_fit : Each2 (λ a b. a + b ≤ 255) next_lines separators
-    firsts_fit = Each2-lanes (λ a b. a + b ≤ 255) (lanes_map (is_byte 0xC2) is_chunk is_next_lines)
-        (lanes_map (is_byte 0xE2) is_chunk is_separators)
+    firsts_fit = Each2-lanes (λ a b. a + b ≤ 255) (lanes_map (is_byte 0xC2) chunk_lanes is_next_lines)
+        (lanes_map (is_byte 0xE2) chunk_lanes is_separators)
         (λ j l. omega (arith, flags-le (get_or bytes (at + j) 0 == 0xC2) (get_or bytes (at + j) 0 == 0xE2)))
 
     -- where neither byte is found, the breaks of one byte are all
@@ -161,8 +168,8 @@ module _ (bytes : List ℕ) (at : ℕ) {size : ℕ} {chunk : List ℕ} (least : 
         → HasLanes size (λ j. break_at bytes (at + j)) narrows
     no_wide {sums} summed none h = lanes_same (λ j. break_at bytes (at + j)) h (λ j l.
         let here = get_or bytes (at + j) 0 in
-        let both = lanes_zip2 (λ a b. a + b) (lanes_map (is_byte 0xC2) is_chunk is_next_lines)
-        (lanes_map (is_byte 0xE2) is_chunk is_separators) summed in
+        let both = lanes_zip2 (λ a b. a + b) (lanes_map (is_byte 0xC2) chunk_lanes is_next_lines)
+        (lanes_map (is_byte 0xE2) chunk_lanes is_separators) summed in
         let neither = none_of_two (here == 0xC2) (here == 0xE2) (sym (both.each j l)
         ∙ ap (λ xs. get_or xs j 0) none ∙ get_or-replicate size j 0 0 l) in
         no_wide_break here (get_or bytes (1 + (at + j)) 0) (get_or bytes (2 + (at + j)) 0) neither.0 neither.1)
@@ -194,8 +201,9 @@ module _ (bytes : List ℕ) (at : ℕ) {size : ℕ} {chunk : List ℕ} (least : 
       pub inside_counted : {inside : List ℕ} → HasLanes size (λ j. get_or sums j 0 + separator_at chunk j) inside
           → HasLanes size (inside_at bytes at size) inside
       inside_counted h = lanes_same (inside_at bytes at size) h (λ j l.
-          rw (with_next_lines.each j l, lane_alone j (at + j) refl, lane_alone (1 + j) (1 + (at + j)) (omega arith),
-          lane_alone (2 + j) (2 + (at + j)) (omega arith)) refl)
+          let next = lane_alone (1 + j) (1 + (at + j)) (omega arith) in
+          let after = lane_alone (2 + j) (2 + (at + j)) (omega arith) in
+          rw (with_next_lines.each j l, lane_alone j (at + j) refl, next, after) refl)
 
 module _ {size : ℕ} (chunk : List ℕ) (least : 4 ≤ size) (long : length chunk ≡ size) where
   -- the lanes that begin a separator of which all three bytes are in the chunk
@@ -210,9 +218,9 @@ module _ {size : ℕ} (chunk : List ℕ) (least : 4 ≤ size) (long : length chu
       (lanes_map (λ lane. flag (ends_separator lane)) (lanes_of long) is_ends) is_thirds) is_found
 
   -- they fit in lanes that have room
-  pub separators_fit : (breaks : List ℕ) {found : List ℕ} → length breaks ≡ size → Each1 (λ lane. lane < 255) breaks
+  pub separators_fit : (breaks : List ℕ) {found : List ℕ} → Each1 (λ lane. lane < 255) breaks
       → HasLanes size (separator_at chunk) found → Each2 (λ a b. a + b ≤ 255) breaks found
-  separators_fit breaks {found} as_long room h =
+  separators_fit breaks {found} room h =
       Each2-of (λ a. a < 255) (λ b. b ≤ 1) (λ a b. a + b ≤ 255) (λ a b small one. omega arith) breaks found room
       (Each1-lanes (λ lane. lane ≤ 1) h (λ j l. flag-le (is_separator (get_or chunk j 0) (get_or chunk (1 + j) 0)
       (get_or chunk (2 + j) 0))))
@@ -226,39 +234,38 @@ module _ {size : ℕ} (chunk : List ℕ) (least : 4 ≤ size) (long : length chu
 
 module _ (bytes : List ℕ) (at size : ℕ) {breaks : List ℕ} (least : 4 ≤ size)
     (counted : HasLanes size (inside_at bytes at size) breaks) where
-  -- a byte of the chunk is seen in both texts
-  byte_seen : (p : ℕ) → p < at + size → get_or (take (at + size) bytes) p 0 ≡ get_or bytes p 0
-  byte_seen p before = get_or-take (at + size) bytes p 0 before
-
-  -- a byte behind it in one alone
+  -- a byte behind the chunk is not seen
   byte_behind : (p : ℕ) → at + size ≤ p → get_or (take (at + size) bytes) p 0 ≡ 0
   byte_behind p past = get_or_past (take (at + size) bytes) p 0 (omega (arith, length-take (at + size) bytes))
 
   -- what is counted at a byte, by its kinds
-  kinds_at : (j : ℕ)
-      → break_at bytes (at + j) ≡ narrow_break_at bytes (at + j) + next_line_at bytes (at + j) + separator_at bytes (at + j)
-  kinds_at j = kinds (get_or bytes (at + j) 0) (get_or bytes (1 + (at + j)) 0) (get_or bytes (2 + (at + j)) 0)
+  kinds_at : (p : ℕ) → break_at bytes p ≡ narrow_break_at bytes p + next_line_at bytes p + separator_at bytes p
+  kinds_at p = kinds (get_or bytes p 0) (get_or bytes (1 + p) 0) (get_or bytes (2 + p) 0)
 
   -- before the last two lanes all is counted
   all_before : (j : ℕ) → 2 + j < size → inside_at bytes at size j ≡ break_at bytes (at + j)
   all_before j before =
-      rw (byte_seen (at + j) (omega arith), byte_seen (1 + (at + j)) (omega arith), byte_seen (2 + (at + j))
-      (omega arith)) (sym (kinds_at j))
+      let next = get_or-take (at + size) bytes (1 + (at + j)) 0 (omega arith) in
+      let after = get_or-take (at + size) bytes (2 + (at + j)) 0 (omega arith) in
+      rw (get_or-take (at + size) bytes (at + j) 0 (omega arith), next, after) (sym (kinds_at (at + j)))
 
   -- at the last but one a separator may cross the chunk's end
   all_at_last_but_one : (j : ℕ) → 2 + j ≡ size
       → inside_at bytes at size j + separator_at bytes (at + j) ≡ break_at bytes (at + j)
   all_at_last_but_one j here =
-      rw (byte_seen (at + j) (omega arith), byte_seen (1 + (at + j)) (omega arith), byte_behind (2 + (at + j))
-      (omega arith))
-      (omega (arith, kinds_at j, separator_alone (get_or bytes (at + j) 0) (get_or bytes (1 + (at + j)) 0)))
+      let next = get_or-take (at + size) bytes (1 + (at + j)) 0 (omega arith) in
+      let after = byte_behind (2 + (at + j)) (omega arith) in
+      rw (get_or-take (at + size) bytes (at + j) 0 (omega arith), next, after)
+      (omega (arith, kinds_at (at + j), separator_alone (get_or bytes (at + j) 0) (get_or bytes (1 + (at + j)) 0)))
 
   -- at the last any break of several bytes
   all_at_last : (j : ℕ) → 1 + j ≡ size
       → inside_at bytes at size j + next_line_at bytes (at + j) + separator_at bytes (at + j) ≡ break_at bytes (at + j)
   all_at_last j here =
-      rw (byte_seen (at + j) (omega arith), byte_behind (1 + (at + j)) (omega arith), byte_behind (2 + (at + j))
-      (omega arith)) (omega (arith, kinds_at j, wide_alone (get_or bytes (at + j) 0)))
+      let next = byte_behind (1 + (at + j)) (omega arith) in
+      let after = byte_behind (2 + (at + j)) (omega arith) in
+      rw (get_or-take (at + size) bytes (at + j) 0 (omega arith), next, after)
+      (omega (arith, kinds_at (at + j), wide_alone (get_or bytes (at + j) 0)))
 
   -- so all is counted in each lane where none crosses
   all_counted : (j : ℕ) → j < size → (2 + j ≡ size → separator_at bytes (at + j) ≡ 0)

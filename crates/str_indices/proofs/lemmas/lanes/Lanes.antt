@@ -163,7 +163,8 @@ module _ {size : ℕ} (chunk : List ℕ) (long : length chunk ≡ size) where
       → pairs ≡ zip2 bit_and firsts shifted
       → HasLanes size (λ j. flag (get_or chunk j 0 == a && get_or chunk (1 + j) 0 == b)) pairs
   pair_lanes a b few some is_first is_second back both =
-      lanes_and (λ j. get_or chunk j 0 == a) (λ j. get_or chunk (1 + j) 0 == b) (lanes_map (is_byte a) (lanes_of long) is_first)
+      lanes_and (λ j. get_or chunk j 0 == a) (λ j. get_or chunk (1 + j) 0 == b)
+      (lanes_map (is_byte a) (lanes_of long) is_first)
       (lanes_shift 1 few (λ j past. rw (no_byte b j some past) refl) (lanes_map (is_byte b) (lanes_of long) is_second)
       back) both
 

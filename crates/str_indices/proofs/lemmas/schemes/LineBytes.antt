@@ -1,6 +1,6 @@
 -- The line breaks of `Lines` as the bytes at which they are counted: at a boundary, in a cut text, and where a line
 -- begins.
-use Rattle.std.proofs.Common.{◌≡◌, ℕ, ◌+◌, ◌-◌, ◌*◌, ◌<◌, ◌≤◌, List, [], ◌∷◌, ◌++◌, get_or, refl, arith, Bool, true, false, ◌∙◌, ap, zero, suc, ◌⊎◌, inl, inr, length, take, sym, zero-add, chars, IsUtf8}
+use Rattle.std.proofs.Common.{◌≡◌, ℕ, ◌+◌, ◌-◌, ◌*◌, ◌<◌, ◌≤◌, List, [], ◌∷◌, ◌++◌, get_or, refl, arith, Bool, true, false, ◌∙◌, ap, zero, suc, inl, inr, length, take, sym, zero-add, chars, IsUtf8}
 use Rattle.std.specs.Prelude.{◌==◌, ◌&&◌, not, ◌||◌}
 use Rattle.std.specs.Char.{len_utf8, char_set_contains}
 use Rattle.std.proofs.Math.Utf8.{encode, encodes, scalar, scalars}

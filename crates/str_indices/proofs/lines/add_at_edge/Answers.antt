@@ -34,7 +34,8 @@ returns-else-is_separator-clause-lanes g c =
 pub returns-then-starts_wide_break-clause-lanes : goal.returns-then-starts_wide_break-clause-lanes
 returns-then-starts_wide_break-clause-lanes g c =
     let least = g.met.T.ByteChunk.lawful.least in
-    let last = get_or-take c.args.end c.args.probe.now.text (c.args.at + (g.T.ByteChunk.SIZE - 1)) 0 (omega (arith, least))
+    let size = g.T.ByteChunk.SIZE in
+    let last = get_or-take c.args.end c.args.probe.now.text (c.args.at + (size - 1)) 0 (omega (arith, least))
     ∙ sym (rw c.SIZE.ensures at c.peek-byte.ensures.byte) in
     let same = ap (λ p. p.text) c.peek-byte.ensures.state in
     wide_crosses (take c.args.end c.args.probe.now.text) c.args.at g.T.ByteChunk.SIZE
@@ -45,7 +46,8 @@ returns-then-starts_wide_break-clause-lanes g c =
 pub returns-else-starts_wide_break-clause-lanes : goal.returns-else-starts_wide_break-clause-lanes
 returns-else-starts_wide_break-clause-lanes g c =
     let least = g.met.T.ByteChunk.lawful.least in
-    let last = get_or-take c.args.end c.args.probe.now.text (c.args.at + (g.T.ByteChunk.SIZE - 1)) 0 (omega (arith, least))
+    let size = g.T.ByteChunk.SIZE in
+    let last = get_or-take c.args.end c.args.probe.now.text (c.args.at + (size - 1)) 0 (omega (arith, least))
     ∙ sym (rw c.SIZE.ensures at c.peek-byte.ensures.byte) in
     let same = ap (λ p. p.text) c.peek-byte.ensures.state in
     wide_kept (take c.args.end c.args.probe.now.text) c.args.at g.T.ByteChunk.SIZE

@@ -1,32 +1,31 @@
-use Rattle.std.proofs.Common.{take, sym, ◌∙◌}
 use Rattle.str_indices.proofs.lemmas.lanes.BreakChunks.{firsts_fit, inside_counted, next_lines_fit, no_wide, sums_long, sums_small}
 use Rattle.str_indices.proofs.lines.add_wide_breaks.Goals as goal
 
 pub add-requires : goal.add-requires
 add-requires g c =
-    firsts_fit (take c.args.end c.args.probe.now.text) c.args.at g.met.T.ByteChunk.lawful.least c.requires.chunk c.cmp_eq_byte-next_lines.ensures
+    firsts_fit g.met.T.ByteChunk.lawful.least c.requires.chunk c.cmp_eq_byte-next_lines.ensures
     c.cmp_eq_byte-separators.ensures
 
 pub returns-then-is_zero-clause-lanes : goal.returns-then-is_zero-clause-lanes
 returns-then-is_zero-clause-lanes g c =
-    no_wide (take c.args.end c.args.probe.now.text) c.args.at g.met.T.ByteChunk.lawful.least c.requires.chunk c.cmp_eq_byte-next_lines.ensures
+    no_wide g.met.T.ByteChunk.lawful.least c.requires.chunk c.cmp_eq_byte-next_lines.ensures
     c.cmp_eq_byte-separators.ensures c.add.ensures (c.is_zero.ensures.0 c.if-is_zero.true) c.requires.counted
 
 pub add-with_next_lines-requires : goal.add-with_next_lines-requires
 add-with_next_lines-requires g c =
-    next_lines_fit (take c.args.end c.args.probe.now.text) c.args.at g.met.T.ByteChunk.lawful.least c.requires.chunk c.requires.counted c.pair_starts.ensures
+    next_lines_fit g.met.T.ByteChunk.lawful.least c.requires.chunk c.requires.counted c.pair_starts.ensures
 
 pub add_separators-inside-requires-clause-as_long : goal.add_separators-inside-requires-clause-as_long
 add_separators-inside-requires-clause-as_long g c =
-    sums_long (take c.args.end c.args.probe.now.text) c.args.at g.met.T.ByteChunk.lawful.least c.requires.chunk c.requires.counted c.pair_starts.ensures
+    sums_long g.met.T.ByteChunk.lawful.least c.requires.chunk c.requires.counted c.pair_starts.ensures
     c.add-with_next_lines.ensures
 
 pub add_separators-inside-requires-clause-room : goal.add_separators-inside-requires-clause-room
 add_separators-inside-requires-clause-room g c =
-    sums_small (take c.args.end c.args.probe.now.text) c.args.at g.met.T.ByteChunk.lawful.least c.requires.chunk c.requires.counted c.pair_starts.ensures
+    sums_small g.met.T.ByteChunk.lawful.least c.requires.chunk c.requires.counted c.pair_starts.ensures
     c.add-with_next_lines.ensures
 
 pub add_at_edge-requires-clause-counted : goal.add_at_edge-requires-clause-counted
 add_at_edge-requires-clause-counted g c =
-    inside_counted (take c.args.end c.args.probe.now.text) c.args.at g.met.T.ByteChunk.lawful.least c.requires.chunk c.requires.counted c.pair_starts.ensures
+    inside_counted g.met.T.ByteChunk.lawful.least c.requires.chunk c.requires.counted c.pair_starts.ensures
     c.add-with_next_lines.ensures c.add_separators-inside.ensures

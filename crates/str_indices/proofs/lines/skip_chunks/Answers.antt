@@ -13,7 +13,10 @@ overflow_add-count g c =
     take_all c.len-len.result text (omega (arith, c.len-len.ensures.len)) in
     let counted = rw (so_far.reads.text_kept, whole) at c.sum_breaks_in_chunk.ensures.counted in
     omega (
-      arith, so_far.counted, counted, c.SIZE.ensures,
+      arith,
+      so_far.counted,
+      counted,
+      c.SIZE.ensures,
       breaks_counted_before-le text (c.chunks.at.byte + g.T.ByteChunk.SIZE),
     )
 

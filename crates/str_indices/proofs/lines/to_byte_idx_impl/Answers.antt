@@ -1,4 +1,4 @@
-use Rattle.std.proofs.Common.{◌≡◌, ◌+◌, ◌-◌, ◌/◌, ◌<◌, length, min, take, inl, inr, arith, ap, ◌∙◌}
+use Rattle.std.proofs.Common.{◌≡◌, ◌-◌, length, take, inl, inr, arith, ap, ◌∙◌}
 use Rattle.std.proofs.lemmas.Bool.{cases_lt}
 use Rattle.std.proofs.lemmas.List.{take_all}
 use Rattle.str_indices.specs.Breaks.{breaks_counted_before}
@@ -68,8 +68,9 @@ returns-clause-pass g c =
       | inl stopped ↦ absurd (c.if-led-idx.false (led.ensures.stopped stopped))
       | inr reached ↦ omega (arith, led.ensures.reached.1)
     ] in
-    let near = place_is_near (breaks_counted_before text) (length text) chunks.result.byte size c.args.idx rest.result.byte
-    (rw same_led at chunks.ensures.stopped) (omega (arith, rest.ensures.reached.1, c.len-len.ensures.len)) first in
+    let near = place_is_near (breaks_counted_before text) (length text) chunks.result.byte size c.args.idx
+    rest.result.byte (rw same_led at chunks.ensures.stopped)
+    (omega (arith, rest.ensures.reached.1, c.len-len.ensures.len)) first in
     let few = quotient-le (chunks.result.byte - led.result.byte) found.result size (omega (arith, least))
     (omega (arith, rest.ensures.reached.0, found.ensures.reached.0)) in
     weaken (then_ (then_ (then_ (anywhere led.result.byte led.ensures.reads) chunks.ensures.reads)
