@@ -234,6 +234,19 @@ module _ {size : ℕ} (chunk : List ℕ) (least : 4 ≤ size) (long : length chu
 
 module _ (bytes : List ℕ) (at size : ℕ) {breaks : List ℕ} (least : 4 ≤ size)
     (counted : HasLanes size (inside_at bytes at size) breaks) where
+  -- a lane has room for one more
+  pub lane_small : (j : ℕ) → j < size → get_or breaks j 0 < 255
+  lane_small j l =
+      let inside = take (at + size) bytes in
+      let b = get_or inside (at + j) 0 in
+      let next = get_or inside (1 + (at + j)) 0 in
+      omega (
+        arith,
+        counted.each j l,
+        flag-le (is_narrow_break (get_or bytes (at + j) 0) (get_or bytes (1 + (at + j)) 0)),
+        flags-le (is_next_line b next) (is_separator b next (get_or inside (2 + (at + j)) 0)),
+      )
+
   -- a byte behind the chunk is not seen
   byte_behind : (p : ℕ) → at + size ≤ p → get_or (take (at + size) bytes) p 0 ≡ 0
   byte_behind p past = get_or_past (take (at + size) bytes) p 0 (omega (arith, length-take (at + size) bytes))

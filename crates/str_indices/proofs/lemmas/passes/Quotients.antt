@@ -1,11 +1,10 @@
 -- How often a chunk fits: what the loads of parts of a pass add up to.
-use Rattle.std.proofs.Common.{◌≡◌, ℕ, ◌+◌, ◌-◌, ◌/◌, ◌<◌, ◌≤◌, inl, inr, min, arith, ap, add-mul}
-use Rattle.std.proofs.lemmas.Bool.{cases_lt}
+use Rattle.std.proofs.Common.{◌≡◌, ℕ, ◌+◌, ◌-◌, ◌/◌, ◌<◌, ◌≤◌, arith, ap, add-mul}
 use Rattle.std.proofs.lemmas.Nat.{le-div}
-use Rattle.std.proofs.Math.Nat.{add-div_right, div-le_self, div-mul-le_self}
+use Rattle.std.proofs.Math.Nat.{add-div_right, div-mul-le_self}
 use Rattle.byte_chunk.specs.ProbeState.{ProbeState}
-use Rattle.str_indices.specs.Reads.{Reads, leading_bytes, pass_turns, pass_loads}
-use Rattle.str_indices.proofs.lemmas.passes.Costs.{anywhere, then_, weaken}
+use Rattle.str_indices.specs.Reads.{Reads}
+use Rattle.str_indices.proofs.lemmas.passes.Costs.{then_, weaken}
 
 -- in more bytes it fits no less often
 pub quotient-le : (m n size : ℕ) → 0 < size → m ≤ n → m / size ≤ n / size
@@ -37,18 +36,3 @@ module _ {old seen new : ProbeState} {size from at spare : ℕ} (some : 0 < size
       let next : at + size - from ≡ at - from + size = omega arith in
       weaken (then_ so_far (earlier behind more)) (omega arith) (omega arith)
       (omega (arith, add-div_right (at - from) some, ap (λ n. n / size) next)) (omega arith)
-
--- a pass over the first bytes of n keeps within the bound of one over all n
-pub pass_within : {old new : ProbeState} {spare : ℕ} (size lead end n : ℕ) → 0 < size → end ≤ n
-    → Reads old new (leading_bytes lead end) (pass_turns size lead end) (pass_loads size lead end) spare
-    → Reads old new (leading_bytes lead n) (pass_turns size lead n) (pass_loads size lead n) spare
-pass_within {old} {new} {spare} size lead end n some le pass = elim (cases_lt lead end) [
-  | inl inside ↦ weaken pass (omega arith) (omega arith)
-      (quotient-le (end - min lead end) (n - min lead n) size some (omega arith)) (omega arith)
-  | inr past ↦
-      let left : end - min lead end ≡ 0 = omega arith in
-      let none : pass_loads size lead end ≡ 0 = omega (arith, ap (λ m. m / size) left, div-le_self 0 size) in
-      let no_load : Reads old new (leading_bytes lead end) (pass_turns size lead n) 0 spare =
-      weaken pass (omega arith) (omega arith) (omega arith) (omega arith) in
-      weaken (anywhere (leading_bytes lead n) no_load) (omega arith) (omega arith) (omega arith) (omega arith)
-]

@@ -1,7 +1,7 @@
 use Rattle.std.proofs.Common.{◌-◌, ◌+◌, take, arith, ap, sym, ◌∙◌}
 use Rattle.std.proofs.lemmas.List.{get_or-take}
 use Rattle.str_indices.specs.Bytes.{flag}
-use Rattle.str_indices.proofs.lemmas.lanes.BreakChunks.{separator_crosses, separator_kept, wide_crosses, wide_kept}
+use Rattle.str_indices.proofs.lemmas.lanes.BreakChunks.{lane_small, separator_crosses, separator_kept, wide_crosses, wide_kept}
 use Rattle.str_indices.proofs.lines.add_at_edge.Goals as goal
 
 pub returns-then-is_separator-clause-lanes : goal.returns-then-is_separator-clause-lanes
@@ -53,3 +53,11 @@ returns-else-starts_wide_break-clause-lanes g c =
     wide_kept (take c.args.end c.args.probe.now.text) c.args.at g.T.ByteChunk.SIZE
     least c.requires.counted (λ second. c.if-byte.false (sym last ∙ second))
     (sym (rw (c.SIZE.ensures, same) at c.starts_wide_break.ensures.answer) ∙ ap flag c.if-starts_wide_break.false)
+
+pub inc_nth_from_end_lex_byte-requires-then-starts_wide_break-clause-room :
+    goal.inc_nth_from_end_lex_byte-requires-then-starts_wide_break-clause-room
+inc_nth_from_end_lex_byte-requires-then-starts_wide_break-clause-room g c =
+    let size = g.T.ByteChunk.SIZE in
+    let least = g.met.T.ByteChunk.lawful.least in
+    lane_small (take c.args.end c.args.probe.now.text) c.args.at size least c.requires.counted (size - 1 - 0)
+    (omega (arith, least))
