@@ -10,7 +10,7 @@ ghost use Rattle.str_indices.specs.Schemes.{count, from_byte_idx, to_byte_idx, L
 ghost use Rattle.str_indices.specs.Relations.{IsBoundary};
 ghost use Rattle.str_indices.specs.Bytes.{flag, is_carriage_return, is_middle};
 ghost use Rattle.str_indices.specs.Breaks.{is_crlf, is_separator, narrow_break_at, next_line_at, separator_at, break_at, breaks_counted_before, ends_separator};
-ghost use Rattle.str_indices.specs.Lanes.{HasLanes, SeenChunk};
+ghost use Rattle.str_indices.specs.Lanes.{HasLanes, IsChunk};
 ghost use Rattle.str_indices.specs.Reads.{Reads, leading_bytes, pass_turns, pass_loads};
 
 use crate::places::{Position, boundary_at_or_after, boundary_at_or_before, is_not_crlf_middle};
@@ -31,8 +31,8 @@ pub fn count_breaks(text: &str) -> usize
 
 /// Converts a byte index to a line index: the number of line breaks that end at or before the byte.
 ///
-/// A break belongs to the line that it ends, and so does each byte inside it: a byte between CR and LF is on the line that
-/// the CR LF ends. A byte past the end gives the index of the last line.
+/// A break belongs to the line that it ends, and so does each byte inside it: a byte between CR and LF is on the line
+/// that the CR LF ends. A byte past the end gives the index of the last line.
 pub fn from_byte_idx(text: &str, byte_idx: usize) -> usize
     ensures { result ≡ from_byte_idx Lines (chars text.now) byte_idx }
 {
@@ -51,7 +51,8 @@ pub fn to_byte_idx(text: &str, line_idx: usize) -> usize
     to_byte_idx_impl(&mut Probe::<Chunk>::of(text), line_idx, 0)
 }
 
-/// Counts the line breaks of the text before `end`, over chunks of any type, after `lead` bytes that are walked one by one.
+/// Counts the line breaks of the text before `end`, over chunks of any type, after `lead` bytes that are walked one by
+/// one.
 pub fn count_breaks_impl<T: ByteChunk>(probe: &mut Probe<'_, T>, end: usize, lead: usize) -> usize
     requires within { end ≤ length probe.old.text }
     requires boundary { IsBoundary (chars probe.old.text) end }
@@ -137,7 +138,8 @@ fn count_breaks_up_to<T: ByteChunk>(
     ensures reached { (from.byte ≤ result.byte) × (result.byte ≤ to) }
     ensures counted { result.count ≡ breaks_counted_before (take end probe.old.text) result.byte }
     ensures at_most { result.count ≤ most }
-    ensures first { (d : ℕ) → from.byte ≤ d → d < result.byte → breaks_counted_before (take end probe.old.text) d < most }
+    ensures first { let bytes = take end probe.old.text in
+        (d : ℕ) → from.byte ≤ d → d < result.byte → breaks_counted_before bytes d < most }
     ensures stopped { result.byte < to → result.count ≡ most }
     ensures reads { Reads probe.old probe.new 0 (result.byte - from.byte) 0 0 }
 {
@@ -168,7 +170,8 @@ fn is_break_at<T: ByteChunk>(probe: &mut Probe<'_, T>, at: usize, end: usize) ->
     }
 }
 
-/// Whether a break of several bytes is counted at byte `at`: where it may be, the bytes behind it are peeked at.
+/// Whether a break of several bytes is counted at byte `at`: only where that may begin one, the bytes behind it are
+/// peeked at.
 fn starts_wide_break<T: ByteChunk>(
     probe: &mut Probe<'_, T>,
     byte: u8,
@@ -178,7 +181,8 @@ fn starts_wide_break<T: ByteChunk>(
     requires seen { at < end }
     requires within { end ≤ length probe.old.text }
     requires byte { byte ≡ slice_index (take end probe.old.text) at }
-    ensures answer { flag result ≡ next_line_at (take end probe.old.text) at + separator_at (take end probe.old.text) at }
+    ensures answer { let bytes = take end probe.old.text in
+        flag result ≡ next_line_at bytes at + separator_at bytes at }
     ensures reads { Reads probe.old probe.new 0 0 0 2 }
     ensures reads_nothing { byte < 0xC2 → Reads probe.old probe.new 0 0 0 0 }
 {
@@ -301,7 +305,7 @@ fn sum_breaks_in_chunk<T: ByteChunk>(probe: &mut Probe<'_, T>, at: usize, end: u
 
 /// 1 in each lane of the chunk at `at` where a break is counted, and 0 in the others.
 ///
-/// It loads the chunk, and peeks at most at its last two bytes and the two behind it, where a lane says that a break may
+/// It loads the chunk, and peeks at its last two bytes and the two behind it only where a lane says that a break may
 /// cross the chunk's end.
 fn count_breaks_in_chunk<T: ByteChunk>(probe: &mut Probe<'_, T>, at: usize, end: usize) -> T
     requires seen { at + T.SIZE ≤ end }
@@ -319,7 +323,9 @@ fn count_breaks_in_chunk<T: ByteChunk>(probe: &mut Probe<'_, T>, at: usize, end:
 ///
 /// Only where a lane is CR it peeks at the last byte, and only where that is CR at the one behind it.
 fn count_narrow_breaks<T: ByteChunk>(probe: &mut Probe<'_, T>, chunk: T, at: usize, end: usize) -> T
-    requires chunk { SeenChunk probe.old.text end at T.SIZE (T.lanes chunk) }
+    requires seen { at + T.SIZE ≤ end }
+    requires within { end ≤ length probe.old.text }
+    requires chunk { IsChunk (take end probe.old.text) at T.SIZE (T.lanes chunk) }
     ensures lanes { HasLanes T.SIZE (λ j. narrow_break_at (take end probe.old.text) (at + j)) (T.lanes result) }
     ensures reads { let last = slice_index probe.old.text (at + (T.SIZE - 1)) in
         Reads probe.old probe.new 0 0 0 (1 + flag (is_carriage_return last)) }
@@ -348,6 +354,8 @@ fn starts_crlf<T: ByteChunk>(probe: &mut Probe<'_, T>, at: usize, end: usize) ->
 }
 
 /// Adds the breaks of several bytes, each at its first byte, to the others of the chunk at `at`.
+///
+/// Only where a lane is C2 or E2 it peeks: three times at most, and once where the last byte is CR.
 fn add_wide_breaks<T: ByteChunk>(
     probe: &mut Probe<'_, T>,
     chunk: T,
@@ -355,8 +363,11 @@ fn add_wide_breaks<T: ByteChunk>(
     at: usize,
     end: usize,
 ) -> T
-    requires chunk { SeenChunk probe.old.text end at T.SIZE (T.lanes chunk) }
-    requires counted { HasLanes T.SIZE (λ j. narrow_break_at (take end probe.old.text) (at + j)) (T.lanes narrow_breaks) }
+    requires seen { at + T.SIZE ≤ end }
+    requires within { end ≤ length probe.old.text }
+    requires chunk { IsChunk (take end probe.old.text) at T.SIZE (T.lanes chunk) }
+    requires counted { let bytes = take end probe.old.text in
+        HasLanes T.SIZE (λ j. narrow_break_at bytes (at + j)) (T.lanes narrow_breaks) }
     ensures lanes { HasLanes T.SIZE (λ j. break_at (take end probe.old.text) (at + j)) (T.lanes result) }
     ensures reads { let last = slice_index probe.old.text (at + (T.SIZE - 1)) in
         Reads probe.old probe.new 0 0 0 (3 - 2 * flag (is_carriage_return last)) }
@@ -408,12 +419,13 @@ fn separator_ends<T: ByteChunk>(chunk: T) -> T
 
 /// Adds the break of several bytes that crosses the end of the chunk at `at`, if there is one.
 ///
-/// `breaks` has those that are counted where no byte behind the chunk is seen.
+/// `breaks` has those that are counted where no byte behind the chunk is seen. The last byte says whether more bytes are
+/// peeked at: two behind it, or the one before it and the one behind it.
 fn add_at_edge<T: ByteChunk>(probe: &mut Probe<'_, T>, breaks: T, at: usize, end: usize) -> T
     requires seen { at + T.SIZE ≤ end }
     requires within { end ≤ length probe.old.text }
-    requires counted { let inside = take (at + T.SIZE) probe.old.text in
-        HasLanes T.SIZE (λ j. narrow_break_at (take end probe.old.text) (at + j) + next_line_at inside (at + j)
+    requires counted { let bytes = take end probe.old.text in let inside = take (at + T.SIZE) bytes in
+        HasLanes T.SIZE (λ j. narrow_break_at bytes (at + j) + next_line_at inside (at + j)
         + separator_at inside (at + j)) (T.lanes breaks) }
     ensures lanes { HasLanes T.SIZE (λ j. break_at (take end probe.old.text) (at + j)) (T.lanes result) }
     ensures reads { let last = slice_index probe.old.text (at + (T.SIZE - 1)) in

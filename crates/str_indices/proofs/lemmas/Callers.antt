@@ -2,10 +2,8 @@
 --     IsCharBoundary-from_boundary    std lets a text be sliced at each boundary
 --     IsBoundary-from_char_boundary   and nowhere else
 --     IsCharBoundary-to_byte_idx      each conversion to a byte index answers such a place
-use Rattle.std.proofs.Common.{◌≡◌, ℕ, ◌≤◌, inl, inr, List, length, get_or, take, drop, arith, true, false, sym, ◌∙◌, ap, subst, chars, IsUtf8, IsCharBoundary}
+use Rattle.std.proofs.Common.{◌≡◌, ℕ, ◌≤◌, inl, inr, List, length, get_or, arith, true, false, sym, ◌∙◌, ap, subst, chars, IsUtf8, IsCharBoundary}
 use Rattle.std.proofs.lemmas.Bool.{cases_lt}
-use Rattle.std.proofs.lemmas.List.{take-append-drop, length-take-le}
-use Rattle.std.proofs.lemmas.Str.{IsUtf8-take, chars-append}
 use Rattle.str_indices.specs.Text.{size}
 use Rattle.str_indices.specs.Schemes.{Scheme, to_byte_idx}
 use Rattle.str_indices.specs.Relations.{IsBoundary}
@@ -14,7 +12,8 @@ use Rattle.str_indices.proofs.lemmas.texts.Sizes.{size-append}
 use Rattle.str_indices.proofs.lemmas.laws.CharacterLaws.{IsBoundary-to_byte_idx}
 use Rattle.str_indices.proofs.lemmas.bytes.Characters.{is_trailing_later}
 use Rattle.str_indices.proofs.lemmas.bytes.Walks.{size-chars}
-use Rattle.str_indices.proofs.lemmas.bytes.BoundaryBytes.{boundary_begins, std_boundary}
+use Rattle.str_indices.proofs.lemmas.bytes.BoundaryBytes.{boundary_begins}
+pub use Rattle.str_indices.proofs.lemmas.bytes.BoundaryBytes.{IsBoundary-from_char_boundary}
 
 -- std lets a text be sliced at each boundary
 pub IsCharBoundary-from_boundary : (bytes : List ℕ) → IsUtf8 bytes → (p : ℕ) → IsBoundary (chars bytes) p
@@ -31,11 +30,6 @@ IsCharBoundary-from_boundary bytes utf8 p at =
               sym (is_trailing_later byte (record { low = above; high = later })) ∙ begins in cc
           | inr wide ↦ wide
         ]
-
--- a place where std lets a text be sliced is a boundary
-pub IsBoundary-from_char_boundary : (bytes : List ℕ) → IsUtf8 bytes → (p : ℕ) → IsCharBoundary bytes p
-    → IsBoundary (chars bytes) p
-IsBoundary-from_char_boundary bytes utf8 p at = std_boundary bytes utf8 p at
 
 -- what a conversion to a byte index answers is a place where std lets the text be sliced
 pub IsCharBoundary-to_byte_idx : (s : Scheme) (bytes : List ℕ) → IsUtf8 bytes → (k p : ℕ)

@@ -1,6 +1,5 @@
-use Rattle.std.proofs.Common.{min, length, arith, ap, ◌∙◌, chars}
-use Rattle.str_indices.specs.Text.{cut}
-use Rattle.str_indices.specs.Schemes.{Chars, end_count}
+use Rattle.std.proofs.Common.{min, length, arith, chars}
+use Rattle.str_indices.specs.Schemes.{Chars}
 use Rattle.str_indices.proofs.lemmas.bytes.BoundaryBytes.{cut_boundary}
 use Rattle.str_indices.proofs.lemmas.texts.Ends.{end_count-cut, cut-cut}
 use Rattle.str_indices.proofs.lemmas.schemes.CharBytes.{reads_alone}

@@ -1,4 +1,4 @@
-use Rattle.std.proofs.Common.{◌+◌, inr, arith}
+use Rattle.std.proofs.Common.{inr, arith}
 use Rattle.str_indices.specs.Bytes.{is_trailing}
 use Rattle.str_indices.proofs.lemmas.bytes.Sums.{passing_or_not, passing_before-more}
 use Rattle.str_indices.proofs.lemmas.schemes.CharBytes.{leading_in_chunk}

@@ -2,7 +2,7 @@ use Rattle.std.proofs.Common.{◌≤◌, arith}
 use Rattle.std.specs.Simd.Lanes.{Each1}
 use Rattle.std.proofs.lemmas.Simd.{Each1-weaker}
 use Rattle.str_indices.specs.Bytes.{mark}
-use Rattle.str_indices.proofs.lemmas.bytes.Sums.{mark-le, passing_before-more}
+use Rattle.str_indices.proofs.lemmas.bytes.Sums.{mark-le}
 use Rattle.str_indices.proofs.lemmas.lanes.Lanes.{length-loaded, lanes_at_most, sum_below-loaded}
 use Rattle.str_indices.proofs.counting.count_in_chunk.Goals as goal
 

@@ -1,6 +1,5 @@
-use Rattle.std.proofs.Common.{arith, ap, ◌∙◌}
-use Rattle.str_indices.specs.Bytes.{passing_before}
-use Rattle.str_indices.proofs.lemmas.passes.Costs.{nothing, chunks_joined}
+use Rattle.std.proofs.Common.{arith}
+use Rattle.str_indices.proofs.lemmas.passes.Costs.{chunks_joined}
 use Rattle.str_indices.proofs.counting.count_in_chunks.Goals as goal
 
 pub rounds-preserved : goal.rounds-preserved

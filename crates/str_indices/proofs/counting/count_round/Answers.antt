@@ -1,8 +1,7 @@
 use Rattle.std.proofs.Common.{◌<◌, refl, arith, add-mul}
 use Rattle.str_indices.proofs.lemmas.bytes.Sums.{passing_before-le}
 use Rattle.str_indices.proofs.lemmas.lanes.Rounds.{no_round, room_to_add, one_round_more, room_to_sum}
-use Rattle.str_indices.proofs.lemmas.passes.Costs.{nothing, load_made, then_, weaken}
-use Rattle.str_indices.proofs.lemmas.passes.Quotients.{div-counted}
+use Rattle.str_indices.proofs.lemmas.passes.Costs.{nothing, load_made, then_}
 use Rattle.str_indices.proofs.counting.count_round.Goals as goal
 
 pub chunks-init : goal.chunks-init

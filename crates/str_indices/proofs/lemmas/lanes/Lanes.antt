@@ -69,8 +69,8 @@ lanes_map u {size} {f} {xs} {ys} h is = rw is (record {
 pub lanes_loaded : (u : ℕ → ℕ) (text : List ℕ) (at size : ℕ) {lanes counts : List ℕ} → at + size ≤ length text
     → lanes ≡ take size (drop at text) → counts ≡ map u lanes → HasLanes size (λ j. u (get_or text (at + j) 0)) counts
 lanes_loaded u text at size {lanes} {counts} within loaded mapped =
-    let long = length-loaded text at size lanes within loaded in
-    lanes_same (λ j. u (get_or text (at + j) 0)) (lanes_map u (lanes_of long) mapped)
+    lanes_same (λ j. u (get_or text (at + j) 0))
+    (lanes_map u (lanes_of (length-loaded text at size lanes within loaded)) mapped)
     (λ j l. ap u (ap (λ xs. get_or xs j 0) loaded ∙ get_or-take size (drop at text) j 0 l ∙ get_or-drop at text j 0))
 
 -- what u adds over such a chunk
@@ -163,7 +163,8 @@ module _ {size : ℕ} (chunk : List ℕ) (long : length chunk ≡ size) where
       → pairs ≡ zip2 bit_and firsts shifted
       → HasLanes size (λ j. flag (get_or chunk j 0 == a && get_or chunk (1 + j) 0 == b)) pairs
   pair_lanes a b few some is_first is_second back both =
-      lanes_and (λ j. get_or chunk j 0 == a) (λ j. get_or chunk (1 + j) 0 == b) (lanes_map (is_byte a) (lanes_of long) is_first)
+      lanes_and (λ j. get_or chunk j 0 == a) (λ j. get_or chunk (1 + j) 0 == b)
+      (lanes_map (is_byte a) (lanes_of long) is_first)
       (lanes_shift 1 few (λ j past. rw (no_byte b j some past) refl) (lanes_map (is_byte b) (lanes_of long) is_second)
       back) both
 

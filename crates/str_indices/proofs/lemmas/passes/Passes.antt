@@ -1,11 +1,9 @@
 -- What leading bytes, chunks and the rest of a text add up to: the bounds of a whole pass.
-use Rattle.std.proofs.Common.{◌≡◌, ℕ, ◌+◌, ◌-◌, ◌*◌, ◌/◌, ◌<◌, ◌≤◌, ◌⊎◌, min, inl, inr, arith}
+use Rattle.std.proofs.Common.{◌≡◌, ℕ, ◌+◌, ◌-◌, ◌*◌, ◌/◌, ◌≤◌, min, inl, inr, arith}
 use Rattle.std.proofs.lemmas.Bool.{cases_lt}
 use Rattle.std.proofs.Math.Nat.{div-le_self}
 use Rattle.byte_chunk.specs.ProbeState.{ProbeState}
-use Rattle.str_indices.specs.Bytes.{sum_below}
 use Rattle.str_indices.specs.Reads.{Reads, leading_bytes, pass_turns, pass_loads}
-use Rattle.str_indices.proofs.lemmas.bytes.Sums.{sum_below-le-sum_below}
 use Rattle.str_indices.proofs.lemmas.passes.Costs.{then_, weaken, anywhere}
 use Rattle.str_indices.proofs.lemmas.passes.Quotients.{div-le-div}
 

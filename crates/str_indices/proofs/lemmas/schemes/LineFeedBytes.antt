@@ -1,10 +1,10 @@
 -- The line breaks of `Lf` as the bytes that are LF.
-use Rattle.std.proofs.Common.{◌≡◌, ℕ, ◌+◌, ◌<◌, ◌≤◌, ◌⊎◌, List, ◌++◌, length, get_or, refl, arith, sym, ◌∙◌, cond, chars, IsUtf8}
+use Rattle.std.proofs.Common.{◌≡◌, ℕ, ◌<◌, ◌≤◌, List, ◌++◌, length, get_or, refl, arith, sym, ◌∙◌, cond, chars, IsUtf8}
 use Rattle.std.specs.Prelude.{◌==◌}
 use Rattle.std.proofs.Math.Utf8.{encodes}
 use Rattle.std.proofs.lemmas.Bool.Decides.{nat_tests}
 use Rattle.str_indices.specs.Text.{cut}
-use Rattle.str_indices.specs.Bytes.{flag, mark, passing_before, is_line_feed}
+use Rattle.str_indices.specs.Bytes.{flag, passing_before, is_line_feed}
 use Rattle.str_indices.specs.Schemes.{Lf, count, from_byte_idx, to_byte_idx}
 use Rattle.str_indices.proofs.lemmas.texts.Ends.{end_weight, end_weight-Lf, ReadsAlone, end_count-cut}
 use Rattle.str_indices.proofs.lemmas.texts.EndSets.{end_at_reached}

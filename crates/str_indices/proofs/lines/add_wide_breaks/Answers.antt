@@ -1,4 +1,4 @@
-use Rattle.str_indices.proofs.lemmas.lanes.BreakChunks.{chunk_long, firsts_fit, inside_counted, next_lines_fit, no_wide, sums_long, sums_small}
+use Rattle.str_indices.proofs.lemmas.lanes.BreakChunks.{firsts_fit, inside_counted, next_lines_fit, no_wide, sums_long, sums_small}
 use Rattle.str_indices.proofs.lines.add_wide_breaks.Goals as goal
 
 pub add-requires : goal.add-requires

@@ -1,4 +1,4 @@
-use Rattle.std.proofs.Common.{◌+◌, ◌-◌, ◌/◌, ◌<◌, ◌≤◌, min, take, arith, ap, ◌∙◌}
+use Rattle.std.proofs.Common.{take, arith, ap, ◌∙◌}
 use Rattle.str_indices.specs.Breaks.{breaks_counted_before}
 use Rattle.str_indices.proofs.lemmas.schemes.LineBytes.{breaks_in_cut, walks_on}
 use Rattle.str_indices.proofs.lemmas.passes.Passes.{counting_pass}

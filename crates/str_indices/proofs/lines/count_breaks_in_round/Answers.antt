@@ -1,4 +1,4 @@
-use Rattle.std.proofs.Common.{◌≡◌, ◌+◌, ◌-◌, ◌/◌, ◌<◌, ◌≤◌, take, arith, refl}
+use Rattle.std.proofs.Common.{◌+◌, ◌<◌, ◌≤◌, take, arith, refl}
 use Rattle.str_indices.specs.Breaks.{break_at}
 use Rattle.str_indices.specs.Lanes.{HasLanes}
 use Rattle.str_indices.proofs.lemmas.lanes.Lanes.{Each1-lanes}
@@ -31,7 +31,8 @@ chunks-preserved g c =
     let size = g.T.ByteChunk.SIZE in
     let bytes = take c.args.end c.args.probe.now.text in
     let so_far = c.chunks.invariant in
-    let found : HasLanes size (λ j. break_at bytes (c.chunks.at + j)) (g.T.ByteChunk.lanes c.count_breaks_in_chunk.result) =
+    let lanes = g.T.ByteChunk.lanes c.count_breaks_in_chunk.result in
+    let found : HasLanes size (λ j. break_at bytes (c.chunks.at + j)) lanes =
     rw so_far.reads.text_kept at c.count_breaks_in_chunk.ensures.lanes in
     rw c.SIZE-at.ensures (record {
       from_low = omega (arith, so_far.from_low);

@@ -14,17 +14,18 @@ sub-inside-requires g c =
 
 pub dec_last_lex_byte-requires : goal.dec_last_lex_byte-requires
 dec_last_lex_byte-requires g c =
+    let crosses = rw c.SIZE.ensures at (sym c.starts_crlf.ensures.answer ∙ c.if-starts_crlf.true) in
     last_is_counted g.met.T.ByteChunk.lawful.least c.requires.chunk c.bytes_between_127-ascii_breaks.ensures
-    c.pair_starts.ensures c.sub-inside.ensures (rw c.SIZE.ensures at (sym c.starts_crlf.ensures.answer ∙ c.if-starts_crlf.true))
+    c.pair_starts.ensures c.sub-inside.ensures crosses
 
 pub returns-then-starts_crlf-clause-lanes : goal.returns-then-starts_crlf-clause-lanes
 returns-then-starts_crlf-clause-lanes g c =
+    let crosses = rw c.SIZE.ensures at (sym c.starts_crlf.ensures.answer ∙ c.if-starts_crlf.true) in
     narrow_crossing g.met.T.ByteChunk.lawful.least c.requires.chunk c.bytes_between_127-ascii_breaks.ensures
-    c.pair_starts.ensures c.sub-inside.ensures (rw c.SIZE.ensures at (sym c.starts_crlf.ensures.answer ∙ c.if-starts_crlf.true))
-    c.dec_last_lex_byte.ensures
+    c.pair_starts.ensures c.sub-inside.ensures crosses c.dec_last_lex_byte.ensures
 
 pub returns-else-starts_crlf-clause-lanes : goal.returns-else-starts_crlf-clause-lanes
 returns-else-starts_crlf-clause-lanes g c =
+    let stays = rw c.SIZE.ensures at (sym c.starts_crlf.ensures.answer ∙ c.if-starts_crlf.false) in
     narrow_kept g.met.T.ByteChunk.lawful.least c.requires.chunk c.bytes_between_127-ascii_breaks.ensures
-    c.pair_starts.ensures c.sub-inside.ensures
-    (rw c.SIZE.ensures at (sym c.starts_crlf.ensures.answer ∙ c.if-starts_crlf.false))
+    c.pair_starts.ensures c.sub-inside.ensures stays

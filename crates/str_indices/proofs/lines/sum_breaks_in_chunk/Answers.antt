@@ -12,8 +12,6 @@ sum_bytes-requires g c =
 
 pub returns-clause-counted : goal.returns-clause-counted
 returns-clause-counted g c =
-    omega (
-      arith,
-      sum_below-chunk (break_at (take c.args.end c.args.probe.now.text)) c.args.at c.count_breaks_in_chunk.ensures.lanes,
-      c.sum_bytes.ensures,
-    )
+    let bytes = take c.args.end c.args.probe.now.text in
+    let added = sum_below-chunk (break_at bytes) c.args.at c.count_breaks_in_chunk.ensures.lanes in
+    omega (arith, added, c.sum_bytes.ensures)

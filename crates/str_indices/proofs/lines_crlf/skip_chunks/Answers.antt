@@ -1,6 +1,5 @@
-use Rattle.std.proofs.Common.{◌+◌, inr, arith}
+use Rattle.std.proofs.Common.{arith}
 use Rattle.str_indices.proofs.lemmas.schemes.CrlfBytes.{breaks_before-le}
-use Rattle.str_indices.proofs.lemmas.passes.Costs.{load_made, chunk_joined, chunk_after}
 use Rattle.str_indices.proofs.lines_crlf.skip_chunks.Goals as goal
 
 pub overflow_add-count : goal.overflow_add-count

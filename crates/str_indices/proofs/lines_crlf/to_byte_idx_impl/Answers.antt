@@ -1,6 +1,6 @@
 use Rattle.std.proofs.Common.{◌≡◌, ◌+◌, ◌-◌, ◌≤◌, length, inl, inr, arith, ap, ◌∙◌}
 use Rattle.std.proofs.lemmas.Bool.{cases_lt}
-use Rattle.str_indices.specs.Bytes.{mark, break_start, breaks_before, is_middle}
+use Rattle.str_indices.specs.Bytes.{break_start, breaks_before}
 use Rattle.str_indices.proofs.lemmas.schemes.CrlfBytes.{line_begins}
 use Rattle.str_indices.proofs.lemmas.passes.Costs.{turns_made, turns_paying, then_}
 use Rattle.str_indices.proofs.lemmas.passes.Passes.{placing_pass}
