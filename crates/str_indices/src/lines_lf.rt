@@ -51,6 +51,7 @@ pub fn to_byte_idx(text: &str, line_idx: usize) -> usize
 /// Counts the line breaks before `end`, over chunks of any type, after `lead` bytes that are walked one by one.
 ///
 /// An `end` inside a character leaves that character out.
+#[tactic(auto, using(crate::proofs::lemmas::schemes::LineFeedBytes::line_feeds_before))]
 pub fn count_breaks_impl<T: ByteChunk>(probe: &mut Probe<'_, T>, end: usize, lead: usize) -> usize
     requires within { end ≤ length probe.old.text }
     ensures count { result ≡ count Lf (cut (chars probe.old.text) end) }
@@ -63,6 +64,7 @@ pub fn count_breaks_impl<T: ByteChunk>(probe: &mut Probe<'_, T>, end: usize, lea
 }
 
 /// Converts a byte index to a line index, over chunks of any type, after `lead` bytes that are walked one by one.
+#[tactic(auto, using(crate::proofs::lemmas::schemes::LineFeedBytes::line_of_byte))]
 pub fn from_byte_idx_impl<T: ByteChunk>(
     probe: &mut Probe<'_, T>,
     byte_idx: usize,

@@ -1,11 +1,12 @@
 -- The line breaks of `Lf` as the bytes that are LF.
-use Rattle.std.proofs.Common.{◌≡◌, ℕ, ◌<◌, ◌≤◌, List, ◌++◌, length, get_or, refl, arith, sym, ◌∙◌, cond, chars, IsUtf8}
+use Rattle.std.proofs.Common.{◌≡◌, ℕ, ◌<◌, ◌≤◌, List, ◌++◌, length, get_or, refl, arith, sym, ◌∙◌, ap, cond, min, chars, IsUtf8}
 use Rattle.std.specs.Prelude.{◌==◌}
 use Rattle.std.proofs.Math.Utf8.{encodes}
 use Rattle.std.proofs.lemmas.Bool.Decides.{nat_tests}
 use Rattle.str_indices.specs.Text.{cut}
 use Rattle.str_indices.specs.Bytes.{flag, passing_before, is_line_feed}
 use Rattle.str_indices.specs.Schemes.{Lf, count, from_byte_idx, to_byte_idx}
+use Rattle.str_indices.proofs.lemmas.texts.Cuts.{cut_at_least}
 use Rattle.str_indices.proofs.lemmas.texts.Ends.{end_weight, end_weight-Lf, ReadsAlone, end_count-cut}
 use Rattle.str_indices.proofs.lemmas.texts.EndSets.{end_at_reached}
 use Rattle.str_indices.proofs.lemmas.bytes.Characters.{by_width}
@@ -51,3 +52,12 @@ line_begins bytes utf8 k at within stopped first =
     end_at_reached Lf (chars bytes) k at (omega arith)
     (λ inside. omega (arith, stopped (omega arith), line_feeds_up_to bytes utf8 at within))
     (λ d before. omega (arith, first d before, line_feeds_up_to bytes utf8 d (omega arith)))
+
+-- the line breaks of the text that is cut at a byte index, or at its end where the index is past it, are those at or
+-- before it
+pub line_of_byte : (bytes : List ℕ) → IsUtf8 bytes → (byte end : ℕ) → end ≡ min byte (length bytes)
+    → count Lf (cut (chars bytes) end) ≡ from_byte_idx Lf (chars bytes) byte
+line_of_byte bytes utf8 byte end here =
+    let whole = size-chars bytes utf8 in
+    let same_cut = ap (count Lf) (cut_at_least (chars bytes) byte end (omega arith)) in
+    omega (arith, same_cut, end_count-cut Lf reads_alone (chars bytes) byte)
