@@ -46,6 +46,7 @@ pub fn to_byte_idx(text: &str, char_idx: usize) -> usize
 /// Counts the chars before the boundary `end`, over chunks of any type.
 ///
 /// `lead` bytes, or as many of them as stand before `end`, are walked one by one before the first chunk.
+#[tactic(auto, using(crate::proofs::lemmas::schemes::CharBytes::characters_and_trailing, crate::proofs::lemmas::bytes::Sums::passing_bounds))]
 pub fn count_impl<T: ByteChunk>(probe: &mut Probe<'_, T>, end: usize, lead: usize) -> usize
     requires within { end ≤ length probe.old.text }
     requires boundary { IsBoundary (chars probe.old.text) end }
@@ -96,6 +97,7 @@ pub fn to_byte_idx_impl<T: ByteChunk>(probe: &mut Probe<'_, T>, idx: usize, lead
 }
 
 /// Walks on from a position, one turn a byte, up to `to` or to the byte that begins the char after the index.
+#[tactic(auto, using(crate::proofs::lemmas::bytes::Sums::passing_bounds))]
 fn walk_to_char<T: ByteChunk>(
     probe: &mut Probe<'_, T>,
     from: Position,

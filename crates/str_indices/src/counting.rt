@@ -86,6 +86,7 @@ pub(crate) fn count_in_chunk<B: ByteTest, T: ByteChunk>(
 }
 
 /// Counts from a position on in the bytes before `to`, one turn each.
+#[tactic(auto, using(crate::proofs::lemmas::bytes::Sums::passing_bounds))]
 fn count_in_bytes<B: ByteTest, T: ByteChunk>(
     probe: &mut Probe<'_, T>,
     from: Position,

@@ -68,6 +68,7 @@ pub fn count_breaks_impl<T: ByteChunk>(probe: &mut Probe<'_, T>, end: usize, lea
 }
 
 /// Converts a byte index to a line index, over chunks of any type, after `lead` bytes that are walked one by one.
+#[tactic(auto, using(crate::proofs::lemmas::schemes::CrlfBytes::breaks_by_cut))]
 pub fn from_byte_idx_impl<T: ByteChunk>(
     probe: &mut Probe<'_, T>,
     byte_idx: usize,
@@ -140,6 +141,7 @@ fn walk_to_line<T: ByteChunk>(
 
 /// Skips whole chunks from a position on, while fewer breaks than the index start before their end.
 /// `follows_return` is whether the byte before the position is CR.
+#[tactic(auto, using(crate::proofs::lemmas::schemes::CrlfBytes::starts_bound))]
 fn skip_chunks<T: ByteChunk>(
     probe: &mut Probe<'_, T>,
     from: Position,
@@ -191,6 +193,7 @@ fn behind_crlf<T: ByteChunk>(probe: &mut Probe<'_, T>, place: usize) -> usize
 
 /// Counts the breaks that start in the whole chunks from a position on that end at or before `end`.
 /// `follows_return` is whether the byte before the position is CR.
+#[tactic(auto, using(crate::proofs::lemmas::schemes::CrlfBytes::starts_bound))]
 fn count_in_chunks<T: ByteChunk>(
     probe: &mut Probe<'_, T>,
     from: Position,
@@ -256,6 +259,7 @@ fn count_starts_in_chunk<T: ByteChunk>(
 
 /// Counts from a position on the breaks that start in the bytes before `to`, one turn each.
 /// `follows_return` is whether the byte before the position is CR.
+#[tactic(auto, using(crate::proofs::lemmas::schemes::CrlfBytes::starts_bound))]
 fn count_in_bytes<T: ByteChunk>(
     probe: &mut Probe<'_, T>,
     from: Position,

@@ -58,6 +58,7 @@ pub fn to_byte_idx(text: &str, utf16_idx: usize) -> usize
 }
 
 /// Counts the UTF-16 code units of the text before `end`, over chunks of any type, after `lead` bytes that are walked one by one.
+#[tactic(auto, using(crate::proofs::lemmas::schemes::UnitBytes::units_of_cut))]
 pub fn count_impl<T: ByteChunk>(probe: &mut Probe<'_, T>, end: usize, lead: usize) -> usize
     requires within { end ≤ length probe.old.text }
     requires boundary { IsBoundary (chars probe.old.text) end }

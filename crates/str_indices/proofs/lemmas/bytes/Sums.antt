@@ -80,3 +80,6 @@ pub sum_below-still : (f : ℕ → ℕ) (m n : ℕ) → ((j : ℕ) → j < n →
 sum_below-still f m zero none = rw add-zero refl
 sum_below-still f m (suc n) none = rw add-suc
     (omega (arith, sum_below-still f m n (λ j h. none j (omega arith)), none n (omega arith)))
+
+-- how many bytes may pass a test, as the search takes it
+pub ruleset passing_bounds = (passing_or_not, passing_before-le, passing_before-more)

@@ -1,10 +1,6 @@
 use Rattle.std.proofs.Common.{rules, arith, ap}
-use Rattle.str_indices.proofs.lemmas.schemes.CrlfBytes.{break_walked, return_walked, breaks_before-le}
+use Rattle.str_indices.proofs.lemmas.schemes.CrlfBytes.{break_walked, return_walked}
 use Rattle.str_indices.proofs.lines_crlf.count_in_bytes.Goals as goal
-
-pub overflow_add-count : goal.overflow_add-count
-overflow_add-count g c =
-    omega (arith, c.loop-i.invariant.counted, c.count_in_byte-count.ensures.few, breaks_before-le c.args.probe.now.text c.loop-i.i)
 
 pub loop-i-preserved : goal.loop-i-preserved
 loop-i-preserved g c =

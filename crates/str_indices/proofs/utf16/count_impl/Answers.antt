@@ -16,9 +16,3 @@ overflow_add-result g c =
       size-cut text c.args.end
           c.requires.boundary,
     )
-
-pub returns-clause-count : goal.returns-clause-count
-returns-clause-count g c =
-    let text = chars c.args.probe.now.text in
-    let pairs = ap (λ t. surrogates (cut (chars t) c.args.end)) c.count_impl-chars.ensures.text in
-    omega (arith, units_of_cut text c.args.end)

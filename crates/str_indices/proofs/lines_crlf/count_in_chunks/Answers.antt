@@ -1,7 +1,0 @@
-use Rattle.std.proofs.Common.{arith}
-use Rattle.str_indices.proofs.lemmas.schemes.CrlfBytes.{breaks_before-le}
-use Rattle.str_indices.proofs.lines_crlf.count_in_chunks.Goals as goal
-
-pub overflow_add-at-in-chunks : goal.overflow_add-at-in-chunks
-overflow_add-at-in-chunks g c =
-    omega (arith, c.SIZE.ensures, c.chunks.invariant.counted, c.count_starts_in_chunk-chunk.ensures.few, breaks_before-le c.args.probe.now.text c.chunks.at.byte)
