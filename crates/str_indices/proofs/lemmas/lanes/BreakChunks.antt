@@ -54,10 +54,11 @@ no_wide_break : (b next after : ℕ) → (b == 0xC2) ≡ false → (b == 0xE2) �
     → flag (is_narrow_break b next) ≡ flag (is_break b next after)
 no_wide_break b next after no_next_line no_separator = grind (arith, nat_tests, no_next_line, no_separator)
 
--- nor where its next bytes are not seen
+-- nor where the bytes behind it are not seen
 wide_alone : (b : ℕ) → flag (is_next_line b 0) + flag (is_separator b 0 0) ≡ 0
 wide_alone b = grind (arith, nat_tests)
 
+-- nor a separator where its third byte alone is not seen
 separator_alone : (b next : ℕ) → flag (is_separator b next 0) ≡ 0
 separator_alone b next = grind (arith, nat_tests)
 
@@ -73,6 +74,7 @@ inside_at bytes at size j =
 
 module _ {bytes : List ℕ} {at size : ℕ} {chunk : List ℕ} (least : 4 ≤ size)
     (is_chunk : IsChunk bytes at size chunk) where
+  -- the lanes of the chunk by their places
   chunk_lanes : HasLanes size (λ j. get_or bytes (at + j) 0) chunk
   chunk_lanes = record { long = is_chunk.long; each = is_chunk.each }
 
@@ -186,6 +188,7 @@ module _ {bytes : List ℕ} {at size : ℕ} {chunk : List ℕ} (least : 4 ≤ si
     next_lines_fit = Each2-lanes (λ a b. a + b ≤ 255) is_narrow is_pairs (λ j l. omega (arith, both-le j))
 
     module _ {sums : List ℕ} (is_sums : sums ≡ zip2 (λ a b. a + b) narrows pairs) where
+      -- their sums
       with_next_lines : HasLanes size (λ j. narrow_break_at bytes (at + j) + next_line_at chunk j) sums
       with_next_lines = lanes_zip2 (λ a b. a + b) is_narrow is_pairs is_sums
 
@@ -294,10 +297,11 @@ module _ (bytes : List ℕ) (at size : ℕ) {breaks : List ℕ} (least : 4 ≤ s
     ]
   ]
 
-  -- the last two places, as a kernel names them
+  -- the last place, as a kernel names it
   is_last : (j : ℕ) → 1 + j ≡ size → at + j ≡ at + (size - 1)
   is_last j here = omega arith
 
+  -- the last but one
   is_last_but_one : (j : ℕ) → 2 + j ≡ size → at + j ≡ at + (size - 1) - 1
   is_last_but_one j here = omega arith
 
@@ -312,18 +316,22 @@ module _ (bytes : List ℕ) (at size : ℕ) {breaks : List ℕ} (least : 4 ≤ s
   module _ {before next : ℕ} (second : get_or bytes (at + (size - 1)) 0 ≡ 0x80)
       (is_before : before ≡ get_or bytes (at + (size - 1) - 1) 0)
       (is_next : next ≡ get_or bytes (1 + (at + (size - 1))) 0) where
+    -- no break of several bytes begins at it
     no_wide_here : next_line_at bytes (at + (size - 1)) + separator_at bytes (at + (size - 1)) ≡ 0
     no_wide_here = rw second refl
 
+    -- and a separator before it is told by the bytes beside it
     separator_here : separator_at bytes (at + (size - 1) - 1) ≡ flag (is_separator before 0x80 next)
     separator_here =
         let last : 1 + (at + (size - 1) - 1) ≡ at + (size - 1) = omega arith in
         let behind : 2 + (at + (size - 1) - 1) ≡ 1 + (at + (size - 1)) = omega arith in
         rw (last, behind, second, ← is_before, ← is_next) refl
 
+    -- where it is none, nothing is to be done
     pub separator_kept : is_separator before 0x80 next ≡ false → HasLanes size (λ j. break_at bytes (at + j)) breaks
     separator_kept stays = edge_kept (separator_here ∙ ap flag stays) no_wide_here
 
+    -- where it is one, the last lane but one gains it
     pub separator_crosses : {result : List ℕ} → is_separator before 0x80 next ≡ true
         → result ≡ slice_set breaks (size - 1 - 1) (get_or breaks (size - 1 - 1) 0 + 1)
         → HasLanes size (λ j. break_at bytes (at + j)) result
@@ -338,16 +346,19 @@ module _ (bytes : List ℕ) (at size : ℕ) {breaks : List ℕ} (least : 4 ≤ s
 
   -- where it is not
   module _ (other : get_or bytes (at + (size - 1)) 0 ≢ 0x80) where
+    -- no separator begins before it
     no_separator_here : separator_at bytes (at + (size - 1) - 1) ≡ 0
     no_separator_here =
         let last : 1 + (at + (size - 1) - 1) ≡ at + (size - 1) = omega arith in
         rw last (no_second (get_or bytes (at + (size - 1) - 1) 0) (get_or bytes (at + (size - 1)) 0)
         (get_or bytes (2 + (at + (size - 1) - 1)) 0) other)
 
+    -- where no break of several bytes begins at it, nothing is to be done
     pub wide_kept : next_line_at bytes (at + (size - 1)) + separator_at bytes (at + (size - 1)) ≡ 0
         → HasLanes size (λ j. break_at bytes (at + j)) breaks
     wide_kept none = edge_kept no_separator_here none
 
+    -- where one does, the last lane gains it
     pub wide_crosses : {result : List ℕ}
         → next_line_at bytes (at + (size - 1)) + separator_at bytes (at + (size - 1)) ≡ 1
         → result ≡ slice_set breaks (size - 1 - 0) (get_or breaks (size - 1 - 0) 0 + 1)

@@ -1,4 +1,4 @@
-use Rattle.std.proofs.Common.{◌≡◌, ◌-◌, ◌/◌, ◌%◌, ◌^◌, map, bit_and, length, ap, sym, ◌∙◌}
+use Rattle.std.proofs.Common.{◌≡◌, map, bit_and, length, ap, sym, ◌∙◌}
 use Rattle.std.specs.Simd.Lanes.{zip2}
 use Rattle.std.proofs.lemmas.List.{length-map}
 use Rattle.std.proofs.lemmas.Simd.{zip2_splat}
@@ -11,8 +11,8 @@ returns g c =
     let chunk = g.T.ByteChunk in
     let lanes = chunk.lanes c.args.chunk in
     let halves = chunk.lanes c.shr.result in
-    let long : length halves ≡ chunk.SIZE = sym (length-map halves (λ lane. lane % 2 ^ (8 - 1)))
-    ∙ ap length c.shr.ensures ∙ length-map lanes (λ lane. lane / 2 ^ 1) ∙ c.requires in
+    let long : length halves ≡ chunk.SIZE = sym (length-map halves _) ∙ ap length c.shr.ensures
+    ∙ length-map lanes _ ∙ c.requires in
     c.cmp_eq_byte.ensures ∙ ap (map (is_byte 0x54)) (c.bitand.ensures ∙ ap (zip2 bit_and halves) c.splat.ensures
     ∙ zip2_splat bit_and halves chunk.SIZE 0x7F long)
     ∙ halves_end lanes halves c.shr.ensures
