@@ -33,7 +33,8 @@ impl<'a, T: ByteChunk> Probe<'a, T> {
 
     /// A probe of the text, with nothing read.
     pub fn of(text: &'a str) -> Probe<'a, T>
-        ensures state { result ≡ record { text = text.entry.now; turns = 0; loads = 0; peeks = 0; low = length text.entry.now } }
+        ensures state { result ≡
+            record { text = text.entry.now; turns = 0; loads = 0; peeks = 0; low = length text.entry.now } }
         ensures utf8 { IsUtf8 text.entry.now }
     {
         let mut low = Counter::zero();

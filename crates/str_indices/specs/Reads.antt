@@ -11,7 +11,8 @@ pub record RisesWithin (old new most : ℕ) : Type 0 where
   pub rises : old ≤ new
   pub within : new ≤ old + most
 
--- From one state of a probe to a later one: the text is the same; at most so many turns and loads, no load before `first`,
+-- From one state of a probe to a later one: the text is the same; at most so many turns and loads, no load before
+-- `first`,
 -- and at most two peeks for each turn, four for each load and `spare` more.
 pub record Reads (old new : ProbeState) (first turns loads spare : ℕ) : Type 0 where
   pub text_kept : new.text ≡ old.text

@@ -15,7 +15,7 @@ use crate::places::{Position, boundary_at_or_before};
 use byte_chunk::{ByteChunk, Chunk, Probe};
 
 /// How many chars the text has; an empty text has none.
-#[tactic(auto, using(crate::proofs::lemmas::bytes::Walks::cut_at_end, crate::proofs::lemmas::bytes::Walks::boundary_at_end))]
+#[tactic(auto, using(crate::proofs::lemmas::bytes::Walks::whole_text))]
 pub fn count(text: &str) -> usize
     ensures { result ≡ count Chars (chars text.now) }
 {
@@ -46,7 +46,7 @@ pub fn to_byte_idx(text: &str, char_idx: usize) -> usize
 /// Counts the chars before the boundary `end`, over chunks of any type.
 ///
 /// `lead` bytes, or as many of them as stand before `end`, are walked one by one before the first chunk.
-#[tactic(auto, using(crate::proofs::lemmas::schemes::CharBytes::characters_and_trailing, crate::proofs::lemmas::bytes::Sums::passing_bounds))]
+#[tactic(auto, using(crate::proofs::lemmas::schemes::CharBytes::bytes_at_boundary))]
 pub fn count_impl<T: ByteChunk>(probe: &mut Probe<'_, T>, end: usize, lead: usize) -> usize
     requires within { end ≤ length probe.old.text }
     requires boundary { IsBoundary (chars probe.old.text) end }

@@ -128,9 +128,9 @@ pub fn past_end(text: &str)
     ensures { (s : Scheme) (k : ℕ) → length text.now ≤ k → to_byte_idx s (chars text.now) k ≡ length text.now }
 {}
 
-/// Each conversion to a byte index answers a place between characters, and these places are where `std` lets the text be
-/// sliced. Three definitions compute what a relation says: `ends`, in increasing order, the places with `IsEnd`; `cut`
-/// the text with `IsLongestCut`; and `to_byte_idx` in UTF-16 the place with `IsGreatestWithin`.
+/// Each conversion to a byte index answers a place between characters, and these places are where `std` lets the text
+/// be sliced. Three definitions compute what a relation says: `ends`, in increasing order, the places with `IsEnd`;
+/// `cut` the text with `IsLongestCut`; and `to_byte_idx` in UTF-16 the place with `IsGreatestWithin`.
 ///
 /// A position mapper of a language server relies on it: the text may be split at each byte index that a conversion
 /// answers.

@@ -1,5 +1,5 @@
-//! Counts the characters, UTF-16 code units and line breaks of a UTF-8 text, and converts between those indices and byte
-//! indices.
+//! Counts the characters, UTF-16 code units and line breaks of a UTF-8 text, and converts between those indices and
+//! byte indices.
 //!
 //! Each module is one indexing scheme. Every text and every index has an answer: nothing panics, nothing allocates.
 #![tactic(auto)]

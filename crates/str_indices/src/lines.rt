@@ -22,7 +22,7 @@ mod tests;
 /// How many line breaks the text has.
 ///
 /// That is one less than its lines: behind a break at the end of the text an empty line begins.
-#[tactic(auto, using(crate::proofs::lemmas::bytes::Walks::cut_at_end, crate::proofs::lemmas::bytes::Walks::boundary_at_end))]
+#[tactic(auto, using(crate::proofs::lemmas::bytes::Walks::whole_text))]
 pub fn count_breaks(text: &str) -> usize
     ensures { result ≡ count Lines (chars text.now) }
 {
@@ -419,8 +419,8 @@ fn separator_ends<T: ByteChunk>(chunk: T) -> T
 
 /// Adds the break of several bytes that crosses the end of the chunk at `at`, if there is one.
 ///
-/// `breaks` has those that are counted where no byte behind the chunk is seen. The last byte says whether more bytes are
-/// peeked at: two behind it, or the one before it and the one behind it.
+/// `breaks` has those that are counted where no byte behind the chunk is seen. The last byte says whether more bytes
+/// are peeked at: two behind it, or the one before it and the one behind it.
 fn add_at_edge<T: ByteChunk>(probe: &mut Probe<'_, T>, breaks: T, at: usize, end: usize) -> T
     requires seen { at + T.SIZE ≤ end }
     requires within { end ≤ length probe.old.text }

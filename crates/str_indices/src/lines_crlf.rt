@@ -1,7 +1,7 @@
 //! Index by lines that end in LF (U+000A), CR (U+000D) or CRLF, which is one break.
 //!
-//! The Unicode Standard's Annex 14 lists the characters that break lines; of those in the Rust crate's list only LF and CR
-//! count here.
+//! The Unicode Standard's Annex 14 lists the characters that break lines; of those in the Rust crate's list only LF
+//! and CR count here.
 ghost use Rattle.std.specs.Prelude.{◌≡◌, ◌+◌, ◌-◌, ◌/◌, ◌<◌, ◌≤◌, ◌⊎◌, ℕ, ◌∷◌, [], Bool, IsCharBoundary, chars, drop, length, min};
 ghost use Rattle.str_indices.specs.Text.{cut};
 ghost use Rattle.str_indices.specs.Schemes.{count, from_byte_idx, to_byte_idx, Crlf};
@@ -18,7 +18,7 @@ mod tests;
 /// How many line breaks the text has: LF, CR and CRLF, which is one break.
 ///
 /// That is one less than its lines: behind a break at the end of the text an empty line begins.
-#[tactic(auto, using(crate::proofs::lemmas::bytes::Walks::cut_at_end, crate::proofs::lemmas::bytes::Walks::boundary_at_end))]
+#[tactic(auto, using(crate::proofs::lemmas::bytes::Walks::whole_text))]
 pub fn count_breaks(text: &str) -> usize
     ensures { result ≡ count Crlf (chars text.now) }
 {
@@ -47,10 +47,11 @@ pub fn to_byte_idx(text: &str, line_idx: usize) -> usize
     to_byte_idx_impl(&mut Probe::<Chunk>::of(text), line_idx, 0)
 }
 
-/// Counts the line breaks before `end`, LF, CR and CRLF, which is one break, over chunks of any type, after `lead` bytes that
-/// are walked one by one.
+/// Counts the line breaks before `end`, LF, CR and CRLF, which is one break, over chunks of any type, after `lead`
+/// bytes that are walked one by one.
 ///
-/// `end` may lie inside a character, and between CR and LF: what stands before it is then a text that ends in CR, which counts.
+/// `end` may lie inside a character, and between CR and LF: what stands before it is then a text that ends in CR,
+/// which counts.
 pub fn count_breaks_impl<T: ByteChunk>(probe: &mut Probe<'_, T>, end: usize, lead: usize) -> usize
     requires within { end ≤ length probe.old.text }
     ensures count { result ≡ count Crlf (cut (chars probe.old.text) end) }

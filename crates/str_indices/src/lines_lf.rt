@@ -19,7 +19,7 @@ mod tests;
 /// How many line breaks the text has.
 ///
 /// A text has one line more: behind a break at its end an empty line begins.
-#[tactic(auto, using(crate::proofs::lemmas::bytes::Walks::cut_at_end, crate::proofs::lemmas::bytes::Walks::boundary_at_end))]
+#[tactic(auto, using(crate::proofs::lemmas::bytes::Walks::whole_text))]
 pub fn count_breaks(text: &str) -> usize
     ensures { result ≡ count Lf (chars text.now) }
 {

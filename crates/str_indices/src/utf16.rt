@@ -1,6 +1,7 @@
 //! Index by UTF-16 code units (the Unicode Standard, chapter 3).
 //!
-//! A char that takes four bytes in UTF-8 takes a surrogate pair in UTF-16, which is two units. Each other char takes one.
+//! A char that takes four bytes in UTF-8 takes a surrogate pair in UTF-16, which is two units. Each other char takes
+//! one.
 ghost use Rattle.std.specs.Prelude.{◌≡◌, ◌+◌, ◌-◌, ◌*◌, ◌/◌, ◌<◌, ◌≤◌, ◌⊎◌, IsCharBoundary, chars, length, min};
 ghost use Rattle.str_indices.specs.Text.{cut};
 ghost use Rattle.str_indices.specs.Schemes.{count, from_byte_idx, to_byte_idx, surrogates, Utf16};
@@ -20,7 +21,7 @@ use crate::places::{Position, boundary_at_or_before};
 use byte_chunk::{ByteChunk, Chunk, Probe};
 
 /// How many UTF-16 code units the text would take.
-#[tactic(auto, using(crate::proofs::lemmas::bytes::Walks::cut_at_end, crate::proofs::lemmas::bytes::Walks::boundary_at_end))]
+#[tactic(auto, using(crate::proofs::lemmas::bytes::Walks::whole_text))]
 pub fn count(text: &str) -> usize
     ensures { result ≡ count Utf16 (chars text.now) }
 {
@@ -28,7 +29,7 @@ pub fn count(text: &str) -> usize
 }
 
 /// How many surrogate pairs the text would have in UTF-16: one for each char of four bytes.
-#[tactic(auto, using(crate::proofs::lemmas::bytes::Walks::cut_at_end, crate::proofs::lemmas::bytes::Walks::boundary_at_end))]
+#[tactic(auto, using(crate::proofs::lemmas::bytes::Walks::whole_text))]
 pub fn count_surrogates(text: &str) -> usize
     ensures { result ≡ surrogates (chars text.now) }
 {
@@ -37,7 +38,8 @@ pub fn count_surrogates(text: &str) -> usize
 
 /// Converts a byte index to a UTF-16 code unit index: the number of units of the chars that end at or before the byte.
 ///
-/// A byte inside a char belongs to that char, whose first unit is the answer. A byte past the end gives the number of units.
+/// A byte inside a char belongs to that char, whose first unit is the answer. A byte past the end gives the number of
+/// units.
 pub fn from_byte_idx(text: &str, byte_idx: usize) -> usize
     ensures { result ≡ from_byte_idx Utf16 (chars text.now) byte_idx }
 {
@@ -57,7 +59,8 @@ pub fn to_byte_idx(text: &str, utf16_idx: usize) -> usize
     to_byte_idx_impl(&mut Probe::<Chunk>::of(text), utf16_idx, 0)
 }
 
-/// Counts the UTF-16 code units of the text before `end`, over chunks of any type, after `lead` bytes that are walked one by one.
+/// Counts the UTF-16 code units of the text before `end`, over chunks of any type, after `lead` bytes that are walked
+/// one by one.
 #[tactic(auto, using(crate::proofs::lemmas::schemes::UnitBytes::units_of_cut))]
 pub fn count_impl<T: ByteChunk>(probe: &mut Probe<'_, T>, end: usize, lead: usize) -> usize
     requires within { end ≤ length probe.old.text }
@@ -71,7 +74,8 @@ pub fn count_impl<T: ByteChunk>(probe: &mut Probe<'_, T>, end: usize, lead: usiz
     chars + count_surrogates_impl(probe, end, lead)
 }
 
-/// Counts the surrogate pairs of the text before `end`, over chunks of any type, after `lead` bytes that are walked one by one.
+/// Counts the surrogate pairs of the text before `end`, over chunks of any type, after `lead` bytes that are walked
+/// one by one.
 ///
 /// No char of four bytes begins in the last three bytes, so these are not read.
 #[tactic(auto, using(crate::proofs::lemmas::schemes::UnitBytes::pairs_before_last_three))]
@@ -91,7 +95,8 @@ pub fn count_surrogates_impl<T: ByteChunk>(
     count_passing::<FourByteLeads, T>(probe, end.saturating_sub(3), lead)
 }
 
-/// Converts a byte index to a UTF-16 code unit index, over chunks of any type, after `lead` bytes that are walked one by one.
+/// Converts a byte index to a UTF-16 code unit index, over chunks of any type, after `lead` bytes that are walked one
+/// by one.
 pub fn from_byte_idx_impl<T: ByteChunk>(
     probe: &mut Probe<'_, T>,
     byte_idx: usize,
@@ -100,13 +105,15 @@ pub fn from_byte_idx_impl<T: ByteChunk>(
     ensures answer { result ≡ from_byte_idx Utf16 (chars probe.old.text) byte_idx }
     ensures text { probe.new.text ≡ probe.old.text }
     ensures pass { let n = min byte_idx (length probe.old.text) in
-        Reads probe.old probe.new (leading_bytes lead n) (2 * pass_turns T.SIZE lead n) (2 * pass_loads T.SIZE lead n) 3 }
+        Reads probe.old probe.new (leading_bytes lead n)
+        (2 * pass_turns T.SIZE lead n) (2 * pass_loads T.SIZE lead n) 3 }
 {
     let end = boundary_at_or_before(probe, byte_idx);
     count_impl(probe, end, lead)
 }
 
-/// Converts a UTF-16 code unit index to a byte index, over chunks of any type, after `lead` bytes that are walked one by one.
+/// Converts a UTF-16 code unit index to a byte index, over chunks of any type, after `lead` bytes that are walked one
+/// by one.
 pub fn to_byte_idx_impl<T: ByteChunk>(probe: &mut Probe<'_, T>, idx: usize, lead: usize) -> usize
     ensures answer { result ≡ to_byte_idx Utf16 (chars probe.old.text) idx }
     ensures text { probe.new.text ≡ probe.old.text }
@@ -125,7 +132,8 @@ pub fn to_byte_idx_impl<T: ByteChunk>(probe: &mut Probe<'_, T>, idx: usize, lead
     walk_to_unit(probe, chunked, len, idx).byte
 }
 
-/// Walks on from a position, one turn a byte, up to `to` or to the byte that begins the char whose units pass the index.
+/// Walks on from a position, one turn a byte, up to `to` or to the byte that begins the char whose units pass the
+/// index.
 fn walk_to_unit<T: ByteChunk>(
     probe: &mut Probe<'_, T>,
     from: Position,
@@ -181,7 +189,8 @@ fn skip_rounds<T: ByteChunk>(probe: &mut Probe<'_, T>, from: Position, idx: usiz
     at
 }
 
-/// Skips at most `MAX_ACC` whole chunks that end at or before `end`: each is loaded once, and their lanes are added and summed once.
+/// Skips at most `MAX_ACC` whole chunks that end at or before `end`: each is loaded once, and their lanes are added
+/// and summed once.
 fn skip_round<T: ByteChunk>(probe: &mut Probe<'_, T>, from: Position, end: usize) -> Position
     requires ordered { from.byte ≤ end }
     requires within { end ≤ length probe.old.text }

@@ -15,7 +15,8 @@ pub returns-clause-answer : goal.returns-clause-answer
 returns-clause-answer g c =
     let text = chars c.args.probe.now.text in
     let end = c.boundary_at_or_before-end in
-    let counted = rw (end.ensures.reads.text_kept, end.ensures.boundary, cut-cut text c.args.byte_idx) at c.count_impl.ensures.count in
+    let counted = rw (end.ensures.reads.text_kept, end.ensures.boundary, cut-cut text c.args.byte_idx) at
+    c.count_impl.ensures.count in
     omega (arith, counted, end_count-cut Chars reads_alone text c.args.byte_idx)
 
 pub returns-clause-pass : goal.returns-clause-pass

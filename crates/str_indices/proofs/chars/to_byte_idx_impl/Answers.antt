@@ -21,7 +21,8 @@ returns-clause-answer g c =
     let stopped = rw same at rest.ensures.stopped in
     omega (
       arith,
-      char_reached c.args.probe.now.text c.len-len.ensures.utf8 rest.result.byte c.args.idx (omega (arith, rest.ensures.reached.1))
+      char_reached c.args.probe.now.text c.len-len.ensures.utf8 rest.result.byte c.args.idx
+          (omega (arith, rest.ensures.reached.1))
           (omega (arith, rest.ensures.at_most)) (λ inside. stopped (omega arith)),
     )
 
@@ -35,7 +36,9 @@ returns-clause-pass g c =
     let counted = rw (chunks.ensures.reads.text_kept ∙ led.ensures.reads.text_kept) at rest.ensures.counted in
     let stopped = rw led.ensures.reads.text_kept at chunks.ensures.stopped in
     let near : rest.result.byte < chunks.result.byte + size + 4 =
-    end_is_near (passing_before is_leading) (λ bytes m n le. omega arith) text c.len-len.ensures.utf8 chunks.result.byte size c.args.idx
+    end_is_near (passing_before is_leading) (λ bytes m n le. omega arith) text c.len-len.ensures.utf8
+    chunks.result.byte size c.args.idx
     rest.result.byte stopped (omega (arith, rest.ensures.reached.1)) (omega (arith, rest.ensures.at_most)) in
-    placing_pass size c.args.lead _ g.met.T.ByteChunk.lawful.least rest.result.byte (omega (arith, led.ensures.reached.1))
+    placing_pass size c.args.lead _ g.met.T.ByteChunk.lawful.least rest.result.byte
+    (omega (arith, led.ensures.reached.1))
     led.ensures.reads chunks.ensures.reads rest.ensures.reads rest.ensures.reached.0 (omega arith) (omega arith)

@@ -10,5 +10,6 @@ rounds-preserved g c =
       from_low = omega arith;
       to_high = omega arith;
       counted = rw so_far.reads.text_kept at round.ensures.counted;
-      reads = chunks_joined g.met.T.ByteChunk.lawful.least so_far.from_low round.ensures.reached.0 so_far.reads round.ensures.reads;
+      reads = chunks_joined g.met.T.ByteChunk.lawful.least so_far.from_low round.ensures.reached.0 so_far.reads
+          round.ensures.reads;
     }

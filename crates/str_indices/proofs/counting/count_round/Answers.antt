@@ -14,15 +14,18 @@ chunks-init g c =
       starts = λ _. refl;
       goes_on = λ (some : 0 < 0). omega arith;
       covered = omega arith;
-      lanes = no_round g.B.ByteTest.passes c.args.probe.now.text chunk.SIZE from (chunk.lanes c.zero-acc.result) c.zero-acc.ensures;
+      lanes = no_round g.B.ByteTest.passes c.args.probe.now.text chunk.SIZE from (chunk.lanes c.zero-acc.result)
+          c.zero-acc.ensures;
       reads = nothing c.args.probe.now from;
     }
 
 pub add-acc-requires : goal.add-acc-requires
 add-acc-requires g c =
     let chunk = g.T.ByteChunk in
-    room_to_add g.B.ByteTest.passes c.args.probe.now.text chunk.SIZE c.args.from.byte c.chunks.at c.chunks.rounds (chunk.lanes c.chunks.acc) (chunk.lanes c.load.result) (chunk.lanes c.passing_lanes.result)
-    (omega (arith, c.chunks-test.true, c.MAX_ACC.ensures, g.met.T.ByteChunk.lawful.fits)) c.chunks.invariant.lanes c.passing_lanes.ensures
+    room_to_add g.B.ByteTest.passes c.args.probe.now.text chunk.SIZE c.args.from.byte c.chunks.at c.chunks.rounds
+    (chunk.lanes c.chunks.acc) (chunk.lanes c.load.result) (chunk.lanes c.passing_lanes.result)
+    (omega (arith, c.chunks-test.true, c.MAX_ACC.ensures, g.met.T.ByteChunk.lawful.fits)) c.chunks.invariant.lanes
+    c.passing_lanes.ensures
 
 pub chunks-preserved : goal.chunks-preserved
 chunks-preserved g c =
@@ -35,16 +38,27 @@ chunks-preserved g c =
       starts = λ none. absurd (omega arith);
       goes_on = λ _. omega (arith, so_far.covered);
       covered = omega (arith, so_far.covered, add-mul c.chunks.rounds 1 chunk.SIZE);
-      lanes = one_round_more g.B.ByteTest.passes c.args.probe.now.text c.chunks.probe.text chunk.SIZE from c.chunks.at c.chunks.rounds (chunk.lanes c.chunks.acc) (chunk.lanes c.load.result) (chunk.lanes c.passing_lanes.result) (chunk.lanes c.add-acc.result)
-          so_far.reads.text_kept (omega (arith, c.SIZE.ensures)) so_far.lanes c.load.ensures.lanes c.passing_lanes.ensures c.add-acc.ensures;
-      reads = then_ so_far.reads (load_made c.chunks.probe c.load.new.self from c.chunks.at (omega (arith, so_far.covered)) c.load.ensures.state);
+      lanes = one_round_more g.B.ByteTest.passes c.args.probe.now.text c.chunks.probe.text chunk.SIZE from
+          c.chunks.at c.chunks.rounds (chunk.lanes c.chunks.acc) (chunk.lanes c.load.result)
+          (chunk.lanes c.passing_lanes.result) (chunk.lanes c.add-acc.result)
+          so_far.reads.text_kept (omega (arith, c.SIZE.ensures)) so_far.lanes c.load.ensures.lanes
+          c.passing_lanes.ensures c.add-acc.ensures;
+      reads = then_ so_far.reads (load_made c.chunks.probe c.load.new.self from c.chunks.at
+          (omega (arith, so_far.covered)) c.load.ensures.state);
     })
 
 pub sum_bytes-requires : goal.sum_bytes-requires
 sum_bytes-requires g c =
     let chunk = g.T.ByteChunk in
-    room_to_sum g.B.ByteTest.passes c.args.probe.now.text chunk.SIZE c.args.from.byte c.chunks.at c.chunks.rounds chunk.MAX_ACC (chunk.lanes c.chunks.acc) c.chunks.invariant.few c.chunks.invariant.lanes
+    room_to_sum g.B.ByteTest.passes c.args.probe.now.text chunk.SIZE c.args.from.byte c.chunks.at c.chunks.rounds
+    chunk.MAX_ACC (chunk.lanes c.chunks.acc) c.chunks.invariant.few c.chunks.invariant.lanes
 
 pub overflow_add-result : goal.overflow_add-result
 overflow_add-result g c =
-    omega (arith, c.requires.counted, c.chunks.invariant.lanes.counted, passing_before-le g.B.ByteTest.passes c.args.probe.now.text c.chunks.at)
+    omega (
+      arith,
+      c.requires.counted,
+      c.chunks.invariant.lanes.counted,
+      passing_before-le g.B.ByteTest.passes
+          c.args.probe.now.text c.chunks.at,
+    )

@@ -10,7 +10,8 @@ invariant-chunks g l = record {
   starts : l.rounds ≡ 0 → l.at ≡ l.from.byte;
   goes_on : 0 < l.rounds → l.from.byte + g.T.ByteChunk.SIZE ≤ l.at;
   covered : l.from.byte + l.rounds * g.T.ByteChunk.SIZE ≡ l.at;
-  lanes : Accumulates g.B.ByteTest.passes l.initial.probe.text g.T.ByteChunk.SIZE l.from.byte l.at l.rounds (g.T.ByteChunk.lanes l.acc);
+  lanes : Accumulates g.B.ByteTest.passes l.initial.probe.text g.T.ByteChunk.SIZE l.from.byte l.at l.rounds
+      (g.T.ByteChunk.lanes l.acc);
   reads : Reads l.initial.probe l.probe l.from.byte 0 l.rounds 0;
 }
 

@@ -10,8 +10,11 @@ pub returns-clause-boundary : goal.returns-clause-boundary
 returns-clause-boundary c s = IsBoundary-to_byte_idx s (chars c.args.text.now) c.args.k
 
 pub returns-clause-sliceable : goal.returns-clause-sliceable
-returns-clause-sliceable c p =
-    (IsCharBoundary-from_boundary c.args.text.now c.utf8.text p, IsBoundary-from_char_boundary c.args.text.now c.utf8.text p)
+returns-clause-sliceable c p = (
+  IsCharBoundary-from_boundary c.args.text.now c.utf8.text p,
+  IsBoundary-from_char_boundary c.args.text.now
+      c.utf8.text p,
+)
 
 pub returns-clause-ends : goal.returns-clause-ends
 returns-clause-ends c s p = ends_are s (chars c.args.text.now) p

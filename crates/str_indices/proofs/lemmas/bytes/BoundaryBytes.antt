@@ -15,7 +15,8 @@ use Rattle.str_indices.proofs.lemmas.bytes.Characters.{first_byte, is_trailing_l
 use Rattle.str_indices.proofs.lemmas.bytes.Walks.{size-chars, get_or-at_boundary}
 
 -- where std lets a text be cut is a boundary
-pub IsBoundary-from_char_boundary : (bytes : List ℕ) → IsUtf8 bytes → (i : ℕ) → IsCharBoundary bytes i → IsBoundary (chars bytes) i
+pub IsBoundary-from_char_boundary : (bytes : List ℕ) → IsUtf8 bytes → (i : ℕ) → IsCharBoundary bytes i
+    → IsBoundary (chars bytes) i
 IsBoundary-from_char_boundary bytes utf8 i b =
     let before = IsUtf8-take bytes i utf8 b in
     record {
@@ -175,7 +176,8 @@ wide_behind_cut bytes utf8 end j below behind before =
     elim (cases_lt (get_or bytes j 0) 128) [
       | inr wide ↦ wide
       | inl ascii ↦
-          let next = IsBoundary-from_char_boundary bytes utf8 (j + 1) (IsCharBoundary-after_ascii bytes j utf8 below ascii) in
+          let next = IsBoundary-from_char_boundary bytes utf8 (j + 1)
+          (IsCharBoundary-after_ascii bytes j utf8 below ascii) in
           absurd (omega (arith, boundary-le-cut (chars bytes) (j + 1) end next (omega arith)))
     ]
 

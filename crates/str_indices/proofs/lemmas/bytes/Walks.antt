@@ -142,3 +142,6 @@ bytes_to_boundary test f adds bytes utf8 end b =
     ap (sum_below (counted_at test bytes)) (sym (size-cut cs end b))
     ∙ walk_to_cut test (λ c _. f c) adds bytes utf8 end
     ∙ total_front_alone (λ c _. f c) f (λ c after. refl) (cut cs end) (cut_is cs end).rest
+
+-- a text cut at its end, as the search takes it
+pub ruleset whole_text = (cut_at_end, boundary_at_end)

@@ -142,8 +142,16 @@ turns_paying old seen new first n t spare is few a =
     let low = ap (λ p. p.low) is in
     record {
       text_kept = a.text_kept ∙ ap (λ p. p.text) is;
-      turns_within = record { rises = omega (arith, a.turns_within.rises); within = omega (arith, a.turns_within.within) };
-      loads_within = record { rises = omega (arith, a.loads_within.rises); within = omega (arith, a.loads_within.within) };
+      turns_within = record {
+        rises = omega (arith, a.turns_within.rises);
+        within =
+            omega (arith, a.turns_within.within);
+      };
+      loads_within = record {
+        rises = omega (arith, a.loads_within.rises);
+        within =
+            omega (arith, a.loads_within.within);
+      };
       peeks_within = record {
         rises = omega (arith, a.peeks_within.rises);
         within = omega (arith, a.peeks_within.within, a.turns_within.rises, a.loads_within.rises);
@@ -163,8 +171,16 @@ load_paying old seen new first at spare behind is few a =
     let low = ap (λ p. p.low) is in
     record {
       text_kept = a.text_kept ∙ ap (λ p. p.text) is;
-      turns_within = record { rises = omega (arith, a.turns_within.rises); within = omega (arith, a.turns_within.within) };
-      loads_within = record { rises = omega (arith, a.loads_within.rises); within = omega (arith, a.loads_within.within) };
+      turns_within = record {
+        rises = omega (arith, a.turns_within.rises);
+        within =
+            omega (arith, a.turns_within.within);
+      };
+      loads_within = record {
+        rises = omega (arith, a.loads_within.rises);
+        within =
+            omega (arith, a.loads_within.within);
+      };
       peeks_within = record {
         rises = omega (arith, a.peeks_within.rises);
         within = omega (arith, a.peeks_within.within, a.turns_within.rises, a.loads_within.rises);
@@ -178,7 +194,8 @@ pub chunks_joined : {old seen new : ProbeState} {size from at to : ℕ} → 4 �
     → Reads old seen from 0 ((at - from) / size) 0 → Reads seen new at 0 ((to - at) / size) 0
     → Reads old new from 0 ((to - from) / size) 0
 chunks_joined {seen = seen} {new = new} {size = size} {from = from} {at = at} {to = to} least le le' so_far more =
-    let behind : Reads seen new from 0 ((to - at) / size) 0 = weaken more le (omega arith) (omega arith) (omega arith) in
+    let behind : Reads seen new from 0 ((to - at) / size) 0 = weaken more le (omega arith) (omega arith)
+    (omega arith) in
     weaken (then_ so_far behind) (omega arith) (omega arith) (div-add-le size from at to least le le') (omega arith)
 
 -- the next chunk
@@ -208,8 +225,10 @@ pub chunks_and_one_more : {old seen new : ProbeState} {size from at to : ℕ} �
     → Reads old seen from 0 ((at - from) / size) 0 → Reads seen new at 0 ((to - at) / size + 1) 0
     → Reads old new from 0 ((to - from) / size + 1) 0
 chunks_and_one_more {seen = seen} {new = new} {size = size} {from = from} {at = at} {to = to} least le le' so_far more =
-    let behind : Reads seen new from 0 ((to - at) / size + 1) 0 = weaken more le (omega arith) (omega arith) (omega arith) in
-    weaken (then_ so_far behind) (omega arith) (omega arith) (omega (arith, div-add-le size from at to least le le')) (omega arith)
+    let behind : Reads seen new from 0 ((to - at) / size + 1) 0 = weaken more le (omega arith) (omega arith)
+    (omega arith) in
+    weaken (then_ so_far behind) (omega arith) (omega arith) (omega (arith, div-add-le size from at to least le le'))
+    (omega arith)
 
 -- Leading bytes, at most one peek behind them, chunks, at most one peek behind them, and the rest: what stands before a
 -- peek pays for it.
@@ -232,7 +251,8 @@ peeks_behind_paid old led ready chunked behind new first at rest leads before ch
     let walked : old.turns + first ≤ new.turns = omega (arith, chunks.turns_within.rises) in
     let read : old.loads + min 1 (at - first) ≤ new.loads = omega arith in
     let peeked : new.peeks ≤ old.peeks + min first 1 + min at 1 = omega arith in
-    weaken (paid all (enough first at old.peeks new.peeks (new.turns - old.turns) (new.loads - old.loads) peeked (omega arith) (omega arith)))
+    weaken (paid all (enough first at old.peeks new.peeks (new.turns - old.turns) (new.loads - old.loads) peeked
+    (omega arith) (omega arith)))
     (omega arith) (omega arith) (omega arith) (omega arith)
   where
     enough : (first at old new turns loads : ℕ) → new ≤ old + min first 1 + min at 1 → first ≤ turns

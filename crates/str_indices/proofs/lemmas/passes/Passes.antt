@@ -13,10 +13,12 @@ module _ {old new : ProbeState} (size lead n : ℕ) (least : 4 ≤ size) where
       → t ≤ pass_turns size lead n
       → Reads old new (leading_bytes lead n) (pass_turns size lead n) (pass_loads size lead n) 0
   counted_pass {first} {at} here all within few =
-      weaken all (omega arith) few (omega (arith, div-le-div size (at - first) (n - min lead n) least (omega arith))) (omega arith)
+      weaken all (omega arith) few (omega (arith, div-le-div size (at - first) (n - min lead n) least (omega arith)))
+      (omega arith)
 
   -- all of a pass that looks for a place in n bytes
-  pub placed_pass : {first at t s : ℕ} (place : ℕ) → first ≡ min lead n → Reads old new first t ((at - first) / size + 1) s
+  pub placed_pass : {first at t s : ℕ} (place : ℕ) → first ≡ min lead n
+      → Reads old new first t ((at - first) / size + 1) s
       → at ≤ place → t ≤ pass_turns size lead n → s ≤ 3
       → Reads old new (leading_bytes lead n) (pass_turns size lead n) (place / size + 5) 3
   placed_pass {first} {at} place here all before few few' =
@@ -27,7 +29,8 @@ module _ {old led chunked new : ProbeState} (size lead n : ℕ) (least : 4 ≤ s
   in_parts : {first t l t' s' : ℕ} → Reads old led 0 t 0 0 → Reads led chunked first 0 l 0
       → Reads chunked new 0 t' 0 s' → Reads old new first (t + t') l s'
   in_parts {first} leads chunks rests =
-      weaken (then_ (then_ (anywhere first leads) chunks) (anywhere first rests)) (omega arith) (omega arith) (omega arith) (omega arith)
+      weaken (then_ (then_ (anywhere first leads) chunks) (anywhere first rests)) (omega arith) (omega arith)
+      (omega arith) (omega arith)
 
   -- a pass that counts in n bytes
   pub counting_pass : {first at t t' : ℕ} → first ≡ min lead n → Reads old led 0 t 0 0
@@ -61,11 +64,13 @@ module _ {old peeked new : ProbeState} (size lead end n : ℕ) (least : 4 ≤ si
         | inl leads ↦
             let same : leading_bytes lead end ≡ leading_bytes lead n = omega arith in
             let there : Reads peeked new (leading_bytes lead n) t l 0 = rw (← same) pass in
-            weaken (then_ (anywhere (leading_bytes lead n) peeks) there) (omega arith) (omega arith) (omega arith) (omega arith)
+            weaken (then_ (anywhere (leading_bytes lead n) peeks) there) (omega arith) (omega arith) (omega arith)
+            (omega arith)
         | inr past ↦
             let none : l ≡ 0 = none_past past in
             let unloaded = rw none at pass in
-            weaken (then_ (anywhere (leading_bytes lead n) peeks) (anywhere (leading_bytes lead n) unloaded)) (omega arith)
+            weaken (then_ (anywhere (leading_bytes lead n) peeks) (anywhere (leading_bytes lead n) unloaded))
+            (omega arith)
             (omega arith) (omega arith) (omega arith)
       ]
 

@@ -4,7 +4,8 @@ use Rattle.std.proofs.lemmas.Bool.{cases_lt}
 use Rattle.str_indices.specs.Bytes.{sum_below, mark, passing_before}
 use Rattle.str_indices.proofs.lemmas.bytes.Sums.{sum_below-earlier}
 
--- where less than a chunk is left, or the chunk at `at` reaches k, the first place from there on before which k are counted is
+-- where less than a chunk is left, or the chunk at `at` reaches k, the first place from there on before which k are
+-- counted is
 -- at most its end
 pub place_is_near : (counted : ℕ → ℕ) (n at size k place : ℕ) → (n < at + size) ⊎ (k ≤ counted (at + size)) → place ≤ n
     → ((d : ℕ) → at ≤ d → d < place → counted d < k) → place ≤ at + size
@@ -28,5 +29,6 @@ first_of_all f k from place fewer first d before =
 
 -- the same of bytes that pass a test
 pub passing_first_of_all : (test : ℕ → Bool) (bytes : List ℕ) (k from place : ℕ) → passing_before test bytes from < k
-    → ((d : ℕ) → from ≤ d → d < place → passing_before test bytes d < k) → (d : ℕ) → d < place → passing_before test bytes d < k
+    → ((d : ℕ) → from ≤ d → d < place → passing_before test bytes d < k) → (d : ℕ) → d < place
+    → passing_before test bytes d < k
 passing_first_of_all test bytes = first_of_all (λ j. mark test (get_or bytes j 0))

@@ -7,7 +7,7 @@ use Rattle.str_indices.specs.Schemes.{count, ends, to_byte_idx, Chars}
 use Rattle.str_indices.specs.Relations.{IsBoundary}
 use Rattle.str_indices.specs.Bytes.{mark, flag, passing_before, is_trailing, is_leading}
 use Rattle.std.proofs.Math.Utf8.{encodes}
-use Rattle.str_indices.proofs.lemmas.bytes.Sums.{sum_below-le-sum_below, passing_or_not}
+use Rattle.str_indices.proofs.lemmas.bytes.Sums.{passing_bounds, sum_below-le-sum_below, passing_or_not}
 use Rattle.str_indices.proofs.lemmas.texts.Increasing.{select-rank}
 use Rattle.str_indices.proofs.lemmas.texts.Ends.{ReadsAlone, count_characters, end_count-cut}
 use Rattle.str_indices.proofs.lemmas.bytes.Characters.{first_byte, is_trailing_later}
@@ -84,7 +84,8 @@ leading_in_chunk text at size added counted =
     omega (arith, passing_or_not is_trailing text at, passing_or_not is_trailing text (at + size))
 
 -- where a walk stops at or before the end of the text, it is where the k-th character ends
-pub char_reached : (bytes : List ℕ) → IsUtf8 bytes → (at k : ℕ) → at ≤ length bytes → passing_before is_leading bytes at ≤ k
+pub char_reached : (bytes : List ℕ) → IsUtf8 bytes → (at k : ℕ) → at ≤ length bytes
+    → passing_before is_leading bytes at ≤ k
     → (at < length bytes → k < passing_before is_leading bytes (at + 1)) → at ≡ to_byte_idx Chars (chars bytes) k
 char_reached bytes utf8 at k within at_most stopped =
     elim (cases_lt at (length bytes)) [
@@ -110,9 +111,11 @@ abbrev pub CountsLeading : (List ℕ → ℕ → ℕ) → Type 0
 CountsLeading counted = (bytes : List ℕ) (m n : ℕ) → m ≤ n
     → passing_before is_leading bytes n + counted bytes m ≤ passing_before is_leading bytes m + counted bytes n
 
--- Where less than a chunk is left, or what the chunk at `at` counts reaches k, a place with at most k counted before it is less
+-- Where less than a chunk is left, or what the chunk at `at` counts reaches k, a place with at most k counted before
+-- it is less
 -- than four bytes behind the chunk.
-pub end_is_near : (counted : List ℕ → ℕ → ℕ) → CountsLeading counted → (bytes : List ℕ) → IsUtf8 bytes → (at size k end : ℕ)
+pub end_is_near : (counted : List ℕ → ℕ → ℕ) → CountsLeading counted → (bytes : List ℕ) → IsUtf8 bytes
+    → (at size k end : ℕ)
     → (length bytes < at + size) ⊎ (k ≤ counted bytes (at + size)) → end ≤ length bytes → counted bytes end ≤ k
     → end < at + size + 4
 end_is_near counted leads bytes utf8 at size k end stopped within at_most =
@@ -123,6 +126,14 @@ end_is_near counted leads bytes utf8 at size k end stopped within at_most =
         | inr far ↦
             let more = four_bytes bytes utf8 (at + size) (omega arith) in
             let f = λ (j : ℕ). mark is_leading (get_or bytes j 0) in
-            absurd (omega (arith, leads bytes (at + size) end (omega arith), sum_below-le-sum_below f (at + size + 4) end far))
+            absurd (omega (
+              arith,
+              leads bytes (at + size) end (omega arith),
+              sum_below-le-sum_below f (at + size + 4)
+                  end far,
+            ))
       ]
     ]
+
+-- the bytes before a boundary, as the search takes them
+pub ruleset bytes_at_boundary = (characters_and_trailing, passing_bounds)

@@ -176,7 +176,8 @@ break_walked text i byte added follows is carried counted =
 -- and whether the byte that was walked is CR
 pub return_walked : (text : List ℕ) (i byte : ℕ) → byte ≡ get_or text i 0
     → is_carriage_return byte ≡ is_carriage_return (byte_before text (i + 1))
-return_walked text i byte is = ap is_carriage_return is ∙ ap (λ n. is_carriage_return (byte_before text n)) (sym (add-one i))
+return_walked text i byte is = ap is_carriage_return is
+    ∙ ap (λ n. is_carriage_return (byte_before text n)) (sym (add-one i))
 
 -- how many breaks start before a place, as the search takes it
 pub ruleset starts_bound = (breaks_before-le)

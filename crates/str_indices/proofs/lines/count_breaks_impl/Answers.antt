@@ -27,6 +27,7 @@ returns-clause-pass g c =
     let all_led = walks_on (take c.args.end c.args.probe.now.text) led.result.count led.result.byte first.result
     18446744073709551615 led.ensures.reached.1 (omega (arith, first.ensures)) led.ensures.counted
     led.ensures.stopped in
-    counting_pass g.T.ByteChunk.SIZE c.args.lead c.args.end g.met.T.ByteChunk.lawful.least (omega (arith, all_led, first.ensures))
+    counting_pass g.T.ByteChunk.SIZE c.args.lead c.args.end g.met.T.ByteChunk.lawful.least
+    (omega (arith, all_led, first.ensures))
     led.ensures.reads chunks.ensures.reads rest.ensures.reads chunks.ensures.reached.1
     (omega (arith, all_led, rest.ensures.reached.1, chunks.ensures.reached.2))

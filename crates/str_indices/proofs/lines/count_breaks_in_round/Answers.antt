@@ -41,7 +41,8 @@ chunks-preserved g c =
       goes_on = λ _. omega (arith, so_far.from_low);
       starts = λ none. absurd (omega arith);
       lanes = chunk_added so_far.lanes (break_at-le bytes) found c.add-breaks.ensures;
-      reads = chunk_joined g.met.T.ByteChunk.lawful.least so_far.from_low so_far.reads c.count_breaks_in_chunk.ensures.reads;
+      reads = chunk_joined g.met.T.ByteChunk.lawful.least so_far.from_low so_far.reads
+          c.count_breaks_in_chunk.ensures.reads;
     })
 
 pub sum_bytes-requires : goal.sum_bytes-requires

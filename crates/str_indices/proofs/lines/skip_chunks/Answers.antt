@@ -31,7 +31,8 @@ chunks-preserved g c =
       to_high = omega (arith, c.SIZE.ensures);
       counted = omega (arith, so_far.counted, counted);
       below = omega arith;
-      reads = chunk_joined g.met.T.ByteChunk.lawful.least so_far.from_low so_far.reads c.sum_breaks_in_chunk.ensures.reads;
+      reads = chunk_joined g.met.T.ByteChunk.lawful.least so_far.from_low so_far.reads
+          c.sum_breaks_in_chunk.ensures.reads;
     })
 
 pub returns-then-count-idx-clause-reads : goal.returns-then-count-idx-clause-reads

@@ -43,7 +43,8 @@ returns-clause-answer g c =
     found.ensures.reached.0 (omega (arith, found.ensures.reached.1, ap length same))
     (rw same at found.ensures.boundary) (rw same at found.ensures.least)
     (λ inside. omega (arith, counted, rest.ensures.stopped (omega (arith, c.len-len.ensures.len))))
-    (first_of_all (break_at text) c.args.idx chunks.result.byte rest.result.byte (omega (arith, skipped, chunks.ensures.below)) first) in
+    (first_of_all (break_at text) c.args.idx chunks.result.byte rest.result.byte
+    (omega (arith, skipped, chunks.ensures.below)) first) in
     omega (arith, answer)
 
 pub returns-clause-pass : goal.returns-clause-pass
@@ -64,7 +65,8 @@ returns-clause-pass g c =
       | inl stopped ↦ absurd (c.if-led-idx.false (led.ensures.stopped stopped))
       | inr reached ↦ omega (arith, led.ensures.reached.1)
     ] in
-    let near = place_is_near (breaks_counted_before text) (length text) chunks.result.byte size c.args.idx rest.result.byte
+    let near = place_is_near (breaks_counted_before text) (length text) chunks.result.byte size c.args.idx
+    rest.result.byte
     (rw same_led at chunks.ensures.stopped) (omega (arith, rest.ensures.reached.1, c.len-len.ensures.len)) first in
     placing_pass size c.args.lead _ least found.result (omega (arith, all_led)) led.ensures.reads chunks.ensures.reads
     (then_ rest.ensures.reads found.ensures.reads) (omega (arith, rest.ensures.reached.0, found.ensures.reached.0))

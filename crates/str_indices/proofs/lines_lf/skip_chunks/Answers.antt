@@ -7,7 +7,13 @@ use Rattle.str_indices.proofs.lines_lf.skip_chunks.Goals as goal
 pub overflow_add-count : goal.overflow_add-count
 overflow_add-count g c =
     let counted = rw c.chunks.invariant.reads.text_kept at c.count_in_chunk.ensures.counted in
-    omega (arith, c.SIZE.ensures, c.chunks.invariant.counted, passing_before-le is_line_feed c.args.probe.now.text (c.chunks.at.byte + g.T.ByteChunk.SIZE))
+    omega (
+      arith,
+      c.SIZE.ensures,
+      c.chunks.invariant.counted,
+      passing_before-le is_line_feed c.args.probe.now.text
+          (c.chunks.at.byte + g.T.ByteChunk.SIZE),
+    )
 
 pub chunks-preserved : goal.chunks-preserved
 chunks-preserved g c =

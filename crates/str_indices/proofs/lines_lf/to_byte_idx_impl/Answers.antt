@@ -30,7 +30,8 @@ returns-clause-answer g c =
       arith,
       line_begins text c.len-len.ensures.utf8 c.args.idx rest.result.byte (omega (arith, rest.ensures.reached.1))
           (λ inside. omega (arith, rest.ensures.stopped (omega arith)))
-          (passing_first_of_all is_line_feed text c.args.idx chunks.result.byte rest.result.byte (omega (arith, skipped, chunks.ensures.below)) first),
+          (passing_first_of_all is_line_feed text c.args.idx chunks.result.byte rest.result.byte
+          (omega (arith, skipped, chunks.ensures.below)) first),
     )
 
 pub returns-clause-pass : goal.returns-clause-pass
@@ -40,7 +41,8 @@ returns-clause-pass g c =
     let led = c.walk_to_line-led in
     let chunks = c.skip_chunks-chunked in
     let rest = c.walk_to_line in
-    let all_led : led.result.byte ≡ c.min-first_chunk.result = elim (cases_lt led.result.byte c.min-first_chunk.result) [
+    let all_led : led.result.byte ≡ c.min-first_chunk.result =
+    elim (cases_lt led.result.byte c.min-first_chunk.result) [
       | inl stopped ↦ absurd (c.if-led-idx.false (led.ensures.stopped stopped))
       | inr reached ↦ omega (arith, led.ensures.reached.1)
     ] in

@@ -12,7 +12,8 @@ chunks-preserved g c =
       to_high = omega (arith, c.SIZE.ensures, c.SIZE-in-chunks.ensures);
       counted = rw so_far.reads.text_kept at next.ensures.counted;
       below = inr (omega arith);
-      reads = chunks_joined g.met.T.ByteChunk.lawful.least so_far.from_low next.ensures.reached.0 so_far.reads next.ensures.reads;
+      reads = chunks_joined g.met.T.ByteChunk.lawful.least so_far.from_low next.ensures.reached.0 so_far.reads
+          next.ensures.reads;
     }
 
 pub returns-then-next-idx-clause-stopped : goal.returns-then-next-idx-clause-stopped
@@ -27,4 +28,5 @@ pub returns-then-next-idx-clause-reads : goal.returns-then-next-idx-clause-reads
 returns-then-next-idx-clause-reads g c =
     let next = c.skip_round-next in
     chunk_after c.chunks.invariant.from_low c.chunks.invariant.reads
-    (chunk_of g.met.T.ByteChunk.lawful.least next.ensures.reached.0 (omega (arith, c.SIZE-in-chunks.ensures)) next.ensures.reads)
+    (chunk_of g.met.T.ByteChunk.lawful.least next.ensures.reached.0 (omega (arith, c.SIZE-in-chunks.ensures))
+    next.ensures.reads)

@@ -64,7 +64,8 @@ chunks-preserved g c =
           so_far.reads.text_kept (omega (arith, c.SIZE.ensures)) so_far.four_byte_lanes c.load-chunk.ensures.lanes
           c.count_surrogates_chunk.ensures c.add-four_byte_leads.ensures;
       covered = omega (arith, so_far.covered, add-mul c.chunks.rounds 1 chunk.SIZE);
-      reads = then_ so_far.reads (load_made c.chunks.probe c.load-chunk.new.self from c.chunks.at (omega (arith, so_far.covered)) c.load-chunk.ensures.state);
+      reads = then_ so_far.reads (load_made c.chunks.probe c.load-chunk.new.self from c.chunks.at
+          (omega (arith, so_far.covered)) c.load-chunk.ensures.state);
     })
 
 pub sum_bytes-requires : goal.sum_bytes-requires

@@ -16,7 +16,8 @@ rounds-preserved g c =
       to_high = omega arith;
       counted = rw so_far.reads.text_kept at round.ensures.counted;
       whole = whole_joined g.T.ByteChunk.SIZE _ _ _ so_far.whole round.ensures.whole;
-      reads = chunks_joined g.met.T.ByteChunk.lawful.least so_far.from_low round.ensures.reached.0 so_far.reads round.ensures.reads;
+      reads = chunks_joined g.met.T.ByteChunk.lawful.least so_far.from_low round.ensures.reached.0 so_far.reads
+          round.ensures.reads;
     }
 
 pub returns-clause-at_most : goal.returns-clause-at_most
@@ -54,6 +55,7 @@ returns-clause-place g c =
     (ap (λ size. (c.len.result - from.byte) / size) c.SIZE.ensures
     ∙ ap (λ n. (n - from.byte) / chunk.SIZE) c.len.ensures.len) in
     let end = ap (λ size. c.min-chunks.result * size) c.SIZE-2.ensures in
-    all_chunks chunk.SIZE from.byte c.rounds.at.byte c.rounds.invariant.whole.0 c.min-chunks.result c.rounds.invariant.whole.1
+    all_chunks chunk.SIZE from.byte c.rounds.at.byte c.rounds.invariant.whole.0 c.min-chunks.result
+    c.rounds.invariant.whole.1
     (omega arith) (omega (arith, c.SIZE-in-rounds.ensures))
     ∙ ap (λ n. from.byte + n * chunk.SIZE) (c.min-chunks.ensures ∙ fits ∙ whole)

@@ -18,12 +18,14 @@ returns-then-led-first_chunk-clause-answer g c =
 pub returns-clause-answer : goal.returns-clause-answer
 returns-clause-answer g c =
     let rest = c.walk_to_unit in
-    let same = c.skip_chunks-chunked.ensures.reads.text_kept ∙ c.skip_rounds-in_rounds.ensures.reads.text_kept ∙ c.walk_to_unit-led.ensures.reads.text_kept in
+    let same = c.skip_chunks-chunked.ensures.reads.text_kept ∙ c.skip_rounds-in_rounds.ensures.reads.text_kept
+    ∙ c.walk_to_unit-led.ensures.reads.text_kept in
     let counted = rw same at rest.ensures.counted in
     let stopped = rw same at rest.ensures.stopped in
     omega (
       arith,
-      unit_reached c.args.probe.now.text c.len-len.ensures.utf8 rest.result.byte c.args.idx (omega (arith, rest.ensures.reached.1))
+      unit_reached c.args.probe.now.text c.len-len.ensures.utf8 rest.result.byte c.args.idx
+          (omega (arith, rest.ensures.reached.1))
           (omega (arith, rest.ensures.at_most)) (λ inside. stopped (omega arith)),
     )
 
@@ -42,6 +44,7 @@ returns-clause-pass g c =
     let near : rest.result.byte < chunks.result.byte + size + 4 =
     end_is_near units_before units_count_leading text c.len-len.ensures.utf8 chunks.result.byte size c.args.idx
     rest.result.byte stopped (omega (arith, rest.ensures.reached.1)) (omega (arith, rest.ensures.at_most)) in
-    let loads = chunks_and_one_more least rounds.ensures.reached.0 chunks.ensures.reached.0 rounds.ensures.reads chunks.ensures.reads in
+    let loads = chunks_and_one_more least rounds.ensures.reached.0 chunks.ensures.reached.0 rounds.ensures.reads
+    chunks.ensures.reads in
     placing_pass size c.args.lead _ least rest.result.byte (omega (arith, led.ensures.reached.1))
     led.ensures.reads loads rest.ensures.reads rest.ensures.reached.0 (omega arith) (omega arith)
