@@ -77,7 +77,7 @@ pub fn count_impl<T: ByteChunk>(probe: &mut Probe<'_, T>, end: usize, lead: usiz
 /// Counts the surrogate pairs of the text before `end`, over chunks of any type, after `lead` bytes that are walked
 /// one by one.
 ///
-/// No char of four bytes begins in the last three bytes, so these are not read.
+/// No char of four bytes begins in the last three bytes, so the pass covers `end - 3` bytes.
 #[tactic(auto, using(crate::proofs::lemmas::schemes::UnitBytes::pairs_before_last_three))]
 pub fn count_surrogates_impl<T: ByteChunk>(
     probe: &mut Probe<'_, T>,
