@@ -1,12 +1,13 @@
-use Rattle.std.proofs.Common.{◌<◌, refl, arith, add-mul}
+use Rattle.std.proofs.Common.{◌<◌, get_or, refl, arith, add-mul}
+use Rattle.str_indices.specs.Bytes.{mark}
 use Rattle.str_indices.proofs.lemmas.bytes.Sums.{passing_before-le}
-use Rattle.str_indices.proofs.lemmas.lanes.Rounds.{no_round, room_to_add, one_round_more, room_to_sum}
+use Rattle.str_indices.proofs.lemmas.lanes.Rounds.{nothing_added, lanes_summable, room_to_add, one_round_more}
 use Rattle.str_indices.proofs.lemmas.passes.Costs.{nothing, load_made, then_}
 use Rattle.str_indices.proofs.counting.count_round.Goals as goal
 
 pub chunks-init : goal.chunks-init
 chunks-init g c =
-    let chunk = g.T.ByteChunk in
+    let text = c.args.probe.now.text in
     let from = c.args.from.byte in
     record {
       to_high = c.requires.ordered;
@@ -14,22 +15,18 @@ chunks-init g c =
       starts = λ _. refl;
       goes_on = λ (some : 0 < 0). omega arith;
       covered = omega arith;
-      lanes = no_round g.B.ByteTest.passes c.args.probe.now.text chunk.SIZE from (chunk.lanes c.zero-acc.result)
+      lanes = nothing_added (λ j. mark g.B.ByteTest.passes (get_or text j 0)) g.T.ByteChunk.SIZE from
           c.zero-acc.ensures;
       reads = nothing c.args.probe.now from;
     }
 
 pub add-acc-requires : goal.add-acc-requires
 add-acc-requires g c =
-    let chunk = g.T.ByteChunk in
-    room_to_add g.B.ByteTest.passes c.args.probe.now.text chunk.SIZE c.args.from.byte c.chunks.at c.chunks.rounds
-    (chunk.lanes c.chunks.acc) (chunk.lanes c.load.result) (chunk.lanes c.passing_lanes.result)
-    (omega (arith, c.chunks-test.true, c.MAX_ACC.ensures, g.met.T.ByteChunk.lawful.fits)) c.chunks.invariant.lanes
-    c.passing_lanes.ensures
+    room_to_add g.B.ByteTest.passes c.args.probe.now.text c.chunks.invariant.lanes _
+    (omega (arith, c.chunks-test.true, c.MAX_ACC.ensures, g.met.T.ByteChunk.lawful.fits)) c.passing_lanes.ensures
 
 pub chunks-preserved : goal.chunks-preserved
 chunks-preserved g c =
-    let chunk = g.T.ByteChunk in
     let so_far = c.chunks.invariant in
     let from = c.args.from.byte in
     rw c.SIZE-at.ensures (record {
@@ -37,21 +34,15 @@ chunks-preserved g c =
       few = omega (arith, c.MAX_ACC.ensures);
       starts = λ none. absurd (omega arith);
       goes_on = λ _. omega (arith, so_far.covered);
-      covered = omega (arith, so_far.covered, add-mul c.chunks.rounds 1 chunk.SIZE);
-      lanes = one_round_more g.B.ByteTest.passes c.args.probe.now.text c.chunks.probe.text chunk.SIZE from
-          c.chunks.at c.chunks.rounds (chunk.lanes c.chunks.acc) (chunk.lanes c.load.result)
-          (chunk.lanes c.passing_lanes.result) (chunk.lanes c.add-acc.result)
-          so_far.reads.text_kept (omega (arith, c.SIZE.ensures)) so_far.lanes c.load.ensures.lanes
-          c.passing_lanes.ensures c.add-acc.ensures;
+      covered = omega (arith, so_far.covered, add-mul c.chunks.rounds 1 g.T.ByteChunk.SIZE);
+      lanes = one_round_more g.B.ByteTest.passes c.args.probe.now.text so_far.lanes so_far.reads.text_kept
+          (omega (arith, c.SIZE.ensures)) c.load.ensures.lanes c.passing_lanes.ensures c.add-acc.ensures;
       reads = then_ so_far.reads (load_made c.chunks.probe c.load.new.self from c.chunks.at
           (omega (arith, so_far.covered)) c.load.ensures.state);
     })
 
 pub sum_bytes-requires : goal.sum_bytes-requires
-sum_bytes-requires g c =
-    let chunk = g.T.ByteChunk in
-    room_to_sum g.B.ByteTest.passes c.args.probe.now.text chunk.SIZE c.args.from.byte c.chunks.at c.chunks.rounds
-    chunk.MAX_ACC (chunk.lanes c.chunks.acc) c.chunks.invariant.few c.chunks.invariant.lanes
+sum_bytes-requires g c = lanes_summable c.chunks.invariant.lanes g.T.ByteChunk.MAX_ACC c.chunks.invariant.few
 
 pub overflow_add-result : goal.overflow_add-result
 overflow_add-result g c =
@@ -59,6 +50,5 @@ overflow_add-result g c =
       arith,
       c.requires.counted,
       c.chunks.invariant.lanes.counted,
-      passing_before-le g.B.ByteTest.passes
-          c.args.probe.now.text c.chunks.at,
+      passing_before-le g.B.ByteTest.passes c.args.probe.now.text c.chunks.at,
     )

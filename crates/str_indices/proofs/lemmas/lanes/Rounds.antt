@@ -64,29 +64,18 @@ module _ {f : ℕ → ℕ} {size from at rounds : ℕ} {acc : List ℕ} (so_far 
 abbrev pub Accumulates : (ℕ → Bool) → List ℕ → ℕ → ℕ → ℕ → ℕ → List ℕ → Type 0
 Accumulates test text size from at rounds lanes = AddsUp (λ j. mark test (get_or text j 0)) size from at rounds lanes
 
--- before the first round of them
-pub no_round : (test : ℕ → Bool) (text : List ℕ) (size from : ℕ) (lanes : List ℕ) → lanes ≡ replicate size 0
-    → Accumulates test text size from from 0 lanes
-no_round test text size from lanes zeros = nothing_added (λ j. mark test (get_or text j 0)) size from zeros
+module _ (test : ℕ → Bool) (text : List ℕ) {size from at rounds : ℕ} {acc : List ℕ}
+    (so_far : Accumulates test text size from at rounds acc) where
+  -- before the last round of them that fits in a byte there is room for one more
+  pub room_to_add : (loaded : List ℕ) {marks : List ℕ} → rounds < 255 → marks ≡ map (mark test) loaded
+      → Each2 (λ a b. a + b ≤ 255) acc marks
+  room_to_add loaded {marks} room mapped =
+      lanes_addable so_far 255 marks room (rw mapped (lanes_at_most (mark test) 1 (mark-le test) loaded))
 
--- before the last round of them that fits in a byte there is room for one more
-pub room_to_add : (test : ℕ → Bool) (text : List ℕ) (size from at rounds : ℕ) (acc loaded marks : List ℕ)
-    → rounds < 255 → Accumulates test text size from at rounds acc → marks ≡ map (mark test) loaded
-    → Each2 (λ a b. a + b ≤ 255) acc marks
-room_to_add test text size from at rounds acc loaded marks room so_far mapped =
-    lanes_addable so_far 255 marks room (rw mapped (lanes_at_most (mark test) 1 (mark-le test) loaded))
-
--- one round of them more
-pub one_round_more : (test : ℕ → Bool) (text seen : List ℕ) (size from at rounds : ℕ)
-    (acc loaded marks summed : List ℕ) → seen ≡ text → at + size ≤ length text
-    → Accumulates test text size from at rounds acc
-    → loaded ≡ take size (drop at seen) → marks ≡ map (mark test) loaded → summed ≡ zip2 (λ a b. a + b) acc marks
-    → Accumulates test text size from (at + size) (rounds + 1) summed
-one_round_more test text seen size from at rounds acc loaded marks summed same within so_far taken mapped added =
-    chunk_added so_far (λ j. mark-le test (get_or text j 0))
-    (lanes_loaded (mark test) text at size within (taken ∙ ap (λ t. take size (drop at t)) same) mapped) added
-
--- after no more rounds of them than the greatest lane that is summed the lanes can be summed
-pub room_to_sum : (test : ℕ → Bool) (text : List ℕ) (size from at rounds most : ℕ) (acc : List ℕ) → rounds ≤ most
-    → Accumulates test text size from at rounds acc → Each1 (λ lane. lane ≤ most) acc
-room_to_sum test text size from at rounds most acc few so_far = lanes_summable so_far most few
+  -- one round of them more
+  pub one_round_more : {seen loaded marks summed : List ℕ} → seen ≡ text → at + size ≤ length text
+      → loaded ≡ take size (drop at seen) → marks ≡ map (mark test) loaded → summed ≡ zip2 (λ a b. a + b) acc marks
+      → Accumulates test text size from (at + size) (rounds + 1) summed
+  one_round_more same within taken mapped added =
+      chunk_added so_far (λ j. mark-le test (get_or text j 0))
+      (lanes_loaded (mark test) text at size within (taken ∙ ap (λ t. take size (drop at t)) same) mapped) added

@@ -230,31 +230,32 @@ chunks_and_one_more {seen = seen} {new = new} {size = size} {from = from} {at = 
     weaken (then_ so_far behind) (omega arith) (omega arith) (omega (arith, div-add-le size from at to least le le'))
     (omega arith)
 
--- Leading bytes, at most one peek behind them, chunks, at most one peek behind them, and the rest: what stands before a
--- peek pays for it.
-pub peeks_behind_paid : (old led ready chunked behind new : ProbeState) (first at rest : ℕ) {l : ℕ}
-    → led ≡ record old { turns = old.turns + first } → Reads led ready 0 0 0 (min first 1)
-    → Reads ready chunked first 0 l 0 → ready.loads + min 1 (at - first) ≤ chunked.loads → chunked.peeks ≡ ready.peeks
-    → Reads chunked behind 0 0 0 (min at 1) → new ≡ record behind { turns = behind.turns + rest }
-    → Reads old new first (first + rest) l 0
-peeks_behind_paid old led ready chunked behind new first at rest leads before chunks loaded unpeeked after rests =
-    let all = then_ (then_ (then_ (then_ (turns_made old led first first leads) (anywhere first before)) chunks)
-    (anywhere first after)) (turns_made behind new first rest rests) in
-    let turns = ap (λ p. p.turns) leads in
-    let loads = ap (λ p. p.loads) leads in
-    let peeks = ap (λ p. p.peeks) leads in
-    let turns' = ap (λ p. p.turns) rests in
-    let loads' = ap (λ p. p.loads) rests in
-    let peeks' = ap (λ p. p.peeks) rests in
-    let (none, none_loaded, one) = peeks_only before in
-    let (none', none_loaded', one') = peeks_only after in
-    let walked : old.turns + first ≤ new.turns = omega (arith, chunks.turns_within.rises) in
-    let read : old.loads + min 1 (at - first) ≤ new.loads = omega arith in
-    let peeked : new.peeks ≤ old.peeks + min first 1 + min at 1 = omega arith in
-    weaken (paid all (enough first at old.peeks new.peeks (new.turns - old.turns) (new.loads - old.loads) peeked
-    (omega arith) (omega arith)))
-    (omega arith) (omega arith) (omega arith) (omega arith)
-  where
-    enough : (first at old new turns loads : ℕ) → new ≤ old + min first 1 + min at 1 → first ≤ turns
-        → min 1 (at - first) ≤ loads → new ≤ old + (2 * turns + 4 * loads)
-    enough first at old new turns loads peeked walked read = omega arith
+module _ (old led ready chunked behind new : ProbeState) (first at rest : ℕ) {l : ℕ}
+    (leads : led ≡ record old { turns = old.turns + first }) (before : Reads led ready 0 0 0 (min first 1))
+    (chunks : Reads ready chunked first 0 l 0) (loaded : ready.loads + min 1 (at - first) ≤ chunked.loads)
+    (unpeeked : chunked.peeks ≡ ready.peeks) (after : Reads chunked behind 0 0 0 (min at 1))
+    (rests : new ≡ record behind { turns = behind.turns + rest }) where
+  -- Leading bytes, at most one peek behind them, chunks, at most one peek behind them, and the rest: what stands before
+  -- a peek pays for it.
+  pub peeks_behind_paid : Reads old new first (first + rest) l 0
+  peeks_behind_paid =
+      let all = then_ (then_ (then_ (then_ (turns_made old led first first leads) (anywhere first before)) chunks)
+      (anywhere first after)) (turns_made behind new first rest rests) in
+      let turns = ap (λ p. p.turns) leads in
+      let loads = ap (λ p. p.loads) leads in
+      let peeks = ap (λ p. p.peeks) leads in
+      let turns' = ap (λ p. p.turns) rests in
+      let loads' = ap (λ p. p.loads) rests in
+      let peeks' = ap (λ p. p.peeks) rests in
+      let (none, none_loaded, one) = peeks_only before in
+      let (none', none_loaded', one') = peeks_only after in
+      let walked : old.turns + first ≤ new.turns = omega (arith, chunks.turns_within.rises) in
+      let read : old.loads + min 1 (at - first) ≤ new.loads = omega arith in
+      let peeked : new.peeks ≤ old.peeks + min first 1 + min at 1 = omega arith in
+      weaken (paid all (enough first at old.peeks new.peeks (new.turns - old.turns) (new.loads - old.loads) peeked
+      (omega arith) (omega arith)))
+      (omega arith) (omega arith) (omega arith) (omega arith)
+    where
+      enough : (first at old new turns loads : ℕ) → new ≤ old + min first 1 + min at 1 → first ≤ turns
+          → min 1 (at - first) ≤ loads → new ≤ old + (2 * turns + 4 * loads)
+      enough first at old new turns loads peeked walked read = omega arith

@@ -1,84 +1,67 @@
-use Rattle.std.proofs.Common.{add-mul, arith, ◌<◌, refl}
+use Rattle.std.proofs.Common.{◌<◌, get_or, refl, arith, add-mul}
 use Rattle.std.specs.Prelude.{sum}
-use Rattle.str_indices.specs.Bytes.{is_trailing, begins_four_bytes}
+use Rattle.str_indices.specs.Bytes.{mark, is_trailing, begins_four_bytes}
 use Rattle.str_indices.proofs.lemmas.bytes.Sums.{passing_before-between}
-use Rattle.str_indices.proofs.lemmas.lanes.Rounds.{no_round, room_to_add, one_round_more, room_to_sum}
+use Rattle.str_indices.proofs.lemmas.lanes.Rounds.{nothing_added, lanes_summable, room_to_add, one_round_more}
 use Rattle.str_indices.proofs.lemmas.passes.Costs.{nothing, load_made, then_}
 use Rattle.str_indices.proofs.lemmas.schemes.UnitBytes.{units_between, units_before-le}
 use Rattle.str_indices.proofs.utf16.skip_round.Goals as goal
 
 pub chunks-init : goal.chunks-init
 chunks-init g c =
-    let chunk = g.T.ByteChunk in
+    let size = g.T.ByteChunk.SIZE in
     let text = c.args.probe.now.text in
+    let from = c.args.from.byte in
     record {
       to_high = c.requires.ordered;
       few = omega arith;
       starts = λ _. refl;
       goes_on = λ (some : 0 < 0). omega arith;
-      trailing_lanes = no_round is_trailing text chunk.SIZE c.args.from.byte (chunk.lanes c.zero-trailing.result)
-          c.zero-trailing.ensures;
-      four_byte_lanes = no_round begins_four_bytes text chunk.SIZE c.args.from.byte
-          (chunk.lanes c.zero-four_byte_leads.result) c.zero-four_byte_leads.ensures;
+      trailing_lanes = nothing_added (λ j. mark is_trailing (get_or text j 0)) size from c.zero-trailing.ensures;
+      four_byte_lanes =
+          nothing_added (λ j. mark begins_four_bytes (get_or text j 0)) size from c.zero-four_byte_leads.ensures;
       covered = omega arith;
-      reads = nothing c.args.probe.now c.args.from.byte;
+      reads = nothing c.args.probe.now from;
     }
 
 pub add-trailing-requires : goal.add-trailing-requires
 add-trailing-requires g c =
-    let chunk = g.T.ByteChunk in
-    room_to_add is_trailing c.args.probe.now.text chunk.SIZE c.args.from.byte c.chunks.at c.chunks.rounds
-    (chunk.lanes c.chunks.trailing) (chunk.lanes c.load-chunk.result) (chunk.lanes c.count_trailing_chunk.result)
-    (omega (arith, c.chunks-test.true, c.MAX_ACC.ensures, g.met.T.ByteChunk.lawful.fits))
-    c.chunks.invariant.trailing_lanes c.count_trailing_chunk.ensures
+    room_to_add is_trailing c.args.probe.now.text c.chunks.invariant.trailing_lanes _
+    (omega (arith, c.chunks-test.true, c.MAX_ACC.ensures, g.met.T.ByteChunk.lawful.fits)) c.count_trailing_chunk.ensures
 
 pub add-four_byte_leads-requires : goal.add-four_byte_leads-requires
 add-four_byte_leads-requires g c =
-    let chunk = g.T.ByteChunk in
-    room_to_add begins_four_bytes c.args.probe.now.text chunk.SIZE c.args.from.byte c.chunks.at c.chunks.rounds
-    (chunk.lanes c.chunks.four_byte_leads) (chunk.lanes c.load-chunk.result)
-    (chunk.lanes c.count_surrogates_chunk.result)
+    room_to_add begins_four_bytes c.args.probe.now.text c.chunks.invariant.four_byte_lanes _
     (omega (arith, c.chunks-test.true, c.MAX_ACC.ensures, g.met.T.ByteChunk.lawful.fits))
-    c.chunks.invariant.four_byte_lanes c.count_surrogates_chunk.ensures
+    c.count_surrogates_chunk.ensures
 
 pub chunks-preserved : goal.chunks-preserved
 chunks-preserved g c =
-    let chunk = g.T.ByteChunk in
     let so_far = c.chunks.invariant in
     let text = c.args.probe.now.text in
     let from = c.args.from.byte in
-    let loaded = chunk.lanes c.load-chunk.result in
     rw c.SIZE-at.ensures (record {
       to_high = omega (arith, c.SIZE.ensures);
       few = omega (arith, c.MAX_ACC.ensures);
       starts = λ none. absurd (omega arith);
       goes_on = λ _. omega (arith, so_far.covered);
-      trailing_lanes = one_round_more is_trailing text c.chunks.probe.text chunk.SIZE from c.chunks.at
-          c.chunks.rounds (chunk.lanes c.chunks.trailing) loaded (chunk.lanes c.count_trailing_chunk.result)
-          (chunk.lanes c.add-trailing.result)
-          so_far.reads.text_kept (omega (arith, c.SIZE.ensures)) so_far.trailing_lanes c.load-chunk.ensures.lanes
-          c.count_trailing_chunk.ensures c.add-trailing.ensures;
-      four_byte_lanes = one_round_more begins_four_bytes text c.chunks.probe.text chunk.SIZE from c.chunks.at
-          c.chunks.rounds (chunk.lanes c.chunks.four_byte_leads) loaded (chunk.lanes c.count_surrogates_chunk.result)
-          (chunk.lanes c.add-four_byte_leads.result)
-          so_far.reads.text_kept (omega (arith, c.SIZE.ensures)) so_far.four_byte_lanes c.load-chunk.ensures.lanes
-          c.count_surrogates_chunk.ensures c.add-four_byte_leads.ensures;
-      covered = omega (arith, so_far.covered, add-mul c.chunks.rounds 1 chunk.SIZE);
+      trailing_lanes = one_round_more is_trailing text so_far.trailing_lanes so_far.reads.text_kept
+          (omega (arith, c.SIZE.ensures)) c.load-chunk.ensures.lanes c.count_trailing_chunk.ensures
+          c.add-trailing.ensures;
+      four_byte_lanes = one_round_more begins_four_bytes text so_far.four_byte_lanes so_far.reads.text_kept
+          (omega (arith, c.SIZE.ensures)) c.load-chunk.ensures.lanes c.count_surrogates_chunk.ensures
+          c.add-four_byte_leads.ensures;
+      covered = omega (arith, so_far.covered, add-mul c.chunks.rounds 1 g.T.ByteChunk.SIZE);
       reads = then_ so_far.reads (load_made c.chunks.probe c.load-chunk.new.self from c.chunks.at
           (omega (arith, so_far.covered)) c.load-chunk.ensures.state);
     })
 
 pub sum_bytes-requires : goal.sum_bytes-requires
-sum_bytes-requires g c =
-    let chunk = g.T.ByteChunk in
-    room_to_sum is_trailing c.args.probe.now.text chunk.SIZE c.args.from.byte c.chunks.at c.chunks.rounds
-    chunk.MAX_ACC (chunk.lanes c.chunks.trailing) c.chunks.invariant.few c.chunks.invariant.trailing_lanes
+sum_bytes-requires g c = lanes_summable c.chunks.invariant.trailing_lanes g.T.ByteChunk.MAX_ACC c.chunks.invariant.few
 
 pub sum_bytes-requires-2 : goal.sum_bytes-requires-2
 sum_bytes-requires-2 g c =
-    let chunk = g.T.ByteChunk in
-    room_to_sum begins_four_bytes c.args.probe.now.text chunk.SIZE c.args.from.byte c.chunks.at c.chunks.rounds
-    chunk.MAX_ACC (chunk.lanes c.chunks.four_byte_leads) c.chunks.invariant.few c.chunks.invariant.four_byte_lanes
+    lanes_summable c.chunks.invariant.four_byte_lanes g.T.ByteChunk.MAX_ACC c.chunks.invariant.few
 
 pub overflow_sub-leading-2 : goal.overflow_sub-leading-2
 overflow_sub-leading-2 g c =
