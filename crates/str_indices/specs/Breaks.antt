@@ -2,7 +2,9 @@
 --     is_ascii_break b                  LF, VT, FF or CR
 --     is_crlf b next                    CR and the byte after it, LF
 --     is_next_line b next               the two bytes of U+0085
+--     ends_separator after              whether a byte is the third of a separator
 --     is_separator b next after         the three bytes of U+2028 or U+2029
+--     is_narrow_break b next            a break of one byte, or a CRLF at its LF
 --     is_break b next after             whether a break is counted at a byte, by the two bytes after it
 --     narrow_break_at bytes j           1 where a break of one byte, or CRLF, is counted at the j-th byte, else 0
 --     next_line_at bytes j              1 where the j-th byte begins U+0085, else 0

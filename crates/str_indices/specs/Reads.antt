@@ -11,9 +11,9 @@ pub record RisesWithin (old new most : ℕ) : Type 0 where
   pub rises : old ≤ new
   pub within : new ≤ old + most
 
--- From one state of a probe to a later one: the text is the same; at most so many turns and loads, no load before
--- `first`,
--- and at most two peeks for each turn, four for each load and `spare` more.
+-- From one state of a probe to a later one: the text is the same; at most so many turns and loads; the least place
+-- loaded from is at least the lesser of `first` and what it was, and the same where nothing was loaded; and at most two
+-- peeks for each turn, four for each load and `spare` more.
 pub record Reads (old new : ProbeState) (first turns loads spare : ℕ) : Type 0 where
   pub text_kept : new.text ≡ old.text
   pub turns_within : RisesWithin old.turns new.turns turns

@@ -1,4 +1,4 @@
-//! Tests of a byte, each beside its form for all lanes of a chunk.
+//! LF, CR and the tests of a byte, beside their forms for all lanes of a chunk.
 ghost use Rattle.std.specs.Prelude.{◌≡◌, ℕ, Bool, length, map};
 ghost use Rattle.str_indices.specs.Bytes.{mark, is_trailing, is_leading, begins_four_bytes, is_line_feed};
 

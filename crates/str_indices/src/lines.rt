@@ -154,7 +154,7 @@ fn count_breaks_up_to<T: ByteChunk>(
     at
 }
 
-/// Whether a break is counted at byte `at`, for one turn and at most two peeks before `end`.
+/// Whether a break is counted at byte `at`, for one turn and at most two peeks.
 fn is_break_at<T: ByteChunk>(probe: &mut Probe<'_, T>, at: usize, end: usize) -> bool
     requires seen { at < end }
     requires within { end ≤ length probe.old.text }
@@ -305,8 +305,8 @@ fn sum_breaks_in_chunk<T: ByteChunk>(probe: &mut Probe<'_, T>, at: usize, end: u
 
 /// 1 in each lane of the chunk at `at` where a break is counted, and 0 in the others.
 ///
-/// It loads the chunk, and peeks at its last two bytes and the two behind it only where a lane says that a break may
-/// cross the chunk's end.
+/// It loads the chunk, and peeks only where some lane is CR, C2 or E2: at the last two bytes of the chunk and the two
+/// behind it, at most four times.
 fn count_breaks_in_chunk<T: ByteChunk>(probe: &mut Probe<'_, T>, at: usize, end: usize) -> T
     requires seen { at + T.SIZE ≤ end }
     requires within { end ≤ length probe.old.text }

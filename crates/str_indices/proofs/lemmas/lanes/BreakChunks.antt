@@ -10,17 +10,9 @@ use Rattle.std.proofs.lemmas.List.{get_or-take, get_or_past, get_or-replicate, l
 use Rattle.byte_chunk.specs.Lanes.{is_byte, is_between}
 use Rattle.str_indices.specs.Bytes.{flag}
 use Rattle.str_indices.specs.Lanes.{HasLanes, IsChunk}
-use Rattle.str_indices.specs.Breaks.{is_ascii_break, is_crlf, is_narrow_break, is_next_line, is_separator, ends_separator, is_break, narrow_break_at, next_line_at, separator_at, break_at, breaks_counted_before}
-use Rattle.str_indices.proofs.lemmas.bytes.Sums.{flag-le, sum_below-le}
+use Rattle.str_indices.specs.Breaks.{is_ascii_break, is_crlf, is_narrow_break, is_next_line, is_separator, ends_separator, is_break, narrow_break_at, next_line_at, separator_at, break_at}
+use Rattle.str_indices.proofs.lemmas.bytes.Sums.{flag-le}
 use Rattle.str_indices.proofs.lemmas.lanes.Lanes.{lanes_of, lanes_same, lanes_map, lanes_zip2, lanes_and, lanes_shift, lanes_set, lane_is_not, Each1-lanes, Each2-lanes}
-
--- a break at most at each byte
-pub break_at-le : (bytes : List ℕ) (j : ℕ) → break_at bytes j ≤ 1
-break_at-le bytes j = flag-le (is_break (get_or bytes j 0) (get_or bytes (1 + j) 0) (get_or bytes (2 + j) 0))
-
--- no more breaks than bytes are counted
-pub breaks_counted_before-le : (bytes : List ℕ) (n : ℕ) → breaks_counted_before bytes n ≤ n
-breaks_counted_before-le bytes n = sum_below-le (break_at bytes) (break_at-le bytes) n
 
 -- two flags are two at most
 flags-le : (a b : Bool) → flag a + flag b ≤ 2

@@ -5,8 +5,7 @@ use Rattle.str_indices.specs.Bytes.{sum_below, mark, passing_before}
 use Rattle.str_indices.proofs.lemmas.bytes.Sums.{sum_below-earlier}
 
 -- where less than a chunk is left, or the chunk at `at` reaches k, the first place from there on before which k are
--- counted is
--- at most its end
+-- counted is at most its end
 pub place_is_near : (counted : ℕ → ℕ) (n at size k place : ℕ) → (n < at + size) ⊎ (k ≤ counted (at + size)) → place ≤ n
     → ((d : ℕ) → at ≤ d → d < place → counted d < k) → place ≤ at + size
 place_is_near counted n at size k place stopped within first =

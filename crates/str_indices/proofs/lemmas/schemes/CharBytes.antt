@@ -112,8 +112,7 @@ CountsLeading counted = (bytes : List ℕ) (m n : ℕ) → m ≤ n
     → passing_before is_leading bytes n + counted bytes m ≤ passing_before is_leading bytes m + counted bytes n
 
 -- Where less than a chunk is left, or what the chunk at `at` counts reaches k, a place with at most k counted before
--- it is less
--- than four bytes behind the chunk.
+-- it is less than four bytes behind the chunk.
 pub end_is_near : (counted : List ℕ → ℕ → ℕ) → CountsLeading counted → (bytes : List ℕ) → IsUtf8 bytes
     → (at size k end : ℕ)
     → (length bytes < at + size) ⊎ (k ≤ counted bytes (at + size)) → end ≤ length bytes → counted bytes end ≤ k

@@ -14,12 +14,19 @@ use Rattle.str_indices.proofs.lemmas.texts.Cuts.{cut_is}
 use Rattle.str_indices.proofs.lemmas.texts.Ends.{end_weight, end_count_total, cut-cut}
 use Rattle.str_indices.proofs.lemmas.texts.Seams.{lines_has_return}
 use Rattle.str_indices.proofs.lemmas.texts.EndSets.{end_at_reached}
-use Rattle.str_indices.proofs.lemmas.bytes.Sums.{sum_below-le-sum_below}
+use Rattle.str_indices.proofs.lemmas.bytes.Sums.{flag-le, sum_below-le, sum_below-le-sum_below}
 use Rattle.str_indices.proofs.lemmas.bytes.Characters.{IsTrailing, by_size}
 use Rattle.str_indices.proofs.lemmas.bytes.Walks.{AddsAtFirst, size-chars, size-cut, walk_to_boundary}
 use Rattle.str_indices.proofs.lemmas.bytes.BoundaryBytes.{cut_boundary, wide_behind_cut}
 use Rattle.str_indices.proofs.lemmas.bytes.EndBytes.{adds_breaks, ends_by_walk, breaks_of_cut_text, feed_at_middle}
-use Rattle.str_indices.proofs.lemmas.lanes.BreakChunks.{breaks_counted_before-le}
+
+-- a break at most at each byte
+pub break_at-le : (bytes : List ℕ) (j : ℕ) → break_at bytes j ≤ 1
+break_at-le bytes j = flag-le (is_break (get_or bytes j 0) (get_or bytes (1 + j) 0) (get_or bytes (2 + j) 0))
+
+-- no more breaks than bytes are counted
+pub breaks_counted_before-le : (bytes : List ℕ) (n : ℕ) → breaks_counted_before bytes n ≤ n
+breaks_counted_before-le bytes n = sum_below-le (break_at bytes) (break_at-le bytes) n
 
 -- whether a character is one of the seven
 abbrev is_break_character : ℕ → Bool

@@ -2,7 +2,7 @@ use Rattle.std.proofs.Common.{◌+◌, ◌<◌, ◌≤◌, take, arith, refl}
 use Rattle.str_indices.specs.Breaks.{break_at}
 use Rattle.str_indices.specs.Lanes.{HasLanes}
 use Rattle.str_indices.proofs.lemmas.lanes.Lanes.{Each1-lanes}
-use Rattle.str_indices.proofs.lemmas.lanes.BreakChunks.{break_at-le, breaks_counted_before-le}
+use Rattle.str_indices.proofs.lemmas.schemes.LineBytes.{break_at-le, breaks_counted_before-le}
 use Rattle.str_indices.proofs.lemmas.lanes.Rounds.{chunk_added, lanes_addable, lanes_summable, nothing_added}
 use Rattle.str_indices.proofs.lemmas.passes.Costs.{nothing, weaken, chunk_joined}
 use Rattle.str_indices.proofs.lines.count_breaks_in_round.Goals as goal

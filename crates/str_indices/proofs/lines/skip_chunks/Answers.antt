@@ -1,6 +1,6 @@
 use Rattle.std.proofs.Common.{◌≡◌, ◌+◌, take, arith}
 use Rattle.std.proofs.lemmas.List.{take_all}
-use Rattle.str_indices.proofs.lemmas.lanes.BreakChunks.{breaks_counted_before-le}
+use Rattle.str_indices.proofs.lemmas.schemes.LineBytes.{breaks_counted_before-le}
 use Rattle.str_indices.proofs.lemmas.passes.Costs.{chunk_joined, chunk_after}
 use Rattle.str_indices.proofs.lines.skip_chunks.Goals as goal
 

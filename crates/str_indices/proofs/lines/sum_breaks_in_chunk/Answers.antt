@@ -1,7 +1,7 @@
 use Rattle.std.proofs.Common.{◌≤◌, ◌+◌, take, arith}
 use Rattle.str_indices.specs.Breaks.{break_at}
 use Rattle.str_indices.proofs.lemmas.lanes.Lanes.{Each1-lanes, sum_below-chunk}
-use Rattle.str_indices.proofs.lemmas.lanes.BreakChunks.{break_at-le}
+use Rattle.str_indices.proofs.lemmas.schemes.LineBytes.{break_at-le}
 use Rattle.str_indices.proofs.lines.sum_breaks_in_chunk.Goals as goal
 
 pub sum_bytes-requires : goal.sum_bytes-requires
