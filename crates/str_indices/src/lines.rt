@@ -13,6 +13,7 @@ ghost use Rattle.str_indices.specs.Breaks.{is_crlf, is_separator, narrow_break_a
 ghost use Rattle.str_indices.specs.Lanes.{HasLanes, IsChunk};
 ghost use Rattle.str_indices.specs.Reads.{Reads, leading_bytes, pass_turns, pass_loads};
 
+use crate::bytes::{CR, LF};
 use crate::places::{Position, boundary_at_or_after, boundary_at_or_before, is_not_crlf_middle};
 use byte_chunk::{ByteChunk, Chunk, Probe};
 
@@ -70,6 +71,7 @@ pub fn count_breaks_impl<T: ByteChunk>(probe: &mut Probe<'_, T>, end: usize, lea
 }
 
 /// Converts a byte index to a line index, over chunks of any type, after `lead` bytes that are walked one by one.
+#[tactic(auto, using(crate::proofs::lemmas::schemes::LineBytes::lines_up_to))]
 pub fn from_byte_idx_impl<T: ByteChunk>(
     probe: &mut Probe<'_, T>,
     byte_idx: usize,
@@ -164,8 +166,8 @@ fn is_break_at<T: ByteChunk>(probe: &mut Probe<'_, T>, at: usize, end: usize) ->
     prove!(end <= probe.len());
     let byte = probe.turn(at);
     match byte {
-        b'\n' | 0x0B | 0x0C => true,
-        b'\r' => peek_ahead(probe, at, 1, end) != b'\n',
+        LF | 0x0B | 0x0C => true,
+        CR => peek_ahead(probe, at, 1, end) != LF,
         _ => starts_wide_break(probe, byte, at, end),
     }
 }
@@ -332,10 +334,10 @@ fn count_narrow_breaks<T: ByteChunk>(probe: &mut Probe<'_, T>, chunk: T, at: usi
 {
     prove!(end <= probe.len());
     let ascii_breaks = chunk.bytes_between_127(0x09, 0x0E);
-    if chunk.cmp_eq_byte(b'\r').is_zero() {
+    if chunk.cmp_eq_byte(CR).is_zero() {
         return ascii_breaks;
     }
-    let inside = ascii_breaks.sub(pair_starts(chunk, b'\r', b'\n'));
+    let inside = ascii_breaks.sub(pair_starts(chunk, CR, LF));
     if starts_crlf(probe, at + (T::SIZE - 1), end) {
         inside.dec_last_lex_byte()
     } else {
@@ -350,7 +352,7 @@ fn starts_crlf<T: ByteChunk>(probe: &mut Probe<'_, T>, at: usize, end: usize) ->
     ensures answer { let byte = slice_index (take end probe.old.text) in result ≡ is_crlf (byte at) (byte (1 + at)) }
     ensures reads { Reads probe.old probe.new 0 0 0 (1 + flag (is_carriage_return (slice_index probe.old.text at))) }
 {
-    probe.peek(at) == b'\r' && peek_ahead(probe, at, 1, end) == b'\n'
+    probe.peek(at) == CR && peek_ahead(probe, at, 1, end) == LF
 }
 
 /// Adds the breaks of several bytes, each at its first byte, to the others of the chunk at `at`.

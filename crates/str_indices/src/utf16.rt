@@ -97,6 +97,7 @@ pub fn count_surrogates_impl<T: ByteChunk>(
 
 /// Converts a byte index to a UTF-16 code unit index, over chunks of any type, after `lead` bytes that are walked one
 /// by one.
+#[tactic(auto, using(crate::proofs::lemmas::schemes::UnitBytes::units_up_to))]
 pub fn from_byte_idx_impl<T: ByteChunk>(
     probe: &mut Probe<'_, T>,
     byte_idx: usize,

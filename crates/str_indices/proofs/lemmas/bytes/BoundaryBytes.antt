@@ -193,3 +193,7 @@ still_behind_cut f bytes utf8 end within none =
       sum_below-still f place (end - place) (λ j l.
           none (place + j) (wide_behind_cut bytes utf8 end (place + j) (omega arith) (omega arith) (omega arith))),
     )
+
+-- where a text is cut is a boundary
+pub boundary_of_cut : (cs : List ℕ) (byte end : ℕ) → end ≡ size (cut cs byte) → IsBoundary cs end
+boundary_of_cut cs byte end here = rw here (cut_boundary cs byte)

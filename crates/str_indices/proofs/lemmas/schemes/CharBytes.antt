@@ -3,17 +3,17 @@ use Rattle.std.proofs.Common.{◌≡◌, ℕ, ◌+◌, ◌<◌, ◌≤◌, ◌�
 use Rattle.std.specs.Prelude.{not}
 use Rattle.std.proofs.lemmas.Bool.{cases_lt}
 use Rattle.str_indices.specs.Text.{size, cut}
-use Rattle.str_indices.specs.Schemes.{count, ends, to_byte_idx, Chars}
+use Rattle.str_indices.specs.Schemes.{count, ends, from_byte_idx, to_byte_idx, Chars}
 use Rattle.str_indices.specs.Relations.{IsBoundary}
 use Rattle.str_indices.specs.Bytes.{mark, flag, passing_before, is_trailing, is_leading}
 use Rattle.std.proofs.Math.Utf8.{encodes}
 use Rattle.str_indices.proofs.lemmas.bytes.Sums.{passing_bounds, sum_below-le-sum_below, passing_or_not}
 use Rattle.str_indices.proofs.lemmas.texts.Increasing.{select-rank}
-use Rattle.str_indices.proofs.lemmas.texts.Ends.{ReadsAlone, count_characters, end_count-cut}
+use Rattle.str_indices.proofs.lemmas.texts.Ends.{ReadsAlone, count_characters, cut-cut, end_count-cut}
 use Rattle.str_indices.proofs.lemmas.bytes.Characters.{first_byte, is_trailing_later}
 use Rattle.str_indices.proofs.lemmas.bytes.Walks.{AddsAtFirst, bytes_to_boundary, boundary_at_end, cut_at_end, size-chars}
 use Rattle.str_indices.proofs.lemmas.texts.EndSets.{ends_increase_within, end_at-select, end_at-past, zero_or_end}
-use Rattle.str_indices.proofs.lemmas.bytes.BoundaryBytes.{begins_boundary, leading_among_four}
+use Rattle.str_indices.proofs.lemmas.bytes.BoundaryBytes.{boundary_of_cut, begins_boundary, leading_among_four}
 
 -- each character ends at an end of `Chars`
 pub reads_alone : ReadsAlone Chars
@@ -133,6 +133,14 @@ end_is_near counted leads bytes utf8 at size k end stopped within at_most =
             ))
       ]
     ]
+
+-- the characters of the text that is cut at the boundary at or before a byte are those that end at or before it
+pub chars_of_byte : (cs : List ℕ) (byte end : ℕ) → end ≡ size (cut cs byte)
+    → count Chars (cut cs end) ≡ from_byte_idx Chars cs byte
+chars_of_byte cs byte end here = rw here (ap (count Chars) (cut-cut cs byte) ∙ end_count-cut Chars reads_alone cs byte)
+
+-- the byte before or at which a text is cut, as the search takes it
+pub ruleset chars_up_to = (boundary_of_cut, chars_of_byte)
 
 -- the bytes before a boundary, as the search takes them
 pub ruleset bytes_at_boundary = (characters_and_trailing, passing_bounds)

@@ -17,7 +17,7 @@ use Rattle.str_indices.proofs.lemmas.texts.EndSets.{end_at_reached}
 use Rattle.str_indices.proofs.lemmas.bytes.Sums.{flag-le, sum_below-le, sum_below-le-sum_below}
 use Rattle.str_indices.proofs.lemmas.bytes.Characters.{IsTrailing, by_size}
 use Rattle.str_indices.proofs.lemmas.bytes.Walks.{AddsAtFirst, size-chars, size-cut, walk_to_boundary}
-use Rattle.str_indices.proofs.lemmas.bytes.BoundaryBytes.{cut_boundary, wide_behind_cut}
+use Rattle.str_indices.proofs.lemmas.bytes.BoundaryBytes.{boundary_of_cut, cut_boundary, wide_behind_cut}
 use Rattle.str_indices.proofs.lemmas.bytes.EndBytes.{adds_breaks, ends_by_walk, breaks_of_cut_text, feed_at_middle}
 
 -- a break at most at each byte
@@ -128,3 +128,6 @@ walks_on bytes count at to most within fits counted stopped =
       | inl before ↦ absurd (omega (arith, stopped before, breaks_counted_before-le bytes at))
       | inr there ↦ omega arith
     ]
+
+-- the byte before or at which a text is cut, as the search takes it
+pub ruleset lines_up_to = (boundary_of_cut, line_of_byte)

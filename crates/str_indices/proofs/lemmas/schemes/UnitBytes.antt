@@ -8,15 +8,16 @@ use Rattle.std.proofs.lemmas.List.Sums.{sum_by-le-sum_by}
 use Rattle.std.proofs.lemmas.Nat.{and_assoc}
 use Rattle.std.proofs.lemmas.Str.{length-encode}
 use Rattle.str_indices.specs.Text.{size, cut, weight}
-use Rattle.str_indices.specs.Schemes.{count, Chars, Utf16, units, surrogates, boundary_at_units}
+use Rattle.str_indices.specs.Schemes.{count, from_byte_idx, Chars, Utf16, units, surrogates, boundary_at_units}
 use Rattle.str_indices.specs.Relations.{IsBoundary}
 use Rattle.str_indices.specs.Bytes.{flag, mark, passing_before, is_trailing, is_leading, begins_four_bytes, units_before, byte_before}
 use Rattle.str_indices.proofs.lemmas.texts.Sizes.{size-append, boundary_beside}
 use Rattle.str_indices.proofs.lemmas.texts.Units.{units_at, boundary_at_units_is_greatest, count-units, count-characters-surrogates, weight-le}
+use Rattle.str_indices.proofs.lemmas.texts.Ends.{cut-cut}
 use Rattle.str_indices.proofs.lemmas.bytes.Sums.{sum_below-le-sum_below, sum_below-still, mark-le, passing_or_not, passing_before-between}
 use Rattle.str_indices.proofs.lemmas.bytes.Characters.{by_size}
 use Rattle.str_indices.proofs.lemmas.bytes.Walks.{AddsAtFirst, bytes_to_boundary, boundary_at_end, size-chars}
-use Rattle.str_indices.proofs.lemmas.bytes.BoundaryBytes.{begins_at, begins_boundary}
+use Rattle.str_indices.proofs.lemmas.bytes.BoundaryBytes.{boundary_of_cut, begins_at, begins_boundary}
 use Rattle.str_indices.proofs.lemmas.schemes.CharBytes.{CountsLeading, leading_at_boundary}
 
 -- the mask of a first byte of four, as a range
@@ -250,3 +251,12 @@ unit_reached text utf8 at k within at_most stopped =
         answer.fits,
       ))
     ]
+
+-- the units of the text that is cut at the boundary at or before a byte are those of the characters that end at or
+-- before it
+pub units_of_byte : (cs : List ℕ) (byte end : ℕ) → end ≡ size (cut cs byte)
+    → count Utf16 (cut cs end) ≡ from_byte_idx Utf16 cs byte
+units_of_byte cs byte end here = rw here (ap (count Utf16) (cut-cut cs byte) ∙ count-cut cs byte)
+
+-- the byte before or at which a text is cut, as the search takes it
+pub ruleset units_up_to = (boundary_of_cut, units_of_byte)
