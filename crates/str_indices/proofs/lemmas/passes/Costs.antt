@@ -28,18 +28,6 @@ turns_made old new first n is = rw is (record {
   low_kept = λ _. refl;
 })
 
--- so many peeks
-pub peeks_made : (old new : ProbeState) (first n most : ℕ) → new ≡ record old { peeks = old.peeks + n } → n ≤ most
-    → Reads old new first 0 0 most
-peeks_made old new first n most is few = rw is (record {
-  text_kept = refl;
-  turns_within = record { rises = omega arith; within = omega arith };
-  loads_within = record { rises = omega arith; within = omega arith };
-  peeks_within = record { rises = omega arith; within = omega arith };
-  low_reached = omega arith;
-  low_kept = λ _. refl;
-})
-
 -- one load
 pub load_made : (old new : ProbeState) (first at : ℕ) → first ≤ at
     → new ≡ record old { loads = old.loads + 1; low = min old.low at } → Reads old new first 0 1 0
@@ -158,35 +146,6 @@ turns_paying old seen new first n t spare is few a =
       };
       low_reached = omega (arith, a.low_reached);
       low_kept = λ none. a.low_kept (omega arith) ∙ low;
-    }
-
--- a load pays for four peeks
-pub load_paying : (old seen new : ProbeState) (first at spare : ℕ) → first ≤ at
-    → seen ≡ record old { loads = old.loads + 1; low = min old.low at } → spare ≤ 4 → Reads seen new first 0 0 spare
-    → Reads old new first 0 1 0
-load_paying old seen new first at spare behind is few a =
-    let turns = ap (λ p. p.turns) is in
-    let loads = ap (λ p. p.loads) is in
-    let peeks = ap (λ p. p.peeks) is in
-    let low = ap (λ p. p.low) is in
-    record {
-      text_kept = a.text_kept ∙ ap (λ p. p.text) is;
-      turns_within = record {
-        rises = omega (arith, a.turns_within.rises);
-        within =
-            omega (arith, a.turns_within.within);
-      };
-      loads_within = record {
-        rises = omega (arith, a.loads_within.rises);
-        within =
-            omega (arith, a.loads_within.within);
-      };
-      peeks_within = record {
-        rises = omega (arith, a.peeks_within.rises);
-        within = omega (arith, a.peeks_within.within, a.turns_within.rises, a.loads_within.rises);
-      };
-      low_reached = omega (arith, a.low_reached);
-      low_kept = λ none. absurd (omega (arith, a.loads_within.rises));
     }
 
 -- whole chunks, and then those from where they end

@@ -24,10 +24,6 @@ div-one_more size from at least le =
     le-div ((at - from) / size + 1) (at + size - from) size (omega arith)
     (omega (arith, add-mul ((at - from) / size) 1 size, div-mul-le_self (at - from) size))
 
--- chunks that were counted one by one fit
-pub div-counted : (size from at chunks : ℕ) → 4 ≤ size → from + chunks * size ≡ at → chunks ≤ (at - from) / size
-div-counted size from at chunks least covered = le-div chunks (at - from) size (omega arith) (omega arith)
-
 -- whole chunks, and then those from where they end
 pub whole_joined : (size from at to : ℕ) → WholeChunks size from at → WholeChunks size at to → WholeChunks size from to
 whole_joined size from at to (m, covered) (n, covered') = (m + n, omega (arith, add-mul m n size))

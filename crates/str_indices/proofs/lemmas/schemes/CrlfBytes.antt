@@ -10,7 +10,7 @@ use Rattle.str_indices.specs.Bytes.{sum_below, flag, mark, is_line_feed, is_carr
 use Rattle.str_indices.proofs.lemmas.texts.Ends.{end_weight}
 use Rattle.str_indices.proofs.lemmas.texts.Seams.{crlf_has_return}
 use Rattle.str_indices.proofs.lemmas.texts.EndSets.{ends_up_to-all, end_at_reached}
-use Rattle.str_indices.proofs.lemmas.bytes.Sums.{sum_below-le, sum_below-earlier, mark-le}
+use Rattle.str_indices.proofs.lemmas.bytes.Sums.{sum_below-le, mark-le}
 use Rattle.str_indices.proofs.lemmas.bytes.Characters.{by_width}
 use Rattle.str_indices.proofs.lemmas.bytes.Walks.{AddsAtFirst, counted_at, size-chars}
 use Rattle.str_indices.proofs.lemmas.bytes.BoundaryBytes.{still_behind_cut}
@@ -154,11 +154,6 @@ line_begins bytes utf8 k at within stopped first =
 -- at each place one break starts at most
 pub break_start-le : (bytes : List ℕ) (n : ℕ) → break_start bytes n ≤ 1
 break_start-le bytes n = mark-le (starts_break (byte_before bytes n)) (get_or bytes n 0)
-
--- where fewer than k breaks start before a place, fewer than k do before an earlier one
-pub fewer_before : (bytes : List ℕ) (k at : ℕ) → breaks_before bytes at < k → (d : ℕ) → d < at
-    → breaks_before bytes d < k
-fewer_before bytes k at fewer d before = sum_below-earlier (break_start bytes) k at d fewer (omega arith)
 
 -- before each place no more breaks start than bytes stand there
 pub breaks_before-le : (bytes : List ℕ) (n : ℕ) → breaks_before bytes n ≤ n
