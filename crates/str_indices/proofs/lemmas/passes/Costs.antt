@@ -1,4 +1,4 @@
--- What one turn, load or peek reads, and what the parts of a pass add up to.
+-- What one turn or load reads, and what the parts of a pass add up to.
 use Rattle.std.proofs.Common.{◌≡◌, ℕ, ◌+◌, ◌-◌, ◌*◌, ◌/◌, ◌≤◌, min, refl, arith, ap, ◌∙◌}
 use Rattle.std.proofs.Math.Nat.{div-le_of_le-mul}
 use Rattle.byte_chunk.specs.ProbeState.{ProbeState}
