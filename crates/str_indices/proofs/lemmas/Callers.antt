@@ -34,6 +34,5 @@ IsCharBoundary-from_boundary bytes utf8 p at =
 -- what a conversion to a byte index answers is a place where std lets the text be sliced
 pub IsCharBoundary-to_byte_idx : (s : Scheme) (bytes : List ℕ) → IsUtf8 bytes → (k p : ℕ)
     → p ≡ to_byte_idx s (chars bytes) k → IsCharBoundary bytes p
-IsCharBoundary-to_byte_idx s bytes utf8 k p answer =
-    IsCharBoundary-from_boundary bytes utf8 p
+IsCharBoundary-to_byte_idx s bytes utf8 k p answer = IsCharBoundary-from_boundary bytes utf8 p
     (subst (IsBoundary (chars bytes)) (sym answer) (IsBoundary-to_byte_idx s (chars bytes) k))

@@ -6,24 +6,20 @@ use Rattle.str_indices.proofs.lemmas.passes.Costs.{chunk_joined, chunk_after}
 use Rattle.str_indices.proofs.chars.skip_chunks.Goals as goal
 
 pub overflow_sub-count : goal.overflow_sub-count
-overflow_sub-count g c =
-    omega (
-      arith,
-      c.SIZE-in-chunks.ensures,
-      c.count_in_chunk.ensures.counted,
-      passing_before-more is_trailing
-          c.chunks.probe.text c.chunks.at.byte g.T.ByteChunk.SIZE,
-    )
+overflow_sub-count g c = omega (
+  arith,
+  c.SIZE-in-chunks.ensures,
+  c.count_in_chunk.ensures.counted,
+  passing_before-more is_trailing c.chunks.probe.text c.chunks.at.byte g.T.ByteChunk.SIZE,
+)
 
 pub overflow_add-count : goal.overflow_add-count
-overflow_add-count g c =
-    omega (
-      arith,
-      c.SIZE.ensures,
-      c.SIZE-in-chunks.ensures,
-      passing_or_not is_trailing c.args.probe.now.text
-          c.chunks.at.byte,
-    )
+overflow_add-count g c = omega (
+  arith,
+  c.SIZE.ensures,
+  c.SIZE-in-chunks.ensures,
+  passing_or_not is_trailing c.args.probe.now.text c.chunks.at.byte,
+)
 
 pub chunks-preserved : goal.chunks-preserved
 chunks-preserved g c =

@@ -21,8 +21,7 @@ chunks-init g c =
     }
 
 pub add-acc-requires : goal.add-acc-requires
-add-acc-requires g c =
-    room_to_add g.B.ByteTest.passes c.args.probe.now.text c.chunks.invariant.lanes _
+add-acc-requires g c = room_to_add g.B.ByteTest.passes c.args.probe.now.text c.chunks.invariant.lanes _
     (omega (arith, c.chunks-test.true, c.MAX_ACC.ensures, g.met.T.ByteChunk.lawful.fits)) c.passing_lanes.ensures
 
 pub chunks-preserved : goal.chunks-preserved
@@ -45,10 +44,9 @@ pub sum_bytes-requires : goal.sum_bytes-requires
 sum_bytes-requires g c = lanes_summable c.chunks.invariant.lanes g.T.ByteChunk.MAX_ACC c.chunks.invariant.few
 
 pub overflow_add-result : goal.overflow_add-result
-overflow_add-result g c =
-    omega (
-      arith,
-      c.requires.counted,
-      c.chunks.invariant.lanes.counted,
-      passing_before-le g.B.ByteTest.passes c.args.probe.now.text c.chunks.at,
-    )
+overflow_add-result g c = omega (
+  arith,
+  c.requires.counted,
+  c.chunks.invariant.lanes.counted,
+  passing_before-le g.B.ByteTest.passes c.args.probe.now.text c.chunks.at,
+)

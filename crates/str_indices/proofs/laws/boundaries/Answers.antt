@@ -12,8 +12,7 @@ returns-clause-boundary c s = IsBoundary-to_byte_idx s (chars c.args.text.now) c
 pub returns-clause-sliceable : goal.returns-clause-sliceable
 returns-clause-sliceable c p = (
   IsCharBoundary-from_boundary c.args.text.now c.utf8.text p,
-  IsBoundary-from_char_boundary c.args.text.now
-      c.utf8.text p,
+  IsBoundary-from_char_boundary c.args.text.now c.utf8.text p,
 )
 
 pub returns-clause-ends : goal.returns-clause-ends

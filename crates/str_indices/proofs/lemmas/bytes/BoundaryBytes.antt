@@ -84,8 +84,7 @@ cut_boundary cs end = let parts = cut_is cs end in
     record { front = cut cs end; back = parts.rest; split = parts.split; place = refl }
 
 -- before the end of the text, fewer than four bytes are cut off
-cut_is_near : (bytes : List ℕ) → IsUtf8 bytes → (end : ℕ) → end < length bytes
-    → end < size (cut (chars bytes) end) + 4
+cut_is_near : (bytes : List ℕ) → IsUtf8 bytes → (end : ℕ) → end < length bytes → end < size (cut (chars bytes) end) + 4
 cut_is_near bytes utf8 end below = by_rest (cut_is (chars bytes) end).rest refl
   where
     by_rest : (rest : List ℕ) → (cut_is (chars bytes) end).rest ≡ rest → end < size (cut (chars bytes) end) + 4
@@ -127,11 +126,7 @@ pub cut_at_leading : (bytes : List ℕ) → IsUtf8 bytes → (i end : ℕ) → i
     → i ≡ size (cut (chars bytes) end)
 cut_at_leading bytes utf8 i end le below leads trails =
     let at = begins_boundary bytes utf8 i (omega arith) (λ _. leads) in
-    omega (
-      arith,
-      boundary-le-cut (chars bytes) i end at le,
-      cut_before_trailing bytes utf8 i end le below trails,
-    )
+    omega (arith, boundary-le-cut (chars bytes) i end at le, cut_before_trailing bytes utf8 i end le below trails)
 
 -- three trailing bytes stand behind a byte that begins a character
 pub cut_behind_three : (bytes : List ℕ) → IsUtf8 bytes → (i end : ℕ) → i + 3 ≡ end → end < length bytes

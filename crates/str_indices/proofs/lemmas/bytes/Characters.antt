@@ -23,8 +23,7 @@ below_all : (c : ℕ) → scalar c ≡ true → c < 1114112
 below_all c s = elim (scalar_cases c s) [ inl y ↦ omega arith | inr n ↦ omega (arith, n.1) ]
 
 -- what holds of the bytes of each size holds of the bytes of each character
-pub by_size : (P : List ℕ → Type 0) (c : ℕ) → scalar c ≡ true
-    → (c < 128 → P (c ∷ []))
+pub by_size : (P : List ℕ → Type 0) (c : ℕ) → scalar c ≡ true → (c < 128 → P (c ∷ []))
     → (128 ≤ c → c < 2048 → P ((192 + c / 64) ∷ (128 + c % 64) ∷ []))
     → (2048 ≤ c → c < 65536 → P ((224 + c / 4096) ∷ (128 + c / 64 % 64) ∷ (128 + c % 64) ∷ []))
     → (65536 ≤ c → c < 1114112

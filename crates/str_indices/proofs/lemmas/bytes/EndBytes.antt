@@ -32,8 +32,7 @@ module _ (s : Scheme) (test : ℕ → ℕ → ℕ → Bool) (adds : AddsAtFirst 
   pub ends_by_ascii_walk : ((b next after : ℕ) → 128 ≤ b → flag (test b next after) ≡ 0) → (bytes : List ℕ)
       → IsUtf8 bytes → (end : ℕ) → end ≤ length bytes
       → sum_below (counted_at test bytes) end ≡ ends_up_to s (chars bytes) end
-  ends_by_ascii_walk none bytes utf8 end within =
-      still_behind_cut (counted_at test bytes) bytes utf8 end within
+  ends_by_ascii_walk none bytes utf8 end within = still_behind_cut (counted_at test bytes) bytes utf8 end within
       (λ j wide. none (get_or bytes j 0) (get_or bytes (1 + j) 0) (get_or bytes (2 + j) 0) wide)
       ∙ ends_by_walk bytes utf8 end
 
@@ -48,8 +47,7 @@ next_line_feed (c ∷ cs) s = by_width (λ bs. is_line_feed (get_or (bs ++ encod
     neither b past past' = grind (arith, nat_tests)
 
 -- a test that counts the breaks of a scheme, at the first byte of each character that is one
-pub adds_breaks : (s : Scheme) → HasReturn s → (test : ℕ → ℕ → ℕ → Bool)
-    → ((c next after : ℕ) → c < 128
+pub adds_breaks : (s : Scheme) → HasReturn s → (test : ℕ → ℕ → ℕ → Bool) → ((c next after : ℕ) → c < 128
     → test c next after ≡ (char_set_contains (break_characters s) c && not (c == carriage_return && next == line_feed)))
     → ((c : ℕ) (rest : List ℕ) → scalar c ≡ true → 128 ≤ c
     → test (get_or (encode c ++ rest) 0 0) (get_or (encode c ++ rest) 1 0) (get_or (encode c ++ rest) 2 0)
@@ -116,8 +114,7 @@ return_at_seam (c ∷ d ∷ front) back s =
     ∙ return_at_seam (d ∷ front) back parts.1 ∙ sym (ends_in_return-cons c d front)
 
 -- the place where the text is cut stands between CR and LF where the cut parts CR from LF
-middle_at_cut : (bytes : List ℕ) → IsUtf8 bytes → (end : ℕ)
-    → is_middle bytes (size (cut (chars bytes) end))
+middle_at_cut : (bytes : List ℕ) → IsUtf8 bytes → (end : ℕ) → is_middle bytes (size (cut (chars bytes) end))
     ≡ joins_crlf (cut (chars bytes) end) (cut_is (chars bytes) end).rest
 middle_at_cut bytes utf8 end =
     let cs = chars bytes in

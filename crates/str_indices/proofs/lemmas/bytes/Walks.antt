@@ -101,8 +101,7 @@ module _ (test : ℕ → ℕ → ℕ → Bool) (v : ℕ → List ℕ → ℕ) (a
         ap (sum_below f) (size-cons c front),
         sum_below-add f (len_utf8 c) (size front),
         walk_first c (front ++ back) parts.0 parts.1,
-        sum_below-same (λ j. f (len_utf8 c + j)) (counted_at test rest) (size front)
-            (λ j _. counted_behind c rest j),
+        sum_below-same (λ j. f (len_utf8 c + j)) (counted_at test rest) (size front) (λ j _. counted_behind c rest j),
         walk_front front back parts.1,
       )
 

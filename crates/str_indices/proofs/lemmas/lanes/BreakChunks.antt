@@ -135,8 +135,7 @@ module _ {bytes : List ℕ} {at size : ℕ} {chunk : List ℕ} (least : 4 ≤ si
       -- where it does, the last lane is not 0
       pub last_is_counted : is_crlf (get_or bytes (at + (size - 1)) 0) (get_or bytes (1 + (at + (size - 1))) 0) ≡ true
           → 0 < get_or inside (size - 1) 0
-      last_is_counted crosses =
-          omega (arith, inside_lanes.each (size - 1) (omega arith), inside_last, ap flag crosses)
+      last_is_counted crosses = omega (arith, inside_lanes.each (size - 1) (omega arith), inside_last, ap flag crosses)
 
       -- and one is taken from it
       pub narrow_crossing : {result : List ℕ}

@@ -68,8 +68,7 @@ lanes_map u {size} {f} {xs} {ys} h is = rw is (record {
 -- each byte of a chunk that was loaded from a text mapped
 pub lanes_loaded : (u : ℕ → ℕ) (text : List ℕ) (at size : ℕ) {lanes counts : List ℕ} → at + size ≤ length text
     → lanes ≡ take size (drop at text) → counts ≡ map u lanes → HasLanes size (λ j. u (get_or text (at + j) 0)) counts
-lanes_loaded u text at size {lanes} {counts} within loaded mapped =
-    lanes_same (λ j. u (get_or text (at + j) 0))
+lanes_loaded u text at size {lanes} {counts} within loaded mapped = lanes_same (λ j. u (get_or text (at + j) 0))
     (lanes_map u (lanes_of (length-loaded text at size lanes within loaded)) mapped)
     (λ j l. ap u (ap (λ xs. get_or xs j 0) loaded ∙ get_or-take size (drop at text) j 0 l ∙ get_or-drop at text j 0))
 
@@ -100,8 +99,7 @@ and_of_flags false false = refl
 -- two chunks of flags, both at once
 pub lanes_and : (p q : ℕ → Bool) {size : ℕ} {xs ys zs : List ℕ} → HasLanes size (λ j. flag (p j)) xs
     → HasLanes size (λ j. flag (q j)) ys → zs ≡ zip2 bit_and xs ys → HasLanes size (λ j. flag (p j && q j)) zs
-lanes_and p q h k is =
-    lanes_same (λ j. flag (p j && q j)) (lanes_zip2 bit_and h k is) (λ j l. and_of_flags (p j) (q j))
+lanes_and p q h k is = lanes_same (λ j. flag (p j && q j)) (lanes_zip2 bit_and h k is) (λ j l. and_of_flags (p j) (q j))
 
 -- lanes shifted back by n, where past the last there is nothing
 pub lanes_shift : (n : ℕ) {size : ℕ} {f : ℕ → ℕ} {xs ys : List ℕ} → n < size → ((j : ℕ) → size ≤ j → f j ≡ 0)

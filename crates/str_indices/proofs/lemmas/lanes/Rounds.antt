@@ -76,6 +76,5 @@ module _ (test : ℕ → Bool) (text : List ℕ) {size from at rounds : ℕ} {ac
   pub one_round_more : {seen loaded marks summed : List ℕ} → seen ≡ text → at + size ≤ length text
       → loaded ≡ take size (drop at seen) → marks ≡ map (mark test) loaded → summed ≡ zip2 (λ a b. a + b) acc marks
       → Accumulates test text size from (at + size) (rounds + 1) summed
-  one_round_more same within taken mapped added =
-      chunk_added so_far (λ j. mark-le test (get_or text j 0))
+  one_round_more same within taken mapped added = chunk_added so_far (λ j. mark-le test (get_or text j 0))
       (lanes_loaded (mark test) text at size within (taken ∙ ap (λ t. take size (drop at t)) same) mapped) added

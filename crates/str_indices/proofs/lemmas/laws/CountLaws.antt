@@ -25,14 +25,12 @@ end_count-le-end_count s t each cs =
     omega (arith, end_count_total s cs, end_count_total t cs, total-le-total (end_weight s) (end_weight t) each cs)
 
 -- a character and the next, by the first two sets
-lf_within_crlf : (c next : ℕ)
-    → cond (char_set_contains (break_characters Lf) c && not (c == 13 && next == 10)) 1 0
+lf_within_crlf : (c next : ℕ) → cond (char_set_contains (break_characters Lf) c && not (c == 13 && next == 10)) 1 0
     ≤ cond (char_set_contains (break_characters Crlf) c && not (c == 13 && next == 10)) 1 0
 lf_within_crlf c next = grind (arith, nat_tests)
 
 -- a character and the next, by the last two sets
-crlf_within_lines : (c next : ℕ)
-    → cond (char_set_contains (break_characters Crlf) c && not (c == 13 && next == 10)) 1 0
+crlf_within_lines : (c next : ℕ) → cond (char_set_contains (break_characters Crlf) c && not (c == 13 && next == 10)) 1 0
     ≤ cond (char_set_contains (break_characters Lines) c && not (c == 13 && next == 10)) 1 0
 crlf_within_lines c next = grind (arith, nat_tests)
 

@@ -132,13 +132,11 @@ turns_paying old seen new first n t spare is few a =
       text_kept = a.text_kept ∙ ap (λ p. p.text) is;
       turns_within = record {
         rises = omega (arith, a.turns_within.rises);
-        within =
-            omega (arith, a.turns_within.within);
+        within = omega (arith, a.turns_within.within);
       };
       loads_within = record {
         rises = omega (arith, a.loads_within.rises);
-        within =
-            omega (arith, a.loads_within.within);
+        within = omega (arith, a.loads_within.within);
       };
       peeks_within = record {
         rises = omega (arith, a.peeks_within.rises);
@@ -175,8 +173,7 @@ chunk_after {seen = seen} {new = new} {from = from} le so_far more =
 -- the chunks of no more bytes than one has are one at most
 pub chunk_of : {old new : ProbeState} {size at to : ℕ} → 4 ≤ size → at ≤ to → to ≤ at + size
     → Reads old new at 0 ((to - at) / size) 0 → Reads old new at 0 1 0
-chunk_of {size = size} {at = at} {to = to} least le near chunks =
-    weaken chunks (omega arith) (omega arith)
+chunk_of {size = size} {at = at} {to = to} least le near chunks = weaken chunks (omega arith) (omega arith)
     (div-le_of_le-mul size {m = to - at} {n = 1} (omega arith)) (omega arith)
 
 -- whole chunks, and then those from where they end and one more

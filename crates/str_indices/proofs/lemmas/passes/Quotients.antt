@@ -20,8 +20,7 @@ div-add-le size from at to least le le' =
 
 -- with one chunk more fits one more
 pub div-one_more : (size from at : ℕ) → 4 ≤ size → from ≤ at → (at - from) / size + 1 ≤ (at + size - from) / size
-div-one_more size from at least le =
-    le-div ((at - from) / size + 1) (at + size - from) size (omega arith)
+div-one_more size from at least le = le-div ((at - from) / size + 1) (at + size - from) size (omega arith)
     (omega (arith, add-mul ((at - from) / size) 1 size, div-mul-le_self (at - from) size))
 
 -- whole chunks, and then those from where they end

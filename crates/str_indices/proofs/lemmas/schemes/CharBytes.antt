@@ -128,8 +128,7 @@ end_is_near counted leads bytes utf8 at size k end stopped within at_most =
             absurd (omega (
               arith,
               leads bytes (at + size) end (omega arith),
-              sum_below-le-sum_below f (at + size + 4)
-                  end far,
+              sum_below-le-sum_below f (at + size + 4) end far,
             ))
       ]
     ]

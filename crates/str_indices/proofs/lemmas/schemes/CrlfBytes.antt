@@ -108,8 +108,7 @@ cut_breaks bytes utf8 byte least here =
 pub breaks_by_cut : (bytes : List ℕ) → IsUtf8 bytes → (byte least : ℕ) (whole : Bool) → least ≡ min byte (length bytes)
     → whole ≡ not (is_middle bytes least) → count Crlf (cut (chars bytes) least)
     ≡ from_byte_idx Crlf (chars bytes) byte + cond whole 0 1
-breaks_by_cut bytes utf8 byte least whole here tested =
-    cut_breaks bytes utf8 byte least here
+breaks_by_cut bytes utf8 byte least whole here tested = cut_breaks bytes utf8 byte least here
     ∙ ap (λ n. from_byte_idx Crlf (chars bytes) byte + n) (by_test (is_middle bytes least) whole tested)
   where
     by_test : (middle whole : Bool) → whole ≡ not middle → ◌≡◌ {A = ℕ} (cond middle 1 0) (cond whole 0 1)

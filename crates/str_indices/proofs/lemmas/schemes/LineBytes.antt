@@ -38,8 +38,7 @@ break_of_one : (c next after : ℕ) → c < 128
 break_of_one c next after ascii = grind (arith, nat_tests)
 
 -- at a character of two bytes
-break_of_two : (c after : ℕ) → 128 ≤ c → c < 2048
-    → is_break (192 + c / 64) (128 + c % 64) after ≡ is_break_character c
+break_of_two : (c after : ℕ) → 128 ≤ c → c < 2048 → is_break (192 + c / 64) (128 + c % 64) after ≡ is_break_character c
 break_of_two c after from below = grind (arith, nat_tests)
 
 -- at a character of three bytes

@@ -31,8 +31,7 @@ four_low b low = rw (four_range b (omega arith), lt-leb 240 b low)
 -- the first byte of a character begins four exactly where the character takes a surrogate pair
 four_first : (c : ℕ) (rest : List ℕ) → scalar c ≡ true
     → begins_four_bytes (get_or (encode c ++ rest) 0 0) ≡ (weight c == 2)
-four_first c rest s =
-    by_size (λ bs. begins_four_bytes (get_or (bs ++ rest) 0 0) ≡ (cond (length bs == 4) 2 1 == 2)) c s
+four_first c rest s = by_size (λ bs. begins_four_bytes (get_or (bs ++ rest) 0 0) ≡ (cond (length bs == 4) 2 1 == 2)) c s
     (λ ascii. four_low c (omega arith))
     (λ from below. four_low (192 + c / 64) (omega arith))
     (λ from below. four_low (224 + c / 4096) (omega arith))
@@ -198,8 +197,7 @@ units_count_leading bytes m n le =
     omega (arith, sum_below-le-sum_below (λ j. mark begins_four_bytes (get_or bytes j 0)) m n le)
 
 -- one byte more
-pub units_before-next : (bytes : List ℕ) (i : ℕ)
-    → units_before bytes (i + 1)
+pub units_before-next : (bytes : List ℕ) (i : ℕ) → units_before bytes (i + 1)
     ≡ units_before bytes i + (mark is_leading (get_or bytes i 0) + mark begins_four_bytes (get_or bytes i 0))
 units_before-next bytes i = omega (
   arith,

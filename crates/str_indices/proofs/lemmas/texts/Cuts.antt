@@ -57,8 +57,7 @@ cut_from_front start (c ∷ front) rest end at =
 -- there is such a beginning
 longest_front : (start : ℕ) (cs : List ℕ) (end : ℕ) → start ≤ end
     → (front : List ℕ) × (rest : List ℕ) × (cs ≡ front ++ rest) × IsCutAt start front rest end
-longest_front start [] end within =
-    ([], [], refl, record { fits = omega arith; longest = λ c after same. cc })
+longest_front start [] end within = ([], [], refl, record { fits = omega arith; longest = λ c after same. cc })
 longest_front start (c ∷ cs) end within =
     elim (cases_lt end (start + len_utf8 c)) [
       | inl beyond ↦ (

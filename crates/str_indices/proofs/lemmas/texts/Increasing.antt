@@ -19,12 +19,10 @@ low_le_high low [] high h = h
 low_le_high low (e ∷ es) high h = omega (arith, low_le_high e es high h.1, h.0)
 
 -- each number is above low
-low_lt_each : (low : ℕ) (es : List ℕ) (high k d : ℕ) → IncreasesWithin low es high → k < length es
-    → low < get_or es k d
+low_lt_each : (low : ℕ) (es : List ℕ) (high k d : ℕ) → IncreasesWithin low es high → k < length es → low < get_or es k d
 low_lt_each low [] high k d h inside = absurd (omega arith)
 low_lt_each low (e ∷ es) high zero d h inside = h.0
-low_lt_each low (e ∷ es) high (suc k) d h inside =
-    omega (arith, h.0, low_lt_each e es high k d h.1 (omega arith))
+low_lt_each low (e ∷ es) high (suc k) d h inside = omega (arith, h.0, low_lt_each e es high k d h.1 (omega arith))
 
 -- each number is below the next
 pub IsStrictlyIncreasing-within : (low : ℕ) (es : List ℕ) (high : ℕ) → IncreasesWithin low es high

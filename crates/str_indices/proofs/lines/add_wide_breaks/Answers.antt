@@ -2,8 +2,7 @@ use Rattle.str_indices.proofs.lemmas.lanes.BreakChunks.{firsts_fit, inside_count
 use Rattle.str_indices.proofs.lines.add_wide_breaks.Goals as goal
 
 pub add-requires : goal.add-requires
-add-requires g c =
-    firsts_fit g.met.T.ByteChunk.lawful.least c.requires.chunk c.cmp_eq_byte-next_lines.ensures
+add-requires g c = firsts_fit g.met.T.ByteChunk.lawful.least c.requires.chunk c.cmp_eq_byte-next_lines.ensures
     c.cmp_eq_byte-separators.ensures
 
 pub returns-then-is_zero-clause-lanes : goal.returns-then-is_zero-clause-lanes

@@ -49,11 +49,10 @@ pub sum_bytes-requires : goal.sum_bytes-requires
 sum_bytes-requires g c = lanes_summable c.chunks.invariant.lanes g.T.ByteChunk.MAX_ACC c.chunks.invariant.few
 
 pub overflow_add-result : goal.overflow_add-result
-overflow_add-result g c =
-    omega (
-      arith,
-      c.requires.counted,
-      c.chunks.invariant.lanes.counted,
-      c.sum_bytes.ensures,
-      breaks_counted_before-le (take c.args.end c.args.probe.now.text) c.chunks.at,
-    )
+overflow_add-result g c = omega (
+  arith,
+  c.requires.counted,
+  c.chunks.invariant.lanes.counted,
+  c.sum_bytes.ensures,
+  breaks_counted_before-le (take c.args.end c.args.probe.now.text) c.chunks.at,
+)

@@ -11,8 +11,7 @@ overflow_add-count g c =
       arith,
       c.SIZE.ensures,
       c.chunks.invariant.counted,
-      passing_before-le is_line_feed c.args.probe.now.text
-          (c.chunks.at.byte + g.T.ByteChunk.SIZE),
+      passing_before-le is_line_feed c.args.probe.now.text (c.chunks.at.byte + g.T.ByteChunk.SIZE),
     )
 
 pub chunks-preserved : goal.chunks-preserved

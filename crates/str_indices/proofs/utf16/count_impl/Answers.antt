@@ -13,6 +13,5 @@ overflow_add-result g c =
       arith,
       units_of_cut text c.args.end,
       count-le-size (cut text c.args.end),
-      size-cut text c.args.end
-          c.requires.boundary,
+      size-cut text c.args.end c.requires.boundary,
     )

@@ -25,8 +25,7 @@ chunks-init g c =
     }
 
 pub add-trailing-requires : goal.add-trailing-requires
-add-trailing-requires g c =
-    room_to_add is_trailing c.args.probe.now.text c.chunks.invariant.trailing_lanes _
+add-trailing-requires g c = room_to_add is_trailing c.args.probe.now.text c.chunks.invariant.trailing_lanes _
     (omega (arith, c.chunks-test.true, c.MAX_ACC.ensures, g.met.T.ByteChunk.lawful.fits)) c.count_trailing_chunk.ensures
 
 pub add-four_byte_leads-requires : goal.add-four_byte_leads-requires
