@@ -8,6 +8,7 @@ use crate::places::Position;
 use byte_chunk::{ByteChunk, Probe};
 
 /// Counts the first `end` bytes that pass, of which `lead` are walked one by one before the first chunk.
+#[tactic(auto, using(crate::proofs::lemmas::passes::Passes::counting_pass))]
 pub(crate) fn count_passing<B: ByteTest, T: ByteChunk>(
     probe: &mut Probe<'_, T>,
     end: usize,

@@ -54,6 +54,7 @@ pub fn to_byte_idx(text: &str, line_idx: usize) -> usize
 
 /// Counts the line breaks of the text before `end`, over chunks of any type, after `lead` bytes that are walked one by
 /// one.
+#[tactic(auto, using(crate::proofs::lemmas::schemes::LineBytes::breaks_in_parts))]
 pub fn count_breaks_impl<T: ByteChunk>(probe: &mut Probe<'_, T>, end: usize, lead: usize) -> usize
     requires within { end ≤ length probe.old.text }
     requires boundary { IsBoundary (chars probe.old.text) end }
@@ -125,6 +126,7 @@ pub fn to_byte_idx_impl<T: ByteChunk>(probe: &mut Probe<'_, T>, idx: usize, lead
 /// Walks on from a position, one turn a byte, up to `to` or to the byte before which the count is `most`.
 ///
 /// Of the text the bytes before `end` are seen.
+#[tactic(auto, using(crate::proofs::lemmas::schemes::LineBytes::breaks_bound))]
 fn count_breaks_up_to<T: ByteChunk>(
     probe: &mut Probe<'_, T>,
     from: Position,
@@ -143,6 +145,7 @@ fn count_breaks_up_to<T: ByteChunk>(
     ensures first { let bytes = take end probe.old.text in
         (d : ℕ) → from.byte ≤ d → d < result.byte → breaks_counted_before bytes d < most }
     ensures stopped { result.byte < to → result.count ≡ most }
+    ensures all { to ≤ most → result.byte ≡ to }
     ensures reads { Reads probe.old probe.new 0 (result.byte - from.byte) 0 0 }
 {
     let mut at = from;

@@ -234,6 +234,7 @@ struct ChunkBreaks<T> {
 /// Counts the breaks that start in the chunk at `at`, for one load.
 ///
 /// `before` is the chunk before it with 1 in each lane that is CR; only its last lane is read.
+#[tactic(auto, using(crate::proofs::lemmas::lanes::CrlfChunks::starts_in_chunk))]
 fn count_starts_in_chunk<T: ByteChunk>(
     probe: &mut Probe<'_, T>,
     at: usize,

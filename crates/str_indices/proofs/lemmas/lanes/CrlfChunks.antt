@@ -1,10 +1,12 @@
 -- The lanes of a chunk that say where the breaks of `Crlf` start.
-use Rattle.std.proofs.Common.{◌≡◌, ℕ, zero, suc, ◌+◌, ◌-◌, ◌<◌, ◌≤◌, Bool, List, [], ◌∷◌, ◌++◌, map, take, drop, length, get_or, refl, arith, sym, ◌∙◌, ap, add-zero, add-suc, bit_and}
+use Rattle.std.proofs.Common.{◌≡◌, ℕ, zero, suc, ◌+◌, ◌-◌, ◌<◌, ◌≤◌, Bool, true, false, List, [], ◌∷◌, ◌++◌, map, take, drop, length, get_or, refl, arith, sym, ◌∙◌, ap, add-zero, add-suc, bit_and}
 use Rattle.std.specs.Prelude.{◌&&◌, sum}
 use Rattle.std.specs.Simd.Lanes.{zip2, Each1, Each2}
 use Rattle.std.proofs.Math.Seq.{drop-cons}
 use Rattle.std.proofs.lemmas.Bool.Decides.{nat_tests}
 use Rattle.std.proofs.lemmas.List.{get_or-take, length-take-le}
+use Rattle.byte_chunk.specs.Lanes.{is_byte}
+use Rattle.str_indices.specs.Text.{line_feed, carriage_return}
 use Rattle.str_indices.specs.Bytes.{flag, mark, is_line_feed, is_carriage_return, byte_before, starts_break, break_start, breaks_before}
 use Rattle.str_indices.specs.Lanes.{HasLanes}
 use Rattle.str_indices.proofs.lemmas.bytes.Sums.{mark-le, sum_below-more}
@@ -33,6 +35,11 @@ starts_in_lane : (before b : ℕ) → mark is_line_feed b + mark is_carriage_ret
     (is_carriage_return before && is_line_feed b) ≡ mark (starts_break before) b
 starts_in_lane before b = grind (arith, nat_tests)
 
+-- what holds of 0 and of 1 holds of a flag
+of_flag : (P : ℕ → Type 0) → P 0 → P 1 → (b : Bool) → P (flag b)
+of_flag P none one true = one
+of_flag P none one false = none
+
 -- the chunk of `text` at `at`, and the chunk before it, whose last lane says whether the byte before `at` is CR
 pub record Loaded (text : List ℕ) (at size : ℕ) (chunk before : List ℕ) : Type 0 where
   pub above : 0 < size
@@ -41,10 +48,10 @@ pub record Loaded (text : List ℕ) (at size : ℕ) (chunk before : List ℕ) : 
   pub carried : drop (size - 1) before ≡ mark is_carriage_return (byte_before text at) ∷ []
 
 -- what is known of a chunk once it is loaded
-pub loaded_by : {text : List ℕ} {at size : ℕ} {chunk before : List ℕ} → 4 ≤ size → at + size ≤ length text
-    → chunk ≡ take size (drop at text) → drop (size - 1) before ≡ mark is_carriage_return (byte_before text at) ∷ []
+pub loaded_by : {text : List ℕ} {at size : ℕ} {chunk before : List ℕ} → chunk ≡ take size (drop at text)
+    → drop (size - 1) before ≡ mark is_carriage_return (byte_before text at) ∷ [] → at + size ≤ length text → 4 ≤ size
     → Loaded text at size chunk before
-loaded_by least within taken carried = record { above = omega arith; within = within; taken = taken; carried = carried }
+loaded_by taken carried within least = record { above = omega arith; within = within; taken = taken; carried = carried }
 
 module _ {text : List ℕ} {at size : ℕ} {chunk before : List ℕ} (loaded : Loaded text at size chunk before) where
   -- 1 in each lane that passes a test
@@ -71,63 +78,67 @@ module _ {text : List ℕ} {at size : ℕ} {chunk before : List ℕ} (loaded : L
       lane (suc j) below = rw add-suc (get_or-take (size - 1) returns j 0 (omega arith)
           ∙ (marked is_carriage_return made).each j (omega arith))
 
+module _ {text : List ℕ} {at size : ℕ} {chunk before returns : List ℕ}
+    (is_returns : returns ≡ map (is_byte carriage_return) chunk) where
   -- the last lane says whether the last byte is CR
-  pub last_is_return : {returns : List ℕ} → returns ≡ map (mark is_carriage_return) chunk
+  pub last_is_return : Loaded text at size chunk before
       → drop (size - 1) returns ≡ mark is_carriage_return (byte_before text (at + size)) ∷ []
-  last_is_return {returns} made =
-      let marks = marked is_carriage_return made in
+  last_is_return loaded =
+      let marks = marked loaded is_carriage_return is_returns in
       let above = loaded.above in
       let last : at + size ≡ suc (at + (size - 1)) = omega arith in
       last_left (size - 1) size returns (omega arith) marks.long
       ∙ ap (λ n. n ∷ []) (marks.each (size - 1) (omega arith)
       ∙ ap (λ k. mark is_carriage_return (byte_before text k)) (sym last))
 
-  module _ {feeds returns : List ℕ} (is_feeds : feeds ≡ map (mark is_line_feed) chunk)
-      (is_returns : returns ≡ map (mark is_carriage_return) chunk) where
+  module _ {feeds : List ℕ} (is_feeds : feeds ≡ map (is_byte line_feed) chunk) where
     -- no sum of the two passes a lane
-    pub sums_fit : Each2 (λ a b. a + b ≤ 255) feeds returns
-    sums_fit = Each2-lanes (λ a b. a + b ≤ 255) (marked is_line_feed is_feeds) (marked is_carriage_return is_returns)
+    pub sums_fit : Loaded text at size chunk before → Each2 (λ a b. a + b ≤ 255) feeds returns
+    sums_fit loaded = Each2-lanes (λ a b. a + b ≤ 255) (marked loaded is_line_feed is_feeds)
+        (marked loaded is_carriage_return is_returns)
         (λ j l. let byte = get_or text (at + j) 0 in
         omega (arith, mark-le is_line_feed byte, mark-le is_carriage_return byte))
 
     module _ {moved pairs both : List ℕ} (is_moved : moved ≡ drop (size - 1) before ++ take (size - 1) returns)
-        (is_pairs : pairs ≡ zip2 bit_and moved feeds) (is_both : both ≡ zip2 (λ a b. a + b) feeds returns) where
+        (is_pairs : pairs ≡ zip2 bit_and moved feeds) (is_both : both ≡ zip2 (λ a b. a + b) feeds returns)
+        (loaded : Loaded text at size chunk before) where
       -- the lanes of the pairs CR LF
       pairs_are : HasLanes size (λ j. flag (is_carriage_return (byte_before text (at + j)) && is_line_feed
           (get_or text (at + j) 0))) pairs
       pairs_are =
           lanes_and (λ j. is_carriage_return (byte_before text (at + j))) (λ j. is_line_feed (get_or text (at + j) 0))
-          (shifted is_returns is_moved) (marked is_line_feed is_feeds) is_pairs
+          (shifted loaded is_returns is_moved) (marked loaded is_line_feed is_feeds) is_pairs
 
       -- the lanes that are LF or CR
       both_are : HasLanes size (λ j. mark is_line_feed (get_or text (at + j) 0) + mark is_carriage_return
           (get_or text (at + j) 0)) both
-      both_are = lanes_zip2 (λ a b. a + b) (marked is_line_feed is_feeds) (marked is_carriage_return is_returns) is_both
+      both_are = lanes_zip2 (λ a b. a + b) (marked loaded is_line_feed is_feeds)
+          (marked loaded is_carriage_return is_returns) is_both
 
       -- no difference borrows
       pub pairs_fit : Each2 (λ a b. b ≤ a) both pairs
       pairs_fit = Each2-lanes (λ a b. b ≤ a) both_are pairs_are
           (λ j l. pair_within (byte_before text (at + j)) (get_or text (at + j) 0))
 
-      -- the lanes where a break starts
-      starts_are : {starts : List ℕ} → starts ≡ zip2 (λ a b. a - b) both pairs
-          → HasLanes size (λ j. break_start text (at + j)) starts
-      starts_are made = lanes_same (λ j. break_start text (at + j)) (lanes_zip2 (λ a b. a - b) both_are pairs_are made)
-          (λ j l. starts_in_lane (byte_before text (at + j)) (get_or text (at + j) 0))
+      module _ {starts : List ℕ} (is_starts : starts ≡ zip2 (λ a b. a - b) both pairs) where
+        -- the lanes where a break starts
+        starts_are : HasLanes size (λ j. break_start text (at + j)) starts
+        starts_are = lanes_same (λ j. break_start text (at + j)) (lanes_zip2 (λ a b. a - b) both_are pairs_are is_starts)
+            (λ j l. starts_in_lane (byte_before text (at + j)) (get_or text (at + j) 0))
 
-      -- each is one at most
-      pub starts_at_most : {starts : List ℕ} (most : ℕ) → starts ≡ zip2 (λ a b. a - b) both pairs → 1 ≤ most
-          → Each1 (λ lane. lane ≤ most) starts
-      starts_at_most most made one =
-          Each1-lanes (λ lane. lane ≤ most) (starts_are made) (λ j l. omega (arith, break_start-le text (at + j)))
+        -- each is 0 or 1
+        pub each_start : (P : ℕ → Type 0) → P 0 → P 1 → Each1 P starts
+        each_start P none one = Each1-lanes P starts_are
+            (λ j l. of_flag P none one (starts_break (byte_before text (at + j)) (get_or text (at + j) 0)))
 
-      -- they add up to the breaks that start in the chunk
-      pub breaks_in_chunk : {starts : List ℕ} {added : ℕ} → starts ≡ zip2 (λ a b. a - b) both pairs
-          → added ≡ sum starts → breaks_before text (at + size) ≡ breaks_before text at + added
-      breaks_in_chunk made summed = omega (arith, sum_below-chunk (break_start text) at (starts_are made), summed)
+        module _ {added : ℕ} (summed : added ≡ sum starts) where
+          -- they add up to the breaks that start in the chunk
+          pub breaks_in_chunk : breaks_before text (at + size) ≡ breaks_before text at + added
+          breaks_in_chunk = omega (arith, sum_below-chunk (break_start text) at starts_are, summed)
 
--- no more breaks start in a chunk than it has bytes
-pub few_in_chunk : (text : List ℕ) (at size added : ℕ)
-    → breaks_before text (at + size) ≡ breaks_before text at + added → added ≤ size
-few_in_chunk text at size added counted =
-    omega (arith, counted, sum_below-more (break_start text) (break_start-le text) at size)
+          -- and are no more than the bytes of the chunk
+          pub few_in_chunk : added ≤ size
+          few_in_chunk = omega (arith, breaks_in_chunk, sum_below-more (break_start text) (break_start-le text) at size)
+
+-- what the lanes of a chunk say, as the search takes it
+pub ruleset starts_in_chunk = (loaded_by, sums_fit, pairs_fit, each_start, breaks_in_chunk, few_in_chunk, last_is_return)

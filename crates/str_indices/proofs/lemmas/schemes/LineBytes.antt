@@ -19,6 +19,7 @@ use Rattle.str_indices.proofs.lemmas.bytes.Characters.{IsTrailing, by_size}
 use Rattle.str_indices.proofs.lemmas.bytes.Walks.{AddsAtFirst, size-chars, size-cut, walk_to_boundary}
 use Rattle.str_indices.proofs.lemmas.bytes.BoundaryBytes.{boundary_of_cut, cut_boundary, wide_behind_cut}
 use Rattle.str_indices.proofs.lemmas.bytes.EndBytes.{adds_breaks, ends_by_walk, breaks_of_cut_text, feed_at_middle}
+use Rattle.str_indices.proofs.lemmas.passes.Passes.{counting_pass}
 
 -- a break at most at each byte
 pub break_at-le : (bytes : List ℕ) (j : ℕ) → break_at bytes j ≤ 1
@@ -119,14 +120,11 @@ line_begins bytes utf8 k reached at from within b least stopped first =
       | inr late ↦ absurd (omega (arith, (cut_is cs d).at.fits, least place (cut_boundary cs d) late))
     ])
 
--- a walk over no more bytes than numbers that fit stops at no count but goes on to its end
-pub walks_on : (bytes : List ℕ) (count at to most : ℕ) → at ≤ to → to ≤ most → count ≡ breaks_counted_before bytes at
-    → (at < to → count ≡ most) → at ≡ to
-walks_on bytes count at to most within fits counted stopped =
-    elim (cases_lt at to) [
-      | inl before ↦ absurd (omega (arith, stopped before, breaks_counted_before-le bytes at))
-      | inr there ↦ omega arith
-    ]
-
 -- the byte before or at which a text is cut, as the search takes it
 pub ruleset lines_up_to = (boundary_of_cut, line_of_byte)
+
+-- the breaks before a boundary, and a pass over them, as the search takes it
+pub ruleset breaks_in_parts = (breaks_in_cut, counting_pass)
+
+-- no more breaks are counted than bytes, as the search takes it
+pub ruleset breaks_bound = (breaks_counted_before-le)
