@@ -1,27 +1,35 @@
-use Rattle.std.proofs.Common.{◌≡◌, ◌<◌, ◌^◌, ℕ, List, true, length, arith, ◌∙◌}
-use Rattle.std.specs.Prelude.{Result, Ok, Err}
+use Rattle.std.proofs.Common.{rules, get_or, ◌≢◌, ◌≡◌, ◌<◌, ◌^◌, ℕ, List, true, length, Bool, false, arith, ◌∙◌}
+use Rattle.std.specs.Prelude.{Result, Ok, Err, Option, Some, None}
 use Rattle.std.specs.Result.{OkIff, result_ok}
 use Rattle.std.specs.Str.{all_ascii_digits}
-use Rattle.std.specs.Str.Parse.{digits_value}
+use Rattle.std.specs.Str.Parse.{digits_value, ParsesUnsigned}
 use Rattle.std.proofs.lemmas.Str.Parse.{parse_plain, numerals_by_value, tells_all_ascii_digits}
 use Rattle.std.proofs.lemmas.Str.Pattern.{starts_char}
 use Rattle.std.proofs.lemmas.Bool.Decides.{not_from_Decides}
+use Rattle.std.specs.Bool.{MatchBool}
+use Rattle.std.specs.Str.{IsCharBoundary}
+use Rattle.std.specs.Option.{MatchOption}
+use Rattle.std.specs.Str.Pattern.{FindsCharPrefix}
 use Rattle.idx.specs.Requests.{index_of}
 use Rattle.idx.proofs.requests.parse_index.Goals as goal
 
 -- a parse that takes digits alone, up to the greatest `usize`, reads an index
-index_of-parsed : {E : Type 0} (word : List ℕ) (parsed : Result ℕ E)
+index_of-numeral : {E : Type 0} (word : List ℕ) (parsed : Result ℕ E)
     → OkIff parsed ((all_ascii_digits word ≡ true) × (0 < length word) × (digits_value 10 word < 2 ^ 64))
     (digits_value 10 word)
     → result_ok parsed ≡ index_of word
-index_of-parsed word (Ok n) reads = grind (arith, reads)
-index_of-parsed word (Err error) refuses = grind (arith, refuses)
+index_of-numeral word (Ok n) reads = grind (arith, reads)
+index_of-numeral word (Err error) refuses = grind (arith, refuses)
+
+-- so does a parse of a word that does not begin with a plus sign
+index_of-parsed : {E : Type 0} {answer : Option ℕ} (word : List ℕ) (parsed : Result ℕ E) (plus : Bool)
+    → answer ≡ result_ok parsed → ParsesUnsigned 64 10 word parsed → plus ≡ false
+    → MatchBool plus ((n : ℕ) × FindsCharPrefix 43 word (Some n) × IsCharBoundary word n) (FindsCharPrefix 43 word None)
+    → answer ≡ index_of word
+index_of-parsed word parsed plus answered parses none found =
+    let unsigned = not_from_Decides _ (starts_char 43 word plus found (omega arith) (omega arith)) none in
+    answered ∙ index_of-numeral word parsed
+    (parse_plain (numerals_by_value _ tells_all_ascii_digits) 64 word parsed parses unsigned)
 
 pub returns : goal.returns
-returns c =
-    let word = c.args.word.now in
-    let unsigned = not_from_Decides _ (starts_char 43 word _ c.starts_with.ensures.cases (omega arith) (omega arith))
-    c.if-starts_with.false in
-    let numeral = parse_plain (numerals_by_value _ tells_all_ascii_digits) 64 word c.parse.result
-    c.parse.ensures.value.0 unsigned in
-    c.ok.ensures.value ∙ index_of-parsed word c.parse.result numeral
+returns c = search (rules, index_of-parsed)
