@@ -1,5 +1,5 @@
 -- The ends of a text against the relations that say what they are; the boundaries; where a walk to the k-th end stops.
-use Rattle.std.proofs.Common.{take, ◌≡◌, ℕ, ◌+◌, ◌<◌, ◌↔◌, ◌⊎◌, inl, inr, List, [], ◌∷◌, ◌++◌, get_or, refl, arith, All, Bool, true, sym, ◌∙◌, ap, zero-add, add-zero, reverse, subst, zero, suc, length, ◌≤◌}
+use Rattle.std.proofs.Common.{take, ◌≡◌, ℕ, ◌+◌, ◌<◌, ◌↔◌, ◌⊎◌, inl, inr, List, [], ◌∷◌, ◌++◌, get_or, refl, arith, All, Bool, true, sym, ◌∙◌, ap, reverse, zero, suc, length, ◌≤◌}
 use Rattle.std.specs.Prelude.{filter, Contains, ◌==◌, slice_index, nat_le}
 use Rattle.std.specs.List.Sorted.{IsStrictlyIncreasing}
 use Rattle.std.specs.Char.{len_utf8, char_set_contains}
@@ -9,7 +9,7 @@ use Rattle.str_indices.proofs.lemmas.texts.Cuts.{cut_front}
 use Rattle.std.proofs.lemmas.Bool.{cases_Bool, both_ways, and_parts, and_from, eqb-true, not-true, not_from_false, false_from_ne_true, cases_lt}
 use Rattle.std.proofs.lemmas.Str.{len_utf8_bounds}
 use Rattle.std.proofs.lemmas.List.{reverse-append, append-nil, get_or_past}
-use Rattle.std.proofs.lemmas.List.Elements.{All-nil, All-cons, All-weaker, All-contains, Contains-append_left, Contains-append_right, Contains-get_or}
+use Rattle.std.proofs.lemmas.List.Elements.{All-nil, All-cons, All-contains, Contains-append_right, Contains-get_or}
 use Rattle.str_indices.specs.Text.{placed, size, Placed, is_crlf_middle, line_feed, carriage_return}
 use Rattle.str_indices.specs.Schemes.{Scheme, Chars, Utf16, is_break_end, is_end, ends, end_at, end_count, ends_up_to}
 use Rattle.str_indices.specs.Relations.{IsEndOf, IsCrlfMiddle, IsBreakEnd, IsCharacterEnd, IsEnd, IsBoundary}
@@ -79,7 +79,7 @@ is_crlf_middle_iff cs c p end = (
   λ middle.
       let front = middle.front ++ carriage_return ∷ [] in
       let same : end.front ++ c ∷ [] ≡ front = sym (cut_front cs p (IsBoundary-end_of cs c p end))
-          ∙ cut_front cs p (record { front = front; back = _; split = middle.split; place = middle.place }) in
+      ∙ cut_front cs p (record { front = front; back = _; split = middle.split; place = middle.place }) in
       let rests = append_cancel_left front end.back (line_feed ∷ middle.back) (rw same at (sym end.split ∙ middle.split)) in
       rw (same_last end.front middle.front c carriage_return same, rests),
 )
@@ -93,9 +93,9 @@ PassesAt test cs p =
 listed_iff : (test : Placed → Bool) (cs : List ℕ) (p : ℕ) → Contains (ends_from test 0 cs) p ↔ PassesAt test cs p
 listed_iff test cs p = (
   All-contains (PassesAt test cs) (ends_from test 0 cs) p
-  (All-map (PassesAt test cs) (λ x. x.end) (filter test (placed 0 cs)) (λ k d inside.
-  let (front, split, place) = All-filter test (StandsIn cs) (placed 0 cs) (placed_are cs [] cs 0 refl refl) k d inside in
-  (_, record { front = front; back = _; split = split; place = place }, filter_passes test (placed 0 cs) k d inside))),
+      (All-map (PassesAt test cs) (λ x. x.end) (filter test (placed 0 cs)) (λ k d inside.
+      let (front, split, place) = All-filter test (StandsIn cs) (placed 0 cs) (placed_are cs [] cs 0 refl refl) k d inside in
+      (_, record { front = front; back = _; split = split; place = place }, filter_passes test (placed 0 cs) k d inside))),
   λ h.
       let (c, end, passes) = h in
       let at = Contains-placed 0 end.front c end.back p (omega (arith, end.place)) in
@@ -211,5 +211,11 @@ end_at_reached s cs k e within stopped first =
     let most = select-le-high (ends s cs) (size cs) up k in
     let ranked = rank-select (ends s cs) (size cs) up k in
     let fewer = count_by-le-length (λ p. nat_le p e) (ends s cs) in
-    rw (end_at-select s cs k) (grind (arith, first place, stopped, adjunction (ends s cs) (size cs) up e k,
-    end_at-past s cs k, end_at-select s cs k))
+    rw (end_at-select s cs k) (grind (
+      arith,
+      first place,
+      stopped,
+      adjunction (ends s cs) (size cs) up e k,
+      end_at-past s cs k,
+      end_at-select s cs k,
+    ))

@@ -1,5 +1,5 @@
 -- The ends of a text: where they are, how many there are, what each character adds to them, and those of a cut text.
-use Rattle.std.proofs.Common.{◌≡◌, ℕ, ◌+◌, inl, inr, List, [], ◌∷◌, ◌++◌, map, arith, Bool, true, false, length, refl, cond, sym, ◌∙◌, ap, ◌<◌, ◌≤◌, append-nil}
+use Rattle.std.proofs.Common.{◌≡◌, ℕ, ◌+◌, inl, inr, List, [], ◌∷◌, ◌++◌, map, arith, Bool, refl, cond, ◌∙◌, ap, ◌<◌, ◌≤◌, append-nil}
 use Rattle.std.specs.Prelude.{filter, sum_by, count_by, ◌==◌, nat_le}
 use Rattle.std.specs.Char.{len_utf8}
 use Rattle.std.proofs.lemmas.Bool.{cases_Bool}
@@ -9,7 +9,7 @@ use Rattle.str_indices.proofs.lemmas.texts.Sizes.{size-cons, total, total_front,
 use Rattle.str_indices.proofs.lemmas.texts.Increasing.{IncreasesWithin, rank, rank_none, rank-cons, rank_all}
 use Rattle.std.proofs.lemmas.Bool.Decides.{nat_tests}
 use Rattle.str_indices.specs.Schemes.{Chars, Lf, is_end, count, Scheme, ends, end_count, ends_up_to}
-use Rattle.str_indices.proofs.lemmas.texts.Cuts.{IsCutAt, cut_is, cut_seam}
+use Rattle.str_indices.proofs.lemmas.texts.Cuts.{cut_is, cut_seam}
 
 -- where the characters end at which the test passes, in a text that begins at `start`
 abbrev pub ends_from : (Placed → Bool) → ℕ → List ℕ → List ℕ
@@ -114,8 +114,13 @@ pub end_count-cut : (s : Scheme) → ReadsAlone s → (cs : List ℕ) (end : ℕ
 end_count-cut s alone cs end =
     let reads = λ (c : ℕ) (after : List ℕ). alone c after [] in
     let f = λ (c : ℕ). end_weight s c [] in
-    omega (arith, end_count_total s (cut cs end), total_alone (end_weight s) f reads (cut cs end), ends_up_to_cut s cs end,
-    total_front_alone (end_weight s) f reads (cut cs end) (cut_is cs end).rest)
+    omega (
+      arith,
+      end_count_total s (cut cs end),
+      total_alone (end_weight s) f reads (cut cs end),
+      ends_up_to_cut s cs end,
+      total_front_alone (end_weight s) f reads (cut cs end) (cut_is cs end).rest,
+    )
 
 -- a text that is cut where it was cut stays as it is
 pub cut-cut : (cs : List ℕ) (end : ℕ) → cut cs (size (cut cs end)) ≡ cut cs end

@@ -1,11 +1,11 @@
 -- Lists of increasing numbers: how many are at most a number, and which is the k-th.
-use Rattle.std.proofs.Common.{◌+◌, ◌≡◌, ℕ, zero, suc, ◌<◌, ◌≤◌, ◌↔◌, inl, inr, min, List, [], ◌∷◌, length, get_or, count_by, refl, arith, cond, ◌∙◌, ap, add-one, ◌⊎◌, sym}
+use Rattle.std.proofs.Common.{◌+◌, ◌≡◌, ℕ, zero, suc, ◌<◌, ◌≤◌, ◌↔◌, inl, inr, min, List, [], ◌∷◌, length, get_or, count_by, refl, arith, cond, ◌∙◌, ap, ◌⊎◌, sym}
 use Rattle.std.specs.Prelude.{nat_le, Contains}
 use Rattle.std.specs.List.Sorted.{IsStrictlyIncreasing}
 use Rattle.std.proofs.lemmas.Bool.{cases_lt}
 use Rattle.std.proofs.lemmas.Bool.Decides.{nat_tests}
 use Rattle.std.proofs.lemmas.List.{get_or_past, get_or_default}
-use Rattle.std.proofs.lemmas.List.Sums.{sum_by-cons, sum_by-le-sum_by, count_by-le-length}
+use Rattle.std.proofs.lemmas.List.Sums.{sum_by-cons, count_by-le-length}
 use Rattle.std.proofs.lemmas.List.Elements.{Contains-get_or}
 
 -- the numbers increase strictly, each is above low, and the last is at most high
@@ -68,7 +68,7 @@ IsStrictlyIncreasing-within low es high h k inside =
     let ranked = rank-get_or low es high k 0 h (omega arith) in
     let next = rank-get_or low es high (k + 1) 0 h inside in
     let below : get_or es k 0 < get_or es (k + 1) 0 =
-        grind (arith, rank-le-rank es (get_or es (k + 1) 0) (get_or es k 0)) in
+    grind (arith, rank-le-rank es (get_or es (k + 1) 0) (get_or es k 0)) in
     below
 
 -- the k-th number, counted from 1; 0 at 0, and high past the last

@@ -1,6 +1,6 @@
 -- What a seam takes from the line breaks of the texts on its two sides: one where it makes a CRLF.
-use Rattle.std.proofs.Common.{ℕ, List, [], ◌∷◌, ◌++◌, get_or, arith, cond, ◌≡◌, suc, ◌+◌, ◌-◌, length, refl, Bool, true}
-use Rattle.std.specs.Prelude.{◌==◌, ◌&&◌, not}
+use Rattle.std.proofs.Common.{ℕ, List, [], ◌∷◌, ◌++◌, get_or, arith, cond, ◌≡◌, ◌+◌, refl, true}
+use Rattle.std.specs.Prelude.{◌==◌}
 use Rattle.std.specs.Char.{char_set_contains}
 use Rattle.std.proofs.lemmas.Bool.Decides.{nat_tests}
 use Rattle.str_indices.specs.Text.{cut, line_feed, carriage_return}
