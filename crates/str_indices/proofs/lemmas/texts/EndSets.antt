@@ -3,19 +3,18 @@ use Rattle.std.proofs.Common.{take, ◌≡◌, ℕ, ◌+◌, ◌<◌, ◌↔◌,
 use Rattle.std.specs.Prelude.{filter, Contains, ◌==◌, slice_index, nat_le}
 use Rattle.std.specs.List.Sorted.{IsStrictlyIncreasing}
 use Rattle.std.specs.Char.{len_utf8, char_set_contains}
-use Rattle.std.proofs.lemmas.List.{append_cancel_left, append_assoc, take_all, take_more, get_or-map, length-map}
-use Rattle.std.proofs.lemmas.List.Elements.{All-map, All-filter, filter_passes}
 use Rattle.str_indices.proofs.lemmas.texts.Cuts.{cut_front}
 use Rattle.std.proofs.lemmas.Bool.{cases_Bool, both_ways, and_parts, and_from, eqb-true, not-true, not_from_false, false_from_ne_true, cases_lt}
 use Rattle.std.proofs.lemmas.Str.{len_utf8_bounds}
-use Rattle.std.proofs.lemmas.List.{reverse-append, append-nil, get_or_past}
-use Rattle.std.proofs.lemmas.List.Elements.{All-nil, All-cons, All-contains, Contains-append_right, Contains-get_or}
+use Rattle.std.proofs.lemmas.List.{append_cancel_left, append_assoc, take_all, take_more, get_or-map, length-map, reverse-append, append-nil, get_or_past}
+use Rattle.std.proofs.lemmas.List.Elements.{All-map, All-filter, filter_passes, All-nil, All-cons, All-contains, Contains-append_right, Contains-get_or}
 use Rattle.str_indices.specs.Text.{placed, size, Placed, is_crlf_middle, line_feed, carriage_return}
 use Rattle.str_indices.specs.Schemes.{Scheme, Chars, Utf16, is_break_end, is_end, ends, end_at, end_count, ends_up_to}
 use Rattle.str_indices.specs.Relations.{IsEndOf, IsCrlfMiddle, IsBreakEnd, IsCharacterEnd, IsEnd, IsBoundary}
 use Rattle.str_indices.proofs.lemmas.texts.Sizes.{size-cons, size-append}
-use Rattle.str_indices.proofs.lemmas.texts.Increasing.{IncreasesWithin, IsStrictlyIncreasing-within, select, adjunction, rank_all, rank-select, select-le-high}
-use Rattle.str_indices.proofs.lemmas.texts.Ends.{ends_from, first_placed, ends_from-increases}
+use Rattle.str_indices.proofs.lemmas.texts.Increasing.{IsStrictlyIncreasing-within, select, adjunction, rank_all, rank-select, select-le-high}
+use Rattle.str_indices.proofs.lemmas.texts.Ends.{ends_from, first_placed}
+pub use Rattle.str_indices.proofs.lemmas.texts.Ends.{ends_increase_within}
 use Rattle.std.proofs.lemmas.List.Sums.{count_by-le-length}
 
 -- an element that passes a test is kept
@@ -53,10 +52,6 @@ Contains-placed start [] c back p place =
 Contains-placed start (x ∷ front) c back p place = Contains-append_right (first_placed start x _ ∷ []) _ _
     (Contains-placed (start + len_utf8 x) front c back p (omega (arith, size-cons x (front ++ c ∷ []))))
 
--- a text has one last character
-same_last : (a b : List ℕ) (x y : ℕ) → a ++ x ∷ [] ≡ b ++ y ∷ [] → x ≡ y
-same_last a b x y same = simp reverse-append at (ap (λ l. get_or (reverse l) 0 0) same)
-
 -- a character ends at a boundary
 abbrev IsBoundary-end_of : (cs : List ℕ) (c p : ℕ) → IsEndOf cs c p → IsBoundary cs p
 IsBoundary-end_of cs c p end =
@@ -81,7 +76,8 @@ is_crlf_middle_iff cs c p end = (
       let same : end.front ++ c ∷ [] ≡ front = sym (cut_front cs p (IsBoundary-end_of cs c p end))
       ∙ cut_front cs p (record { front = front; back = _; split = middle.split; place = middle.place }) in
       let rests = append_cancel_left front end.back (line_feed ∷ middle.back) (rw same at (sym end.split ∙ middle.split)) in
-      rw (same_last end.front middle.front c carriage_return same, rests),
+      let last : c ≡ carriage_return = simp reverse-append at (ap (λ l. get_or (reverse l) 0 0) same) in
+      rw (last, rests),
 )
 
 -- a character ends at p, and the test passes there
@@ -149,21 +145,13 @@ ends_are Chars cs p = characters_are cs p
 ends_are Utf16 cs p = characters_are cs p
 ends_are s cs p = breaks_are _ cs p
 
--- they increase strictly, each is above 0, and the last is at most the text's size
-pub ends_increase_within : (s : Scheme) (cs : List ℕ) → IncreasesWithin 0 (ends s cs) (size cs)
-ends_increase_within s cs = ends_from-increases (is_end s) 0 0 cs (size cs) (omega arith) (omega arith)
-
 -- each element of `ends s cs` is below the next
 pub ends_increase : (s : Scheme) (cs : List ℕ) → IsStrictlyIncreasing (ends s cs)
 ends_increase s cs = IsStrictlyIncreasing-within 0 (ends s cs) (size cs) (ends_increase_within s cs)
 
 -- the text begins at a boundary
-pub IsBoundary-start : (cs : List ℕ) → IsBoundary cs 0
+abbrev pub IsBoundary-start : (cs : List ℕ) → IsBoundary cs 0
 IsBoundary-start cs = record { front = []; back = cs; split = refl; place = refl }
-
--- the text ends at a boundary
-IsBoundary-size : (cs : List ℕ) → IsBoundary cs (size cs)
-IsBoundary-size cs = record { front = cs; back = []; split = sym (append-nil cs); place = refl }
 
 -- an end in a scheme is a boundary
 IsBoundary-end : (s : Scheme) (cs : List ℕ) (p : ℕ) → IsEnd s cs p → IsBoundary cs p
@@ -177,16 +165,14 @@ IsBoundary-end_at s cs zero = IsBoundary-start cs
 IsBoundary-end_at s cs (suc k) =
     elim (cases_lt k (length (ends s cs))) [
       | inl inside ↦ IsBoundary-end s cs _ ((ends_are s cs _).0 (Contains-get_or (ends s cs) k (size cs) inside))
-      | inr past ↦ rw (get_or_past (ends s cs) k (size cs) past) (IsBoundary-size cs)
+      | inr past ↦ rw (get_or_past (ends s cs) k (size cs) past)
+          (record { front = cs; back = []; split = sym (append-nil cs); place = refl })
     ]
 
 -- a boundary is 0 or an end of `Chars`
 pub zero_or_end : (cs : List ℕ) (p : ℕ) → IsBoundary cs p → (p ≡ 0) ⊎ Contains (ends Chars cs) p
-zero_or_end cs p at =
-    elim (cases_lt 0 p) [
-      | inl above ↦ inr ((ends_are Chars cs p).1 (record { boundary = at; above = above }))
-      | inr first ↦ inl (omega arith)
-    ]
+zero_or_end cs zero at = inl refl
+zero_or_end cs (suc p) at = inr ((ends_are Chars cs (suc p)).1 (record { boundary = at; above = omega arith }))
 
 -- `end_at` takes the k-th of the ends
 pub end_at-select : (s : Scheme) (cs : List ℕ) (k : ℕ) → end_at s cs k ≡ select (ends s cs) (size cs) k
@@ -211,11 +197,5 @@ end_at_reached s cs k e within stopped first =
     let most = select-le-high (ends s cs) (size cs) up k in
     let ranked = rank-select (ends s cs) (size cs) up k in
     let fewer = count_by-le-length (λ p. nat_le p e) (ends s cs) in
-    rw (end_at-select s cs k) (grind (
-      arith,
-      first place,
-      stopped,
-      adjunction (ends s cs) (size cs) up e k,
-      end_at-past s cs k,
-      end_at-select s cs k,
-    ))
+    let reached = adjunction (ends s cs) (size cs) up e k in
+    grind (arith, first place, end_at-past s cs k, end_at-select s cs k)

@@ -19,17 +19,20 @@ ends_from test start cs = map (λ p. p.end) (filter test (placed start cs))
 abbrev pub first_placed : ℕ → ℕ → List ℕ → Placed
 first_placed start c cs = record { character = c; end = start + len_utf8 c; after = cs }
 
--- the ends increase, from above the text's beginning up to at most its own end
-pub ends_from-increases : (test : Placed → Bool) (low start : ℕ) (cs : List ℕ) (high : ℕ) → low ≤ start
-    → start + size cs ≤ high → IncreasesWithin low (ends_from test start cs) high
-ends_from-increases test low start [] high le fits = omega arith
-ends_from-increases test low start (c ∷ cs) high le fits =
+-- the ends increase, above low, which the first character passes, and up to at most the text's own end
+pub ends_from-increases : (test : Placed → Bool) (low start : ℕ) (cs : List ℕ) (high : ℕ) → low ≤ high
+    → ((c : ℕ) (after : List ℕ) → cs ≡ c ∷ after → low < start + len_utf8 c) → start + size cs ≤ high
+    → IncreasesWithin low (ends_from test start cs) high
+ends_from-increases test low start [] high le beyond fits = le
+ends_from-increases test low start (c ∷ cs) high le beyond fits =
     let next = start + len_utf8 c in
     let sizes = size-cons c cs in
-    let bounds = len_utf8_bounds c in
+    let first = beyond c cs refl in
+    let rest = λ (l : ℕ) (at : l ≤ next). ends_from-increases test l next cs high (omega arith)
+    (λ d after same. omega (arith, len_utf8_bounds d)) (omega arith) in
     elim (cases_Bool (test (first_placed start c cs))) [
-      | inl passes ↦ rw passes (omega arith, ends_from-increases test next next cs high (omega arith) (omega arith))
-      | inr fails ↦ rw fails (ends_from-increases test low next cs high (omega arith) (omega arith))
+      | inl passes ↦ rw passes (first, rest next (omega arith))
+      | inr fails ↦ rw fails (rest low (omega arith))
     ]
 
 -- one where the character c, with those after it, ends at an end of the scheme
@@ -48,10 +51,7 @@ rank_step : (s : Scheme) (start c : ℕ) (cs : List ℕ) (byte : ℕ) → rank (
     + rank (ends_from (is_end s) (start + len_utf8 c) cs) byte
 rank_step s start c cs byte =
     let one = rank-cons (start + len_utf8 c) (ends_from (is_end s) (start + len_utf8 c) cs) byte in
-    rw (is_end_anywhere s start c cs) (elim (cases_Bool (is_end s (first_placed 0 c cs))) [
-      | inl passes ↦ rw passes one
-      | inr fails ↦ rw fails (grind (arith, nat_tests))
-    ])
+    rw (is_end_anywhere s start c cs) (grind (arith, nat_tests, cases_Bool (is_end s (first_placed 0 c cs))))
 
 -- a beginning that fits has the ends that its characters weigh, and then come those of the rest, which begins at `mid`
 rank-append : (s : Scheme) (start : ℕ) (front rest : List ℕ) (mid byte : ℕ) → start + size front ≡ mid → mid ≤ byte
@@ -63,22 +63,15 @@ rank-append s start (c ∷ front) rest mid byte here fits =
     let others = rank-append s (start + len_utf8 c) front rest mid byte (omega arith) fits in
     grind (arith, nat_tests, rank_step s start c (front ++ rest) byte)
 
--- where the first character of a rest doesn't fit, it has no ends up to there
-rank_rest : (s : Scheme) (start : ℕ) (rest : List ℕ) (byte : ℕ)
-    → ((c : ℕ) (after : List ℕ) → rest ≡ c ∷ after → byte < start + len_utf8 c)
-    → rank (ends_from (is_end s) start rest) byte ≡ 0
-rank_rest s start [] byte beyond = refl
-rank_rest s start (c ∷ after) byte beyond =
-    let place = start + len_utf8 c in
-    let increases = ends_from-increases (is_end s) place place after (place + size after) (omega arith) (omega arith) in
-    let none = rank_none place (ends_from (is_end s) place after) _ byte increases in
-    grind (arith, nat_tests, rank_step s start c after byte, beyond c after refl)
+-- the ends of a text increase strictly, each is above 0, and the last is at most the text's size
+pub ends_increase_within : (s : Scheme) (cs : List ℕ) → IncreasesWithin 0 (ends s cs) (size cs)
+ends_increase_within s cs = ends_from-increases (is_end s) 0 0 cs (size cs) (omega arith)
+    (λ c after same. omega (arith, len_utf8_bounds c)) (omega arith)
 
 -- the ends of a text are as many as its characters weigh
 pub end_count_total : (s : Scheme) (cs : List ℕ) → end_count s cs ≡ total (end_weight s) cs
 end_count_total s cs =
-    let increases = ends_from-increases (is_end s) 0 0 cs (size cs) (omega arith) (omega arith) in
-    let all = rank_all 0 (ends s cs) (size cs) (size cs) increases (omega arith) in
+    let all = rank_all 0 (ends s cs) (size cs) (size cs) (ends_increase_within s cs) (omega arith) in
     let whole = rw append-nil at (rank-append s 0 cs [] (size cs) (size cs) (omega arith) (omega arith)) in
     omega (arith, rw append-nil at (total-append (end_weight s) cs []))
 
@@ -101,7 +94,10 @@ ends_up_to_cut s cs byte =
     let parts = cut_is cs byte in
     let mid = size (cut cs byte) in
     let others = rank-append s 0 (cut cs byte) parts.rest mid byte (omega arith) (omega (arith, parts.at.fits)) in
-    let none = rank_rest s mid parts.rest byte (λ c after is. omega (arith, parts.at.longest c after is)) in
+    let high = byte + (mid + size parts.rest) in
+    let increases = ends_from-increases (is_end s) byte mid parts.rest high (omega arith)
+    (λ c after is. omega (arith, parts.at.longest c after is)) (omega arith) in
+    let none = rank_none byte (ends_from (is_end s) mid parts.rest) high byte increases (omega arith) in
     ap (λ t. ends_up_to s t byte) parts.split ∙ omega arith
 
 -- whether a character ends at an end of the scheme is read from the character alone
@@ -112,15 +108,10 @@ ReadsAlone s = (c : ℕ) (cs ds : List ℕ) → end_weight s c cs ≡ end_weight
 pub end_count-cut : (s : Scheme) → ReadsAlone s → (cs : List ℕ) (end : ℕ)
     → end_count s (cut cs end) ≡ ends_up_to s cs end
 end_count-cut s alone cs end =
+    let v = end_weight s in
+    let f = λ (c : ℕ). v c [] in
     let reads = λ (c : ℕ) (after : List ℕ). alone c after [] in
-    let f = λ (c : ℕ). end_weight s c [] in
-    omega (
-      arith,
-      end_count_total s (cut cs end),
-      total_alone (end_weight s) f reads (cut cs end),
-      ends_up_to_cut s cs end,
-      total_front_alone (end_weight s) f reads (cut cs end) (cut_is cs end).rest,
-    )
+    omega (arith, end_count_total s, ends_up_to_cut s cs end, total_alone v f reads, total_front_alone v f reads)
 
 -- a text that is cut where it was cut stays as it is
 pub cut-cut : (cs : List ℕ) (end : ℕ) → cut cs (size (cut cs end)) ≡ cut cs end

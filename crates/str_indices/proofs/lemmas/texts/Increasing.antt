@@ -46,8 +46,7 @@ rank-le-rank (e ∷ es) i j le = grind (arith, nat_tests, rank-cons e es i, rank
 get_or_le_iff : (low : ℕ) (es : List ℕ) (high k d b : ℕ) → IncreasesWithin low es high → k < length es
     → (get_or es k d ≤ b) ↔ (k < rank es b)
 get_or_le_iff low [] high k d b h inside = absurd (omega arith)
-get_or_le_iff low (e ∷ es) high zero d b h inside =
-    grind (arith, nat_tests, rank-cons e es b, rank_none e es high b h.1)
+get_or_le_iff low (e ∷ es) high zero d b h inside = grind (arith, nat_tests, rank-cons e es b, rank_none e es high b h.1)
 get_or_le_iff low (e ∷ es) high (suc k) d b h inside =
     grind (arith, nat_tests, rank-cons e es b, rank_none e es high b h.1, get_or_le_iff e es high k d b h.1)
 
@@ -67,9 +66,7 @@ pub IsStrictlyIncreasing-within : (low : ℕ) (es : List ℕ) (high : ℕ) → I
 IsStrictlyIncreasing-within low es high h k inside =
     let ranked = rank-get_or low es high k 0 h (omega arith) in
     let next = rank-get_or low es high (k + 1) 0 h inside in
-    let below : get_or es k 0 < get_or es (k + 1) 0 =
-    grind (arith, rank-le-rank es (get_or es (k + 1) 0) (get_or es k 0)) in
-    below
+    grind (arith, rank-le-rank es (get_or es (k + 1) 0) (get_or es k 0))
 
 -- the k-th number, counted from 1; 0 at 0, and high past the last
 abbrev pub select : List ℕ → ℕ → ℕ → ℕ

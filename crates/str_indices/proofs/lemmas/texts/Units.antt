@@ -1,9 +1,9 @@
 -- The UTF-16 code units before a place, and the greatest boundary before which a text takes at most so many.
-use Rattle.std.proofs.Common.{◌≡◌, ℕ, ◌≤◌, inl, inr, List, [], ◌∷◌, max, arith, All, ◌+◌, ◌⊎◌, refl, cond, ap}
+use Rattle.std.proofs.Common.{zero, suc, ◌≡◌, ℕ, ◌≤◌, inl, inr, List, [], ◌∷◌, max, arith, All, ◌+◌, ◌⊎◌, refl, cond, ap}
 use Rattle.std.specs.Prelude.{filter, fold, nat_le, ◌==◌, sum_by, Contains}
 use Rattle.std.proofs.lemmas.Bool.Decides.{nat_tests}
 use Rattle.std.proofs.lemmas.Bool.{le-leb, leb-true}
-use Rattle.std.proofs.lemmas.List.Elements.{All-nil, All-cons, All-head, All-tail, All-weaker, All-filter, All-contains, All-contains_itself, Contains-append_right, filter_passes}
+use Rattle.std.proofs.lemmas.List.Elements.{All-nil, All-cons, All-head, All-tail, All-filter, All-contains, Contains-get_or, Contains-append_right, filter_passes}
 use Rattle.std.specs.Char.{len_utf8}
 use Rattle.std.proofs.lemmas.Str.{len_utf8_bounds}
 use Rattle.std.proofs.lemmas.List.Sums.{sum_by-cons, sum_by-append}
@@ -33,9 +33,9 @@ units_at cs p at = ap (sum_by weight) (cut_front cs p at)
 
 -- each place that `boundaries` lists is a boundary
 boundaries_are : (cs : List ℕ) → All (IsBoundary cs) (boundaries cs)
-boundaries_are cs = All-cons (IsBoundary cs) 0 (ends Chars cs) (IsBoundary-start cs)
-    (All-weaker (Contains (ends Chars cs)) (IsBoundary cs) (λ p has. ((ends_are Chars cs p).0 has).boundary)
-    (ends Chars cs) (All-contains_itself (ends Chars cs)))
+boundaries_are cs zero d inside = IsBoundary-start cs
+boundaries_are cs (suc k) d inside =
+    ((ends_are Chars cs _).0 (Contains-get_or (ends Chars cs) k d (omega arith))).boundary
 
 -- `boundaries` lists each boundary
 boundary_is_listed : (cs : List ℕ) (p : ℕ) → IsBoundary cs p → Contains (boundaries cs) p
@@ -45,40 +45,22 @@ boundary_is_listed cs p at =
       | inr listed ↦ Contains-append_right (0 ∷ []) (ends Chars cs) p listed
     ]
 
--- p is a boundary before which the text takes at most this many units
-record FitsWithin (cs : List ℕ) (k p : ℕ) : Type 0 where
-  boundary : IsBoundary cs p
-  fits : sum_by weight boundary.front ≤ k
-
--- the answer of `boundary_at_units` is such a boundary
-answer_fits : (cs : List ℕ) (k : ℕ) → FitsWithin cs k (boundary_at_units cs k)
-answer_fits cs k =
-    let test = λ (p : ℕ). nat_le (units cs p) k in
-    let listed = All-filter test (IsBoundary cs) (boundaries cs) (boundaries_are cs) in
-    let passing = filter_passes test (boundaries cs) in
-    fold_max_holds (FitsWithin cs k) 0 (filter test (boundaries cs))
-    (record { boundary = record { front = []; back = cs; split = refl; place = refl }; fits = omega arith })
-    (λ i d inside.
-    let at = listed i d inside in
-    record { boundary = at; fits = rw (units_at cs _ at) at (leb-true (units cs _) k (passing i d inside)) })
-
--- no such boundary is greater than that answer
-answer_is_most : (cs : List ℕ) (k p : ℕ) → FitsWithin cs k p → p ≤ boundary_at_units cs k
-answer_is_most cs k p h =
-    let test = λ (q : ℕ). nat_le (units cs q) k in
-    All-contains (λ q. q ≤ boundary_at_units cs k) (filter test (boundaries cs)) p
-    (fold_max_bounds 0 (filter test (boundaries cs))).1
-    (Contains-filter test (boundaries cs) p (boundary_is_listed cs p h.boundary)
-    (le-leb (units cs p) k (rw (units_at cs p h.boundary) h.fits)))
-
--- `boundary_at_units` answers the greatest such boundary
+-- `boundary_at_units` answers the greatest boundary before which the text takes at most so many units
 pub boundary_at_units_is_greatest : (cs : List ℕ) (k : ℕ) → IsGreatestWithin cs k (boundary_at_units cs k)
 boundary_at_units_is_greatest cs k =
-    let answer = answer_fits cs k in
+    let test = λ (p : ℕ). nat_le (units cs p) k in
+    let all = boundaries cs in
+    let answer = fold_max_holds (λ p. IsBoundary cs p × (units cs p ≤ k)) 0 (filter test all)
+    (IsBoundary-start cs, omega (arith, units_at cs 0 (IsBoundary-start cs)))
+    (λ i d inside. (All-filter test (IsBoundary cs) all (boundaries_are cs) i d inside,
+    leb-true (units cs _) k (filter_passes test all i d inside))) in
     record {
-      boundary = answer.boundary;
-      fits = answer.fits;
-      greatest = λ q other fits. answer_is_most cs k q (record { boundary = other; fits = fits });
+      boundary = answer.0;
+      fits = rw (units_at cs _ answer.0) at answer.1;
+      greatest = λ q other fits.
+          let passes = le-leb (units cs q) k (rw (units_at cs q other) fits) in
+          All-contains (λ p. p ≤ boundary_at_units cs k) (filter test all) q (fold_max_bounds 0 (filter test all)).1
+          (Contains-filter test all q (boundary_is_listed cs q other) passes);
     }
 
 -- a text has the units that its characters take
@@ -97,9 +79,8 @@ weight-le c = grind (arith, nat_tests, len_utf8_bounds c)
 sum_by-weight : (cs : List ℕ) → sum_by weight cs ≡ sum_by (λ _. 1) cs + surrogates cs
 sum_by-weight [] = refl
 sum_by-weight (c ∷ cs) =
-    let ones = sum_by-cons {X = ℕ} (λ _. 1) c cs in
     let pairs = sum_by-cons (λ x. cond (weight x == 2) 1 0) c cs in
-    grind (arith, nat_tests, sum_by-cons weight c cs, sum_by-weight cs)
+    grind (arith, nat_tests, sum_by-cons weight c cs, sum_by-cons {X = ℕ} (λ _. 1) c cs, sum_by-weight cs)
 
 -- a text has one unit for each character, and one more for each surrogate pair
 pub count-characters-surrogates : (cs : List ℕ) → count Utf16 cs ≡ count Chars cs + surrogates cs
