@@ -28,8 +28,7 @@ cut_from-append start (c ∷ front) back mid end here fits =
     rw (le-leb (start + len_utf8 c) end (omega arith))
     (ap (λ r. c ∷ r) (cut_from-append (start + len_utf8 c) front back mid end (omega arith) fits))
 
--- front ends at or before `end`, and with the first character of the rest it would not, in a text that begins at
--- `start`
+-- front ends at or before `end`, and with the first character of the rest it would not; the text begins at `start`
 pub record IsCutAt (start : ℕ) (front rest : List ℕ) (end : ℕ) : Type 0 where
   pub fits : start + size front ≤ end
   pub longest : (c : ℕ) (after : List ℕ) → rest ≡ c ∷ after → end < start + size front + len_utf8 c
@@ -39,16 +38,17 @@ cut_from_is : (start : ℕ) (cs : List ℕ) (end : ℕ) → start ≤ end
     → (rest : List ℕ) × (cs ≡ cut_from start cs end ++ rest) × IsCutAt start (cut_from start cs end) rest end
 cut_from_is start [] end within = ([], refl, record { fits = omega arith; longest = λ c after same. cc })
 cut_from_is start (c ∷ cs) end within =
-    elim (cases_lt end (start + len_utf8 c)) [
-      | inl beyond ↦ rw (lt-leb (start + len_utf8 c) end beyond, cut_from_none (start + len_utf8 c) cs end (omega arith)) (
+    let next = start + len_utf8 c in
+    elim (cases_lt end next) [
+      | inl beyond ↦ rw (lt-leb next end beyond, cut_from_none next cs end (omega arith)) (
         c ∷ cs,
         refl,
-        record { fits = omega arith; longest = λ d after same. let first : len_utf8 c ≡ len_utf8 d = cc in omega arith },
+        record { fits = omega arith; longest = λ d _ same. let first : len_utf8 c ≡ len_utf8 d = cc in omega arith },
       )
       | inr fits ↦
-          let (rest, split, at) = cut_from_is (start + len_utf8 c) cs end fits in
-          let sizes = size-cons c (cut_from (start + len_utf8 c) cs end) in
-          rw (le-leb (start + len_utf8 c) end fits) (
+          let (rest, split, at) = cut_from_is next cs end fits in
+          let sizes = size-cons c (cut_from next cs end) in
+          rw (le-leb next end fits) (
             rest,
             ap (λ r. c ∷ r) split,
             record { fits = omega (arith, at.fits); longest = λ d after same. omega (arith, at.longest d after same) },

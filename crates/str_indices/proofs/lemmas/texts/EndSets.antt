@@ -1,5 +1,5 @@
 -- The ends of a text against the relations that say what they are; the boundaries; where a walk to the k-th end stops.
-use Rattle.std.proofs.Common.{take, ◌≡◌, ℕ, ◌+◌, ◌<◌, ◌↔◌, ◌⊎◌, inl, inr, List, [], ◌∷◌, ◌++◌, get_or, refl, arith, All, Bool, true, sym, ◌∙◌, ap, reverse, zero, suc, length, ◌≤◌}
+use Rattle.std.proofs.Common.{◌≡◌, ℕ, ◌+◌, ◌<◌, ◌↔◌, ◌⊎◌, inl, inr, List, [], ◌∷◌, ◌++◌, get_or, refl, arith, All, Bool, true, sym, ◌∙◌, ap, reverse, zero, suc, length, ◌≤◌}
 use Rattle.std.specs.Prelude.{filter, Contains, ◌==◌, slice_index, nat_le}
 use Rattle.std.specs.List.Sorted.{IsStrictlyIncreasing}
 use Rattle.std.specs.Char.{len_utf8, char_set_contains}
@@ -9,7 +9,7 @@ use Rattle.std.proofs.lemmas.Str.{len_utf8_bounds}
 use Rattle.std.proofs.lemmas.List.{append_cancel_left, append_assoc, take_all, take_more, get_or-map, length-map, reverse-append, append-nil, get_or_past}
 use Rattle.std.proofs.lemmas.List.Elements.{All-map, All-filter, filter_passes, All-nil, All-cons, All-contains, Contains-append_right, Contains-get_or}
 use Rattle.str_indices.specs.Text.{placed, size, Placed, is_crlf_middle, line_feed, carriage_return}
-use Rattle.str_indices.specs.Schemes.{Scheme, Chars, Utf16, is_break_end, is_end, ends, end_at, end_count, ends_up_to}
+use Rattle.str_indices.specs.Schemes.{Scheme, Chars, Utf16, is_break_end, ends, end_at, end_count, ends_up_to}
 use Rattle.str_indices.specs.Relations.{IsEndOf, IsCrlfMiddle, IsBreakEnd, IsCharacterEnd, IsEnd, IsBoundary}
 use Rattle.str_indices.proofs.lemmas.texts.Sizes.{size-cons, size-append}
 use Rattle.str_indices.proofs.lemmas.texts.Increasing.{IsStrictlyIncreasing-within, select, adjunction, rank_all, rank-select, select-le-high}
@@ -75,7 +75,7 @@ is_crlf_middle_iff cs c p end = (
       let front = middle.front ++ carriage_return ∷ [] in
       let same : end.front ++ c ∷ [] ≡ front = sym (cut_front cs p (IsBoundary-end_of cs c p end))
       ∙ cut_front cs p (record { front = front; back = _; split = middle.split; place = middle.place }) in
-      let rests = append_cancel_left front end.back (line_feed ∷ middle.back) (rw same at (sym end.split ∙ middle.split)) in
+      let rests = append_cancel_left front _ _ (rw same at (sym end.split ∙ middle.split)) in
       let last : c ≡ carriage_return = simp reverse-append at (ap (λ l. get_or (reverse l) 0 0) same) in
       rw (last, rests),
 )
@@ -90,13 +90,13 @@ listed_iff : (test : Placed → Bool) (cs : List ℕ) (p : ℕ) → Contains (en
 listed_iff test cs p = (
   All-contains (PassesAt test cs) (ends_from test 0 cs) p
       (All-map (PassesAt test cs) (λ x. x.end) (filter test (placed 0 cs)) (λ k d inside.
-      let (front, split, place) = All-filter test (StandsIn cs) (placed 0 cs) (placed_are cs [] cs 0 refl refl) k d inside in
-      (_, record { front = front; back = _; split = split; place = place }, filter_passes test (placed 0 cs) k d inside))),
+      let (front, split, place) = All-filter test (StandsIn cs) _ (placed_are cs [] cs 0 refl refl) k d inside in
+      (_, record { front = front; back = _; split = split; place = place }, filter_passes test _ k d inside))),
   λ h.
       let (c, end, passes) = h in
       let at = Contains-placed 0 end.front c end.back p (omega (arith, end.place)) in
-      let (k, inside, is) = Contains-filter test _ _ at passes in
-      rw end.split (k, omega (arith, length-map {A = Placed} {B = ℕ}), get_or-map _ _ k _ p inside ∙ ap (λ x. x.end) is),
+      let (k, lt, is) = Contains-filter test _ _ at passes in
+      rw end.split (k, omega (arith, length-map {A = Placed} {B = ℕ}), get_or-map _ _ k _ p lt ∙ ap (λ x. x.end) is),
 )
 
 -- the breaks that are listed are those of the relation
@@ -113,8 +113,8 @@ breaks_are set cs p = (
       },
   λ h.
       let iff = is_crlf_middle_iff cs h.character p h.end_of in
-      let no_middle = false_from_ne_true _ (λ passes. h.not_middle (iff.0 passes)) in
-      (listed_iff (is_break_end set) cs p).1 (h.character, h.end_of, and_from _ _ h.in_set (not_from_false _ no_middle)),
+      let none = false_from_ne_true _ (λ passes. h.not_middle (iff.0 passes)) in
+      (listed_iff (is_break_end set) cs p).1 (h.character, h.end_of, and_from _ _ h.in_set (not_from_false _ none)),
 )
 
 -- a beginning that is not empty ends with a character
@@ -123,7 +123,7 @@ end_of_boundary [] back p place above = absurd (omega arith)
 end_of_boundary (c ∷ front) back p place above =
     let n = length front in
     let whole = sym (take_all (n + 1) (c ∷ front) (omega arith)) ∙ take_more (c ∷ front) n 0 (omega arith) in
-    (_, record { front = take n (c ∷ front); back = back; split = ap (λ f. f ++ back) whole; place = sym (ap size whole) ∙ place })
+    (_, record { front = _; back = back; split = ap (λ f. f ++ back) whole; place = sym (ap size whole) ∙ place })
 
 -- the character ends that are listed are those of the relation
 characters_are : (cs : List ℕ) (p : ℕ) → Contains (ends_from (λ _. true) 0 cs) p ↔ IsCharacterEnd cs p

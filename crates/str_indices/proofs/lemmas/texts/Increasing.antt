@@ -2,7 +2,6 @@
 use Rattle.std.proofs.Common.{◌+◌, ◌≡◌, ℕ, zero, suc, ◌<◌, ◌≤◌, ◌↔◌, inl, inr, min, List, [], ◌∷◌, length, get_or, count_by, refl, arith, cond, ◌∙◌, ap, ◌⊎◌, sym}
 use Rattle.std.specs.Prelude.{nat_le, Contains}
 use Rattle.std.specs.List.Sorted.{IsStrictlyIncreasing}
-use Rattle.std.proofs.lemmas.Bool.{cases_lt}
 use Rattle.std.proofs.lemmas.Bool.Decides.{nat_tests}
 use Rattle.std.proofs.lemmas.List.{get_or_past, get_or_default}
 use Rattle.std.proofs.lemmas.List.Sums.{sum_by-cons, count_by-le-length}
@@ -46,7 +45,8 @@ rank-le-rank (e ∷ es) i j le = grind (arith, nat_tests, rank-cons e es i, rank
 get_or_le_iff : (low : ℕ) (es : List ℕ) (high k d b : ℕ) → IncreasesWithin low es high → k < length es
     → (get_or es k d ≤ b) ↔ (k < rank es b)
 get_or_le_iff low [] high k d b h inside = absurd (omega arith)
-get_or_le_iff low (e ∷ es) high zero d b h inside = grind (arith, nat_tests, rank-cons e es b, rank_none e es high b h.1)
+get_or_le_iff low (e ∷ es) high zero d b h inside =
+    grind (arith, nat_tests, rank-cons e es b, rank_none e es high b h.1)
 get_or_le_iff low (e ∷ es) high (suc k) d b h inside =
     grind (arith, nat_tests, rank-cons e es b, rank_none e es high b h.1, get_or_le_iff e es high k d b h.1)
 
@@ -93,10 +93,7 @@ module _ (es : List ℕ) (high : ℕ) (up : IncreasesWithin 0 es high) where
   -- the i-th number is at most each one after it
   pub select-le-select : (i j : ℕ) → i ≤ j → select es high i ≤ select es high j
   select-le-select i j le =
-      elim (cases_lt (length es) i) [
-        | inl past ↦ grind (arith, get_or_past es, select-le-high i)
-        | inr inside ↦ (adjunction (select es high j) i inside).1 (omega (arith, rank-select j))
-      ]
+      grind (arith, get_or_past es, select-le-high i, adjunction (select es high j) i, rank-select j)
 
   -- of as many numbers as are at most b, the last is at most b
   pub select-rank-le : (b : ℕ) → select es high (rank es b) ≤ b

@@ -14,8 +14,7 @@ size-cons c cs = sum_by-cons len_utf8 c cs
 pub size-append : (a b : List ℕ) → size (a ++ b) ≡ size a + size b
 size-append a b = sum_by-append len_utf8 a b
 
--- of two beginnings of one text, a and front, either front goes on from a, or a goes on from front, with the
--- character c that is next
+-- of two beginnings of one text, front goes on from a, or a goes on from front, with the character c that is next
 compare_splits : (a b front : List ℕ) (c : ℕ) (back : List ℕ) → a ++ b ≡ front ++ c ∷ back
     → ((rest : List ℕ) × (front ≡ a ++ rest)) ⊎ ((rest : List ℕ) × (a ≡ front ++ c ∷ rest))
 compare_splits [] b front c back same = inl (front, refl)
@@ -38,8 +37,9 @@ boundary_beside w cs front c back split p at =
           let sums = ap (sum_by w) is ∙ sum_by-append w at.front rest in
           inl (omega (arith, at.place, ap size is, size-append at.front rest), omega arith)
       | inr (rest, is) ↦
-          let sums = ap (sum_by w) is ∙ sum_by-append w front (c ∷ rest) ∙ ap (λ n. sum_by w front + n) (sum_by-cons w c rest) in
-          inr (omega (arith, at.place, ap size is, size-append front (c ∷ rest), size-cons c rest), omega arith)
+          let sizes = ap size is ∙ size-append front (c ∷ rest) in
+          let sums = ap (sum_by w) is ∙ sum_by-append w front (c ∷ rest) in
+          inr (omega (arith, at.place, size-cons c rest), omega (arith, sum_by-cons w c rest))
     ]
 
 -- the sum of what v says of each character and those behind it

@@ -1,5 +1,5 @@
 -- The UTF-16 code units before a place, and the greatest boundary before which a text takes at most so many.
-use Rattle.std.proofs.Common.{zero, suc, ◌≡◌, ℕ, ◌≤◌, inl, inr, List, [], ◌∷◌, max, arith, All, ◌+◌, ◌⊎◌, refl, cond, ap}
+use Rattle.std.proofs.Common.{zero, suc, ◌≡◌, ℕ, ◌≤◌, List, [], ◌∷◌, max, arith, All, ◌+◌, ◌⊎◌, refl, cond, ap}
 use Rattle.std.specs.Prelude.{filter, fold, nat_le, ◌==◌, sum_by, Contains}
 use Rattle.std.proofs.lemmas.Bool.Decides.{nat_tests}
 use Rattle.std.proofs.lemmas.Bool.{le-leb, leb-true}
@@ -12,7 +12,7 @@ use Rattle.str_indices.specs.Schemes.{Chars, Utf16, ends, units, boundaries, bou
 use Rattle.str_indices.specs.Relations.{IsBoundary, IsGreatestWithin}
 use Rattle.str_indices.proofs.lemmas.texts.Cuts.{cut_is, cut_goes_on, cut_front, cut_all}
 use Rattle.str_indices.proofs.lemmas.texts.Ends.{count_characters}
-use Rattle.str_indices.proofs.lemmas.texts.EndSets.{Contains-filter, ends_are, zero_or_end, IsBoundary-start}
+use Rattle.str_indices.proofs.lemmas.texts.EndSets.{Contains-filter, ends_are, IsBoundary-start}
 
 -- a maximum is at least what it starts from, and at least each number
 fold_max_bounds : (a : ℕ) (xs : List ℕ) → (a ≤ fold max a xs) × All (λ x. x ≤ fold max a xs) xs
@@ -39,11 +39,9 @@ boundaries_are cs (suc k) d inside =
 
 -- `boundaries` lists each boundary
 boundary_is_listed : (cs : List ℕ) (p : ℕ) → IsBoundary cs p → Contains (boundaries cs) p
-boundary_is_listed cs p at =
-    elim (zero_or_end cs p at) [
-      | inl first ↦ (0, omega arith, omega arith)
-      | inr listed ↦ Contains-append_right (0 ∷ []) (ends Chars cs) p listed
-    ]
+boundary_is_listed cs zero at = (0, omega arith, refl)
+boundary_is_listed cs (suc p) at = Contains-append_right (0 ∷ []) (ends Chars cs) (suc p)
+    ((ends_are Chars cs (suc p)).1 (record { boundary = at; above = omega arith }))
 
 -- `boundary_at_units` answers the greatest boundary before which the text takes at most so many units
 pub boundary_at_units_is_greatest : (cs : List ℕ) (k : ℕ) → IsGreatestWithin cs k (boundary_at_units cs k)
@@ -52,8 +50,10 @@ boundary_at_units_is_greatest cs k =
     let all = boundaries cs in
     let answer = fold_max_holds (λ p. IsBoundary cs p × (units cs p ≤ k)) 0 (filter test all)
     (IsBoundary-start cs, omega (arith, units_at cs 0 (IsBoundary-start cs)))
-    (λ i d inside. (All-filter test (IsBoundary cs) all (boundaries_are cs) i d inside,
-    leb-true (units cs _) k (filter_passes test all i d inside))) in
+    (λ i d inside. (
+      All-filter test (IsBoundary cs) all (boundaries_are cs) i d inside,
+      leb-true (units cs _) k (filter_passes test all i d inside),
+    )) in
     record {
       boundary = answer.0;
       fits = rw (units_at cs _ answer.0) at answer.1;
