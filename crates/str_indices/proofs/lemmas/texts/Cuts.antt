@@ -13,71 +13,45 @@ use Rattle.str_indices.proofs.lemmas.texts.Sizes.{size-cons, size-append}
 abbrev cut_from : ℕ → List ℕ → ℕ → List ℕ
 cut_from start cs end = map (λ p. p.character) (filter (λ p. nat_le p.end end) (placed start cs))
 
--- a first character that fits is kept
-cut_from_fits : (start c : ℕ) (cs : List ℕ) (end : ℕ) → start + len_utf8 c ≤ end
-    → cut_from start (c ∷ cs) end ≡ c ∷ cut_from (start + len_utf8 c) cs end
-cut_from_fits start c cs end fits = rw (le-leb (start + len_utf8 c) end fits)
-
 -- nothing fits before the text's own beginning
 cut_from_none : (start : ℕ) (cs : List ℕ) (end : ℕ) → end ≤ start → cut_from start cs end ≡ []
 cut_from_none start [] end none = refl
-cut_from_none start (c ∷ cs) end none =
-    let beyond : end < start + len_utf8 c = omega (arith, len_utf8_bounds c) in
-    rw (lt-leb (start + len_utf8 c) end beyond) (cut_from_none (start + len_utf8 c) cs end (omega arith))
-
--- where the first character does not fit, none does
-cut_from_stops : (start c : ℕ) (cs : List ℕ) (end : ℕ) → end < start + len_utf8 c → cut_from start (c ∷ cs) end ≡ []
-cut_from_stops start c cs end beyond = rw (lt-leb (start + len_utf8 c) end beyond)
+cut_from_none start (c ∷ cs) end none = rw (lt-leb (start + len_utf8 c) end (omega (arith, len_utf8_bounds c)))
     (cut_from_none (start + len_utf8 c) cs end (omega arith))
 
--- front ends at or before `end`, and with the first character of the rest it would not, in a text that begins at
--- `start`
+-- the cut goes on from a beginning that fits, with what is cut from the rest, which begins at `mid`
+cut_from-append : (start : ℕ) (front back : List ℕ) (mid end : ℕ) → start + size front ≡ mid → mid ≤ end
+    → cut_from start (front ++ back) end ≡ front ++ cut_from mid back end
+cut_from-append start [] back mid end here fits = ap (λ s. cut_from s back end) (omega arith)
+cut_from-append start (c ∷ front) back mid end here fits =
+    let sizes = size-cons c front in
+    rw (le-leb (start + len_utf8 c) end (omega arith))
+    (ap (λ r. c ∷ r) (cut_from-append (start + len_utf8 c) front back mid end (omega arith) fits))
+
+-- front ends at or before `end`, and with the first character of the rest it would not; the text begins at `start`
 pub record IsCutAt (start : ℕ) (front rest : List ℕ) (end : ℕ) : Type 0 where
   pub fits : start + size front ≤ end
   pub longest : (c : ℕ) (after : List ℕ) → rest ≡ c ∷ after → end < start + size front + len_utf8 c
 
--- behind the first character the rest of such a beginning is one
-pub IsCutAt-behind : (start c : ℕ) (front rest : List ℕ) (end : ℕ) → IsCutAt start (c ∷ front) rest end
-    → IsCutAt (start + len_utf8 c) front rest end
-IsCutAt-behind start c front rest end at = record {
-  fits = omega (arith, at.fits, size-cons c front);
-  longest = λ d after same. omega (arith, at.longest d after same, size-cons c front);
-}
-
--- such a beginning is the cut
-cut_from_front : (start : ℕ) (front rest : List ℕ) (end : ℕ) → IsCutAt start front rest end
-    → cut_from start (front ++ rest) end ≡ front
-cut_from_front start [] [] end at = refl
-cut_from_front start [] (c ∷ after) end at = cut_from_stops start c after end (omega (arith, at.longest c after refl))
-cut_from_front start (c ∷ front) rest end at =
-    let behind = IsCutAt-behind start c front rest end at in
-    cut_from_fits start c (front ++ rest) end (omega (arith, behind.fits))
-    ∙ ap (λ r. c ∷ r) (cut_from_front (start + len_utf8 c) front rest end behind)
-
--- there is such a beginning
-longest_front : (start : ℕ) (cs : List ℕ) (end : ℕ) → start ≤ end
-    → (front : List ℕ) × (rest : List ℕ) × (cs ≡ front ++ rest) × IsCutAt start front rest end
-longest_front start [] end within = ([], [], refl, record { fits = omega arith; longest = λ c after same. cc })
-longest_front start (c ∷ cs) end within =
-    elim (cases_lt end (start + len_utf8 c)) [
-      | inl beyond ↦ (
-        [],
+-- the cut is such a beginning
+cut_from_is : (start : ℕ) (cs : List ℕ) (end : ℕ) → start ≤ end
+    → (rest : List ℕ) × (cs ≡ cut_from start cs end ++ rest) × IsCutAt start (cut_from start cs end) rest end
+cut_from_is start [] end within = ([], refl, record { fits = omega arith; longest = λ c after same. cc })
+cut_from_is start (c ∷ cs) end within =
+    let next = start + len_utf8 c in
+    elim (cases_lt end next) [
+      | inl beyond ↦ rw (lt-leb next end beyond, cut_from_none next cs end (omega arith)) (
         c ∷ cs,
         refl,
-        record {
-          fits = omega arith;
-          longest = λ d after same. let first : len_utf8 c ≡ len_utf8 d = cc in omega arith;
-        },
+        record { fits = omega arith; longest = λ d _ same. let first : len_utf8 c ≡ len_utf8 d = cc in omega arith },
       )
       | inr fits ↦
-          let (front, rest, split, at) = longest_front (start + len_utf8 c) cs end fits in (
-            c ∷ front,
+          let (rest, split, at) = cut_from_is next cs end fits in
+          let sizes = size-cons c (cut_from next cs end) in
+          rw (le-leb next end fits) (
             rest,
             ap (λ r. c ∷ r) split,
-            record {
-              fits = omega (arith, at.fits, size-cons c front);
-              longest = λ d after same. omega (arith, at.longest d after same, size-cons c front);
-            },
+            record { fits = omega (arith, at.fits); longest = λ d after same. omega (arith, at.longest d after same) },
           )
     ]
 
@@ -90,43 +64,27 @@ pub record IsCut (cs : List ℕ) (end : ℕ) : Type 0 where
 -- the cut of a text
 pub cut_is : (cs : List ℕ) (end : ℕ) → IsCut cs end
 cut_is cs end =
-    let (front, rest, split, at) = longest_front 0 cs end (omega arith) in
-    let same : cut cs end ≡ front = ap (λ t. cut t end) split ∙ cut_from_front 0 front rest end at in
-    record { rest = rest; split = rw same split; at = rw same at }
-
--- cut where a beginning ends, the text is that beginning
-pub cut_seam : (front back : List ℕ) → cut (front ++ back) (size front) ≡ front
-cut_seam front back = cut_from_front 0 front back (size front) (record {
-  fits = omega arith;
-  longest = λ c after same. omega (arith, len_utf8_bounds c);
-})
-
--- cut at or past its end, the text is whole
-pub cut_all : (cs : List ℕ) (end : ℕ) → size cs ≤ end → cut cs end ≡ cs
-cut_all cs end fits = ap (λ t. cut t end) (sym (append-nil cs))
-    ∙ cut_from_front 0 cs [] end (record { fits = omega arith; longest = λ c after same. cc })
-
--- cut at the lesser of a byte index and the text's end, the text is as if cut at the byte index
-pub cut_at_least : (cs : List ℕ) (end least : ℕ) → least ≡ min end (size cs) → cut cs least ≡ cut cs end
-cut_at_least cs end least here =
-    elim (cases_lt end (size cs)) [
-      | inl inside ↦ ap (cut cs) (omega arith)
-      | inr past ↦ cut_all cs least (omega arith) ∙ sym (cut_all cs end past)
-    ]
-
--- the cut goes on from each beginning that fits, in a text that begins at `start`
-cut_from_goes_on : (start : ℕ) (front back : List ℕ) (end : ℕ) → start + size front ≤ end
-    → (more : List ℕ) × (cut_from start (front ++ back) end ≡ front ++ more)
-cut_from_goes_on start [] back end fits = (cut_from start back end, refl)
-cut_from_goes_on start (c ∷ front) back end fits =
-    let sizes = size-cons c front in
-    let (more, is) = cut_from_goes_on (start + len_utf8 c) front back end (omega arith) in
-    (more, cut_from_fits start c (front ++ back) end (omega arith) ∙ ap (λ r. c ∷ r) is)
+    let (rest, split, at) = cut_from_is 0 cs end (omega arith) in record { rest = rest; split = split; at = at }
 
 -- the cut goes on from each beginning that fits
 pub cut_goes_on : (cs front back : List ℕ) (end : ℕ) → cs ≡ front ++ back → size front ≤ end
     → (more : List ℕ) × (cut cs end ≡ front ++ more)
-cut_goes_on cs front back end split fits = rw split (cut_from_goes_on 0 front back end (omega arith))
+cut_goes_on cs front back end split fits =
+    (cut_from (size front) back end, rw split (cut_from-append 0 front back (size front) end (omega arith) fits))
+
+-- cut where a beginning ends, the text is that beginning
+pub cut_seam : (front back : List ℕ) → cut (front ++ back) (size front) ≡ front
+cut_seam front back = cut_from-append 0 front back (size front) (size front) (omega arith) (omega arith)
+    ∙ ap (λ r. front ++ r) (cut_from_none (size front) back (size front) (omega arith)) ∙ append-nil front
+
+-- cut at or past its end, the text is whole
+pub cut_all : (cs : List ℕ) (end : ℕ) → size cs ≤ end → cut cs end ≡ cs
+cut_all cs end fits = ap (λ t. cut t end) (sym (append-nil cs))
+    ∙ cut_from-append 0 cs [] (size cs) end (omega arith) fits ∙ append-nil cs
+
+-- cut at the lesser of a byte index and the text's end, the text is as if cut at the byte index
+pub cut_at_least : (cs : List ℕ) (end least : ℕ) → least ≡ min end (size cs) → cut cs least ≡ cut cs end
+cut_at_least cs end least here = grind (arith, cut_all cs least, cut_all cs end)
 
 -- the cut is the longest beginning of the text that fits
 pub cut_is_longest : (cs : List ℕ) (end : ℕ) → IsLongestCut cs end (cut cs end)

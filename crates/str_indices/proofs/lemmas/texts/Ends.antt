@@ -1,15 +1,15 @@
 -- The ends of a text: where they are, how many there are, what each character adds to them, and those of a cut text.
-use Rattle.std.proofs.Common.{◌≡◌, ℕ, ◌+◌, inl, inr, List, [], ◌∷◌, ◌++◌, map, arith, Bool, true, false, length, refl, cond, sym, ◌∙◌, ap, ◌<◌, ◌≤◌}
-use Rattle.std.specs.Prelude.{filter, sum_by, count_by, ◌==◌}
+use Rattle.std.proofs.Common.{◌≡◌, ℕ, ◌+◌, inl, inr, List, [], ◌∷◌, ◌++◌, map, arith, Bool, refl, cond, ◌∙◌, ap, ◌<◌, ◌≤◌, append-nil}
+use Rattle.std.specs.Prelude.{filter, sum_by, count_by, ◌==◌, nat_le}
 use Rattle.std.specs.Char.{len_utf8}
 use Rattle.std.proofs.lemmas.Bool.{cases_Bool}
 use Rattle.std.proofs.lemmas.Str.{len_utf8_bounds}
 use Rattle.str_indices.specs.Text.{size, Placed, placed, cut}
-use Rattle.str_indices.proofs.lemmas.texts.Sizes.{size-cons, total, total_front, total_alone, total_front_alone}
-use Rattle.str_indices.proofs.lemmas.texts.Increasing.{IncreasesWithin, rank, rank_none, rank_above, rank_at_most}
+use Rattle.str_indices.proofs.lemmas.texts.Sizes.{size-cons, total, total_front, total_alone, total_front_alone, total-append}
+use Rattle.str_indices.proofs.lemmas.texts.Increasing.{IncreasesWithin, rank, rank_none, rank-cons, rank_all}
 use Rattle.std.proofs.lemmas.Bool.Decides.{nat_tests}
-use Rattle.str_indices.specs.Schemes.{Chars, Lf, is_end, count, Scheme, end_count, ends_up_to}
-use Rattle.str_indices.proofs.lemmas.texts.Cuts.{IsCutAt, IsCutAt-behind, cut_is, cut_seam}
+use Rattle.str_indices.specs.Schemes.{Chars, Lf, is_end, count, Scheme, ends, end_count, ends_up_to}
+use Rattle.str_indices.proofs.lemmas.texts.Cuts.{cut_is, cut_seam}
 
 -- where the characters end at which the test passes, in a text that begins at `start`
 abbrev pub ends_from : (Placed → Bool) → ℕ → List ℕ → List ℕ
@@ -19,29 +19,21 @@ ends_from test start cs = map (λ p. p.end) (filter test (placed start cs))
 abbrev pub first_placed : ℕ → ℕ → List ℕ → Placed
 first_placed start c cs = record { character = c; end = start + len_utf8 c; after = cs }
 
--- where the test passes at the first character, its end is the first
-pub ends_from_passes : (test : Placed → Bool) (start c : ℕ) (cs : List ℕ) → test (first_placed start c cs) ≡ true
-    → ends_from test start (c ∷ cs) ≡ (start + len_utf8 c) ∷ ends_from test (start + len_utf8 c) cs
-ends_from_passes test start c cs passes = rw passes
-
--- where it fails there, the ends are those of the rest
-pub ends_from_fails : (test : Placed → Bool) (start c : ℕ) (cs : List ℕ) → test (first_placed start c cs) ≡ false
-    → ends_from test start (c ∷ cs) ≡ ends_from test (start + len_utf8 c) cs
-ends_from_fails test start c cs fails = rw fails
-
--- the ends increase, from above the text's beginning up to at most its own end
-pub ends_from-increases : (test : Placed → Bool) (low start : ℕ) (cs : List ℕ) → low ≤ start
-    → IncreasesWithin low (ends_from test start cs) (start + size cs)
-ends_from-increases test low start [] le = omega arith
-ends_from-increases test low start (c ∷ cs) le =
-    let above : low < start + len_utf8 c = omega (arith, len_utf8_bounds c) in
-    let last : start + size (c ∷ cs) ≡ start + len_utf8 c + size cs = omega (arith, size-cons c cs) in
-    rw last (elim (cases_Bool (test (first_placed start c cs))) [
-      | inl passes ↦ rw (ends_from_passes test start c cs passes)
-          (above, ends_from-increases test (start + len_utf8 c) (start + len_utf8 c) cs (omega arith))
-      | inr fails ↦ rw (ends_from_fails test start c cs fails)
-          (ends_from-increases test low (start + len_utf8 c) cs (omega arith))
-    ])
+-- the ends increase, above low, which the first character passes, and up to at most the text's own end
+pub ends_from-increases : (test : Placed → Bool) (low start : ℕ) (cs : List ℕ) (high : ℕ) → low ≤ high
+    → ((c : ℕ) (after : List ℕ) → cs ≡ c ∷ after → low < start + len_utf8 c) → start + size cs ≤ high
+    → IncreasesWithin low (ends_from test start cs) high
+ends_from-increases test low start [] high le beyond fits = le
+ends_from-increases test low start (c ∷ cs) high le beyond fits =
+    let next = start + len_utf8 c in
+    let sizes = size-cons c cs in
+    let first = beyond c cs refl in
+    let rest = λ (l : ℕ) (at : l ≤ next). ends_from-increases test l next cs high (omega arith)
+    (λ d after same. omega (arith, len_utf8_bounds d)) (omega arith) in
+    elim (cases_Bool (test (first_placed start c cs))) [
+      | inl passes ↦ rw passes (first, rest next (omega arith))
+      | inr fails ↦ rw fails (rest low (omega arith))
+    ]
 
 -- one where the character c, with those after it, ends at an end of the scheme
 abbrev pub end_weight : Scheme → ℕ → List ℕ → ℕ
@@ -53,20 +45,35 @@ is_end_anywhere : (s : Scheme) (start c : ℕ) (cs : List ℕ)
 is_end_anywhere Chars start c cs = refl
 is_end_anywhere s start c cs = refl
 
--- the ends of a text that begins at `start` are as many as its characters weigh
-total_ends_from : (s : Scheme) (start : ℕ) (cs : List ℕ)
-    → length (ends_from (is_end s) start cs) ≡ total (end_weight s) cs
-total_ends_from s start [] = refl
-total_ends_from s start (c ∷ cs) =
-    let rest = total_ends_from s (start + len_utf8 c) cs in
-    rw (is_end_anywhere s start c cs) (elim (cases_Bool (is_end s (first_placed 0 c cs))) [
-      | inl passes ↦ rw passes (omega arith)
-      | inr fails ↦ rw fails (omega arith)
-    ])
+-- up to a byte index, the first character counts as it weighs, if it ends at or before the index
+rank_step : (s : Scheme) (start c : ℕ) (cs : List ℕ) (byte : ℕ) → rank (ends_from (is_end s) start (c ∷ cs)) byte
+    ≡ cond (nat_le (start + len_utf8 c) byte) (end_weight s c cs) 0
+    + rank (ends_from (is_end s) (start + len_utf8 c) cs) byte
+rank_step s start c cs byte =
+    let one = rank-cons (start + len_utf8 c) (ends_from (is_end s) (start + len_utf8 c) cs) byte in
+    rw (is_end_anywhere s start c cs) (grind (arith, nat_tests, cases_Bool (is_end s (first_placed 0 c cs))))
+
+-- a beginning that fits has the ends that its characters weigh, and then come those of the rest, which begins at `mid`
+rank-append : (s : Scheme) (start : ℕ) (front rest : List ℕ) (mid byte : ℕ) → start + size front ≡ mid → mid ≤ byte
+    → rank (ends_from (is_end s) start (front ++ rest)) byte
+    ≡ total_front (end_weight s) front rest + rank (ends_from (is_end s) mid rest) byte
+rank-append s start [] rest mid byte here fits = let same : start ≡ mid = omega arith in rw same (omega arith)
+rank-append s start (c ∷ front) rest mid byte here fits =
+    let sizes = size-cons c front in
+    let others = rank-append s (start + len_utf8 c) front rest mid byte (omega arith) fits in
+    grind (arith, nat_tests, rank_step s start c (front ++ rest) byte)
+
+-- the ends of a text increase strictly, each is above 0, and the last is at most the text's size
+pub ends_increase_within : (s : Scheme) (cs : List ℕ) → IncreasesWithin 0 (ends s cs) (size cs)
+ends_increase_within s cs = ends_from-increases (is_end s) 0 0 cs (size cs) (omega arith)
+    (λ c after same. omega (arith, len_utf8_bounds c)) (omega arith)
 
 -- the ends of a text are as many as its characters weigh
 pub end_count_total : (s : Scheme) (cs : List ℕ) → end_count s cs ≡ total (end_weight s) cs
-end_count_total s cs = total_ends_from s 0 cs
+end_count_total s cs =
+    let all = rank_all 0 (ends s cs) (size cs) (size cs) (ends_increase_within s cs) (omega arith) in
+    let whole = rw append-nil at (rank-append s 0 cs [] (size cs) (size cs) (omega arith) (omega arith)) in
+    omega (arith, rw append-nil at (total-append (end_weight s) cs []))
 
 -- each character counts one in `Chars`
 pub count_characters : (cs : List ℕ) → count Chars cs ≡ sum_by (λ _. 1) cs
@@ -80,46 +87,18 @@ end_weight-Lf c cs = grind (arith, nat_tests)
 pub count_line_feeds : (cs : List ℕ) → count Lf cs ≡ count_by (λ c. c == 10) cs
 count_line_feeds cs = end_count_total Lf cs ∙ total_alone (end_weight Lf) (λ c. cond (c == 10) 1 0) end_weight-Lf cs
 
--- up to a byte index at or past the first character's end
-rank_past : (s : Scheme) (start c : ℕ) (cs : List ℕ) (byte : ℕ) → start + len_utf8 c ≤ byte
-    → rank (ends_from (is_end s) start (c ∷ cs)) byte
-    ≡ end_weight s c cs + rank (ends_from (is_end s) (start + len_utf8 c) cs) byte
-rank_past s start c cs byte past =
-    let rest = ends_from (is_end s) (start + len_utf8 c) cs in
-    rw (is_end_anywhere s start c cs) (elim (cases_Bool (is_end s (first_placed 0 c cs))) [
-      | inl passes ↦ rw passes (omega (arith, rank_at_most (start + len_utf8 c) rest byte past))
-      | inr fails ↦ rw fails (omega arith)
-    ])
-
--- before the first character's end
-rank_before : (s : Scheme) (start c : ℕ) (cs : List ℕ) (byte : ℕ) → byte < start + len_utf8 c
-    → rank (ends_from (is_end s) start (c ∷ cs)) byte ≡ 0
-rank_before s start c cs byte before =
-    let place = start + len_utf8 c in
-    let rest = ends_from (is_end s) place cs in
-    let none = rank_none place rest (place + size cs) byte
-    (ends_from-increases (is_end s) place place cs (omega arith)) (omega arith) in
-    elim (cases_Bool (is_end s (first_placed start c cs))) [
-      | inl passes ↦ rw passes (rank_above place rest byte before ∙ none)
-      | inr fails ↦ rw fails none
-    ]
-
--- up to a byte index are the ends of the beginning that is cut off there, in a text that begins at `start`
-rank_of_front : (s : Scheme) (start : ℕ) (front rest : List ℕ) (byte : ℕ) → IsCutAt start front rest byte
-    → rank (ends_from (is_end s) start (front ++ rest)) byte ≡ total_front (end_weight s) front rest
-rank_of_front s start [] [] byte at = refl
-rank_of_front s start [] (c ∷ after) byte at = rank_before s start c after byte (omega (arith, at.longest c after refl))
-rank_of_front s start (c ∷ front) rest byte at =
-    let behind = IsCutAt-behind start c front rest byte at in
-    rank_past s start c (front ++ rest) byte (omega (arith, behind.fits))
-    ∙ ap (λ n. end_weight s c (front ++ rest) + n) (rank_of_front s (start + len_utf8 c) front rest byte behind)
-
 -- up to a byte index are the ends of the beginning that is cut off there
 pub ends_up_to_cut : (s : Scheme) (cs : List ℕ) (byte : ℕ)
     → ends_up_to s cs byte ≡ total_front (end_weight s) (cut cs byte) (cut_is cs byte).rest
 ends_up_to_cut s cs byte =
     let parts = cut_is cs byte in
-    ap (λ t. ends_up_to s t byte) parts.split ∙ rank_of_front s 0 (cut cs byte) parts.rest byte parts.at
+    let mid = size (cut cs byte) in
+    let others = rank-append s 0 (cut cs byte) parts.rest mid byte (omega arith) (omega (arith, parts.at.fits)) in
+    let high = byte + (mid + size parts.rest) in
+    let increases = ends_from-increases (is_end s) byte mid parts.rest high (omega arith)
+    (λ c after is. omega (arith, parts.at.longest c after is)) (omega arith) in
+    let none = rank_none byte (ends_from (is_end s) mid parts.rest) high byte increases (omega arith) in
+    ap (λ t. ends_up_to s t byte) parts.split ∙ omega arith
 
 -- whether a character ends at an end of the scheme is read from the character alone
 abbrev pub ReadsAlone : Scheme → Type 0
@@ -129,10 +108,10 @@ ReadsAlone s = (c : ℕ) (cs ds : List ℕ) → end_weight s c cs ≡ end_weight
 pub end_count-cut : (s : Scheme) → ReadsAlone s → (cs : List ℕ) (end : ℕ)
     → end_count s (cut cs end) ≡ ends_up_to s cs end
 end_count-cut s alone cs end =
-    let f = λ (c : ℕ). end_weight s c [] in
-    end_count_total s (cut cs end) ∙ total_alone (end_weight s) f (λ c after. alone c after []) (cut cs end)
-    ∙ sym (ends_up_to_cut s cs end
-    ∙ total_front_alone (end_weight s) f (λ c after. alone c after []) (cut cs end) (cut_is cs end).rest)
+    let v = end_weight s in
+    let f = λ (c : ℕ). v c [] in
+    let reads = λ (c : ℕ) (after : List ℕ). alone c after [] in
+    omega (arith, end_count_total s, ends_up_to_cut s cs end, total_alone v f reads, total_front_alone v f reads)
 
 -- a text that is cut where it was cut stays as it is
 pub cut-cut : (cs : List ℕ) (end : ℕ) → cut cs (size (cut cs end)) ≡ cut cs end

@@ -1,11 +1,10 @@
 -- Lists of increasing numbers: how many are at most a number, and which is the k-th.
-use Rattle.std.proofs.Common.{◌≡◌, ℕ, zero, suc, ◌<◌, ◌≤◌, ◌↔◌, inl, inr, min, List, [], ◌∷◌, length, get_or, count_by, refl, arith, cond, ◌∙◌, ap, add-one, ◌⊎◌, sym}
+use Rattle.std.proofs.Common.{◌+◌, ◌≡◌, ℕ, zero, suc, ◌<◌, ◌≤◌, ◌↔◌, inl, inr, min, List, [], ◌∷◌, length, get_or, count_by, refl, arith, cond, ◌∙◌, ap, ◌⊎◌, sym}
 use Rattle.std.specs.Prelude.{nat_le, Contains}
 use Rattle.std.specs.List.Sorted.{IsStrictlyIncreasing}
-use Rattle.std.proofs.lemmas.Bool.{cases_lt}
 use Rattle.std.proofs.lemmas.Bool.Decides.{nat_tests}
 use Rattle.std.proofs.lemmas.List.{get_or_past, get_or_default}
-use Rattle.std.proofs.lemmas.List.Sums.{sum_by-cons, sum_by-le-sum_by, count_by-le-length}
+use Rattle.std.proofs.lemmas.List.Sums.{sum_by-cons, count_by-le-length}
 use Rattle.std.proofs.lemmas.List.Elements.{Contains-get_or}
 
 -- the numbers increase strictly, each is above low, and the last is at most high
@@ -18,126 +17,83 @@ pub low_le_high : (low : ℕ) (es : List ℕ) (high : ℕ) → IncreasesWithin l
 low_le_high low [] high h = h
 low_le_high low (e ∷ es) high h = omega (arith, low_le_high e es high h.1, h.0)
 
--- each number is above low
-low_lt_each : (low : ℕ) (es : List ℕ) (high k d : ℕ) → IncreasesWithin low es high → k < length es → low < get_or es k d
-low_lt_each low [] high k d h inside = absurd (omega arith)
-low_lt_each low (e ∷ es) high zero d h inside = h.0
-low_lt_each low (e ∷ es) high (suc k) d h inside = omega (arith, h.0, low_lt_each e es high k d h.1 (omega arith))
-
--- each number is below the next
-pub IsStrictlyIncreasing-within : (low : ℕ) (es : List ℕ) (high : ℕ) → IncreasesWithin low es high
-    → IsStrictlyIncreasing es
-IsStrictlyIncreasing-within low [] high h k inside = absurd (omega arith)
-IsStrictlyIncreasing-within low (e ∷ es) high h zero inside = low_lt_each e es high 0 0 h.1 (omega arith)
-IsStrictlyIncreasing-within low (e ∷ es) high h (suc k) inside =
-    rw add-one (rw add-one at (IsStrictlyIncreasing-within e es high h.1 k (omega arith)))
-
 -- how many of the numbers are at most b
 abbrev pub rank : List ℕ → ℕ → ℕ
 rank es b = count_by (λ e. nat_le e b) es
 
--- a number that is at most b counts one
-pub rank_at_most : (e : ℕ) (es : List ℕ) (b : ℕ) → e ≤ b → rank (e ∷ es) b ≡ suc (rank es b)
-rank_at_most e es b le = let sums = sum_by-cons (λ x. cond (nat_le x b) 1 0) e es in grind (arith, nat_tests, sums)
-
--- a number above b counts nothing
-pub rank_above : (e : ℕ) (es : List ℕ) (b : ℕ) → b < e → rank (e ∷ es) b ≡ rank es b
-rank_above e es b above = let sums = sum_by-cons (λ x. cond (nat_le x b) 1 0) e es in grind (arith, nat_tests, sums)
+-- a number counts one where it is at most b, and nothing otherwise
+pub rank-cons : (e : ℕ) (es : List ℕ) (b : ℕ) → rank (e ∷ es) b ≡ cond (nat_le e b) 1 0 + rank es b
+rank-cons e es b = sum_by-cons (λ x. cond (nat_le x b) 1 0) e es
 
 -- none of the numbers is at most b, where b is at most low
 pub rank_none : (low : ℕ) (es : List ℕ) (high b : ℕ) → IncreasesWithin low es high → b ≤ low → rank es b ≡ 0
 rank_none low [] high b h le = refl
-rank_none low (e ∷ es) high b h le =
-    let above : b < e = omega (arith, h.0) in
-    rank_above e es b above ∙ rank_none e es high b h.1 (omega arith)
+rank_none low (e ∷ es) high b h le = grind (arith, nat_tests, rank-cons e es b, rank_none e es high b h.1, h.0)
 
 -- all of the numbers are at most b, where high is
 pub rank_all : (low : ℕ) (es : List ℕ) (high b : ℕ) → IncreasesWithin low es high → high ≤ b → rank es b ≡ length es
 rank_all low [] high b h le = refl
 rank_all low (e ∷ es) high b h le =
-    let last = low_le_high e es high h.1 in
-    rank_at_most e es b (omega arith) ∙ ap suc (rank_all e es high b h.1 le)
+    grind (arith, nat_tests, rank-cons e es b, low_le_high e es high h.1, rank_all e es high b h.1 le)
 
 -- no fewer numbers are at most a greater one
 pub rank-le-rank : (es : List ℕ) (i j : ℕ) → i ≤ j → rank es i ≤ rank es j
-rank-le-rank es i j le = sum_by-le-sum_by (λ e. cond (nat_le e i) 1 0) (λ e. cond (nat_le e j) 1 0) es at_most_both
-  where
-    at_most_both : (e : ℕ) → cond (nat_le e i) 1 0 ≤ cond (nat_le e j) 1 0
-    at_most_both e = grind (arith, nat_tests)
-
--- the k-th number, counted from 0, has k others below it
-rank-get_or : (low : ℕ) (es : List ℕ) (high k d : ℕ) → IncreasesWithin low es high → k < length es
-    → rank es (get_or es k d) ≡ suc k
-rank-get_or low [] high k d h inside = absurd (omega arith)
-rank-get_or low (e ∷ es) high zero d h inside = rank_at_most e es e (omega arith)
-    ∙ ap suc (rank_none e es high e h.1 (omega arith))
-rank-get_or low (e ∷ es) high (suc k) d h inside =
-    let above = low_lt_each e es high k d h.1 (omega arith) in
-    rank_at_most e es (get_or es k d) (omega arith) ∙ ap suc (rank-get_or e es high k d h.1 (omega arith))
+rank-le-rank [] i j le = omega arith
+rank-le-rank (e ∷ es) i j le = grind (arith, nat_tests, rank-cons e es i, rank-cons e es j, rank-le-rank es i j le)
 
 -- the k-th number, counted from 0, is at most b exactly where more than k of them are
 get_or_le_iff : (low : ℕ) (es : List ℕ) (high k d b : ℕ) → IncreasesWithin low es high → k < length es
     → (get_or es k d ≤ b) ↔ (k < rank es b)
 get_or_le_iff low [] high k d b h inside = absurd (omega arith)
 get_or_le_iff low (e ∷ es) high zero d b h inside =
-    elim (cases_lt b e) [
-      | inl above ↦
-          let none = rank_above e es b above ∙ rank_none e es high b h.1 (omega arith) in
-          (λ le. absurd (omega arith), λ lt. absurd (omega arith))
-      | inr le ↦ let one = rank_at_most e es b le in (λ _. omega arith, λ _. le)
-    ]
+    grind (arith, nat_tests, rank-cons e es b, rank_none e es high b h.1)
 get_or_le_iff low (e ∷ es) high (suc k) d b h inside =
-    let rest = get_or_le_iff e es high k d b h.1 (omega arith) in
-    elim (cases_lt b e) [
-      | inl above ↦
-          let none = rank_none e es high b h.1 (omega arith) in
-          let none' = rank_above e es b above in
-          (λ l. absurd (let more = rest.0 l in omega arith), λ lt. absurd (omega arith))
-      | inr le ↦
-          let one = rank_at_most e es b le in
-          (λ l. let more = rest.0 l in omega arith, λ lt. rest.1 (omega arith))
-    ]
+    grind (arith, nat_tests, rank-cons e es b, rank_none e es high b h.1, get_or_le_iff e es high k d b h.1)
+
+-- the k-th number, counted from 0, has k others below it
+rank-get_or : (low : ℕ) (es : List ℕ) (high k d : ℕ) → IncreasesWithin low es high → k < length es
+    → rank es (get_or es k d) ≡ suc k
+rank-get_or low [] high k d h inside = absurd (omega arith)
+rank-get_or low (e ∷ es) high zero d h inside = grind (arith, nat_tests, rank-cons e es e, rank_none e es high e h.1)
+rank-get_or low (e ∷ es) high (suc k) d h inside =
+    let above = get_or_le_iff e es high k d e h.1 (omega arith) in
+    let none = rank_none e es high e h.1 (omega arith) in
+    grind (arith, nat_tests, rank-cons e es (get_or es k d), rank-get_or e es high k d h.1)
+
+-- each number is below the next
+pub IsStrictlyIncreasing-within : (low : ℕ) (es : List ℕ) (high : ℕ) → IncreasesWithin low es high
+    → IsStrictlyIncreasing es
+IsStrictlyIncreasing-within low es high h k inside =
+    let ranked = rank-get_or low es high k 0 h (omega arith) in
+    let next = rank-get_or low es high (k + 1) 0 h inside in
+    grind (arith, rank-le-rank es (get_or es (k + 1) 0) (get_or es k 0))
 
 -- the k-th number, counted from 1; 0 at 0, and high past the last
 abbrev pub select : List ℕ → ℕ → ℕ → ℕ
 select es high zero = 0
 select es high (suc k) = get_or es k high
 
-module _ (es : List ℕ) (high : ℕ) (increases : IncreasesWithin 0 es high) where
+module _ (es : List ℕ) (high : ℕ) (up : IncreasesWithin 0 es high) where
   -- for k up to their number, the k-th is at most b exactly where at least k of them are
   pub adjunction : (b k : ℕ) → k ≤ length es → (select es high k ≤ b) ↔ (k ≤ rank es b)
   adjunction b zero le = (λ _. omega arith, λ _. omega arith)
-  adjunction b (suc k) le =
-      let iff = get_or_le_iff 0 es high k high b increases (omega arith) in
-      (λ l. let more = iff.0 l in omega arith, λ r. iff.1 (omega arith))
+  adjunction b (suc k) le = get_or_le_iff 0 es high k high b up (omega arith)
 
   -- the k-th number is at most high
   pub select-le-high : (k : ℕ) → select es high k ≤ high
   select-le-high zero = omega arith
-  select-le-high (suc k) =
-      elim (cases_lt k (length es)) [
-        | inl inside ↦ (adjunction high (suc k) (omega arith)).1
-            (omega (arith, rank_all 0 es high high increases (omega arith)))
-        | inr past ↦ omega (arith, get_or_past es k high past)
-      ]
+  select-le-high (suc k) = grind (arith, get_or_past es k high, adjunction high (suc k), rank_all 0 es high high up)
 
   -- as many numbers are at most the k-th as k says, or all of them
   pub rank-select : (k : ℕ) → rank es (select es high k) ≡ min k (length es)
-  rank-select zero = rank_none 0 es high 0 increases (omega arith) ∙ omega arith
+  rank-select zero = rank_none 0 es high 0 up (omega arith) ∙ omega arith
   rank-select (suc k) =
-      elim (cases_lt k (length es)) [
-        | inl inside ↦ rank-get_or 0 es high k high increases inside ∙ omega arith
-        | inr past ↦ rw (get_or_past es k high past) (rank_all 0 es high high increases (omega arith) ∙ omega arith)
-      ]
+      grind (arith, get_or_past es k high, rank-get_or 0 es high k high up, rank_all 0 es high high up)
 
   -- the i-th number is at most each one after it
   pub select-le-select : (i j : ℕ) → i ≤ j → select es high i ≤ select es high j
-  select-le-select i zero le = let first : i ≡ 0 = omega arith in rw first (omega arith)
-  select-le-select i (suc j) le =
-      elim (cases_lt j (length es)) [
-        | inr past ↦ omega (arith, select-le-high i, get_or_past es j high past)
-        | inl inside ↦ (adjunction (select es high (suc j)) i (omega arith)).1 (omega (arith, rank-select (suc j)))
-      ]
+  select-le-select i j le =
+      grind (arith, get_or_past es, select-le-high i, adjunction (select es high j) i, rank-select j)
 
   -- of as many numbers as are at most b, the last is at most b
   pub select-rank-le : (b : ℕ) → select es high (rank es b) ≤ b
@@ -150,9 +106,9 @@ module _ (es : List ℕ) (high : ℕ) (increases : IncreasesWithin 0 es high) wh
 
   -- each number, and 0, is the last of those that are at most it
   pub select-rank : (e : ℕ) → (e ≡ 0) ⊎ Contains es e → select es high (rank es e) ≡ e
-  select-rank e (inl none) = rw (none, rank_none 0 es high 0 increases (omega arith)) refl
+  select-rank e (inl none) = rw (none, rank_none 0 es high 0 up (omega arith)) refl
   select-rank e (inr (k, inside, is)) =
-      let ranked : rank es e ≡ suc k = ap (rank es) (sym is) ∙ rank-get_or 0 es high k e increases inside in
+      let ranked : rank es e ≡ suc k = ap (rank es) (sym is) ∙ rank-get_or 0 es high k e up inside in
       ap (select es high) ranked ∙ get_or_default es k high e inside ∙ is
 
   -- such a number is at most the k-th exactly where no more than k are at most it

@@ -14,18 +14,15 @@ size-cons c cs = sum_by-cons len_utf8 c cs
 pub size-append : (a b : List ℕ) → size (a ++ b) ≡ size a + size b
 size-append a b = sum_by-append len_utf8 a b
 
--- of two beginnings of one text, a and front, either front goes on from a, or a goes on from front, with the
--- character c that is next
+-- of two beginnings of one text, front goes on from a, or a goes on from front, with the character c that is next
 compare_splits : (a b front : List ℕ) (c : ℕ) (back : List ℕ) → a ++ b ≡ front ++ c ∷ back
     → ((rest : List ℕ) × (front ≡ a ++ rest)) ⊎ ((rest : List ℕ) × (a ≡ front ++ c ∷ rest))
 compare_splits [] b front c back same = inl (front, refl)
-compare_splits (x ∷ a) b [] c back same = let first : x ≡ c = cc in inr (a, ap (λ y. y ∷ a) first)
+compare_splits (x ∷ a) b [] c back same = inr (a, cc)
 compare_splits (x ∷ a) b (y ∷ front) c back same =
-    let first : x ≡ y = cc in
-    let others : a ++ b ≡ front ++ c ∷ back = cc in
-    elim (compare_splits a b front c back others) [
-      | inl shorter ↦ let goes_on = shorter.1 in inl (shorter.0, cc)
-      | inr longer ↦ let goes_on = longer.1 in inr (longer.0, cc)
+    elim (compare_splits a b front c back cc) [
+      | inl (rest, goes_on) ↦ inl (rest, cc)
+      | inr (rest, goes_on) ↦ inr (rest, cc)
     ]
 
 -- A boundary is at or before the place where a character begins, and no more is before it than there, or it is at or
@@ -36,14 +33,13 @@ pub boundary_beside : (w : ℕ → ℕ) (cs front : List ℕ) (c : ℕ) (back : 
     ⊎ ((size front + len_utf8 c ≤ p) × (sum_by w front + w c ≤ sum_by w at.front))
 boundary_beside w cs front c back split p at =
     elim (compare_splits at.front at.back front c back (sym at.split ∙ split)) [
-      | inl shorter ↦
-          let sizes = ap size shorter.1 ∙ size-append at.front shorter.0 in
-          let sums = ap (sum_by w) shorter.1 ∙ sum_by-append w at.front shorter.0 in
-          inl (omega (arith, at.place), omega arith)
-      | inr longer ↦
-          let sizes = ap size longer.1 ∙ size-append front (c ∷ longer.0) in
-          let sums = ap (sum_by w) longer.1 ∙ sum_by-append w front (c ∷ longer.0) in
-          inr (omega (arith, at.place, size-cons c longer.0), omega (arith, sum_by-cons w c longer.0))
+      | inl (rest, is) ↦
+          let sums = ap (sum_by w) is ∙ sum_by-append w at.front rest in
+          inl (omega (arith, at.place, ap size is, size-append at.front rest), omega arith)
+      | inr (rest, is) ↦
+          let sizes = ap size is ∙ size-append front (c ∷ rest) in
+          let sums = ap (sum_by w) is ∙ sum_by-append w front (c ∷ rest) in
+          inr (omega (arith, at.place, size-cons c rest), omega (arith, sum_by-cons w c rest))
     ]
 
 -- the sum of what v says of each character and those behind it
