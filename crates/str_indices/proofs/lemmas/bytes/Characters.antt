@@ -16,7 +16,7 @@ pub record IsTrailing (b : ℕ) : Type 0 where
 
 -- six bits of a character under the mark of a trailing byte
 trailing : (n : ℕ) → IsTrailing (128 + n % 64)
-trailing n = record { low = omega arith; high = omega arith }
+trailing n = omega arith
 
 -- no scalar value is greater
 below_all : (c : ℕ) → scalar c ≡ true → c < 1114112
@@ -54,27 +54,10 @@ pub record IsWide (c first : ℕ) (others : List ℕ) : Type 0 where
 -- of each character
 pub by_width : (P : List ℕ → Type 0) (c : ℕ) → scalar c ≡ true → (c < 128 → P (c ∷ []))
     → ((first : ℕ) (others : List ℕ) → IsWide c first others → P (first ∷ others)) → P (encode c)
-by_width P c s one wide =
-    let one_more : List ℕ = (128 + c % 64) ∷ [] in
-    let two_more : List ℕ = (128 + c / 64 % 64) ∷ one_more in
-    by_size P c s one
-    (λ from below. wide (192 + c / 64) one_more
-    (record { from = from; low = omega arith; high = omega arith; trailing = more c [] (All-nil IsTrailing) }))
-    (λ from below. wide (224 + c / 4096) two_more (record {
-      from = omega arith;
-      low = omega arith;
-      high = omega arith;
-      trailing = more (c / 64) one_more (more c [] (All-nil IsTrailing));
-    }))
-    (λ from below. wide (240 + c / 262144) ((128 + c / 4096 % 64) ∷ two_more) (record {
-      from = omega arith;
-      low = omega arith;
-      high = omega arith;
-      trailing = more (c / 4096) two_more (more (c / 64) one_more (more c [] (All-nil IsTrailing)));
-    }))
-  where
-    more : (n : ℕ) (ts : List ℕ) → All IsTrailing ts → All IsTrailing ((128 + n % 64) ∷ ts)
-    more n ts all = All-cons IsTrailing (128 + n % 64) ts (trailing n) all
+by_width P c s one wide = by_size P c s one
+    (λ from below. wide _ _ (search (arith, All-nil, All-cons, trailing)))
+    (λ from below. wide _ _ (search (arith, All-nil, All-cons, trailing)))
+    (λ from below. wide _ _ (search (arith, All-nil, All-cons, trailing)))
 
 -- the mask of a trailing byte, as a range
 trailing_range : (b : ℕ) → b < 256 → (bit_and b 192 == 128) ≡ (nat_le 128 b && nat_lt b 192)
@@ -95,23 +78,16 @@ is_trailing_later b t = rw (trailing_range b (omega (arith, t.high)), le-leb 128
 -- the bytes behind a character
 pub get_or-behind : (c : ℕ) (bytes : List ℕ) (j k : ℕ) → k ≡ len_utf8 c + j
     → get_or (encode c ++ bytes) k 0 ≡ get_or bytes j 0
-get_or-behind c bytes j k e =
-    let at : k ≡ length (encode c) + j = omega (arith, length-encode c) in
-    rw at (get_or-append-add (encode c) bytes j 0)
+get_or-behind c bytes j k e = rw (e, ← length-encode c) (get_or-append-add (encode c) bytes j 0)
 
 -- every byte of a character behind its first is a trailing byte
 pub later_trailing : (c : ℕ) → scalar c ≡ true → (rest : List ℕ) (j : ℕ) → 0 < j → j < len_utf8 c
     → IsTrailing (get_or (encode c ++ rest) j 0)
-later_trailing c s rest j above below = by_width (λ bs. j < length bs → IsTrailing (get_or (bs ++ rest) j 0)) c s
-    (λ a l. absurd (omega arith)) (λ first others wide. at first others wide.trailing j above)
+later_trailing c s rest zero above below = absurd (omega arith)
+later_trailing c s rest (suc j) above below = by_width
+    (λ bs. suc j < length bs → IsTrailing (get_or (bs ++ rest) (suc j) 0)) c s (λ a l. absurd (omega arith))
+    (λ first others wide l. rw (get_or_append_left others rest 0 j (omega arith)) (wide.trailing j 0 (omega arith)))
     (omega (arith, length-encode c))
-  where
-    at : (first : ℕ) (others : List ℕ) → All IsTrailing others → (j : ℕ) → 0 < j → j < length (first ∷ others)
-        → IsTrailing (get_or ((first ∷ others) ++ rest) j 0)
-    at first others all zero above below = absurd (omega arith)
-    at first others all (suc j) above below =
-        let inside : j < length others = omega arith in
-        rw (get_or_append_left others rest 0 j inside) (all j 0 inside)
 
 -- the first byte of a character is no trailing byte
 pub first_byte : (c : ℕ) (rest : List ℕ) → scalar c ≡ true → is_trailing (get_or (encode c ++ rest) 0 0) ≡ false
