@@ -1,5 +1,5 @@
 -- Boundaries of a text, by its bytes: where the byte is no trailing byte.
-use Rattle.std.proofs.Common.{◌≡◌, ℕ, zero, suc, ◌+◌, ◌-◌, ◌<◌, ◌≤◌, inl, inr, List, [], ◌∷◌, ◌++◌, length, get_or, refl, arith, true, false, take, drop, sym, ◌∙◌, ap, subst, chars, IsUtf8, IsCharBoundary}
+use Rattle.std.proofs.Common.{◌≡◌, ℕ, zero, suc, ◌+◌, ◌-◌, ◌<◌, ◌≤◌, inl, inr, List, [], ◌∷◌, ◌++◌, length, get_or, refl, arith, true, false, take, drop, sym, ◌∙◌, ap, chars, IsUtf8, IsCharBoundary}
 use Rattle.std.proofs.Math.Utf8.{encode, encodes, scalar, scalars}
 use Rattle.std.proofs.lemmas.Bool.{cases_lt, and_parts}
 use Rattle.std.proofs.lemmas.List.{take-append-drop, length-take-le}
@@ -46,11 +46,14 @@ module _ (bytes : List ℕ) (utf8 : IsUtf8 bytes) where
   -- where a byte is no trailing byte, and at the end, there is a boundary
   pub begins_boundary : (i : ℕ) → i ≤ length bytes → (i < length bytes → is_trailing (get_or bytes i 0) ≡ false)
       → IsBoundary (chars bytes) i
-  begins_boundary i le first = IsBoundary-from_char_boundary i (le, λ inside wide.
-      elim (cases_lt (get_or bytes i 0) 192) [
-        | inr begins ↦ begins
-        | inl low ↦ cc (first inside, is_trailing_later (get_or bytes i 0) (record { low = wide; high = low }))
-      ])
+  begins_boundary i le first = IsBoundary-from_char_boundary i (
+    le,
+    λ inside wide.
+        elim (cases_lt (get_or bytes i 0) 192) [
+          | inr begins ↦ begins
+          | inl low ↦ cc (first inside, is_trailing_later (get_or bytes i 0) (record { low = wide; high = low }))
+        ],
+  )
 
   -- at a boundary before the end a character begins
   pub begins_at : (p : ℕ) (b : IsBoundary (chars bytes) p) → p < length bytes → BeginsAt bytes p b
@@ -143,7 +146,7 @@ module _ (bytes : List ℕ) (utf8 : IsUtf8 bytes) where
       → 128 ≤ get_or bytes j 0
   wide_behind_cut end j below behind before =
       let next = λ (ascii : get_or bytes j 0 < 128). boundary-le-cut (chars bytes) (j + 1) end
-          (IsBoundary-from_char_boundary (j + 1) (IsCharBoundary-after_ascii bytes j utf8 below ascii)) (omega arith) in
+      (IsBoundary-from_char_boundary (j + 1) (IsCharBoundary-after_ascii bytes j utf8 below ascii)) (omega arith) in
       grind (arith, next)
 
 -- what is counted at ASCII bytes alone is counted before the cut
@@ -153,4 +156,4 @@ still_behind_cut f bytes utf8 end within none =
     let place = size (cut (chars bytes) end) in
     let fits : place + (end - place) ≡ end = omega (arith, (cut_is (chars bytes) end).at.fits) in
     rw fits at (sum_below-still f place (end - place) (λ j l. none (place + j)
-        (wide_behind_cut bytes utf8 end (place + j) (omega arith) (omega arith) (omega arith))))
+    (wide_behind_cut bytes utf8 end (place + j) (omega arith) (omega arith) (omega arith))))

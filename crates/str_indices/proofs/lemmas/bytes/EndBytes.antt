@@ -1,6 +1,6 @@
 -- The ends of a scheme by the bytes at which they are counted: up to the place where the text is cut, and whether the
 -- cut parts CR from LF.
-use Rattle.std.proofs.Common.{◌≡◌, ℕ, zero, suc, ◌+◌, ◌-◌, ◌<◌, ◌≤◌, inl, inr, Bool, true, false, List, [], ◌∷◌, ◌++◌, length, get_or, refl, arith, sym, ◌∙◌, ap, ap₂, subst, chars, IsUtf8}
+use Rattle.std.proofs.Common.{◌≡◌, ℕ, zero, suc, ◌+◌, ◌-◌, ◌<◌, ◌≤◌, inl, inr, Bool, true, List, [], ◌∷◌, ◌++◌, length, get_or, refl, arith, sym, ◌∙◌, ap, ap₂, chars, IsUtf8}
 use Rattle.std.specs.Prelude.{◌==◌, ◌&&◌, not}
 use Rattle.std.specs.Char.{len_utf8, char_set_contains}
 use Rattle.std.proofs.Math.Utf8.{encode, encodes, scalar, scalars}
@@ -8,10 +8,9 @@ use Rattle.std.proofs.lemmas.Bool.{cases_lt, and_parts, ne_eqb, eqb-true}
 use Rattle.std.proofs.Math.Bool.{and-true}
 use Rattle.std.proofs.lemmas.Bool.Decides.{nat_tests}
 use Rattle.std.proofs.lemmas.List.{get_or_past}
-use Rattle.std.proofs.lemmas.Str.{encodes-chars, scalars-chars, encode_ascii, len_utf8_ascii, len_utf8_bounds, encodes-append}
+use Rattle.std.proofs.lemmas.Str.{scalars-chars, encode_ascii, len_utf8_ascii, len_utf8_bounds, encodes-append}
 use Rattle.str_indices.specs.Text.{size, cut, line_feed, carriage_return}
 use Rattle.str_indices.specs.Schemes.{Scheme, break_characters, end_count, ends_up_to}
-use Rattle.str_indices.specs.Relations.{IsBoundary}
 use Rattle.str_indices.specs.Joins.{ends_in_return, joins_crlf}
 use Rattle.str_indices.specs.Bytes.{flag, sum_below, is_line_feed, is_carriage_return, byte_before, is_middle}
 use Rattle.str_indices.proofs.lemmas.texts.Sizes.{size-cons}
@@ -83,7 +82,7 @@ last_byte_is_return c rest s =
           let bounds = len_utf8_bounds c in
           let several : 1 < len_utf8 c = grind (arith, nat_tests) in
           neither carriage_return c (get_or (encode c ++ rest) (len_utf8 c - 1) 0) (omega arith) wide
-              (later_trailing c s rest (len_utf8 c - 1) (omega arith) (omega arith)).low
+          (later_trailing c s rest (len_utf8 c - 1) (omega arith) (omega arith)).low
     ]
 
 -- the byte before a seam is CR where the text before it ends in CR

@@ -1,5 +1,5 @@
 -- Sums of a number at each place.
-use Rattle.std.proofs.Common.{◌≡◌, ℕ, zero, suc, ◌+◌, ◌-◌, ◌<◌, ◌≤◌, Bool, true, false, List, get_or, refl, arith, add-suc, add-zero, ap}
+use Rattle.std.proofs.Common.{◌≡◌, ℕ, zero, suc, ◌+◌, ◌-◌, ◌<◌, ◌≤◌, Bool, List, get_or, refl, arith, add-suc, add-zero, ap}
 use Rattle.std.specs.Prelude.{not}
 use Rattle.str_indices.specs.Bytes.{sum_below, flag, mark, passing_before}
 

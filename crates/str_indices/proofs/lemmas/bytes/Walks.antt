@@ -1,5 +1,5 @@
 -- A sum over the bytes of a text as a sum over its characters, in the whole text and in a cut text.
-use Rattle.std.proofs.Common.{◌≡◌, ℕ, ◌+◌, ◌-◌, Bool, List, [], ◌∷◌, ◌++◌, refl, arith, true, sym, ◌∙◌, ap, length, get_or, take, subst, chars, IsUtf8}
+use Rattle.std.proofs.Common.{◌≡◌, ℕ, ◌+◌, ◌-◌, Bool, List, [], ◌∷◌, ◌++◌, refl, arith, true, sym, ◌∙◌, ap, length, get_or, take, chars, IsUtf8}
 use Rattle.std.specs.Prelude.{sum_by}
 use Rattle.std.specs.Char.{len_utf8}
 use Rattle.std.proofs.Math.Utf8.{encode, encodes, scalar, scalars}

@@ -1,9 +1,8 @@
 -- The counts of one text in several schemes, and of two texts that are joined.
-use Rattle.std.proofs.Common.{ℕ, ◌≤◌, List, [], ◌∷◌, get_or, arith, cond, ◌≡◌, ◌+◌, ◌++◌}
-use Rattle.std.specs.Prelude.{◌==◌, ◌&&◌, not}
-use Rattle.std.specs.Char.{char_set_contains}
+use Rattle.std.proofs.Common.{ℕ, ◌≤◌, List, [], ◌∷◌, arith, cond, ◌≡◌, ◌+◌, ◌++◌}
+use Rattle.std.specs.Prelude.{◌==◌}
 use Rattle.std.proofs.lemmas.Bool.Decides.{nat_tests}
-use Rattle.str_indices.specs.Schemes.{Scheme, Lf, Crlf, Lines, break_characters, end_count, count, Chars, Utf16, surrogates}
+use Rattle.str_indices.specs.Schemes.{Scheme, Lf, Crlf, Lines, end_count, count, Chars, Utf16, surrogates}
 use Rattle.str_indices.proofs.lemmas.texts.Sizes.{total}
 use Rattle.str_indices.proofs.lemmas.texts.Seams.{crlf_has_return, lines_has_return, end_count-append}
 use Rattle.str_indices.proofs.lemmas.texts.Ends.{end_weight, end_count_total, count_characters, count_line_feeds}

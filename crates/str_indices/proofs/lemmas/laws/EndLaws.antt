@@ -1,12 +1,12 @@
 -- The laws of the four schemes whose counts and conversions go by ends.
-use Rattle.std.proofs.Common.{◌≡◌, ℕ, ◌≤◌, ◌↔◌, inl, inr, min, List, length, refl}
+use Rattle.std.proofs.Common.{◌≡◌, ℕ, ◌≤◌, ◌↔◌, inl, inr, min, List, refl}
 use Rattle.std.specs.Prelude.{◌≢◌, nat_le}
 use Rattle.std.proofs.lemmas.List.Sums.{count_by-le-length}
 use Rattle.str_indices.specs.Text.{size}
 use Rattle.str_indices.specs.Schemes.{Scheme, Chars, Utf16, ends, count, from_byte_idx, to_byte_idx}
 use Rattle.str_indices.specs.SchemeGroups.{IsLineScheme}
 use Rattle.str_indices.specs.Starts.{IsGreatestEnd}
-use Rattle.str_indices.proofs.lemmas.texts.Increasing.{IncreasesWithin, rank, rank-select, select, adjunction, rank-le-rank, select-le-select, select-rank-le, member_adjunction, select_is_member}
+use Rattle.str_indices.proofs.lemmas.texts.Increasing.{rank, rank-select, adjunction, rank-le-rank, select-rank-le, member_adjunction, select_is_member}
 use Rattle.str_indices.proofs.lemmas.texts.EndSets.{ends_are, ends_increase_within, end_at-select}
 
 -- a line scheme is not `Utf16`

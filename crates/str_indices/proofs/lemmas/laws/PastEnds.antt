@@ -1,13 +1,10 @@
 -- Where an index goes that is at least the number of bytes of the text: to its end, in every scheme.
-use Rattle.std.proofs.Common.{◌≡◌, ℕ, zero, suc, ◌+◌, ◌≤◌, inl, inr, List, [], ◌∷◌, length, get_or, refl, arith, sym, ◌∙◌, ap, chars, IsUtf8}
-use Rattle.std.specs.Prelude.{◌==◌}
+use Rattle.std.proofs.Common.{◌≡◌, ℕ, zero, suc, ◌+◌, ◌≤◌, List, [], ◌∷◌, length, get_or, refl, arith, sym, ap, chars, IsUtf8}
 use Rattle.std.specs.Char.{len_utf8}
-use Rattle.std.proofs.lemmas.Bool.{cases_Bool, eqb-true}
 use Rattle.std.proofs.lemmas.List.{append-nil}
 use Rattle.std.proofs.lemmas.List.Sums.{sum_by-le-sum_by}
-use Rattle.std.proofs.lemmas.Str.{len_utf8_bounds}
 use Rattle.str_indices.specs.Text.{size, weight}
-use Rattle.str_indices.specs.Schemes.{Scheme, Chars, Utf16, Lf, Crlf, Lines, ends, end_at, boundary_at_units, to_byte_idx}
+use Rattle.str_indices.specs.Schemes.{Scheme, Utf16, ends, to_byte_idx}
 use Rattle.str_indices.specs.Relations.{IsBoundary}
 use Rattle.str_indices.proofs.lemmas.texts.Sizes.{size-append}
 use Rattle.str_indices.proofs.lemmas.texts.Increasing.{IncreasesWithin, low_le_high}

@@ -6,10 +6,10 @@ use Rattle.std.proofs.lemmas.Str.{len_utf8_bounds}
 use Rattle.std.proofs.lemmas.List.Sums.{sum_by-cons, sum_by-append}
 use Rattle.str_indices.specs.Text.{size, weight, cut}
 use Rattle.str_indices.specs.Schemes.{Utf16, units, boundary_at_units, count}
-use Rattle.str_indices.specs.Relations.{IsBoundary, IsGreatestWithin}
+use Rattle.str_indices.specs.Relations.{IsBoundary}
 use Rattle.str_indices.specs.Starts.{IsSecondUnit}
 use Rattle.str_indices.proofs.lemmas.texts.Sizes.{size-cons, size-append, boundary_beside}
-use Rattle.str_indices.proofs.lemmas.texts.Cuts.{cut_is, cut_goes_on, cut_front}
+use Rattle.str_indices.proofs.lemmas.texts.Cuts.{cut_is}
 use Rattle.str_indices.proofs.lemmas.texts.Units.{units_at, units-le-units, count-units, weight_is_one_or_two, boundary_at_units_is_greatest}
 
 -- before the byte index of k there are at most k units
