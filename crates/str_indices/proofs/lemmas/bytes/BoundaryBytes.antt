@@ -39,7 +39,7 @@ module _ (bytes : List ℕ) (utf8 : IsUtf8 bytes) where
   pub IsBoundary-from_char_boundary : (i : ℕ) → IsCharBoundary bytes i → IsBoundary (chars bytes) i
   IsBoundary-from_char_boundary i b =
       let before = IsUtf8-take bytes i utf8 b in
-      let split = ap chars (sym (take-append-drop i bytes)) ∙ chars-append (take i bytes) (drop i bytes) before in
+      let split = rw take-append-drop at (chars-append (take i bytes) (drop i bytes) before) in
       let place = size-chars (take i bytes) before ∙ length-take-le i bytes b.0 in
       record { front = chars (take i bytes); back = chars (drop i bytes); split = split; place = place }
 
@@ -132,9 +132,7 @@ module _ (bytes : List ℕ) (utf8 : IsUtf8 bytes) where
       → ((j : ℕ) → from ≤ j → j < at → is_trailing (get_or bytes j 0) ≡ true) → IsBoundary (chars bytes) at
   boundary_behind_three from at three within trails = begins_boundary at within (λ inside.
       let (m, le, lt, leads) = leading_among_four from (omega arith) in
-      let past = no_boundary_before from at within trails m (begins_boundary m (omega arith) (λ _. leads)) le in
-      let same : m ≡ at = omega arith in
-      cc)
+      grind (arith, trails m le, leads))
 
   -- a trailing byte is not the first of the text
   pub trailing_above_start : (i : ℕ) → i < length bytes → is_trailing (get_or bytes i 0) ≡ true → 0 < i

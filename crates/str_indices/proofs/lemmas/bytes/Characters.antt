@@ -1,7 +1,7 @@
 -- The bytes of one character.
 use Rattle.std.proofs.Common.{◌≡◌, ℕ, ◌+◌, ◌/◌, ◌%◌, ◌<◌, ◌≤◌, inl, inr, List, [], ◌∷◌, ◌++◌, All, Bool, arith, true, false, zero, suc, length, get_or, refl, ap, sym, ◌∙◌, bit_and}
 use Rattle.std.proofs.Math.Utf8.{encode, scalar, scalar_cases, scalars}
-use Rattle.std.proofs.lemmas.Bool.{cases_lt, lt-ltb, le-ltb, agree_below_at, lt-leb, le-leb, and_parts, and_from}
+use Rattle.std.proofs.lemmas.Bool.{cond_both, ltb-true, ltb-false, lt-ltb, le-ltb, agree_below_at, lt-leb, le-leb, and_parts, and_from}
 use Rattle.std.specs.Prelude.{◌==◌, ◌&&◌, nat_le, nat_lt}
 use Rattle.std.specs.Char.{len_utf8}
 use Rattle.std.proofs.lemmas.List.{get_or-append-add, get_or_append_left}
@@ -30,18 +30,10 @@ pub by_size : (P : List ℕ → Type 0) (c : ℕ) → scalar c ≡ true → (c <
     → P ((240 + c / 262144) ∷ (128 + c / 4096 % 64) ∷ (128 + c / 64 % 64) ∷ (128 + c % 64) ∷ []))
     → P (encode c)
 unfolding encode
-by_size P c s one two three four =
-    let high = below_all c s in
-    elim (cases_lt c 128) [
-      | inl a ↦ rw (lt-ltb c 128 a) (one a)
-      | inr a ↦ elim (cases_lt c 2048) [
-        | inl b ↦ rw (le-ltb c 128 a, lt-ltb c 2048 b) (two a b)
-        | inr b ↦ elim (cases_lt c 65536) [
-          | inl d ↦ rw (le-ltb c 128 a, le-ltb c 2048 b, lt-ltb c 65536 d) (three b d)
-          | inr d ↦ rw (le-ltb c 128 a, le-ltb c 2048 b, le-ltb c 65536 d) (four d high)
-        ]
-      ]
-    ]
+by_size P c s one two three four = cond_both _ _ _ P (λ a. one (ltb-true c 128 a)) (λ a.
+    cond_both _ _ _ P (λ b. two (ltb-false c 128 a) (ltb-true c 2048 b)) (λ b.
+    cond_both _ _ _ P (λ d. three (ltb-false c 2048 b) (ltb-true c 65536 d)) (λ d.
+    four (ltb-false c 65536 d) (below_all c s))))
 
 -- the bytes of a character that takes several: its first, and the others
 pub record IsWide (c first : ℕ) (others : List ℕ) : Type 0 where
