@@ -46,14 +46,11 @@ module _ (bytes : List ℕ) (utf8 : IsUtf8 bytes) where
   -- where a byte is no trailing byte, and at the end, there is a boundary
   pub begins_boundary : (i : ℕ) → i ≤ length bytes → (i < length bytes → is_trailing (get_or bytes i 0) ≡ false)
       → IsBoundary (chars bytes) i
-  begins_boundary i le first = IsBoundary-from_char_boundary i (
-    le,
-    λ inside wide.
-        elim (cases_lt (get_or bytes i 0) 192) [
-          | inr begins ↦ begins
-          | inl low ↦ cc (first inside, is_trailing_later (get_or bytes i 0) (record { low = wide; high = low }))
-        ],
-  )
+  begins_boundary i le first =
+      let leads : i < length bytes → 128 ≤ get_or bytes i 0 → 192 ≤ get_or bytes i 0 = λ inside wide.
+          let trails = λ (low : get_or bytes i 0 < 192). is_trailing_later (get_or bytes i 0) (omega arith) in
+          grind (arith, trails, first inside) in
+      IsBoundary-from_char_boundary i (le, leads)
 
   -- at a boundary before the end a character begins
   pub begins_at : (p : ℕ) (b : IsBoundary (chars bytes) p) → p < length bytes → BeginsAt bytes p b

@@ -18,10 +18,6 @@ pub record IsTrailing (b : ℕ) : Type 0 where
 trailing : (n : ℕ) → IsTrailing (128 + n % 64)
 trailing n = omega arith
 
--- no scalar value is greater
-below_all : (c : ℕ) → scalar c ≡ true → c < 1114112
-below_all c s = elim (scalar_cases c s) [ inl y ↦ omega arith | inr n ↦ omega (arith, n.1) ]
-
 -- what holds of the bytes of each size holds of the bytes of each character
 pub by_size : (P : List ℕ → Type 0) (c : ℕ) → scalar c ≡ true → (c < 128 → P (c ∷ []))
     → (128 ≤ c → c < 2048 → P ((192 + c / 64) ∷ (128 + c % 64) ∷ []))
@@ -33,7 +29,7 @@ unfolding encode
 by_size P c s one two three four = cond_both _ _ _ P (λ a. one (ltb-true c 128 a)) (λ a.
     cond_both _ _ _ P (λ b. two (ltb-false c 128 a) (ltb-true c 2048 b)) (λ b.
     cond_both _ _ _ P (λ d. three (ltb-false c 2048 b) (ltb-true c 65536 d)) (λ d.
-    four (ltb-false c 65536 d) (below_all c s))))
+    four (ltb-false c 65536 d) (omega (arith, scalar_cases c s)))))
 
 -- the bytes of a character that takes several: its first, and the others
 pub record IsWide (c first : ℕ) (others : List ℕ) : Type 0 where
@@ -91,9 +87,7 @@ pub scalars_parts : (front back : List ℕ) → scalars (front ++ back) ≡ true
     → (scalars front ≡ true) × (scalars back ≡ true)
 scalars_parts [] back s = (refl, s)
 scalars_parts (c ∷ front) back s =
-    let first = and_parts (scalar c) (scalars (front ++ back)) s in
-    let rest = scalars_parts front back first.1 in
-    (and_from (scalar c) (scalars front) first.0 rest.0, rest.1)
+    let parts = and_parts (scalar c) (scalars (front ++ back)) s in rw parts.0 (scalars_parts front back parts.1)
 
 -- what a look at a byte says of the text, where the text is still `text`
 pub byte_seen : (text seen : List ℕ) (i byte : ℕ) (trails : Bool) → seen ≡ text → byte ≡ get_or seen i 0

@@ -58,7 +58,7 @@ adds_breaks s has test at_ascii at_wide later = record {
         ∙ ap (λ b. char_set_contains (break_characters s) c && not (c == carriage_return && b))
         (next_line_feed cs are_scalars))
     | inr wide ↦ at_wide c (encodes cs) is_scalar wide
-        ∙ rw (ne_eqb c carriage_return (λ same. omega arith)) (sym (and-true (char_set_contains (break_characters s) c)))
+        ∙ rw (ne_eqb c carriage_return (λ same. omega arith)) (sym (and-true _))
   ]));
 }
 

@@ -30,42 +30,38 @@ length-encodes [] = refl
 length-encodes (c ∷ cs) =
     omega (arith, length-append (encode c) (encodes cs), length-encode c, length-encodes cs, size-cons c cs)
 
--- the size of the text that some bytes are
-pub size-chars : (bytes : List ℕ) → IsUtf8 bytes → size (chars bytes) ≡ length bytes
-size-chars bytes utf8 = sym (length-encodes (chars bytes)) ∙ ap length (encodes-chars bytes utf8)
-
--- the bytes of a text that is split, split alike
-pub encodes-split : (bytes : List ℕ) → IsUtf8 bytes → (front back : List ℕ) → chars bytes ≡ front ++ back
-    → bytes ≡ encodes front ++ encodes back
-encodes-split bytes utf8 front back split =
-    sym (encodes-chars bytes utf8) ∙ ap encodes split ∙ encodes-append front back
-
--- the byte at a boundary is the first of the rest
-pub get_or-at_boundary : (bytes : List ℕ) → IsUtf8 bytes → (p : ℕ) (b : IsBoundary (chars bytes) p)
-    → get_or bytes p 0 ≡ get_or (encodes b.back) 0 0
-get_or-at_boundary bytes utf8 p b =
-    let place : p ≡ length (encodes b.front) + 0 = omega (arith, b.place, length-encodes b.front) in
-    rw (encodes-split bytes utf8 b.front b.back b.split, place)
-    (get_or-append-add (encodes b.front) (encodes b.back) 0 0)
-
--- the bytes before a boundary are those of the text that ends there
-take-boundary : (bytes : List ℕ) → IsUtf8 bytes → (p : ℕ) (b : IsBoundary (chars bytes) p)
-    → take p bytes ≡ encodes b.front
-take-boundary bytes utf8 p b = ap (take p) (encodes-split bytes utf8 b.front b.back b.split)
-    ∙ take_at (encodes b.front) (encodes b.back) p (length-encodes b.front ∙ b.place)
-
--- the end of a text is a boundary
-pub boundary_at_end : (bytes : List ℕ) → IsUtf8 bytes → IsBoundary (chars bytes) (length bytes)
-boundary_at_end bytes utf8 =
-    record { front = chars bytes; back = []; split = sym (append-nil (chars bytes)); place = size-chars bytes utf8 }
-
--- cut at its end, a text is whole
-pub cut_at_end : (bytes : List ℕ) → IsUtf8 bytes → cut (chars bytes) (length bytes) ≡ chars bytes
-cut_at_end bytes utf8 = cut_all (chars bytes) (length bytes) (omega (arith, size-chars bytes utf8))
-
 -- the cut text at a boundary takes the bytes before it
 pub size-cut : (cs : List ℕ) (end : ℕ) → IsBoundary cs end → size (cut cs end) ≡ end
 size-cut cs end b = ap size (cut_front cs end b) ∙ b.place
+
+module _ (bytes : List ℕ) (utf8 : IsUtf8 bytes) where
+  -- the size of the text that some bytes are
+  pub size-chars : size (chars bytes) ≡ length bytes
+  size-chars = sym (length-encodes (chars bytes)) ∙ ap length (encodes-chars bytes utf8)
+
+  -- the bytes of a text that is split, split alike
+  pub encodes-split : (front back : List ℕ) → chars bytes ≡ front ++ back → bytes ≡ encodes front ++ encodes back
+  encodes-split front back split = sym (encodes-chars bytes utf8) ∙ ap encodes split ∙ encodes-append front back
+
+  -- the byte at a boundary is the first of the rest
+  pub get_or-at_boundary : (p : ℕ) (b : IsBoundary (chars bytes) p) → get_or bytes p 0 ≡ get_or (encodes b.back) 0 0
+  get_or-at_boundary p b =
+      let place : p ≡ length (encodes b.front) + 0 = omega (arith, b.place, length-encodes b.front) in
+      rw (encodes-split b.front b.back b.split, place) (get_or-append-add (encodes b.front) (encodes b.back) 0 0)
+
+  -- the bytes before a boundary are those of the text that ends there
+  take-boundary : (p : ℕ) (b : IsBoundary (chars bytes) p) → take p bytes ≡ encodes b.front
+  take-boundary p b = ap (take p) (encodes-split b.front b.back b.split)
+      ∙ take_at (encodes b.front) (encodes b.back) p (length-encodes b.front ∙ b.place)
+
+  -- the end of a text is a boundary
+  pub boundary_at_end : IsBoundary (chars bytes) (length bytes)
+  boundary_at_end =
+      record { front = chars bytes; back = []; split = sym (append-nil (chars bytes)); place = size-chars }
+
+  -- cut at its end, a text is whole
+  pub cut_at_end : cut (chars bytes) (length bytes) ≡ chars bytes
+  cut_at_end = cut_all (chars bytes) (length bytes) (omega (arith, size-chars))
 
 module _ (test : ℕ → ℕ → ℕ → Bool) (v : ℕ → List ℕ → ℕ) (adds : AddsAtFirst test v) where
   -- at the bytes behind a character as much is counted as without it

@@ -11,9 +11,7 @@ use Rattle.str_indices.proofs.lemmas.texts.EndSets.{ends_are, ends_increase_with
 
 -- a line scheme is not `Utf16`
 pub line_scheme_is_not_utf16 : (s : Scheme) → IsLineScheme s → s ≢ Utf16
-line_scheme_is_not_utf16 Chars line = absurd line
-line_scheme_is_not_utf16 Utf16 line = absurd line
-line_scheme_is_not_utf16 s line = λ same. cc
+line_scheme_is_not_utf16 s line = λ same. rw same at line
 
 -- to a byte index and back
 pub from-to : (s : Scheme) → s ≢ Utf16 → (cs : List ℕ) (k : ℕ)
@@ -34,14 +32,12 @@ pub to-from_is_greatest : (s : Scheme) → s ≢ Utf16 → (cs : List ℕ) (b : 
 to-from_is_greatest Utf16 other cs b = absurd (other refl)
 to-from_is_greatest s other cs b =
     let listed = ends s cs in
+    let last = rank listed b in
     let increases = ends_increase_within s cs in
-    rw (end_at-select s cs (rank listed b)) (record {
-      end_or_zero = elim (select_is_member listed (size cs) increases (rank listed b)
-          (count_by-le-length (λ e. nat_le e b) listed)) [
-            | inl has ↦ inl ((ends_are s cs _).0 has)
-            | inr none ↦ inr none
-          ];
+    let member = select_is_member listed (size cs) increases last (count_by-le-length (λ e. nat_le e b) listed) in
+    rw (end_at-select s cs last) (record {
+      end_or_zero = elim member [ inl has ↦ inl ((ends_are s cs _).0 has) | inr none ↦ inr none ];
       at_or_before = select-rank-le listed (size cs) increases b;
-      greatest = λ q is le. (member_adjunction listed (size cs) increases q (rank listed b)
-          (inr ((ends_are s cs q).1 is))).1 (rank-le-rank listed q b le);
+      greatest = λ q is le. (member_adjunction listed (size cs) increases q last (inr ((ends_are s cs q).1 is))).1
+          (rank-le-rank listed q b le);
     })

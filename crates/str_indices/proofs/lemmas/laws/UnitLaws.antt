@@ -12,18 +12,14 @@ use Rattle.str_indices.proofs.lemmas.texts.Sizes.{size-cons, size-append, bounda
 use Rattle.str_indices.proofs.lemmas.texts.Cuts.{cut_is}
 use Rattle.str_indices.proofs.lemmas.texts.Units.{units_at, units-le-units, count-units, weight_is_one_or_two, boundary_at_units_is_greatest}
 
--- before the byte index of k there are at most k units
-units-boundary_at_units-le : (cs : List ℕ) (k : ℕ) → units cs (boundary_at_units cs k) ≤ k
-units-boundary_at_units-le cs k =
-    let answer = boundary_at_units_is_greatest cs k in
-    rw (units_at cs (boundary_at_units cs k) answer.boundary) answer.fits
-
 -- a boundary is at most the byte index of k exactly where at most k units are before it
 pub boundary_le_iff : (cs : List ℕ) (b k : ℕ) → IsBoundary cs b → (b ≤ boundary_at_units cs k) ↔ (units cs b ≤ k)
-boundary_le_iff cs b k at = (
-  λ le. omega (arith, units-le-units cs b (boundary_at_units cs k) le, units-boundary_at_units-le cs k),
-  λ within. (boundary_at_units_is_greatest cs k).greatest b at (rw (units_at cs b at) at within),
-)
+boundary_le_iff cs b k at =
+    let answer = boundary_at_units_is_greatest cs k in
+    let most = units_at cs (boundary_at_units cs k) answer.boundary in (
+      λ le. omega (arith, units-le-units cs b (boundary_at_units cs k) le),
+      λ within. answer.greatest b at (omega (arith, units_at cs b at)),
+    )
 
 -- a greater index has no lesser byte index
 pub boundary_at_units-le : (cs : List ℕ) (i j : ℕ) → i ≤ j → boundary_at_units cs i ≤ boundary_at_units cs j
@@ -59,21 +55,21 @@ units_or_second_unit cs k =
     (elim back as (λ rest. back ≡ rest
     → (units cs (boundary_at_units cs k) ≡ min k (count Utf16 cs)) ⊎ IsSecondUnit cs k) [
       | [] ↦ λ none. inl (omega (arith, ap (sum_by weight) none))
-      | c ∷ after ↦ λ next.
-          let split = answer.boundary.split ∙ ap (λ r. front ++ r) next in
-          let split' = split ∙ sym (append_assoc front (c ∷ []) after) in
+      | c ∷ rest ↦ λ next.
+          let is = answer.boundary.split ∙ ap (λ r. front ++ r) next in
           let longer : IsBoundary cs (size (front ++ c ∷ [])) =
-          record { front = front ++ c ∷ []; back = after; split = split'; place = refl } in
+          record { front = front ++ c ∷ []; back = rest; split = is ∙ sym (append_assoc front (c ∷ []) rest); place = refl } in
           let greatest = answer.greatest (size (front ++ c ∷ [])) longer in
           let sizes = size-append front (c ∷ []) ∙ ap (λ n. size front + n) (size-cons c []) in
-          let sums = sum_by-append weight front (c ∷ []) ∙ ap (λ n. sum_by weight front + n) (sum_by-cons weight c []) in
-          let past : k < sum_by weight front + weight c = grind (arith, greatest, len_utf8_bounds c) in
-          let rest = ap (sum_by weight) next ∙ sum_by-cons weight c after in
+          let sums = sum_by-append weight front (c ∷ []) in
+          let past : k < sum_by weight front + weight c =
+              grind (arith, greatest, len_utf8_bounds c, sum_by-cons weight c []) in
+          let others = ap (sum_by weight) next ∙ sum_by-cons weight c rest in
           elim (cases_lt (sum_by weight front) k) [
             | inr all ↦ inl (omega arith)
             | inl less ↦
                 let two : (weight c ≡ 2) × (sum_by weight front + 1 ≡ k) = omega (arith, weight_is_one_or_two c) in
-                inr (record { front = front; character = c; back = after; split = split; pair = two.0; first_unit = two.1 })
+                inr (record { front = front; character = c; back = rest; split = is; pair = two.0; first_unit = two.1 })
           ]
     ]) refl
 
@@ -81,11 +77,10 @@ units_or_second_unit cs k =
 pub units-second_unit : (cs : List ℕ) (k : ℕ) → IsSecondUnit cs k → units cs (boundary_at_units cs k) + 1 ≡ k
 units-second_unit cs k second =
     let front = second.front in
-    let back = second.character ∷ second.back in
     let p = boundary_at_units cs k in
     let answer = boundary_at_units_is_greatest cs k in
     let first : IsBoundary cs (size front) =
-    record { front = front; back = back; split = second.split; place = refl } in
+    record { front = front; back = second.character ∷ second.back; split = second.split; place = refl } in
     let reaches = answer.greatest (size front) first (omega (arith, second.first_unit)) in
     let least = units-le-units cs (size front) p reaches in
     let beside = boundary_beside weight cs front second.character second.back second.split p answer.boundary in
