@@ -20,7 +20,7 @@ total-le-total v w each (c ∷ cs) = omega (arith, each c cs, total-le-total v w
 -- where each character that ends a line in one scheme ends one in the other, that has no fewer breaks
 end_count-le-end_count : (s t : Scheme) → ((c : ℕ) (cs : List ℕ) → end_weight s c cs ≤ end_weight t c cs)
     → (cs : List ℕ) → end_count s cs ≤ end_count t cs
-end_count-le-end_count s t each cs = omega (arith, end_count_total, total-le-total (end_weight s) (end_weight t) each cs)
+end_count-le-end_count s t le cs = omega (arith, end_count_total, total-le-total (end_weight s) (end_weight t) le cs)
 
 -- LF alone breaks no more lines than LF, CR and CRLF
 pub count-Lf-le-count-Crlf : (cs : List ℕ) → count Lf cs ≤ count Crlf cs

@@ -57,8 +57,9 @@ units_or_second_unit cs k =
       | [] ↦ λ none. inl (omega (arith, ap (sum_by weight) none))
       | c ∷ rest ↦ λ next.
           let is = answer.boundary.split ∙ ap (λ r. front ++ r) next in
+          let is' = is ∙ sym (append_assoc front (c ∷ []) rest) in
           let longer : IsBoundary cs (size (front ++ c ∷ [])) =
-          record { front = front ++ c ∷ []; back = rest; split = is ∙ sym (append_assoc front (c ∷ []) rest); place = refl } in
+          record { front = front ++ c ∷ []; back = rest; split = is'; place = refl } in
           let greatest = answer.greatest (size (front ++ c ∷ [])) longer in
           let sizes = size-append front (c ∷ []) ∙ ap (λ n. size front + n) (size-cons c []) in
           let sums = sum_by-append weight front (c ∷ []) in
