@@ -1,7 +1,7 @@
 -- Boundaries of a text, by its bytes: where the byte is no trailing byte.
-use Rattle.std.proofs.Common.{◌≡◌, ℕ, zero, suc, ◌+◌, ◌-◌, ◌<◌, ◌≤◌, inl, inr, List, [], ◌∷◌, ◌++◌, length, get_or, refl, arith, true, false, take, drop, sym, ◌∙◌, ap, chars, IsUtf8, IsCharBoundary}
+use Rattle.std.proofs.Common.{◌≡◌, ℕ, zero, suc, ◌+◌, ◌-◌, ◌<◌, ◌≤◌, List, [], ◌∷◌, ◌++◌, length, get_or, refl, arith, true, false, take, drop, ◌∙◌, ap, chars, IsUtf8, IsCharBoundary}
 use Rattle.std.proofs.Math.Utf8.{encode, encodes, scalar, scalars}
-use Rattle.std.proofs.lemmas.Bool.{cases_lt, and_parts}
+use Rattle.std.proofs.lemmas.Bool.{and_parts}
 use Rattle.std.proofs.lemmas.List.{take-append-drop, length-take-le}
 use Rattle.std.proofs.lemmas.Str.{scalars-chars, chars-append, IsUtf8-take, IsCharBoundary-after_ascii, len_utf8_bounds}
 use Rattle.str_indices.specs.Text.{size, cut}
@@ -48,8 +48,8 @@ module _ (bytes : List ℕ) (utf8 : IsUtf8 bytes) where
       → IsBoundary (chars bytes) i
   begins_boundary i le first =
       let leads : i < length bytes → 128 ≤ get_or bytes i 0 → 192 ≤ get_or bytes i 0 = λ inside wide.
-          let trails = λ (low : get_or bytes i 0 < 192). is_trailing_later (get_or bytes i 0) (omega arith) in
-          grind (arith, trails, first inside) in
+      let trails = λ (low : get_or bytes i 0 < 192). is_trailing_later (get_or bytes i 0) (omega arith) in
+      grind (arith, trails, first inside) in
       IsBoundary-from_char_boundary i (le, leads)
 
   -- at a boundary before the end a character begins

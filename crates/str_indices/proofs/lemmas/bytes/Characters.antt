@@ -1,7 +1,7 @@
 -- The bytes of one character.
-use Rattle.std.proofs.Common.{◌≡◌, ℕ, ◌+◌, ◌/◌, ◌%◌, ◌<◌, ◌≤◌, inl, inr, List, [], ◌∷◌, ◌++◌, All, Bool, arith, true, false, zero, suc, length, get_or, refl, ap, sym, ◌∙◌, bit_and}
+use Rattle.std.proofs.Common.{◌≡◌, ℕ, ◌+◌, ◌/◌, ◌%◌, ◌<◌, ◌≤◌, List, [], ◌∷◌, ◌++◌, All, Bool, arith, true, false, zero, suc, length, get_or, refl, ap, sym, ◌∙◌, bit_and}
 use Rattle.std.proofs.Math.Utf8.{encode, scalar, scalar_cases, scalars}
-use Rattle.std.proofs.lemmas.Bool.{cond_both, ltb-true, ltb-false, lt-ltb, le-ltb, agree_below_at, lt-leb, le-leb, and_parts, and_from}
+use Rattle.std.proofs.lemmas.Bool.{cond_both, ltb-true, ltb-false, lt-ltb, le-ltb, agree_below_at, lt-leb, le-leb, and_parts}
 use Rattle.std.specs.Prelude.{◌==◌, ◌&&◌, nat_le, nat_lt}
 use Rattle.std.specs.Char.{len_utf8}
 use Rattle.std.proofs.lemmas.List.{get_or-append-add, get_or_append_left}

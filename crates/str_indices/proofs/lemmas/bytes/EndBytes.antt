@@ -1,6 +1,6 @@
 -- The ends of a scheme by the bytes at which they are counted: up to the place where the text is cut, and whether the
 -- cut parts CR from LF.
-use Rattle.std.proofs.Common.{◌≡◌, ℕ, zero, suc, ◌+◌, ◌-◌, ◌<◌, ◌≤◌, inl, inr, Bool, true, List, [], ◌∷◌, ◌++◌, length, get_or, refl, arith, sym, ◌∙◌, ap, ap₂, chars, IsUtf8}
+use Rattle.std.proofs.Common.{◌≡◌, ℕ, suc, ◌+◌, ◌-◌, ◌<◌, ◌≤◌, inl, inr, Bool, true, List, [], ◌∷◌, ◌++◌, length, get_or, refl, arith, sym, ◌∙◌, ap, ap₂, chars, IsUtf8}
 use Rattle.std.specs.Prelude.{◌==◌, ◌&&◌, not}
 use Rattle.std.specs.Char.{len_utf8, char_set_contains}
 use Rattle.std.proofs.Math.Utf8.{encode, encodes, scalar, scalars}

@@ -3,7 +3,7 @@ use Rattle.std.proofs.Common.{◌≡◌, ℕ, ◌≤◌, ◌↔◌, inl, inr, mi
 use Rattle.std.specs.Prelude.{◌≢◌, nat_le}
 use Rattle.std.proofs.lemmas.List.Sums.{count_by-le-length}
 use Rattle.str_indices.specs.Text.{size}
-use Rattle.str_indices.specs.Schemes.{Scheme, Chars, Utf16, ends, count, from_byte_idx, to_byte_idx}
+use Rattle.str_indices.specs.Schemes.{Scheme, Utf16, ends, count, from_byte_idx, to_byte_idx}
 use Rattle.str_indices.specs.SchemeGroups.{IsLineScheme}
 use Rattle.str_indices.specs.Starts.{IsGreatestEnd}
 use Rattle.str_indices.proofs.lemmas.texts.Increasing.{rank, rank-select, adjunction, rank-le-rank, select-rank-le, member_adjunction, select_is_member}

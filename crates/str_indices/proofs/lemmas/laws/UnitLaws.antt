@@ -64,7 +64,7 @@ units_or_second_unit cs k =
           let sizes = size-append front (c ∷ []) ∙ ap (λ n. size front + n) (size-cons c []) in
           let sums = sum_by-append weight front (c ∷ []) in
           let past : k < sum_by weight front + weight c =
-              grind (arith, greatest, len_utf8_bounds c, sum_by-cons weight c []) in
+          grind (arith, greatest, len_utf8_bounds c, sum_by-cons weight c []) in
           let others = ap (sum_by weight) next ∙ sum_by-cons weight c rest in
           elim (cases_lt (sum_by weight front) k) [
             | inr all ↦ inl (omega arith)
