@@ -51,15 +51,7 @@ by_width P c s one wide = by_size P c s one
 trailing_range : (b : ℕ) → b < 256 → (bit_and b 192 == 128) ≡ (nat_le 128 b && nat_lt b 192)
 trailing_range b h = agree_below_at (λ x. bit_and x 192 == 128) (λ x. nat_le 128 x && nat_lt x 192) 256 b refl h
 
--- a byte below 128 is no trailing byte
-pub is_trailing_ascii : (b : ℕ) → b < 128 → is_trailing b ≡ false
-is_trailing_ascii b h = rw (trailing_range b (omega arith), lt-leb 128 b h)
-
--- nor is a byte from 192 on
-pub is_trailing_first : (b : ℕ) → 192 ≤ b → b < 256 → is_trailing b ≡ false
-is_trailing_first b g h = rw (trailing_range b h, le-leb 128 b (omega arith), le-ltb b 192 g)
-
--- the bytes between are
+-- a byte of that range is a trailing byte
 pub is_trailing_later : (b : ℕ) → IsTrailing b → is_trailing b ≡ true
 is_trailing_later b t = rw (trailing_range b (omega (arith, t.high)), le-leb 128 b t.low, lt-ltb b 192 t.high)
 
@@ -80,7 +72,8 @@ later_trailing c s rest (suc j) above below = by_width
 -- the first byte of a character is no trailing byte
 pub first_byte : (c : ℕ) (rest : List ℕ) → scalar c ≡ true → is_trailing (get_or (encode c ++ rest) 0 0) ≡ false
 first_byte c rest s = by_width (λ bs. is_trailing (get_or (bs ++ rest) 0 0) ≡ false) c s
-    (is_trailing_ascii c) (λ first others wide. is_trailing_first first wide.low wide.high)
+    (λ ascii. rw (trailing_range c (omega arith), lt-leb 128 c ascii))
+    (λ b others wide. rw (trailing_range b wide.high, le-leb 128 b (omega arith), le-ltb b 192 wide.low))
 
 -- the characters of both parts of a text are scalar values
 pub scalars_parts : (front back : List ℕ) → scalars (front ++ back) ≡ true

@@ -49,11 +49,6 @@ module _ (bytes : List ℕ) (utf8 : IsUtf8 bytes) where
       let place : p ≡ length (encodes b.front) + 0 = omega (arith, b.place, length-encodes b.front) in
       rw (encodes-split b.front b.back b.split, place) (get_or-append-add (encodes b.front) (encodes b.back) 0 0)
 
-  -- the bytes before a boundary are those of the text that ends there
-  take-boundary : (p : ℕ) (b : IsBoundary (chars bytes) p) → take p bytes ≡ encodes b.front
-  take-boundary p b = ap (take p) (encodes-split b.front b.back b.split)
-      ∙ take_at (encodes b.front) (encodes b.back) p (length-encodes b.front ∙ b.place)
-
   -- the end of a text is a boundary
   pub boundary_at_end : IsBoundary (chars bytes) (length bytes)
   boundary_at_end =
@@ -114,7 +109,9 @@ module _ (test : ℕ → ℕ → ℕ → Bool) (v : ℕ → List ℕ → ℕ) (a
       let same = append-nil b.front in
       let walked = rw same at (walk_front b.front [] (rw same all)) in
       let whole = total-append v b.front [] in
-      rw (take-boundary bytes utf8 end b, cut_front (chars bytes) end b, ← b.place) (omega (arith, ap (total v) same))
+      let before = ap (take end) (encodes-split bytes utf8 b.front b.back b.split)
+      ∙ take_at (encodes b.front) (encodes b.back) end (length-encodes b.front ∙ b.place) in
+      rw (before, cut_front (chars bytes) end b, ← b.place) (omega (arith, ap (total v) same))
 
 -- where v is f of the character alone, nothing need be cut off
 pub bytes_to_boundary : (test : ℕ → ℕ → ℕ → Bool) (f : ℕ → ℕ) → AddsAtFirst test (λ c _. f c)
