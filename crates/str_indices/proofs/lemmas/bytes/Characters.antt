@@ -1,7 +1,7 @@
 -- The bytes of one character.
-use Rattle.std.proofs.Common.{◌≡◌, ℕ, ◌+◌, ◌/◌, ◌%◌, ◌<◌, ◌≤◌, inl, inr, List, [], ◌∷◌, ◌++◌, All, Bool, arith, true, false, zero, suc, length, get_or, refl, ap, sym, ◌∙◌, bit_and}
+use Rattle.std.proofs.Common.{◌≡◌, ℕ, ◌+◌, ◌/◌, ◌%◌, ◌<◌, ◌≤◌, List, [], ◌∷◌, ◌++◌, All, Bool, arith, true, false, zero, suc, length, get_or, refl, ap, sym, ◌∙◌, bit_and}
 use Rattle.std.proofs.Math.Utf8.{encode, scalar, scalar_cases, scalars}
-use Rattle.std.proofs.lemmas.Bool.{cases_lt, lt-ltb, le-ltb, agree_below_at, lt-leb, le-leb, and_parts, and_from}
+use Rattle.std.proofs.lemmas.Bool.{cond_both, ltb-true, ltb-false, lt-ltb, le-ltb, agree_below_at, lt-leb, le-leb, and_parts}
 use Rattle.std.specs.Prelude.{◌==◌, ◌&&◌, nat_le, nat_lt}
 use Rattle.std.specs.Char.{len_utf8}
 use Rattle.std.proofs.lemmas.List.{get_or-append-add, get_or_append_left}
@@ -16,11 +16,7 @@ pub record IsTrailing (b : ℕ) : Type 0 where
 
 -- six bits of a character under the mark of a trailing byte
 trailing : (n : ℕ) → IsTrailing (128 + n % 64)
-trailing n = record { low = omega arith; high = omega arith }
-
--- no scalar value is greater
-below_all : (c : ℕ) → scalar c ≡ true → c < 1114112
-below_all c s = elim (scalar_cases c s) [ inl y ↦ omega arith | inr n ↦ omega (arith, n.1) ]
+trailing n = omega arith
 
 -- what holds of the bytes of each size holds of the bytes of each character
 pub by_size : (P : List ℕ → Type 0) (c : ℕ) → scalar c ≡ true → (c < 128 → P (c ∷ []))
@@ -30,18 +26,10 @@ pub by_size : (P : List ℕ → Type 0) (c : ℕ) → scalar c ≡ true → (c <
     → P ((240 + c / 262144) ∷ (128 + c / 4096 % 64) ∷ (128 + c / 64 % 64) ∷ (128 + c % 64) ∷ []))
     → P (encode c)
 unfolding encode
-by_size P c s one two three four =
-    let high = below_all c s in
-    elim (cases_lt c 128) [
-      | inl a ↦ rw (lt-ltb c 128 a) (one a)
-      | inr a ↦ elim (cases_lt c 2048) [
-        | inl b ↦ rw (le-ltb c 128 a, lt-ltb c 2048 b) (two a b)
-        | inr b ↦ elim (cases_lt c 65536) [
-          | inl d ↦ rw (le-ltb c 128 a, le-ltb c 2048 b, lt-ltb c 65536 d) (three b d)
-          | inr d ↦ rw (le-ltb c 128 a, le-ltb c 2048 b, le-ltb c 65536 d) (four d high)
-        ]
-      ]
-    ]
+by_size P c s one two three four = cond_both _ _ _ P (λ a. one (ltb-true c 128 a)) (λ a.
+    cond_both _ _ _ P (λ b. two (ltb-false c 128 a) (ltb-true c 2048 b)) (λ b.
+    cond_both _ _ _ P (λ d. three (ltb-false c 2048 b) (ltb-true c 65536 d)) (λ d.
+    four (ltb-false c 65536 d) (omega (arith, scalar_cases c s)))))
 
 -- the bytes of a character that takes several: its first, and the others
 pub record IsWide (c first : ℕ) (others : List ℕ) : Type 0 where
@@ -54,78 +42,45 @@ pub record IsWide (c first : ℕ) (others : List ℕ) : Type 0 where
 -- of each character
 pub by_width : (P : List ℕ → Type 0) (c : ℕ) → scalar c ≡ true → (c < 128 → P (c ∷ []))
     → ((first : ℕ) (others : List ℕ) → IsWide c first others → P (first ∷ others)) → P (encode c)
-by_width P c s one wide =
-    let one_more : List ℕ = (128 + c % 64) ∷ [] in
-    let two_more : List ℕ = (128 + c / 64 % 64) ∷ one_more in
-    by_size P c s one
-    (λ from below. wide (192 + c / 64) one_more
-    (record { from = from; low = omega arith; high = omega arith; trailing = more c [] (All-nil IsTrailing) }))
-    (λ from below. wide (224 + c / 4096) two_more (record {
-      from = omega arith;
-      low = omega arith;
-      high = omega arith;
-      trailing = more (c / 64) one_more (more c [] (All-nil IsTrailing));
-    }))
-    (λ from below. wide (240 + c / 262144) ((128 + c / 4096 % 64) ∷ two_more) (record {
-      from = omega arith;
-      low = omega arith;
-      high = omega arith;
-      trailing = more (c / 4096) two_more (more (c / 64) one_more (more c [] (All-nil IsTrailing)));
-    }))
-  where
-    more : (n : ℕ) (ts : List ℕ) → All IsTrailing ts → All IsTrailing ((128 + n % 64) ∷ ts)
-    more n ts all = All-cons IsTrailing (128 + n % 64) ts (trailing n) all
+by_width P c s one wide = by_size P c s one
+    (λ from below. wide _ _ (search (arith, All-nil, All-cons, trailing)))
+    (λ from below. wide _ _ (search (arith, All-nil, All-cons, trailing)))
+    (λ from below. wide _ _ (search (arith, All-nil, All-cons, trailing)))
 
 -- the mask of a trailing byte, as a range
 trailing_range : (b : ℕ) → b < 256 → (bit_and b 192 == 128) ≡ (nat_le 128 b && nat_lt b 192)
 trailing_range b h = agree_below_at (λ x. bit_and x 192 == 128) (λ x. nat_le 128 x && nat_lt x 192) 256 b refl h
 
--- a byte below 128 is no trailing byte
-pub is_trailing_ascii : (b : ℕ) → b < 128 → is_trailing b ≡ false
-is_trailing_ascii b h = rw (trailing_range b (omega arith), lt-leb 128 b h)
-
--- nor is a byte from 192 on
-pub is_trailing_first : (b : ℕ) → 192 ≤ b → b < 256 → is_trailing b ≡ false
-is_trailing_first b g h = rw (trailing_range b h, le-leb 128 b (omega arith), le-ltb b 192 g)
-
--- the bytes between are
+-- a byte of that range is a trailing byte
 pub is_trailing_later : (b : ℕ) → IsTrailing b → is_trailing b ≡ true
 is_trailing_later b t = rw (trailing_range b (omega (arith, t.high)), le-leb 128 b t.low, lt-ltb b 192 t.high)
 
 -- the bytes behind a character
 pub get_or-behind : (c : ℕ) (bytes : List ℕ) (j k : ℕ) → k ≡ len_utf8 c + j
     → get_or (encode c ++ bytes) k 0 ≡ get_or bytes j 0
-get_or-behind c bytes j k e =
-    let at : k ≡ length (encode c) + j = omega (arith, length-encode c) in
-    rw at (get_or-append-add (encode c) bytes j 0)
+get_or-behind c bytes j k e = rw (e, ← length-encode c) (get_or-append-add (encode c) bytes j 0)
 
 -- every byte of a character behind its first is a trailing byte
 pub later_trailing : (c : ℕ) → scalar c ≡ true → (rest : List ℕ) (j : ℕ) → 0 < j → j < len_utf8 c
     → IsTrailing (get_or (encode c ++ rest) j 0)
-later_trailing c s rest j above below = by_width (λ bs. j < length bs → IsTrailing (get_or (bs ++ rest) j 0)) c s
-    (λ a l. absurd (omega arith)) (λ first others wide. at first others wide.trailing j above)
+later_trailing c s rest zero above below = absurd (omega arith)
+later_trailing c s rest (suc j) above below = by_width
+    (λ bs. suc j < length bs → IsTrailing (get_or (bs ++ rest) (suc j) 0)) c s (λ a l. absurd (omega arith))
+    (λ first others wide l. rw (get_or_append_left others rest 0 j (omega arith)) (wide.trailing j 0 (omega arith)))
     (omega (arith, length-encode c))
-  where
-    at : (first : ℕ) (others : List ℕ) → All IsTrailing others → (j : ℕ) → 0 < j → j < length (first ∷ others)
-        → IsTrailing (get_or ((first ∷ others) ++ rest) j 0)
-    at first others all zero above below = absurd (omega arith)
-    at first others all (suc j) above below =
-        let inside : j < length others = omega arith in
-        rw (get_or_append_left others rest 0 j inside) (all j 0 inside)
 
 -- the first byte of a character is no trailing byte
 pub first_byte : (c : ℕ) (rest : List ℕ) → scalar c ≡ true → is_trailing (get_or (encode c ++ rest) 0 0) ≡ false
 first_byte c rest s = by_width (λ bs. is_trailing (get_or (bs ++ rest) 0 0) ≡ false) c s
-    (is_trailing_ascii c) (λ first others wide. is_trailing_first first wide.low wide.high)
+    (λ ascii. rw (trailing_range c (omega arith), lt-leb 128 c ascii))
+    (λ b others wide. rw (trailing_range b wide.high, le-leb 128 b (omega arith), le-ltb b 192 wide.low))
 
 -- the characters of both parts of a text are scalar values
 pub scalars_parts : (front back : List ℕ) → scalars (front ++ back) ≡ true
     → (scalars front ≡ true) × (scalars back ≡ true)
 scalars_parts [] back s = (refl, s)
 scalars_parts (c ∷ front) back s =
-    let first = and_parts (scalar c) (scalars (front ++ back)) s in
-    let rest = scalars_parts front back first.1 in
-    (and_from (scalar c) (scalars front) first.0 rest.0, rest.1)
+    let parts = and_parts (scalar c) (scalars (front ++ back)) s in rw parts.0 (scalars_parts front back parts.1)
 
 -- what a look at a byte says of the text, where the text is still `text`
 pub byte_seen : (text seen : List ℕ) (i byte : ℕ) (trails : Bool) → seen ≡ text → byte ≡ get_or seen i 0

@@ -1,25 +1,25 @@
 -- The ends of a scheme by the bytes at which they are counted: up to the place where the text is cut, and whether the
 -- cut parts CR from LF.
-use Rattle.std.proofs.Common.{◌≡◌, ℕ, zero, suc, ◌+◌, ◌-◌, ◌<◌, ◌≤◌, inl, inr, Bool, true, false, List, [], ◌∷◌, ◌++◌, length, get_or, refl, arith, sym, ◌∙◌, ap, ap₂, subst, chars, IsUtf8}
+use Rattle.std.proofs.Common.{◌≡◌, ℕ, suc, ◌+◌, ◌-◌, ◌<◌, ◌≤◌, inl, inr, Bool, true, List, [], ◌∷◌, ◌++◌, length, get_or, refl, arith, sym, ◌∙◌, ap, ap₂, chars, IsUtf8}
 use Rattle.std.specs.Prelude.{◌==◌, ◌&&◌, not}
 use Rattle.std.specs.Char.{len_utf8, char_set_contains}
 use Rattle.std.proofs.Math.Utf8.{encode, encodes, scalar, scalars}
 use Rattle.std.proofs.lemmas.Bool.{cases_lt, and_parts, ne_eqb, eqb-true}
+use Rattle.std.proofs.Math.Bool.{and-true}
 use Rattle.std.proofs.lemmas.Bool.Decides.{nat_tests}
 use Rattle.std.proofs.lemmas.List.{get_or_past}
-use Rattle.std.proofs.lemmas.Str.{encodes-chars, scalars-chars, encode_ascii, len_utf8_ascii, len_utf8_bounds}
+use Rattle.std.proofs.lemmas.Str.{scalars-chars, encode_ascii, length-encode, len_utf8_bounds, encodes-append}
 use Rattle.str_indices.specs.Text.{size, cut, line_feed, carriage_return}
 use Rattle.str_indices.specs.Schemes.{Scheme, break_characters, end_count, ends_up_to}
-use Rattle.str_indices.specs.Relations.{IsBoundary}
 use Rattle.str_indices.specs.Joins.{ends_in_return, joins_crlf}
 use Rattle.str_indices.specs.Bytes.{flag, sum_below, is_line_feed, is_carriage_return, byte_before, is_middle}
 use Rattle.str_indices.proofs.lemmas.texts.Sizes.{size-cons}
 use Rattle.str_indices.proofs.lemmas.texts.Cuts.{cut_is}
 use Rattle.str_indices.proofs.lemmas.texts.Ends.{end_weight, ends_up_to_cut}
 use Rattle.str_indices.proofs.lemmas.texts.Seams.{HasReturn, ends_in_return-cons, ends_in_return-one, starts_with_feed_is, end_count-cut_seam}
-use Rattle.str_indices.proofs.lemmas.bytes.Characters.{IsTrailing, by_width, get_or-behind, later_trailing, scalars_parts}
-use Rattle.str_indices.proofs.lemmas.bytes.Walks.{AddsAtFirst, counted_at, walk_to_cut, get_or-at_boundary}
-use Rattle.str_indices.proofs.lemmas.bytes.BoundaryBytes.{still_behind_cut}
+use Rattle.str_indices.proofs.lemmas.bytes.Characters.{IsTrailing, by_size, by_width, get_or-behind, scalars_parts}
+use Rattle.str_indices.proofs.lemmas.bytes.Walks.{AddsAtFirst, counted_at, walk_to_cut, get_or-at_boundary, encodes-split}
+use Rattle.str_indices.proofs.lemmas.bytes.BoundaryBytes.{still_behind_cut, cut_boundary}
 
 module _ (s : Scheme) (test : ℕ → ℕ → ℕ → Bool) (adds : AddsAtFirst test (end_weight s)) where
   -- before the place where the text is cut the ends are counted that are up to there
@@ -41,10 +41,8 @@ pub next_line_feed : (cs : List ℕ) → scalars cs ≡ true
     → is_line_feed (get_or (encodes cs) 0 0) ≡ is_line_feed (get_or cs 0 0)
 next_line_feed [] s = refl
 next_line_feed (c ∷ cs) s = by_width (λ bs. is_line_feed (get_or (bs ++ encodes cs) 0 0) ≡ is_line_feed c) c
-    (and_parts (scalar c) (scalars cs) s).0 (λ ascii. refl) (λ first others wide. neither first wide.low wide.from)
-  where
-    neither : (b : ℕ) → 192 ≤ b → 128 ≤ c → is_line_feed b ≡ is_line_feed c
-    neither b past past' = grind (arith, nat_tests)
+    (and_parts (scalar c) (scalars cs) s).0 (λ ascii. refl)
+    (λ first others wide. rw (ne_eqb first line_feed (λ same. omega arith), ne_eqb c line_feed (λ same. omega arith)))
 
 -- a test that counts the breaks of a scheme, at the first byte of each character that is one
 pub adds_breaks : (s : Scheme) → HasReturn s → (test : ℕ → ℕ → ℕ → Bool) → ((c next after : ℕ) → c < 128
@@ -53,81 +51,58 @@ pub adds_breaks : (s : Scheme) → HasReturn s → (test : ℕ → ℕ → ℕ �
     → test (get_or (encode c ++ rest) 0 0) (get_or (encode c ++ rest) 1 0) (get_or (encode c ++ rest) 2 0)
     ≡ char_set_contains (break_characters s) c)
     → ((b next after : ℕ) → IsTrailing b → flag (test b next after) ≡ 0) → AddsAtFirst test (end_weight s)
-adds_breaks s has test at_ascii at_wide later = record { first = first; later = later }
-  where
-    and_true : (b : Bool) → b ≡ (b && true)
-    and_true true = refl
-    and_true false = refl
-
-    first : (c : ℕ) (cs : List ℕ) → scalar c ≡ true → scalars cs ≡ true
-        → counted_at test (encode c ++ encodes cs) 0 ≡ end_weight s c cs
-    first c cs is_scalar are_scalars = ap flag (rw (has.breaks c cs) (elim (cases_lt c 128) [
-      | inl ascii ↦ rw (encode_ascii c ascii) (at_ascii c (get_or (encodes cs) 0 0) (get_or (encodes cs) 1 0) ascii
-          ∙ ap (λ b. char_set_contains (break_characters s) c && not (c == carriage_return && b))
-          (next_line_feed cs are_scalars))
-      | inr wide ↦ at_wide c (encodes cs) is_scalar wide
-          ∙ rw (ne_eqb c carriage_return (λ same. omega arith)) (and_true (char_set_contains (break_characters s) c))
-    ]))
+adds_breaks s has test at_ascii at_wide later = record {
+  later = later;
+  first = λ c cs is_scalar are_scalars. ap flag (rw (has.breaks c cs) (elim (cases_lt c 128) [
+    | inl ascii ↦ rw (encode_ascii c ascii) (at_ascii c (get_or (encodes cs) 0 0) (get_or (encodes cs) 1 0) ascii
+        ∙ ap (λ b. char_set_contains (break_characters s) c && not (c == carriage_return && b))
+        (next_line_feed cs are_scalars))
+    | inr wide ↦ at_wide c (encodes cs) is_scalar wide
+        ∙ rw (ne_eqb c carriage_return (λ same. omega arith)) (sym (and-true _))
+  ]));
+}
 
 -- the byte before a place behind the start
-byte_before-at : (bytes : List ℕ) (n : ℕ) → 0 < n → byte_before bytes n ≡ get_or bytes (n - 1) 0
-byte_before-at bytes zero above = absurd (omega arith)
-byte_before-at bytes (suc n) above = let place : suc n - 1 ≡ n = omega arith in rw place refl
+byte_before-at : (bytes : List ℕ) (n k : ℕ) → n ≡ suc k → byte_before bytes n ≡ get_or bytes k 0
+byte_before-at bytes n k next = rw next refl
 
 -- the last byte of a character is CR where the character is
 last_byte_is_return : (c : ℕ) (rest : List ℕ) → scalar c ≡ true
     → is_carriage_return (get_or (encode c ++ rest) (len_utf8 c - 1) 0) ≡ is_carriage_return c
-last_byte_is_return c rest s =
-    elim (cases_lt c 128) [
-      | inl ascii ↦ rw (encode_ascii c ascii, len_utf8_ascii c ascii) refl
-      | inr wide ↦
-          let trailing = later_trailing c s rest (len_utf8 c - 1) (omega (arith, several c wide))
-          (omega (arith, len_utf8_bounds c)) in
-          neither c (get_or (encode c ++ rest) (len_utf8 c - 1) 0) wide trailing.low
-    ]
-  where
-    several : (c : ℕ) → 128 ≤ c → 1 < len_utf8 c
-    several c wide = grind (arith, nat_tests)
-
-    neither : (c b : ℕ) → 128 ≤ c → 128 ≤ b → is_carriage_return b ≡ is_carriage_return c
-    neither c b past past' = grind (arith, nat_tests)
+last_byte_is_return c rest s = rw (← length-encode c) (by_size
+    (λ bs. is_carriage_return (get_or (bs ++ rest) (length bs - 1) 0) ≡ is_carriage_return c) c s (λ _. refl)
+    (λ l h. grind (arith, nat_tests)) (λ l h. grind (arith, nat_tests)) (λ l h. grind (arith, nat_tests)))
 
 -- the byte before a seam is CR where the text before it ends in CR
 return_at_seam : (front back : List ℕ) → scalars (front ++ back) ≡ true
     → is_carriage_return (byte_before (encodes (front ++ back)) (size front)) ≡ ends_in_return front
 return_at_seam [] back s = refl
 return_at_seam (c ∷ []) back s =
-    let bytes = encode c ++ encodes back in
     let bounds = len_utf8_bounds c in
-    let place : size (c ∷ []) - 1 ≡ len_utf8 c - 1 = omega (arith, size-cons c []) in
-    ap is_carriage_return (byte_before-at bytes (size (c ∷ [])) (omega (arith, size-cons c []))
-    ∙ ap (λ n. get_or bytes n 0) place)
-    ∙ last_byte_is_return c (encodes back) (and_parts (scalar c) (scalars back) s).0 ∙ sym (ends_in_return-one c)
+    rw (byte_before-at _ (size (c ∷ [])) (len_utf8 c - 1) (omega (arith, size-cons c [])), ends_in_return-one c)
+    (last_byte_is_return c (encodes back) (and_parts (scalar c) (scalars back) s).0)
 return_at_seam (c ∷ d ∷ front) back s =
-    let parts = and_parts (scalar c) (scalars (d ∷ front ++ back)) s in
     let rest = encodes (d ∷ front ++ back) in
-    let n = size (d ∷ front) in
-    let some : 0 < n = omega (arith, size-cons d front, len_utf8_bounds d) in
-    let sizes = size-cons c (d ∷ front) in
-    ap is_carriage_return (byte_before-at (encode c ++ rest) (size (c ∷ d ∷ front)) (omega arith)
-    ∙ get_or-behind c rest (n - 1) (size (c ∷ d ∷ front) - 1) (omega arith) ∙ sym (byte_before-at rest n some))
-    ∙ return_at_seam (d ∷ front) back parts.1 ∙ sym (ends_in_return-cons c d front)
+    let k = size (d ∷ front) - 1 in
+    let some : size (d ∷ front) ≡ suc k = omega (arith, size-cons d front, len_utf8_bounds d) in
+    ap is_carriage_return (byte_before-at (encode c ++ rest) (size (c ∷ d ∷ front)) (len_utf8 c + k)
+    (omega (arith, size-cons c (d ∷ front))) ∙ get_or-behind c rest k (len_utf8 c + k) refl
+    ∙ sym (byte_before-at rest (size (d ∷ front)) k some))
+    ∙ return_at_seam (d ∷ front) back (and_parts (scalar c) _ s).1 ∙ sym (ends_in_return-cons c d front)
 
 -- the place where the text is cut stands between CR and LF where the cut parts CR from LF
 middle_at_cut : (bytes : List ℕ) → IsUtf8 bytes → (end : ℕ) → is_middle bytes (size (cut (chars bytes) end))
     ≡ joins_crlf (cut (chars bytes) end) (cut_is (chars bytes) end).rest
+unfolding cut_boundary
 middle_at_cut bytes utf8 end =
-    let cs = chars bytes in
-    let front = cut cs end in
-    let parts = cut_is cs end in
-    let all = subst (λ t. scalars t ≡ true) parts.split (scalars-chars bytes utf8) in
-    let before = ap (λ t. is_carriage_return (byte_before t (size front)))
-    (sym (encodes-chars bytes utf8) ∙ ap encodes parts.split) ∙ return_at_seam front parts.rest all in
-    let b : IsBoundary cs (size front) =
-    record { front = front; back = parts.rest; split = parts.split; place = refl } in
-    let behind = ap is_line_feed (get_or-at_boundary bytes utf8 (size front) b)
-    ∙ next_line_feed parts.rest (scalars_parts front parts.rest all).1 ∙ sym (starts_with_feed_is parts.rest) in
-    ap₂ (λ a b. a && b) before behind
+    let front = cut (chars bytes) end in
+    let parts = cut_is (chars bytes) end in
+    let all = rw parts.split at (scalars-chars bytes utf8) in
+    ap₂ (λ a b. a && b) (ap (λ t. is_carriage_return (byte_before t (size front)))
+    (encodes-split bytes utf8 front parts.rest parts.split ∙ sym (encodes-append front parts.rest))
+    ∙ return_at_seam front parts.rest all)
+    (ap is_line_feed (get_or-at_boundary bytes utf8 (size front) (cut_boundary (chars bytes) end))
+    ∙ next_line_feed parts.rest (scalars_parts front parts.rest all).1 ∙ sym (starts_with_feed_is parts.rest))
 
 -- a cut text has the breaks up to the cut, and one more where the cut parts CR from LF
 pub breaks_of_cut_text : (s : Scheme) → HasReturn s → (bytes : List ℕ) → IsUtf8 bytes → (end : ℕ)
@@ -142,7 +117,4 @@ pub feed_at_middle : (bytes : List ℕ) (n : ℕ) → is_middle bytes n ≡ true
 feed_at_middle bytes n middle =
     let both = and_parts (is_carriage_return (byte_before bytes n)) (is_line_feed (get_or bytes n 0)) middle in
     let feed = eqb-true (get_or bytes n 0) line_feed both.1 in
-    elim (cases_lt n (length bytes)) [
-      | inl inside ↦ (inside, feed)
-      | inr past ↦ absurd (omega (arith, get_or_past bytes n 0 past))
-    ]
+    (grind (arith, get_or_past bytes n 0), feed)

@@ -1,5 +1,5 @@
 -- Sums of a number at each place.
-use Rattle.std.proofs.Common.{◌≡◌, ℕ, zero, suc, ◌+◌, ◌-◌, ◌<◌, ◌≤◌, Bool, true, false, List, get_or, refl, arith, add-suc, add-zero, ap}
+use Rattle.std.proofs.Common.{◌≡◌, ℕ, zero, suc, ◌+◌, ◌-◌, ◌<◌, ◌≤◌, Bool, List, get_or, refl, arith, add-suc, add-zero, ap}
 use Rattle.std.specs.Prelude.{not}
 use Rattle.str_indices.specs.Bytes.{sum_below, flag, mark, passing_before}
 
@@ -30,40 +30,30 @@ sum_below-more f one m n = omega (arith, sum_below-add f m n, sum_below-le (λ j
 
 -- a flag is at most one
 pub flag-le : (b : Bool) → flag b ≤ 1
-flag-le true = omega arith
-flag-le false = omega arith
+flag-le b = grind arith
 
 -- a byte counts one at most
 pub mark-le : (test : ℕ → Bool) (b : ℕ) → mark test b ≤ 1
 mark-le test b = flag-le (test b)
 
--- a byte passes a test or doesn't
-mark-not : (test : ℕ → Bool) (b : ℕ) → mark (λ x. not (test x)) b + mark test b ≡ 1
-mark-not test b = grind arith
+module _ (test : ℕ → Bool) (bytes : List ℕ) where
+  -- each byte passes a test or doesn't
+  pub passing_or_not : (n : ℕ) → passing_before (λ b. not (test b)) bytes n + passing_before test bytes n ≡ n
+  passing_or_not zero = refl
+  passing_or_not (suc n) = grind (arith, passing_or_not n)
 
--- each byte passes a test or doesn't
-pub passing_or_not : (test : ℕ → Bool) (bytes : List ℕ) (n : ℕ)
-    → passing_before (λ b. not (test b)) bytes n + passing_before test bytes n ≡ n
-passing_or_not test bytes zero = refl
-passing_or_not test bytes (suc n) = omega (arith, mark-not test (get_or bytes n 0), passing_or_not test bytes n)
+  -- no more bytes pass than there are
+  pub passing_before-le : (n : ℕ) → passing_before test bytes n ≤ n
+  passing_before-le n = sum_below-le _ (λ j. mark-le test (get_or bytes j 0)) n
 
--- no more bytes pass than there are
-pub passing_before-le : (test : ℕ → Bool) (bytes : List ℕ) (n : ℕ) → passing_before test bytes n ≤ n
-passing_before-le test bytes n =
-    sum_below-le (λ j. mark test (get_or bytes j 0)) (λ j. mark-le test (get_or bytes j 0)) n
+  -- among n bytes more at most n more pass
+  pub passing_before-more : (m n : ℕ) → passing_before test bytes (m + n) ≤ passing_before test bytes m + n
+  passing_before-more m n = sum_below-more _ (λ j. mark-le test (get_or bytes j 0)) m n
 
--- among n bytes more at most n more pass
-pub passing_before-more : (test : ℕ → Bool) (bytes : List ℕ) (m n : ℕ)
-    → passing_before test bytes (m + n) ≤ passing_before test bytes m + n
-passing_before-more test bytes m n = sum_below-more (λ j. mark test (get_or bytes j 0))
-    (λ j. mark-le test (get_or bytes j 0)) m n
-
--- between two places no more bytes pass than stand there
-pub passing_before-between : (test : ℕ → Bool) (bytes : List ℕ) (m n : ℕ) → m ≤ n
-    → passing_before test bytes n ≤ passing_before test bytes m + (n - m)
-passing_before-between test bytes m n le =
-    let whole : m + (n - m) ≡ n = omega arith in
-    omega (arith, passing_before-more test bytes m (n - m), ap (passing_before test bytes) whole)
+  -- between two places no more bytes pass than stand there
+  pub passing_before-between : (m n : ℕ) → m ≤ n → passing_before test bytes n ≤ passing_before test bytes m + (n - m)
+  passing_before-between m n le =
+      let whole : m + (n - m) ≡ n = omega arith in rw whole at (passing_before-more m (n - m))
 
 -- a sum over more places is no less
 pub sum_below-le-sum_below : (f : ℕ → ℕ) (m n : ℕ) → m ≤ n → sum_below f m ≤ sum_below f n

@@ -1,5 +1,5 @@
 -- A sum over the bytes of a text as a sum over its characters, in the whole text and in a cut text.
-use Rattle.std.proofs.Common.{◌≡◌, ℕ, ◌+◌, ◌-◌, Bool, List, [], ◌∷◌, ◌++◌, refl, arith, true, sym, ◌∙◌, ap, length, get_or, take, subst, chars, IsUtf8}
+use Rattle.std.proofs.Common.{◌≡◌, ℕ, ◌+◌, ◌-◌, Bool, List, [], ◌∷◌, ◌++◌, refl, arith, true, sym, ◌∙◌, ap, length, get_or, take, chars, IsUtf8}
 use Rattle.std.specs.Prelude.{sum_by}
 use Rattle.std.specs.Char.{len_utf8}
 use Rattle.std.proofs.Math.Utf8.{encode, encodes, scalar, scalars}
@@ -30,63 +30,53 @@ length-encodes [] = refl
 length-encodes (c ∷ cs) =
     omega (arith, length-append (encode c) (encodes cs), length-encode c, length-encodes cs, size-cons c cs)
 
--- the size of the text that some bytes are
-pub size-chars : (bytes : List ℕ) → IsUtf8 bytes → size (chars bytes) ≡ length bytes
-size-chars bytes utf8 = sym (length-encodes (chars bytes)) ∙ ap length (encodes-chars bytes utf8)
-
--- the bytes of a text that is split, split alike
-encodes-split : (bytes : List ℕ) → IsUtf8 bytes → (front back : List ℕ) → chars bytes ≡ front ++ back
-    → bytes ≡ encodes front ++ encodes back
-encodes-split bytes utf8 front back split =
-    sym (encodes-chars bytes utf8) ∙ ap encodes split ∙ encodes-append front back
-
--- the byte at a boundary is the first of the rest
-pub get_or-at_boundary : (bytes : List ℕ) → IsUtf8 bytes → (p : ℕ) (b : IsBoundary (chars bytes) p)
-    → get_or bytes p 0 ≡ get_or (encodes b.back) 0 0
-get_or-at_boundary bytes utf8 p b =
-    let place : p ≡ length (encodes b.front) + 0 = omega (arith, b.place, length-encodes b.front) in
-    rw (encodes-split bytes utf8 b.front b.back b.split, place)
-    (get_or-append-add (encodes b.front) (encodes b.back) 0 0)
-
--- the bytes before a boundary are those of the text that ends there
-take-boundary : (bytes : List ℕ) → IsUtf8 bytes → (p : ℕ) (b : IsBoundary (chars bytes) p)
-    → take p bytes ≡ encodes b.front
-take-boundary bytes utf8 p b = ap (take p) (encodes-split bytes utf8 b.front b.back b.split)
-    ∙ take_at (encodes b.front) (encodes b.back) p (length-encodes b.front ∙ b.place)
-
--- the end of a text is a boundary
-pub boundary_at_end : (bytes : List ℕ) → IsUtf8 bytes → IsBoundary (chars bytes) (length bytes)
-boundary_at_end bytes utf8 =
-    record { front = chars bytes; back = []; split = sym (append-nil (chars bytes)); place = size-chars bytes utf8 }
-
--- cut at its end, a text is whole
-pub cut_at_end : (bytes : List ℕ) → IsUtf8 bytes → cut (chars bytes) (length bytes) ≡ chars bytes
-cut_at_end bytes utf8 = cut_all (chars bytes) (length bytes) (omega (arith, size-chars bytes utf8))
-
 -- the cut text at a boundary takes the bytes before it
 pub size-cut : (cs : List ℕ) (end : ℕ) → IsBoundary cs end → size (cut cs end) ≡ end
 size-cut cs end b = ap size (cut_front cs end b) ∙ b.place
+
+module _ (bytes : List ℕ) (utf8 : IsUtf8 bytes) where
+  -- the size of the text that some bytes are
+  pub size-chars : size (chars bytes) ≡ length bytes
+  size-chars = sym (length-encodes (chars bytes)) ∙ ap length (encodes-chars bytes utf8)
+
+  -- the bytes of a text that is split, split alike
+  pub encodes-split : (front back : List ℕ) → chars bytes ≡ front ++ back → bytes ≡ encodes front ++ encodes back
+  encodes-split front back split = sym (encodes-chars bytes utf8) ∙ ap encodes split ∙ encodes-append front back
+
+  -- the byte at a boundary is the first of the rest
+  pub get_or-at_boundary : (p : ℕ) (b : IsBoundary (chars bytes) p) → get_or bytes p 0 ≡ get_or (encodes b.back) 0 0
+  get_or-at_boundary p b =
+      let place : p ≡ length (encodes b.front) + 0 = omega (arith, b.place, length-encodes b.front) in
+      rw (encodes-split b.front b.back b.split, place) (get_or-append-add (encodes b.front) (encodes b.back) 0 0)
+
+  -- the end of a text is a boundary
+  pub boundary_at_end : IsBoundary (chars bytes) (length bytes)
+  boundary_at_end =
+      record { front = chars bytes; back = []; split = sym (append-nil (chars bytes)); place = size-chars }
+
+  -- cut at its end, a text is whole
+  pub cut_at_end : cut (chars bytes) (length bytes) ≡ chars bytes
+  cut_at_end = cut_all (chars bytes) (length bytes) (omega (arith, size-chars))
 
 module _ (test : ℕ → ℕ → ℕ → Bool) (v : ℕ → List ℕ → ℕ) (adds : AddsAtFirst test v) where
   -- at the bytes behind a character as much is counted as without it
   counted_behind : (c : ℕ) (bytes : List ℕ) (j : ℕ)
       → counted_at test (encode c ++ bytes) (len_utf8 c + j) ≡ counted_at test bytes j
-  counted_behind c bytes j =
-      let here = get_or-behind c bytes j (len_utf8 c + j) refl in
-      let next = get_or-behind c bytes (1 + j) (1 + (len_utf8 c + j)) (omega arith) in
-      let after = get_or-behind c bytes (2 + j) (2 + (len_utf8 c + j)) (omega arith) in
-      rw (here, next, after)
+  counted_behind c bytes j = rw (
+    get_or-behind c bytes j (len_utf8 c + j) refl,
+    get_or-behind c bytes (1 + j) (1 + (len_utf8 c + j)) (omega arith),
+    get_or-behind c bytes (2 + j) (2 + (len_utf8 c + j)) (omega arith),
+  )
 
   -- at the bytes of a character v of it is counted
   walk_first : (c : ℕ) (cs : List ℕ) → scalar c ≡ true → scalars cs ≡ true
       → sum_below (counted_at test (encode c ++ encodes cs)) (len_utf8 c) ≡ v c cs
   walk_first c cs s t =
-      let bytes = encode c ++ encodes cs in
-      let f = counted_at test bytes in
+      let f = counted_at test (encode c ++ encodes cs) in
       let whole : 1 + (len_utf8 c - 1) ≡ len_utf8 c = omega (arith, len_utf8_bounds c) in
-      let still = sum_below-still f 1 (len_utf8 c - 1) (λ j l. adds.later (get_or bytes (1 + j) 0) _ _
+      let still = sum_below-still f 1 (len_utf8 c - 1) (λ j l. adds.later _ _ _
       (later_trailing c s (encodes cs) (1 + j) (omega arith) (omega arith))) in
-      omega (arith, ap (sum_below f) whole, still, adds.first c cs s t)
+      omega (arith, rw whole at still, adds.first c cs s t)
 
   -- at the bytes of a beginning v of each of its characters is counted
   walk_front : (front back : List ℕ) → scalars (front ++ back) ≡ true
@@ -96,21 +86,10 @@ module _ (test : ℕ → ℕ → ℕ → Bool) (v : ℕ → List ℕ → ℕ) (a
       let parts = and_parts (scalar c) (scalars (front ++ back)) s in
       let rest = encodes (front ++ back) in
       let f = counted_at test (encode c ++ rest) in
-      omega (
-        arith,
-        ap (sum_below f) (size-cons c front),
-        sum_below-add f (len_utf8 c) (size front),
-        walk_first c (front ++ back) parts.0 parts.1,
-        sum_below-same (λ j. f (len_utf8 c + j)) (counted_at test rest) (size front) (λ j _. counted_behind c rest j),
-        walk_front front back parts.1,
-      )
-
-  -- the same over a whole text
-  walk_whole : (cs : List ℕ) → scalars cs ≡ true → sum_below (counted_at test (encodes cs)) (size cs) ≡ total v cs
-  walk_whole cs s =
-      let same = append-nil cs in
-      let walked = rw same at (walk_front cs [] (rw same s)) in
-      omega (arith, total-append v cs [], ap (total v) same)
+      let first = walk_first c (front ++ back) parts.0 parts.1 in
+      let same = sum_below-same (λ j. f (len_utf8 c + j)) (counted_at test rest) (size front)
+      (λ j _. counted_behind c rest j) in
+      rw size-cons (omega (arith, sum_below-add f (len_utf8 c) (size front), walk_front front back parts.1))
 
   -- what is counted before the place where the text is cut is v of the characters before it
   pub walk_to_cut : (bytes : List ℕ) → IsUtf8 bytes → (end : ℕ)
@@ -120,17 +99,19 @@ module _ (test : ℕ → ℕ → ℕ → Bool) (v : ℕ → List ℕ → ℕ) (a
       let front = cut (chars bytes) end in
       let parts = cut_is (chars bytes) end in
       ap (λ t. sum_below (counted_at test t) (size front)) (sym (encodes-chars bytes utf8) ∙ ap encodes parts.split)
-      ∙ walk_front front parts.rest (subst (λ t. scalars t ≡ true) parts.split (scalars-chars bytes utf8))
+      ∙ walk_front front parts.rest (rw parts.split at (scalars-chars bytes utf8))
 
   -- what is counted before a boundary, in the bytes that are cut off there, is v of the characters of the cut text
   pub walk_to_boundary : (bytes : List ℕ) → IsUtf8 bytes → (end : ℕ) → IsBoundary (chars bytes) end
       → sum_below (counted_at test (take end bytes)) end ≡ total v (cut (chars bytes) end)
   walk_to_boundary bytes utf8 end b =
-      let whole = subst (λ t. scalars t ≡ true) b.split (scalars-chars bytes utf8) in
-      ap (λ t. sum_below (counted_at test t) end) (take-boundary bytes utf8 end b)
-      ∙ ap (sum_below (counted_at test (encodes b.front))) (sym b.place)
-      ∙ walk_whole b.front (scalars_parts b.front b.back whole).0
-      ∙ ap (total v) (sym (cut_front (chars bytes) end b))
+      let all = (scalars_parts b.front b.back (rw b.split at (scalars-chars bytes utf8))).0 in
+      let same = append-nil b.front in
+      let walked = rw same at (walk_front b.front [] (rw same all)) in
+      let whole = total-append v b.front [] in
+      let before = ap (take end) (encodes-split bytes utf8 b.front b.back b.split)
+      ∙ take_at (encodes b.front) (encodes b.back) end (length-encodes b.front ∙ b.place) in
+      rw (before, cut_front (chars bytes) end b, ← b.place) (omega (arith, ap (total v) same))
 
 -- where v is f of the character alone, nothing need be cut off
 pub bytes_to_boundary : (test : ℕ → ℕ → ℕ → Bool) (f : ℕ → ℕ) → AddsAtFirst test (λ c _. f c)

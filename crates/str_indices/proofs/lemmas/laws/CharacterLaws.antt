@@ -4,12 +4,11 @@ use Rattle.str_indices.specs.Schemes.{Scheme, Chars, Utf16, from_byte_idx, to_by
 use Rattle.str_indices.specs.Relations.{IsBoundary}
 use Rattle.str_indices.proofs.lemmas.texts.EndSets.{IsBoundary-end_at, ends_increase_within, end_at-select, zero_or_end}
 use Rattle.str_indices.proofs.lemmas.texts.Units.{boundary_at_units_is_greatest, units-le-units}
-use Rattle.str_indices.proofs.lemmas.laws.EndLaws.{from-le-from, to-le-to, to-from-le}
 use Rattle.str_indices.proofs.lemmas.laws.UnitLaws.{boundary_at_units-le, boundary_le_iff, boundary_at_units-units-le}
 use Rattle.str_indices.specs.Text.{size}
 use Rattle.str_indices.specs.SchemeGroups.{IsCharacterScheme}
 use Rattle.str_indices.specs.Starts.{IsGreatestBoundary}
-use Rattle.str_indices.proofs.lemmas.texts.Increasing.{member_adjunction}
+use Rattle.str_indices.proofs.lemmas.texts.Increasing.{rank, rank-le-rank, select-le-select, select-rank-le, member_adjunction}
 
 -- each conversion to a byte index answers a boundary
 pub IsBoundary-to_byte_idx : (s : Scheme) (cs : List ℕ) (k : ℕ) → IsBoundary cs (to_byte_idx s cs k)
@@ -19,12 +18,13 @@ IsBoundary-to_byte_idx s cs k = IsBoundary-end_at s cs k
 -- a greater byte index has no lesser index
 pub from_byte_idx-le : (s : Scheme) (cs : List ℕ) (i j : ℕ) → i ≤ j → from_byte_idx s cs i ≤ from_byte_idx s cs j
 from_byte_idx-le Utf16 cs = units-le-units cs
-from_byte_idx-le s cs = from-le-from s (λ same. cc) cs
+from_byte_idx-le s cs = rank-le-rank (ends s cs)
 
 -- a greater index has no lesser byte index
 pub to_byte_idx-le : (s : Scheme) (cs : List ℕ) (i j : ℕ) → i ≤ j → to_byte_idx s cs i ≤ to_byte_idx s cs j
-to_byte_idx-le Utf16 cs = boundary_at_units-le cs
-to_byte_idx-le s cs = to-le-to s (λ same. cc) cs
+to_byte_idx-le Utf16 cs i j le = boundary_at_units-le cs i j le
+to_byte_idx-le s cs i j le = rw (end_at-select s cs i, end_at-select s cs j)
+    (select-le-select (ends s cs) (size cs) (ends_increase_within s cs) i j le)
 
 -- a boundary is at most the byte index of k exactly where its own index is at most k
 pub boundary_adjunction : (s : Scheme) → IsCharacterScheme s → (cs : List ℕ) (b k : ℕ) → IsBoundary cs b
@@ -37,7 +37,8 @@ boundary_adjunction s character cs b k at = absurd character
 -- from a byte index and back is at or before it
 to-from-le-each : (s : Scheme) (cs : List ℕ) (b : ℕ) → to_byte_idx s cs (from_byte_idx s cs b) ≤ b
 to-from-le-each Utf16 cs b = boundary_at_units-units-le cs b
-to-from-le-each s cs b = to-from-le s (λ same. cc) cs b
+to-from-le-each s cs b = rw (end_at-select s cs (rank (ends s cs) b))
+    (select-rank-le (ends s cs) (size cs) (ends_increase_within s cs) b)
 
 -- from a byte index and back is the greatest boundary at or before it
 pub to-from_is_greatest_boundary : (s : Scheme) → IsCharacterScheme s → (cs : List ℕ) (b : ℕ)

@@ -1,9 +1,8 @@
 -- The counts of one text in several schemes, and of two texts that are joined.
-use Rattle.std.proofs.Common.{ℕ, ◌≤◌, List, [], ◌∷◌, get_or, arith, cond, ◌≡◌, ◌+◌, ◌++◌}
-use Rattle.std.specs.Prelude.{◌==◌, ◌&&◌, not}
-use Rattle.std.specs.Char.{char_set_contains}
+use Rattle.std.proofs.Common.{ℕ, ◌≤◌, List, [], ◌∷◌, arith, cond, ◌≡◌, ◌+◌, ◌++◌}
+use Rattle.std.specs.Prelude.{◌==◌}
 use Rattle.std.proofs.lemmas.Bool.Decides.{nat_tests}
-use Rattle.str_indices.specs.Schemes.{Scheme, Lf, Crlf, Lines, break_characters, end_count, count, Chars, Utf16, surrogates}
+use Rattle.str_indices.specs.Schemes.{Scheme, Lf, Crlf, Lines, end_count, count, Chars, Utf16, surrogates}
 use Rattle.str_indices.proofs.lemmas.texts.Sizes.{total}
 use Rattle.str_indices.proofs.lemmas.texts.Seams.{crlf_has_return, lines_has_return, end_count-append}
 use Rattle.str_indices.proofs.lemmas.texts.Ends.{end_weight, end_count_total, count_characters, count_line_feeds}
@@ -21,40 +20,23 @@ total-le-total v w each (c ∷ cs) = omega (arith, each c cs, total-le-total v w
 -- where each character that ends a line in one scheme ends one in the other, that has no fewer breaks
 end_count-le-end_count : (s t : Scheme) → ((c : ℕ) (cs : List ℕ) → end_weight s c cs ≤ end_weight t c cs)
     → (cs : List ℕ) → end_count s cs ≤ end_count t cs
-end_count-le-end_count s t each cs =
-    omega (arith, end_count_total s cs, end_count_total t cs, total-le-total (end_weight s) (end_weight t) each cs)
-
--- a character and the next, by the first two sets
-lf_within_crlf : (c next : ℕ) → cond (char_set_contains (break_characters Lf) c && not (c == 13 && next == 10)) 1 0
-    ≤ cond (char_set_contains (break_characters Crlf) c && not (c == 13 && next == 10)) 1 0
-lf_within_crlf c next = grind (arith, nat_tests)
-
--- a character and the next, by the last two sets
-crlf_within_lines : (c next : ℕ) → cond (char_set_contains (break_characters Crlf) c && not (c == 13 && next == 10)) 1 0
-    ≤ cond (char_set_contains (break_characters Lines) c && not (c == 13 && next == 10)) 1 0
-crlf_within_lines c next = grind (arith, nat_tests)
+end_count-le-end_count s t le cs = omega (arith, end_count_total, total-le-total (end_weight s) (end_weight t) le cs)
 
 -- LF alone breaks no more lines than LF, CR and CRLF
 pub count-Lf-le-count-Crlf : (cs : List ℕ) → count Lf cs ≤ count Crlf cs
-count-Lf-le-count-Crlf cs = end_count-le-end_count Lf Crlf (λ c after. lf_within_crlf c (get_or after 0 0)) cs
+count-Lf-le-count-Crlf cs = end_count-le-end_count Lf Crlf (λ c after. grind (arith, nat_tests)) cs
 
 -- LF, CR and CRLF break no more lines than all seven characters
 pub count-Crlf-le-count-Lines : (cs : List ℕ) → count Crlf cs ≤ count Lines cs
-count-Crlf-le-count-Lines cs = end_count-le-end_count Crlf Lines (λ c after. crlf_within_lines c (get_or after 0 0)) cs
+count-Crlf-le-count-Lines cs = end_count-le-end_count Crlf Lines (λ c after. grind (arith, nat_tests)) cs
 
 -- characters
 pub count-Chars-append : (a b : List ℕ) → count Chars (a ++ b) ≡ count Chars a + count Chars b
-count-Chars-append a b = omega (
-  arith,
-  count_characters a,
-  count_characters b,
-  count_characters (a ++ b),
-  sum_by-append {X = ℕ} (λ _. 1) a b,
-)
+count-Chars-append a b = omega (arith, count_characters, sum_by-append {X = ℕ} (λ _. 1) a b)
 
 -- UTF-16 code units
 pub count-Utf16-append : (a b : List ℕ) → count Utf16 (a ++ b) ≡ count Utf16 a + count Utf16 b
-count-Utf16-append a b = omega (arith, count-units a, count-units b, count-units (a ++ b), sum_by-append weight a b)
+count-Utf16-append a b = omega (arith, count-units, sum_by-append weight a b)
 
 -- surrogate pairs
 pub surrogates-append : (a b : List ℕ) → surrogates (a ++ b) ≡ surrogates a + surrogates b
@@ -62,13 +44,7 @@ surrogates-append a b = sum_by-append (λ c. cond (weight c == 2) 1 0) a b
 
 -- line feeds
 pub count-Lf-append : (a b : List ℕ) → count Lf (a ++ b) ≡ count Lf a + count Lf b
-count-Lf-append a b = omega (
-  arith,
-  count_line_feeds a,
-  count_line_feeds b,
-  count_line_feeds (a ++ b),
-  sum_by-append (λ c. cond (c == 10) 1 0) a b,
-)
+count-Lf-append a b = omega (arith, count_line_feeds, sum_by-append (λ c. cond (c == 10) 1 0) a b)
 
 -- line breaks by LF, CR and CRLF
 pub count-Crlf-append : (a b : List ℕ) → count Crlf (a ++ b) + cond (joins_crlf a b) 1 0 ≡ count Crlf a + count Crlf b

@@ -1,18 +1,15 @@
 -- Where an index goes that is at least the number of bytes of the text: to its end, in every scheme.
-use Rattle.std.proofs.Common.{◌≡◌, ℕ, zero, suc, ◌+◌, ◌≤◌, inl, inr, List, [], ◌∷◌, length, get_or, refl, arith, sym, ◌∙◌, ap, chars, IsUtf8}
-use Rattle.std.specs.Prelude.{◌==◌}
+use Rattle.std.proofs.Common.{◌≡◌, ℕ, zero, suc, ◌+◌, ◌≤◌, List, [], ◌∷◌, length, get_or, refl, arith, sym, ap, chars, IsUtf8}
 use Rattle.std.specs.Char.{len_utf8}
-use Rattle.std.proofs.lemmas.Bool.{cases_Bool, eqb-true}
 use Rattle.std.proofs.lemmas.List.{append-nil}
 use Rattle.std.proofs.lemmas.List.Sums.{sum_by-le-sum_by}
-use Rattle.std.proofs.lemmas.Str.{len_utf8_bounds}
 use Rattle.str_indices.specs.Text.{size, weight}
-use Rattle.str_indices.specs.Schemes.{Scheme, Chars, Utf16, Lf, Crlf, Lines, ends, end_at, boundary_at_units, to_byte_idx}
+use Rattle.str_indices.specs.Schemes.{Scheme, Utf16, ends, to_byte_idx}
 use Rattle.str_indices.specs.Relations.{IsBoundary}
 use Rattle.str_indices.proofs.lemmas.texts.Sizes.{size-append}
 use Rattle.str_indices.proofs.lemmas.texts.Increasing.{IncreasesWithin, low_le_high}
 use Rattle.str_indices.proofs.lemmas.texts.EndSets.{ends_increase_within}
-use Rattle.str_indices.proofs.lemmas.texts.Units.{boundary_at_units_is_greatest}
+use Rattle.str_indices.proofs.lemmas.texts.Units.{boundary_at_units_is_greatest, weight-le}
 use Rattle.str_indices.proofs.lemmas.bytes.Walks.{size-chars}
 
 -- of numbers that increase up to a bound, the k-th is the bound where so many must have reached it
@@ -22,38 +19,18 @@ get_or-past low [] high k h past = refl
 get_or-past low (e ∷ es) high zero h past = let most = low_le_high e es high h.1 in omega (arith, h.0)
 get_or-past low (e ∷ es) high (suc k) h past = get_or-past e es high k h.1 (omega (arith, h.0))
 
--- an end that is counted by the size or more is the size
-end_at-past : (s : Scheme) (cs : List ℕ) (k : ℕ) → size cs ≤ k → end_at s cs k ≡ size cs
-end_at-past s cs zero past = omega arith
-end_at-past s cs (suc k) past = get_or-past 0 (ends s cs) (size cs) k (ends_increase_within s cs) (omega arith)
-
--- a character takes no more units than bytes
-weight-le : (c : ℕ) → weight c ≤ len_utf8 c
-weight-le c =
-    elim (cases_Bool (len_utf8 c == 4)) [
-      | inl four ↦ rw four (omega (arith, eqb-true (len_utf8 c) 4 four))
-      | inr fewer ↦ rw fewer (omega (arith, len_utf8_bounds c))
-    ]
-
--- as many units as bytes, or more, are at the end of the text
-boundary_at_units-past : (cs : List ℕ) (k : ℕ) → size cs ≤ k → boundary_at_units cs k ≡ size cs
-boundary_at_units-past cs k past =
-    let answer = boundary_at_units_is_greatest cs k in
-    let whole : IsBoundary cs (size cs) = record { front = cs; back = []; split = sym (append-nil cs); place = refl } in
-    let at_most = size-append answer.boundary.front answer.boundary.back in
-    let most = answer.greatest (size cs) whole (omega (arith, sum_by-le-sum_by weight len_utf8 cs weight-le)) in
-    omega (arith, answer.boundary.place, ap size answer.boundary.split)
-
 -- an index that is at least the size goes to the end of the text
 to_byte_idx-past : (s : Scheme) (cs : List ℕ) (k : ℕ) → size cs ≤ k → to_byte_idx s cs k ≡ size cs
-to_byte_idx-past Chars cs k past = end_at-past Chars cs k past
-to_byte_idx-past Utf16 cs k past = boundary_at_units-past cs k past
-to_byte_idx-past Lf cs k past = end_at-past Lf cs k past
-to_byte_idx-past Crlf cs k past = end_at-past Crlf cs k past
-to_byte_idx-past Lines cs k past = end_at-past Lines cs k past
+to_byte_idx-past Utf16 cs k past =
+    let answer = boundary_at_units_is_greatest cs k in
+    let whole : IsBoundary cs (size cs) = record { front = cs; back = []; split = sym (append-nil cs); place = refl } in
+    let most = answer.greatest (size cs) whole (omega (arith, sum_by-le-sum_by weight len_utf8 cs weight-le)) in
+    omega (arith, ap size answer.boundary.split, size-append answer.boundary.front answer.boundary.back)
+to_byte_idx-past s cs zero past = omega arith
+to_byte_idx-past s cs (suc k) past = get_or-past 0 (ends s cs) (size cs) k (ends_increase_within s cs) (omega arith)
 
 -- an index that is at least the number of bytes goes behind the last of them
 pub to_byte_idx-past_bytes : (s : Scheme) (bytes : List ℕ) → IsUtf8 bytes → (k : ℕ) → length bytes ≤ k
     → to_byte_idx s (chars bytes) k ≡ length bytes
 to_byte_idx-past_bytes s bytes utf8 k past =
-    let bytes_of = size-chars bytes utf8 in to_byte_idx-past s (chars bytes) k (omega arith) ∙ bytes_of
+    omega (arith, to_byte_idx-past s (chars bytes) k, size-chars bytes utf8)
