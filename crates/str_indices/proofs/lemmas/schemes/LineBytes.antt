@@ -3,7 +3,7 @@
 use Rattle.std.proofs.Common.{◌≡◌, ℕ, ◌+◌, ◌/◌, ◌%◌, ◌<◌, ◌≤◌, List, ◌++◌, get_or, arith, Bool, false, ◌∙◌, ap, inl, inr, length, take, sym, chars, IsUtf8}
 use Rattle.std.specs.Prelude.{◌==◌, ◌&&◌, not}
 use Rattle.std.specs.Char.{char_set_contains}
-use Rattle.std.proofs.lemmas.Bool.{cases_lt, cases_Bool}
+use Rattle.std.proofs.lemmas.Bool.{cases_lt, false_from_ne_true}
 use Rattle.std.proofs.lemmas.Bool.Decides.{nat_tests}
 use Rattle.str_indices.specs.Text.{carriage_return, line_feed, size, cut}
 use Rattle.str_indices.specs.Schemes.{Lines, break_characters, count, from_byte_idx, to_byte_idx, ends_up_to}
@@ -28,48 +28,14 @@ break_at-le bytes j = flag-le (is_break (get_or bytes j 0) (get_or bytes (1 + j)
 pub breaks_counted_before-le : (bytes : List ℕ) (n : ℕ) → breaks_counted_before bytes n ≤ n
 breaks_counted_before-le bytes n = sum_below-le (break_at bytes) (break_at-le bytes) n
 
--- whether a character is one of the seven
-abbrev is_break_character : ℕ → Bool
-is_break_character c = char_set_contains (break_characters Lines) c
-
--- at an ASCII character
-break_of_one : (c next after : ℕ) → c < 128
-    → is_break c next after ≡ (is_break_character c && not (c == carriage_return && next == line_feed))
-break_of_one c next after ascii = grind (arith, nat_tests)
-
--- at a character of two bytes
-break_of_two : (c after : ℕ) → 128 ≤ c → c < 2048 → is_break (192 + c / 64) (128 + c % 64) after ≡ is_break_character c
-break_of_two c after from below = grind (arith, nat_tests)
-
--- at a character of three bytes
-break_of_three : (c : ℕ) → 2048 ≤ c → c < 65536
-    → is_break (224 + c / 4096) (128 + c / 64 % 64) (128 + c % 64) ≡ is_break_character c
-break_of_three c from below = grind (arith, nat_tests)
-
--- at a character of four bytes
-break_of_four : (c next after : ℕ) → 65536 ≤ c → is_break (240 + c / 262144) next after ≡ is_break_character c
-break_of_four c next after from = grind (arith, nat_tests)
-
--- no break is counted at a trailing byte
-break_of_none : (b next after : ℕ) → IsTrailing b → flag (is_break b next after) ≡ 0
-break_of_none b next after t = let low = t.low in let high = t.high in grind (arith, nat_tests)
-
 -- a break is counted at the first byte of its last character
 breaks_add : AddsAtFirst is_break (end_weight Lines)
-breaks_add = adds_breaks Lines lines_has_return is_break break_of_one
+breaks_add = adds_breaks Lines lines_has_return is_break (λ c next after ascii. grind (arith, nat_tests))
     (λ c rest s wide. by_size (λ bs. is_break (get_or (bs ++ rest) 0 0) (get_or (bs ++ rest) 1 0)
-    (get_or (bs ++ rest) 2 0) ≡ is_break_character c) c s
-    (λ ascii. absurd (omega arith))
-    (λ from below. break_of_two c (get_or rest 0 0) from below)
-    (λ from below. break_of_three c from below)
-    (λ from below. break_of_four c (128 + c / 4096 % 64) (128 + c / 64 % 64) from))
-    break_of_none
-
--- the breaks before a boundary are the line breaks at or before it
-breaks_at_boundary : (bytes : List ℕ) → IsUtf8 bytes → (p : ℕ) → IsBoundary (chars bytes) p
-    → breaks_counted_before bytes p ≡ ends_up_to Lines (chars bytes) p
-breaks_at_boundary bytes utf8 p b = ap (breaks_counted_before bytes) (sym (size-cut (chars bytes) p b))
-    ∙ ends_by_walk Lines is_break breaks_add bytes utf8 p
+    (get_or (bs ++ rest) 2 0) ≡ char_set_contains (break_characters Lines) c) c s (λ ascii. absurd (omega arith))
+    (λ from below. grind (arith, nat_tests)) (λ from below. grind (arith, nat_tests))
+    (λ from below. grind (arith, nat_tests)))
+    (λ b next after trailing. let low = trailing.low in let high = trailing.high in grind (arith, nat_tests))
 
 -- the breaks of the bytes before a boundary, as a text by itself, are the line breaks of the cut text
 pub breaks_in_cut : (bytes : List ℕ) → IsUtf8 bytes → (p : ℕ) → IsBoundary (chars bytes) p
@@ -88,13 +54,9 @@ line_of_byte bytes utf8 byte end here within = rw here
 -- a boundary before a byte of its character parts no CR from LF
 pub moved_is_whole : (bytes : List ℕ) → IsUtf8 bytes → (byte end : ℕ) → end ≡ size (cut (chars bytes) byte)
     → end < byte → is_middle bytes end ≡ false
-moved_is_whole bytes utf8 byte end here moved =
-    elim (cases_Bool (is_middle bytes end)) [
-      | inr apart ↦ apart
-      | inl between ↦
-          let (inside, feed) = feed_at_middle bytes end between in
-          absurd (omega (arith, wide_behind_cut bytes utf8 byte end inside (omega arith) moved))
-    ]
+moved_is_whole bytes utf8 byte end here moved = false_from_ne_true (is_middle bytes end) (λ between.
+    let (inside, feed) = feed_at_middle bytes end between in
+    omega (arith, wide_behind_cut bytes utf8 byte end inside (omega arith) moved))
 
 -- The boundary at or after the first place before which k breaks are counted is where line k begins; where there is
 -- no such place, the line begins at the text's end.
@@ -105,28 +67,19 @@ pub line_begins : (bytes : List ℕ) → IsUtf8 bytes → (k reached at : ℕ) �
 line_begins bytes utf8 k reached at from within b least stopped first =
     let cs = chars bytes in
     let whole = size-chars bytes utf8 in
+    let walked = ends_by_walk Lines is_break breaks_add bytes utf8 in
+    let here = ap (breaks_counted_before bytes) (sym (size-cut cs at b)) ∙ walked at in
     end_at_reached Lines cs k at (omega arith)
-    (λ inside. omega (
-      arith,
-      stopped (omega arith),
-      sum_below-le-sum_below (break_at bytes) reached at from,
-      breaks_at_boundary bytes utf8 at b,
-    ))
+    (λ inside. omega (arith, stopped (omega arith), sum_below-le-sum_below (break_at bytes) reached at from))
     (λ d before.
-    let place = size (cut cs d) in
-    elim (cases_lt place reached) [
-      | inl early ↦ omega (arith, first place early, ends_by_walk Lines is_break breaks_add bytes utf8 d)
-      | inr late ↦ absurd (omega (arith, (cut_is cs d).at.fits, least place (cut_boundary cs d) late))
-    ])
+    let fits = (cut_is cs d).at.fits in
+    let late = least (size (cut cs d)) (cut_boundary cs d) in
+    grind (arith, first (size (cut cs d)), late, walked d))
 
 -- a walk over no more bytes than numbers that fit stops at no count but goes on to its end
 pub walks_on : (bytes : List ℕ) (count at to most : ℕ) → at ≤ to → to ≤ most → count ≡ breaks_counted_before bytes at
     → (at < to → count ≡ most) → at ≡ to
-walks_on bytes count at to most within fits counted stopped =
-    elim (cases_lt at to) [
-      | inl before ↦ absurd (omega (arith, stopped before, breaks_counted_before-le bytes at))
-      | inr there ↦ omega arith
-    ]
+walks_on bytes count at to most within fits counted stopped = grind (arith, breaks_counted_before-le bytes at)
 
 -- the byte before or at which a text is cut, as the search takes it
 pub ruleset lines_up_to = (boundary_of_cut, line_of_byte)
