@@ -1,17 +1,16 @@
 -- The characters of a text, from its leading and its trailing bytes.
-use Rattle.std.proofs.Common.{◌≡◌, ℕ, suc, ◌+◌, ◌<◌, ◌≤◌, ◌⊎◌, inl, inr, Bool, true, false, cond, List, length, get_or, refl, arith, sym, ◌∙◌, ap, add-one, chars, IsUtf8}
-use Rattle.std.specs.Prelude.{not}
+use Rattle.std.proofs.Common.{◌≡◌, ℕ, suc, ◌+◌, ◌<◌, ◌≤◌, ◌⊎◌, inl, inr, List, length, get_or, refl, arith, sym, ◌∙◌, ap, add-one, chars, IsUtf8}
 use Rattle.std.proofs.lemmas.Bool.{cases_lt}
 use Rattle.str_indices.specs.Text.{size, cut}
 use Rattle.str_indices.specs.Schemes.{count, ends, ends_up_to, from_byte_idx, to_byte_idx, Chars}
 use Rattle.str_indices.specs.Relations.{IsBoundary}
-use Rattle.str_indices.specs.Bytes.{mark, flag, passing_before, is_trailing, is_leading}
+use Rattle.str_indices.specs.Bytes.{mark, passing_before, is_trailing, is_leading}
 use Rattle.std.proofs.Math.Utf8.{encodes}
 use Rattle.str_indices.proofs.lemmas.bytes.Sums.{mark-le, passing_bounds, sum_below-le-sum_below, passing_or_not}
 use Rattle.str_indices.proofs.lemmas.texts.Increasing.{member_adjunction, select-rank-le}
-use Rattle.str_indices.proofs.lemmas.texts.Ends.{ReadsAlone, count_characters, cut-cut, end_count-cut}
+use Rattle.str_indices.proofs.lemmas.texts.Ends.{count_characters, cut-cut, end_count-cut}
 use Rattle.str_indices.proofs.lemmas.bytes.Characters.{first_byte, is_trailing_later}
-use Rattle.str_indices.proofs.lemmas.bytes.Walks.{AddsAtFirst, bytes_to_boundary, boundary_at_end, cut_at_end, size-chars}
+use Rattle.str_indices.proofs.lemmas.bytes.Walks.{bytes_to_boundary, size-chars}
 use Rattle.str_indices.proofs.lemmas.texts.EndSets.{ends_increase_within, end_at_reached, zero_or_end}
 use Rattle.str_indices.proofs.lemmas.bytes.BoundaryBytes.{boundary_of_cut, begins_boundary, leading_among_four}
 

@@ -1,12 +1,11 @@
 -- The line breaks of `Lines` as the bytes at which they are counted: at a boundary, in a cut text, and where a line
 -- begins.
-use Rattle.std.proofs.Common.{◌≡◌, ℕ, ◌+◌, ◌/◌, ◌%◌, ◌<◌, ◌≤◌, List, ◌++◌, get_or, arith, Bool, false, ◌∙◌, ap, inl, inr, length, take, sym, chars, IsUtf8}
-use Rattle.std.specs.Prelude.{◌==◌, ◌&&◌, not}
+use Rattle.std.proofs.Common.{◌≡◌, ℕ, ◌+◌, ◌<◌, ◌≤◌, List, ◌++◌, get_or, arith, false, ◌∙◌, ap, length, take, sym, chars, IsUtf8}
 use Rattle.std.specs.Char.{char_set_contains}
-use Rattle.std.proofs.lemmas.Bool.{cases_lt, false_from_ne_true}
+use Rattle.std.proofs.lemmas.Bool.{false_from_ne_true}
 use Rattle.std.proofs.lemmas.Bool.Decides.{nat_tests}
-use Rattle.str_indices.specs.Text.{carriage_return, line_feed, size, cut}
-use Rattle.str_indices.specs.Schemes.{Lines, break_characters, count, from_byte_idx, to_byte_idx, ends_up_to}
+use Rattle.str_indices.specs.Text.{size, cut}
+use Rattle.str_indices.specs.Schemes.{Lines, break_characters, count, from_byte_idx, to_byte_idx}
 use Rattle.str_indices.specs.Breaks.{is_break, break_at, breaks_counted_before}
 use Rattle.str_indices.specs.Relations.{IsBoundary}
 use Rattle.str_indices.specs.Bytes.{flag, is_middle}
@@ -15,7 +14,7 @@ use Rattle.str_indices.proofs.lemmas.texts.Ends.{end_weight, end_count_total, cu
 use Rattle.str_indices.proofs.lemmas.texts.Seams.{lines_has_return}
 use Rattle.str_indices.proofs.lemmas.texts.EndSets.{end_at_reached}
 use Rattle.str_indices.proofs.lemmas.bytes.Sums.{flag-le, sum_below-le, sum_below-le-sum_below}
-use Rattle.str_indices.proofs.lemmas.bytes.Characters.{IsTrailing, by_size}
+use Rattle.str_indices.proofs.lemmas.bytes.Characters.{by_size}
 use Rattle.str_indices.proofs.lemmas.bytes.Walks.{AddsAtFirst, size-chars, size-cut, walk_to_boundary}
 use Rattle.str_indices.proofs.lemmas.bytes.BoundaryBytes.{boundary_of_cut, cut_boundary, wide_behind_cut}
 use Rattle.str_indices.proofs.lemmas.bytes.EndBytes.{adds_breaks, ends_by_walk, breaks_of_cut_text, feed_at_middle}

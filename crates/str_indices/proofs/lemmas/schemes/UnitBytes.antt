@@ -1,5 +1,5 @@
 -- The UTF-16 code units of a text, from its leading bytes and the first bytes of its characters of four bytes.
-use Rattle.std.proofs.Common.{◌≡◌, ℕ, zero, suc, ◌+◌, ◌-◌, ◌<◌, ◌≤◌, ◌⊎◌, inl, inr, true, false, cond, List, ◌++◌, length, get_or, refl, arith, sym, ◌∙◌, ap, add-one, add-zero, add-suc, chars, IsUtf8, bit_and, ◌/◌}
+use Rattle.std.proofs.Common.{◌≡◌, ℕ, zero, suc, ◌+◌, ◌-◌, ◌<◌, ◌≤◌, inl, inr, true, false, List, ◌++◌, length, get_or, refl, arith, sym, ◌∙◌, ap, add-one, add-zero, add-suc, chars, IsUtf8, bit_and}
 use Rattle.std.specs.Prelude.{◌==◌, nat_le, sum_by}
 use Rattle.std.specs.Char.{len_utf8}
 use Rattle.std.proofs.Math.Utf8.{encode, encodes, scalar}
@@ -9,7 +9,7 @@ use Rattle.std.proofs.lemmas.Nat.{and_assoc}
 use Rattle.std.proofs.lemmas.Str.{length-encode}
 use Rattle.std.proofs.lemmas.Bool.Decides.{nat_tests}
 use Rattle.str_indices.specs.Text.{size, cut, weight}
-use Rattle.str_indices.specs.Schemes.{count, from_byte_idx, Chars, Utf16, units, surrogates, boundary_at_units}
+use Rattle.str_indices.specs.Schemes.{count, from_byte_idx, Chars, Utf16, surrogates, boundary_at_units}
 use Rattle.str_indices.specs.Relations.{IsBoundary}
 use Rattle.str_indices.specs.Bytes.{flag, mark, passing_before, is_trailing, is_leading, begins_four_bytes, units_before, byte_before}
 use Rattle.str_indices.proofs.lemmas.texts.Sizes.{size-append, boundary_beside}
@@ -17,7 +17,7 @@ use Rattle.str_indices.proofs.lemmas.texts.Units.{units_at, boundary_at_units_is
 use Rattle.str_indices.proofs.lemmas.texts.Ends.{cut-cut}
 use Rattle.str_indices.proofs.lemmas.bytes.Sums.{sum_below-le-sum_below, sum_below-still, mark-le, passing_or_not, passing_before-between}
 use Rattle.str_indices.proofs.lemmas.bytes.Characters.{by_size}
-use Rattle.str_indices.proofs.lemmas.bytes.Walks.{AddsAtFirst, bytes_to_boundary, boundary_at_end, size-chars}
+use Rattle.str_indices.proofs.lemmas.bytes.Walks.{bytes_to_boundary, boundary_at_end, size-chars}
 use Rattle.str_indices.proofs.lemmas.bytes.BoundaryBytes.{boundary_of_cut, begins_at, begins_boundary}
 use Rattle.str_indices.proofs.lemmas.schemes.CharBytes.{CountsLeading, leading_at_boundary}
 
@@ -64,8 +64,11 @@ units_count_leading bytes m n le =
 
 -- more bytes show no fewer units
 units_before-le-units_before : (bytes : List ℕ) (m n : ℕ) → m ≤ n → units_before bytes m ≤ units_before bytes n
-units_before-le-units_before bytes m n le = omega (arith, units_count_leading bytes m n le,
-    sum_below-le-sum_below (λ j. mark is_leading (get_or bytes j 0)) m n le)
+units_before-le-units_before bytes m n le = omega (
+  arith,
+  units_count_leading bytes m n le,
+  sum_below-le-sum_below (λ j. mark is_leading (get_or bytes j 0)) m n le,
+)
 
 -- one byte more
 pub units_before-next : (bytes : List ℕ) (i : ℕ) → units_before bytes (i + 1)
