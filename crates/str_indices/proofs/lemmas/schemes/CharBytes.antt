@@ -38,7 +38,8 @@ end_is_near counted leads bytes utf8 at size k end stopped within at_most =
           let (m, le, lt, begins) = leading_among_four bytes utf8 (at + size) (omega arith) in
           let one : ◌≡◌ {A = ℕ} (mark is_leading (get_or bytes m 0)) 1 = rw begins in
           let up_to = sum_below-le-sum_below (λ j. mark is_leading (get_or bytes j 0)) in
-          absurd (omega (arith, leads bytes (at + size) end (omega arith), up_to (at + size) m le, up_to (suc m) end (omega arith)))
+          let grown = leads bytes (at + size) end (omega arith) in
+          absurd (omega (arith, up_to (at + size) m le, up_to (suc m) end (omega arith)))
     ]
 
 -- the characters of the text that is cut at the boundary at or before a byte are those that end at or before it
@@ -70,12 +71,12 @@ module _ (bytes : List ℕ) (utf8 : IsUtf8 bytes) where
       let b = begins_boundary bytes utf8 at within (λ inside. grind (arith, more, stopped inside)) in
       let counted = leading_at_boundary at b ∙ end_count-cut Chars (λ c cs ds. refl) cs at in
       let increases = ends_increase_within Chars cs in
+      let adjoint = member_adjunction (ends Chars cs) (size cs) increases at in
       end_at_reached Chars cs k at (omega arith)
       (λ inside. omega (arith, stopped (omega arith), mark-le is_leading (get_or bytes at 0)))
       (λ d before.
       let place = select-rank-le (ends Chars cs) (size cs) increases d in
-      let later = (member_adjunction (ends Chars cs) (size cs) increases at (ends_up_to Chars cs d) (zero_or_end cs at b)).1 in
-      grind (arith, later))
+      grind (arith, (adjoint (ends_up_to Chars cs d) (zero_or_end cs at b)).1))
 
   -- a byte that begins the character after the k-th is where the k-th ends
   pub char_found : (i k : ℕ) → i < length bytes → passing_before is_leading bytes i ≤ k

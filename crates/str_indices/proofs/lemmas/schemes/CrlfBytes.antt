@@ -2,14 +2,16 @@
 use Rattle.std.proofs.Common.{◌≡◌, ℕ, zero, suc, ◌+◌, ◌<◌, ◌≤◌, inl, inr, Bool, cond, List, ◌++◌, length, get_or, min, refl, arith, sym, ◌∙◌, ap, add-one, add-zero, chars, IsUtf8}
 use Rattle.std.specs.Prelude.{◌&&◌, ◌||◌, not}
 use Rattle.std.specs.Char.{char_set_contains}
-use Rattle.std.proofs.lemmas.Bool.{cases_lt, cases_Bool}
+use Rattle.std.proofs.lemmas.Bool.{cases_Bool}
 use Rattle.std.proofs.lemmas.Bool.Decides.{nat_tests}
 use Rattle.str_indices.specs.Text.{size, cut}
-use Rattle.str_indices.specs.Schemes.{Crlf, break_characters, count, from_byte_idx, to_byte_idx, ends_up_to}
+use Rattle.str_indices.specs.Schemes.{Crlf, break_characters, count, from_byte_idx, to_byte_idx, ends}
 use Rattle.str_indices.specs.Bytes.{sum_below, flag, mark, is_line_feed, is_carriage_return, byte_before, starts_break, break_start, breaks_before, is_middle}
+use Rattle.str_indices.proofs.lemmas.texts.Cuts.{cut_at_least}
+use Rattle.str_indices.proofs.lemmas.texts.Increasing.{rank-le-rank}
 use Rattle.str_indices.proofs.lemmas.texts.Ends.{end_weight}
 use Rattle.str_indices.proofs.lemmas.texts.Seams.{crlf_has_return}
-use Rattle.str_indices.proofs.lemmas.texts.EndSets.{ends_up_to-all, end_at_reached}
+use Rattle.str_indices.proofs.lemmas.texts.EndSets.{end_at_reached}
 use Rattle.str_indices.proofs.lemmas.bytes.Sums.{sum_below-le, mark-le}
 use Rattle.str_indices.proofs.lemmas.bytes.Characters.{by_width}
 use Rattle.str_indices.proofs.lemmas.bytes.Walks.{AddsAtFirst, counted_at, size-chars}
@@ -41,15 +43,6 @@ breaks_add = adds_breaks Crlf crlf_has_return ends_break (λ c next after ascii.
     (λ ascii. absurd (omega arith)) (λ first others is. let low = is.low in grind (arith, nat_tests)))
     (λ b next after trailing. let low = trailing.low in grind (arith, nat_tests))
 
--- at or before the lesser of a byte index and the text's size are as many ends as at or before the byte index
-up_to_least : (cs : List ℕ) (byte least : ℕ) → least ≡ min byte (size cs)
-    → ends_up_to Crlf cs least ≡ ends_up_to Crlf cs byte
-up_to_least cs byte least here =
-    elim (cases_lt byte (size cs)) [
-      | inl inside ↦ ap (ends_up_to Crlf cs) (omega arith)
-      | inr past ↦ ends_up_to-all Crlf cs least (omega arith) ∙ sym (ends_up_to-all Crlf cs byte past)
-    ]
-
 module _ (bytes : List ℕ) (utf8 : IsUtf8 bytes) where
   -- the breaks that start before a byte index are those that end at or before it, and one more between CR and LF
   breaks_up_to : (i : ℕ) → i ≤ length bytes
@@ -66,14 +59,16 @@ module _ (bytes : List ℕ) (utf8 : IsUtf8 bytes) where
       let of_cut = breaks_of_cut_text Crlf crlf_has_return bytes utf8 end in
       omega (arith, starts_and_ends bytes (size (cut (chars bytes) end)))
 
-  -- By that count, and by a test that the place is none between CR and LF: the breaks that end at a byte index or before.
+  -- By that count and a test that the place is none between CR and LF: the breaks that end at a byte index or before.
   pub breaks_by_cut : (byte least : ℕ) (whole : Bool) → least ≡ min byte (length bytes)
       → whole ≡ not (is_middle bytes least)
       → count Crlf (cut (chars bytes) least) ≡ from_byte_idx Crlf (chars bytes) byte + cond whole 0 1
   breaks_by_cut byte least whole here tested =
       let flipped : ◌≡◌ {A = ℕ} (cond (not (is_middle bytes least)) 0 1) (mark (is_middle bytes) least) = grind arith in
-      let size = size-chars bytes utf8 in
-      let up_to = up_to_least (chars bytes) byte least (omega arith) in
+      let same = cut_at_least (chars bytes) byte least (omega (arith, size-chars bytes utf8)) in
+      let seam = breaks_of_cut_text Crlf crlf_has_return bytes utf8 byte in
+      let seam_at_least = rw same at (breaks_of_cut_text Crlf crlf_has_return bytes utf8 least) in
+      let counts = ap (count Crlf) same in
       rw tested (omega (arith, breaks_of_cut least (omega arith), breaks_up_to least (omega arith)))
 
   -- The first byte before which k breaks start, or else the text's end, is where line k begins; where it stands
@@ -83,21 +78,17 @@ module _ (bytes : List ℕ) (utf8 : IsUtf8 bytes) where
       → at + mark (is_middle bytes) at ≡ to_byte_idx Crlf (chars bytes) k
   line_begins k at within stopped first =
       let size = size-chars bytes utf8 in
-      let here = breaks_up_to at within in
       elim (cases_Bool (is_middle bytes at)) [
         | inr other ↦ rw (other, add-zero) (end_at_reached Crlf (chars bytes) k at (omega arith)
-            (λ inside. omega (arith, stopped (omega arith), rw other at here))
+            (λ inside. omega (arith, stopped (omega arith), rw other at (breaks_up_to at within)))
             (λ d before. omega (arith, first d before, breaks_up_to d (omega arith))))
         | inl middle ↦
             let (inside, feed) = feed_at_middle bytes at middle in
+            let here = rw middle at (breaks_up_to at within) in
             let behind : mark (is_middle bytes) (suc at) ≡ 0 = rw feed refl in
             rw (middle, add-one) (end_at_reached Crlf (chars bytes) k (suc at) (omega arith)
             (λ _. omega (arith, stopped inside, breaks_up_to (suc at) (omega arith), behind))
-            (λ d before. elim (cases_lt d at) [
-              | inl earlier ↦ omega (arith, first d earlier, breaks_up_to d (omega arith))
-              | inr not_earlier ↦
-                  let same : d ≡ at = omega arith in rw same (omega (arith, stopped inside, rw middle at here))
-            ]))
+            (λ d before. omega (arith, stopped inside, rank-le-rank (ends Crlf (chars bytes)) d at (omega arith))))
       ]
 
 -- at each place one break starts at most

@@ -64,11 +64,9 @@ units_count_leading bytes m n le =
 
 -- more bytes show no fewer units
 units_before-le-units_before : (bytes : List ℕ) (m n : ℕ) → m ≤ n → units_before bytes m ≤ units_before bytes n
-units_before-le-units_before bytes m n le = omega (
-  arith,
-  units_count_leading bytes m n le,
-  sum_below-le-sum_below (λ j. mark is_leading (get_or bytes j 0)) m n le,
-)
+units_before-le-units_before bytes m n le =
+    let grown = units_count_leading bytes m n le in
+    omega (arith, sum_below-le-sum_below (λ j. mark is_leading (get_or bytes j 0)) m n le)
 
 -- one byte more
 pub units_before-next : (bytes : List ℕ) (i : ℕ) → units_before bytes (i + 1)
@@ -119,10 +117,9 @@ module _ (bytes : List ℕ) (utf8 : IsUtf8 bytes) where
   -- before a boundary the units that the bytes show are those of the characters
   units_at_boundary : (p : ℕ) (b : IsBoundary (chars bytes) p) → units_before bytes p ≡ sum_by weight b.front
   units_at_boundary p b =
-      let front = cut (chars bytes) p in
       let units = units_at (chars bytes) p b in
       let pairs = pairs_at_boundary p b in
-      omega (arith, count-units front, units_of_cut (chars bytes) p, leading_at_boundary bytes utf8 p b)
+      omega (arith, count-units (cut (chars bytes) p), units_of_cut (chars bytes) p, leading_at_boundary bytes utf8 p b)
 
   -- no place in a text has more units before it than the text has bytes
   pub units_before-le : (i : ℕ) → i ≤ length bytes → units_before bytes i ≤ length bytes
