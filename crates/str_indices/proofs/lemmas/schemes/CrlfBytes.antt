@@ -1,5 +1,5 @@
 -- The line breaks of `Crlf`, from the bytes at which they start.
-use Rattle.std.proofs.Common.{◌≡◌, ℕ, zero, suc, ◌+◌, ◌<◌, ◌≤◌, inl, inr, Bool, cond, List, ◌++◌, length, get_or, min, refl, arith, sym, ◌∙◌, ap, add-one, add-zero, chars, IsUtf8}
+use Rattle.std.proofs.Common.{◌≡◌, ℕ, zero, suc, ◌+◌, ◌<◌, ◌≤◌, inl, inr, Bool, cond, List, ◌++◌, length, get_or, min, refl, arith, ap, add-one, add-zero, chars, IsUtf8}
 use Rattle.std.specs.Prelude.{◌&&◌, ◌||◌, not}
 use Rattle.std.specs.Char.{char_set_contains}
 use Rattle.std.proofs.lemmas.Bool.{cases_Bool}
