@@ -3,7 +3,7 @@ use Rattle.std.proofs.Common.{◌≡◌, ℕ, zero, suc, ◌+◌, ◌-◌, ◌<�
 use Rattle.std.specs.Prelude.{◌==◌, nat_le, sum_by}
 use Rattle.std.specs.Char.{len_utf8}
 use Rattle.std.proofs.Math.Utf8.{encode, encodes, scalar}
-use Rattle.std.proofs.lemmas.Bool.{cases_lt, cases_Bool, false_from_ne_true, agree_below_at, lt-leb, eqb-true}
+use Rattle.std.proofs.lemmas.Bool.{cases_Bool, false_from_ne_true, agree_below_at, lt-leb, eqb-true}
 use Rattle.std.proofs.lemmas.List.Sums.{sum_by-le-sum_by}
 use Rattle.std.proofs.lemmas.Nat.{and_assoc}
 use Rattle.std.proofs.lemmas.Str.{length-encode}
@@ -72,11 +72,6 @@ units_before-le-units_before bytes m n le =
 pub units_before-next : (bytes : List ℕ) (i : ℕ) → units_before bytes (i + 1)
     ≡ units_before bytes i + (mark is_leading (get_or bytes i 0) + mark begins_four_bytes (get_or bytes i 0))
 units_before-next bytes i = rw add-one (omega arith)
-
--- a byte that shows a unit is no trailing byte
-shows_unit : (bytes : List ℕ) (i : ℕ) → units_before bytes i < units_before bytes (i + 1)
-    → is_trailing (get_or bytes i 0) ≡ false
-shows_unit bytes i more = grind (arith, units_before-next bytes i, four_leads (get_or bytes i 0))
 
 -- the units of the text that is cut at the boundary at or before a byte are those of the characters that end at or
 -- before it
@@ -161,16 +156,13 @@ module _ (bytes : List ℕ) (utf8 : IsUtf8 bytes) where
   unit_reached at k within at_most stopped =
       let p = boundary_at_units (chars bytes) k in
       let answer = boundary_at_units_is_greatest (chars bytes) k in
-      let b = begins_boundary bytes utf8 at within (λ below. shows_unit bytes at (omega (arith, stopped below))) in
+      let b = begins_boundary bytes utf8 at within
+      (λ below. grind (arith, stopped below, units_before-next bytes at, four_leads (get_or bytes at 0))) in
       let reaches = answer.greatest at b (omega (arith, units_at_boundary at b)) in
       let sizes = ap size answer.boundary.split ∙ size-append answer.boundary.front answer.boundary.back in
       let inside : p ≤ length bytes = omega (arith, answer.boundary.place, size-chars bytes utf8) in
-      elim (cases_lt at p) [
-        | inr le ↦ omega arith
-        | inl further ↦
-            let more = units_before-le-units_before bytes (at + 1) p (omega arith) in
-            absurd (omega (arith, stopped (omega arith), units_at_boundary p answer.boundary, answer.fits))
-      ]
+      let most : units_before bytes p ≤ k = omega (arith, units_at_boundary p answer.boundary, answer.fits) in
+      grind (arith, stopped, units_before-le-units_before bytes (at + 1) p)
 
 -- the byte before or at which a text is cut, as the search takes it
 pub ruleset units_up_to = (boundary_of_cut, units_of_byte)
