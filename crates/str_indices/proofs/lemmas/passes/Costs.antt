@@ -24,25 +24,10 @@ pub then_ : {old seen new : ProbeState} {first t l s t' l' s' : ℕ} → Reads o
     → Reads seen new first t' l' s' → Reads old new first (t + t') (l + l') (s + s')
 then_ a b = grind arith
 
-module _ {old new : ProbeState} where
-  -- what reads no more, reads no more
-  pub weaken : {first t l s first' t' l' s' : ℕ} → Reads old new first t l s → first' ≤ first → t ≤ t' → l ≤ l'
-      → s ≤ s' → Reads old new first' t' l' s'
-  weaken a le_first le_turns le_loads le_spare = search arith
-
-  -- peeks that the turns and the loads pay for are no spare ones
-  pub paid : {first t l s : ℕ} → Reads old new first t l s
-      → new.peeks ≤ old.peeks + (2 * (new.turns - old.turns) + 4 * (new.loads - old.loads)) → Reads old new first t l 0
-  paid a few = search arith
-
-  -- where nothing was walked or loaded, the peeks are the spare ones
-  pub peeks_only : {first s : ℕ} → Reads old new first 0 0 s
-      → (new.turns ≡ old.turns) × (new.loads ≡ old.loads) × (new.peeks ≤ old.peeks + s)
-  peeks_only a = omega arith
-
-  -- where nothing was loaded, no place was loaded from
-  pub anywhere : {first t s : ℕ} (first' : ℕ) → Reads old new first t 0 s → Reads old new first' t 0 s
-  anywhere first' a = grind arith
+-- what reads no more, reads no more
+pub weaken : {old new : ProbeState} {first t l s first' t' l' s' : ℕ} → Reads old new first t l s → first' ≤ first
+    → t ≤ t' → l ≤ l' → s ≤ s' → Reads old new first' t' l' s'
+weaken a le_first le_turns le_loads le_spare = search arith
 
 -- turns pay for two peeks each
 pub turns_paying : (old seen new : ProbeState) (first n t spare : ℕ) → seen ≡ record old { turns = old.turns + n }
