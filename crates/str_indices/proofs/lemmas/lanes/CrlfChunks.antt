@@ -112,7 +112,7 @@ module _ {text : List ℕ} {at size : ℕ} {chunk before : List ℕ} (loaded : L
       -- the lanes where a break starts
       starts_are : {starts : List ℕ} → starts ≡ zip2 (λ a b. a - b) both pairs
           → HasLanes size (λ j. break_start text (at + j)) starts
-      starts_are made = lanes_same (λ j. break_start text (at + j)) (lanes_zip2 (λ a b. a - b) both_are pairs_are made)
+      starts_are made = lanes_same (lanes_zip2 (λ a b. a - b) both_are pairs_are made)
           (λ j l. starts_in_lane (byte_before text (at + j)) (get_or text (at + j) 0))
 
       -- each is one at most

@@ -53,9 +53,9 @@ pub lanes_of : {size : ℕ} {xs : List ℕ} → length xs ≡ size → HasLanes 
 lanes_of long = record { long = long; each = λ j l. refl }
 
 -- lanes that hold one number of each place hold another that is the same there
-pub lanes_same : {size : ℕ} {f : ℕ → ℕ} (g : ℕ → ℕ) {xs : List ℕ} → HasLanes size f xs
+pub lanes_same : {size : ℕ} {f g : ℕ → ℕ} {xs : List ℕ} → HasLanes size f xs
     → ((j : ℕ) → j < size → f j ≡ g j) → HasLanes size g xs
-lanes_same g h same = record { long = h.long; each = λ j l. h.each j l ∙ same j l }
+lanes_same h same = record { long = h.long; each = λ j l. h.each j l ∙ same j l }
 
 -- each lane mapped
 pub lanes_map : (u : ℕ → ℕ) {size : ℕ} {f : ℕ → ℕ} {xs ys : List ℕ} → HasLanes size f xs → ys ≡ map u xs
@@ -68,7 +68,7 @@ lanes_map u {size} {f} {xs} {ys} h is = rw is (record {
 -- each byte of a chunk that was loaded from a text mapped
 pub lanes_loaded : (u : ℕ → ℕ) (text : List ℕ) (at size : ℕ) {lanes counts : List ℕ} → at + size ≤ length text
     → lanes ≡ take size (drop at text) → counts ≡ map u lanes → HasLanes size (λ j. u (get_or text (at + j) 0)) counts
-lanes_loaded u text at size {lanes} {counts} within loaded mapped = lanes_same (λ j. u (get_or text (at + j) 0))
+lanes_loaded u text at size {lanes} {counts} within loaded mapped = lanes_same
     (lanes_map u (lanes_of (length-loaded text at size lanes within loaded)) mapped)
     (λ j l. ap u (ap (λ xs. get_or xs j 0) loaded ∙ get_or-take size (drop at text) j 0 l ∙ get_or-drop at text j 0))
 
@@ -99,7 +99,7 @@ and_of_flags false false = refl
 -- two chunks of flags, both at once
 pub lanes_and : (p q : ℕ → Bool) {size : ℕ} {xs ys zs : List ℕ} → HasLanes size (λ j. flag (p j)) xs
     → HasLanes size (λ j. flag (q j)) ys → zs ≡ zip2 bit_and xs ys → HasLanes size (λ j. flag (p j && q j)) zs
-lanes_and p q h k is = lanes_same (λ j. flag (p j && q j)) (lanes_zip2 bit_and h k is) (λ j l. and_of_flags (p j) (q j))
+lanes_and p q h k is = lanes_same (lanes_zip2 bit_and h k is) (λ j l. and_of_flags (p j) (q j))
 
 -- lanes shifted back by n, where past the last there is nothing
 pub lanes_shift : (n : ℕ) {size : ℕ} {f : ℕ → ℕ} {xs ys : List ℕ} → n < size → ((j : ℕ) → size ≤ j → f j ≡ 0)
@@ -123,9 +123,9 @@ lanes_shift n {size} {f} {xs} {ys} small none h is =
         ∙ get_or-replicate n (j - length xs) 0 0 (omega arith))
 
 -- one lane set
-pub lanes_set : {size : ℕ} {f : ℕ → ℕ} (g : ℕ → ℕ) {xs ys : List ℕ} (k n : ℕ) → k < size → HasLanes size f xs
+pub lanes_set : {size : ℕ} {f g : ℕ → ℕ} {xs ys : List ℕ} (k n : ℕ) → k < size → HasLanes size f xs
     → ys ≡ slice_set xs k n → n ≡ g k → ((j : ℕ) → j < size → j ≢ k → f j ≡ g j) → HasLanes size g ys
-lanes_set {size} {f} g {xs} {ys} k n within h is here elsewhere = rw is (record {
+lanes_set {xs = xs} k n within h is here elsewhere = rw is (record {
   long = length-set xs k n ∙ h.long;
   each = λ j l. elim (cases_eq j k) [
     | inl same ↦ rw same (get_or-set_same xs k n 0 (omega (arith, h.long)) ∙ here)
