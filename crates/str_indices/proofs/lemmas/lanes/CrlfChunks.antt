@@ -12,26 +12,11 @@ use Rattle.str_indices.proofs.lemmas.schemes.CrlfBytes.{break_start-le}
 use Rattle.str_indices.proofs.lemmas.lanes.Lanes.{Each1-lanes, Each2-lanes, lanes_and, lanes_loaded, lanes_same, lanes_zip2, sum_below-chunk}
 
 -- the last lane, where nothing but it is left
-last_left : (last size : ℕ) (lanes : List ℕ) → suc last ≡ size → length lanes ≡ size
-    → drop last lanes ≡ get_or lanes last 0 ∷ []
-last_left last size lanes next long = drop-cons lanes last 0 (omega arith)
-    ∙ ap (λ l. get_or lanes last 0 ∷ l) (nothing_left lanes (suc last) (omega arith))
-  where
-    nothing_left : (lanes : List ℕ) (n : ℕ) → length lanes ≤ n → drop n lanes ≡ []
-    nothing_left [] zero le = refl
-    nothing_left [] (suc n) le = refl
-    nothing_left (x ∷ lanes) zero le = absurd (omega arith)
-    nothing_left (x ∷ lanes) (suc n) le = nothing_left lanes n (omega arith)
-
--- the number that is taken off in a lane is no more than what stands there
-pair_within : (before b : ℕ)
-    → flag (is_carriage_return before && is_line_feed b) ≤ mark is_line_feed b + mark is_carriage_return b
-pair_within before b = grind (arith, nat_tests)
-
--- what is left is 1 where a break starts
-starts_in_lane : (before b : ℕ) → mark is_line_feed b + mark is_carriage_return b - flag
-    (is_carriage_return before && is_line_feed b) ≡ mark (starts_break before) b
-starts_in_lane before b = grind (arith, nat_tests)
+last_left : (last : ℕ) (lanes : List ℕ) → length lanes ≡ suc last → drop last lanes ≡ get_or lanes last 0 ∷ []
+last_left zero (x ∷ []) long = refl
+last_left (suc last) (x ∷ lanes) long = last_left last lanes (omega arith)
+last_left last [] long = absurd (omega arith)
+last_left zero (x ∷ y ∷ lanes) long = absurd (omega arith)
 
 -- the chunk of `text` at `at`, and the chunk before it, whose last lane says whether the byte before `at` is CR
 pub record Loaded (text : List ℕ) (at size : ℕ) (chunk before : List ℕ) : Type 0 where
@@ -44,7 +29,7 @@ pub record Loaded (text : List ℕ) (at size : ℕ) (chunk before : List ℕ) : 
 pub loaded_by : {text : List ℕ} {at size : ℕ} {chunk before : List ℕ} → 4 ≤ size → at + size ≤ length text
     → chunk ≡ take size (drop at text) → drop (size - 1) before ≡ mark is_carriage_return (byte_before text at) ∷ []
     → Loaded text at size chunk before
-loaded_by least within taken carried = record { above = omega arith; within = within; taken = taken; carried = carried }
+loaded_by least within taken carried = search arith
 
 module _ {text : List ℕ} {at size : ℕ} {chunk before : List ℕ} (loaded : Loaded text at size chunk before) where
   -- 1 in each lane that passes a test
@@ -58,12 +43,10 @@ module _ {text : List ℕ} {at size : ℕ} {chunk before : List ℕ} (loaded : L
       → HasLanes size (λ j. mark is_carriage_return (byte_before text (at + j))) lanes
   shifted {returns} {lanes} made moved =
       let marks = marked is_carriage_return made in
-      let whole = moved ∙ ap (λ l. l ++ take (size - 1) returns) loaded.carried in
-      record {
-        long = ap length whole
-            ∙ omega (arith, loaded.above, length-take-le (size - 1) returns (omega (arith, marks.long)));
-        each = λ j below. ap (λ l. get_or l j 0) whole ∙ lane j below;
-      }
+      rw (moved, loaded.carried) (record {
+        long = grind (arith, loaded.above, length-take-le (size - 1) returns, marks.long);
+        each = lane;
+      })
     where
       lane : (j : ℕ) → j < size → get_or (mark is_carriage_return (byte_before text at) ∷ take (size - 1) returns) j
           0 ≡ mark is_carriage_return (byte_before text (at + j))
@@ -78,17 +61,15 @@ module _ {text : List ℕ} {at size : ℕ} {chunk before : List ℕ} (loaded : L
       let marks = marked is_carriage_return made in
       let above = loaded.above in
       let last : at + size ≡ suc (at + (size - 1)) = omega arith in
-      last_left (size - 1) size returns (omega arith) marks.long
-      ∙ ap (λ n. n ∷ []) (marks.each (size - 1) (omega arith)
-      ∙ ap (λ k. mark is_carriage_return (byte_before text k)) (sym last))
+      rw last (last_left (size - 1) returns (omega (arith, marks.long))
+      ∙ ap (λ n. n ∷ []) (marks.each (size - 1) (omega arith)))
 
   module _ {feeds returns : List ℕ} (is_feeds : feeds ≡ map (mark is_line_feed) chunk)
       (is_returns : returns ≡ map (mark is_carriage_return) chunk) where
     -- no sum of the two passes a lane
     pub sums_fit : Each2 (λ a b. a + b ≤ 255) feeds returns
     sums_fit = Each2-lanes (λ a b. a + b ≤ 255) (marked is_line_feed is_feeds) (marked is_carriage_return is_returns)
-        (λ j l. let byte = get_or text (at + j) 0 in
-        omega (arith, mark-le is_line_feed byte, mark-le is_carriage_return byte))
+        (λ j l. grind (arith, nat_tests))
 
     module _ {moved pairs both : List ℕ} (is_moved : moved ≡ drop (size - 1) before ++ take (size - 1) returns)
         (is_pairs : pairs ≡ zip2 bit_and moved feeds) (is_both : both ≡ zip2 (λ a b. a + b) feeds returns) where
@@ -106,14 +87,13 @@ module _ {text : List ℕ} {at size : ℕ} {chunk before : List ℕ} (loaded : L
 
       -- no difference borrows
       pub pairs_fit : Each2 (λ a b. b ≤ a) both pairs
-      pairs_fit = Each2-lanes (λ a b. b ≤ a) both_are pairs_are
-          (λ j l. pair_within (byte_before text (at + j)) (get_or text (at + j) 0))
+      pairs_fit = Each2-lanes (λ a b. b ≤ a) both_are pairs_are (λ j l. grind (arith, nat_tests))
 
       -- the lanes where a break starts
       starts_are : {starts : List ℕ} → starts ≡ zip2 (λ a b. a - b) both pairs
           → HasLanes size (λ j. break_start text (at + j)) starts
       starts_are made = lanes_same (lanes_zip2 (λ a b. a - b) both_are pairs_are made)
-          (λ j l. starts_in_lane (byte_before text (at + j)) (get_or text (at + j) 0))
+          (λ j l. grind (arith, nat_tests))
 
       -- each is one at most
       pub starts_at_most : {starts : List ℕ} (most : ℕ) → starts ≡ zip2 (λ a b. a - b) both pairs → 1 ≤ most
