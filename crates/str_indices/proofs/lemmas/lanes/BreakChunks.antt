@@ -26,21 +26,20 @@ module _ {bytes : List ℕ} {at size : ℕ} {chunk : List ℕ} (least : 4 ≤ si
   pub no_crlf : {ascii returns : List ℕ} → ascii ≡ map (is_between 0x09 0x0E) chunk
       → returns ≡ map (is_byte 0x0D) chunk → returns ≡ replicate size 0
       → HasLanes size (λ j. narrow_break_at bytes (at + j)) ascii
-  no_crlf is_ascii is_returns none = lanes_same (lanes_map (is_between 0x09 0x0E) (lanes_of is_chunk.long) is_ascii)
+  no_crlf is_ascii is_returns none = lanes_same (lanes_map (is_between 0x09 0x0E) chunk is_chunk.long is_ascii)
       (λ j l. grind (arith, nat_tests, is_chunk.each j l, lane_is_not chunk is_chunk.long 0x0D is_returns none j l))
 
   module _ {ascii pairs : List ℕ} (is_ascii : ascii ≡ map (is_between 0x09 0x0E) chunk)
       (is_pairs : HasLanes size (λ j. flag (is_crlf (get_or chunk j 0) (get_or chunk (1 + j) 0))) pairs) where
     -- no lane borrows where the CRs before LF are taken off
     pub crlf_fits : Each2 (λ a b. b ≤ a) ascii pairs
-    crlf_fits = Each2-lanes (λ a b. b ≤ a) (lanes_map (is_between 0x09 0x0E) (lanes_of is_chunk.long) is_ascii)
+    crlf_fits = Each2-lanes (λ a b. b ≤ a) (lanes_map (is_between 0x09 0x0E) chunk is_chunk.long is_ascii)
         is_pairs (λ j l. grind (arith, nat_tests))
 
     module _ {inside : List ℕ} (is_inside : inside ≡ zip2 (λ a b. a - b) ascii pairs) where
       -- what is left then is counted in the chunk alone
       inside_lanes : HasLanes size (narrow_break_at chunk) inside
-      inside_lanes = lanes_same (lanes_zip2 (λ a b. a - b) (lanes_map (is_between 0x09 0x0E) (lanes_of is_chunk.long)
-          is_ascii) is_pairs is_inside) (λ j l. grind (arith, nat_tests))
+      inside_lanes = lanes_same (lanes_zip2 (λ a b. a - b) (lanes_map (is_between 0x09 0x0E) chunk is_chunk.long is_ascii) is_pairs is_inside) (λ j l. grind (arith, nat_tests))
 
       -- before the last lane that is what is counted, at it one more, where CR LF crosses the chunk's end
       inside_same : (j : ℕ) → j < size → (1 + j ≢ size → narrow_break_at chunk j ≡ narrow_break_at bytes (at + j)) ×
@@ -72,16 +71,16 @@ module _ {bytes : List ℕ} {at size : ℕ} {chunk : List ℕ} (least : 4 ≤ si
       (is_separators : separators ≡ map (is_byte 0xE2) chunk) where
     -- no sum of the two passes a lane
     pub firsts_fit : Each2 (λ a b. a + b ≤ 255) next_lines separators
-    firsts_fit = Each2-lanes (λ a b. a + b ≤ 255) (lanes_map (is_byte 0xC2) (lanes_of is_chunk.long) is_next_lines)
-        (lanes_map (is_byte 0xE2) (lanes_of is_chunk.long) is_separators) (λ j l. grind (arith, nat_tests))
+    firsts_fit = Each2-lanes (λ a b. a + b ≤ 255) (lanes_map (is_byte 0xC2) chunk is_chunk.long is_next_lines)
+        (lanes_map (is_byte 0xE2) chunk is_chunk.long is_separators) (λ j l. grind (arith, nat_tests))
 
     -- where neither byte is found, the breaks of one byte are all
     pub no_wide : {sums narrows : List ℕ} → sums ≡ zip2 (λ a b. a + b) next_lines separators → sums ≡ replicate size 0
         → HasLanes size (λ j. narrow_break_at bytes (at + j)) narrows
         → HasLanes size (λ j. break_at bytes (at + j)) narrows
     no_wide summed none h =
-        let both = lanes_zip2 (λ a b. a + b) (lanes_map (is_byte 0xC2) (lanes_of is_chunk.long) is_next_lines)
-        (lanes_map (is_byte 0xE2) (lanes_of is_chunk.long) is_separators) summed in
+        let both = lanes_zip2 (λ a b. a + b) (lanes_map (is_byte 0xC2) chunk is_chunk.long is_next_lines)
+        (lanes_map (is_byte 0xE2) chunk is_chunk.long is_separators) summed in
         let zeros = rw none at both in
         lanes_same h (λ j l. grind (arith, nat_tests, is_chunk.each j l, zeros.each j l, get_or-replicate {A = ℕ} size j 0 0 l))
 
@@ -124,7 +123,7 @@ module _ {size : ℕ} (chunk : List ℕ) (least : 4 ≤ size) (long : length chu
       lanes_and (λ j. get_or chunk j 0 == 0xE2 && get_or chunk (1 + j) 0 == 0x80)
       (λ j. ends_separator (get_or chunk (2 + j) 0)) is_pairs
       (lanes_shift 2 (omega arith) (λ j past. rw (get_or_past chunk j 0 (omega (arith, long))) refl)
-      (lanes_map (λ lane. flag (ends_separator lane)) (lanes_of long) is_ends) is_thirds) is_found
+      (lanes_map (λ lane. flag (ends_separator lane)) chunk long is_ends) is_thirds) is_found
 
   -- they fit in lanes that have room
   pub separators_fit : (breaks : List ℕ) {found : List ℕ} → Each1 (λ lane. lane < 255) breaks

@@ -2,6 +2,7 @@
 use Rattle.std.proofs.Common.{◌≡◌, ℕ, zero, suc, ◌+◌, ◌-◌, ◌<◌, ◌≤◌, Bool, List, [], ◌∷◌, ◌++◌, map, take, drop, length, get_or, refl, arith, sym, ◌∙◌, ap, add-zero, add-suc, bit_and}
 use Rattle.std.specs.Prelude.{◌&&◌, sum}
 use Rattle.std.specs.Simd.Lanes.{zip2, Each1, Each2}
+use Rattle.std.proofs.Math.ListN.{drop_of_length-le}
 use Rattle.std.proofs.Math.Seq.{drop-cons}
 use Rattle.std.proofs.lemmas.Bool.Decides.{nat_tests}
 use Rattle.std.proofs.lemmas.List.{get_or-take, length-take-le}
@@ -10,13 +11,6 @@ use Rattle.str_indices.specs.Lanes.{HasLanes}
 use Rattle.str_indices.proofs.lemmas.bytes.Sums.{mark-le, sum_below-more}
 use Rattle.str_indices.proofs.lemmas.schemes.CrlfBytes.{break_start-le}
 use Rattle.str_indices.proofs.lemmas.lanes.Lanes.{Each1-lanes, Each2-lanes, lanes_and, lanes_loaded, lanes_same, lanes_zip2, sum_below-chunk}
-
--- the last lane, where nothing but it is left
-last_left : (last : ℕ) (lanes : List ℕ) → length lanes ≡ suc last → drop last lanes ≡ get_or lanes last 0 ∷ []
-last_left zero (x ∷ []) long = refl
-last_left (suc last) (x ∷ lanes) long = last_left last lanes (omega arith)
-last_left last [] long = absurd (omega arith)
-last_left zero (x ∷ y ∷ lanes) long = absurd (omega arith)
 
 -- the chunk of `text` at `at`, and the chunk before it, whose last lane says whether the byte before `at` is CR
 pub record Loaded (text : List ℕ) (at size : ℕ) (chunk before : List ℕ) : Type 0 where
@@ -41,12 +35,10 @@ module _ {text : List ℕ} {at size : ℕ} {chunk before : List ℕ} (loaded : L
   shifted : {returns lanes : List ℕ} → returns ≡ map (mark is_carriage_return) chunk
       → lanes ≡ drop (size - 1) before ++ take (size - 1) returns
       → HasLanes size (λ j. mark is_carriage_return (byte_before text (at + j))) lanes
-  shifted {returns} {lanes} made moved =
-      let marks = marked is_carriage_return made in
-      rw (moved, loaded.carried) (record {
-        long = grind (arith, loaded.above, length-take-le (size - 1) returns, marks.long);
-        each = lane;
-      })
+  shifted {returns} made moved = rw (moved, loaded.carried) (record {
+    long = grind (arith, loaded.above, length-take-le (size - 1) returns, (marked is_carriage_return made).long);
+    each = lane;
+  })
     where
       lane : (j : ℕ) → j < size → get_or (mark is_carriage_return (byte_before text at) ∷ take (size - 1) returns) j
           0 ≡ mark is_carriage_return (byte_before text (at + j))
@@ -59,10 +51,10 @@ module _ {text : List ℕ} {at size : ℕ} {chunk before : List ℕ} (loaded : L
       → drop (size - 1) returns ≡ mark is_carriage_return (byte_before text (at + size)) ∷ []
   last_is_return {returns} made =
       let marks = marked is_carriage_return made in
-      let above = loaded.above in
-      let last : at + size ≡ suc (at + (size - 1)) = omega arith in
-      rw last (last_left (size - 1) returns (omega (arith, marks.long))
-      ∙ ap (λ n. n ∷ []) (marks.each (size - 1) (omega arith)))
+      let last : at + size ≡ suc (at + (size - 1)) = omega (arith, loaded.above) in
+      rw last (cc (drop-cons returns (size - 1) 0 (omega (arith, marks.long, loaded.above)),
+      drop_of_length-le returns {i = suc (size - 1)} (omega (arith, marks.long)), marks.each (size - 1)
+      (omega (arith, loaded.above))))
 
   module _ {feeds returns : List ℕ} (is_feeds : feeds ≡ map (mark is_line_feed) chunk)
       (is_returns : returns ≡ map (mark is_carriage_return) chunk) where

@@ -51,21 +51,18 @@ lanes_of long = record { long = long; each = λ j l. refl }
 -- lanes that hold one number of each place hold another that is the same there
 pub lanes_same : {size : ℕ} {f g : ℕ → ℕ} {xs : List ℕ} → HasLanes size f xs
     → ((j : ℕ) → j < size → f j ≡ g j) → HasLanes size g xs
-lanes_same h same = record { long = h.long; each = λ j l. h.each j l ∙ same j l }
+lanes_same h same = grind (arith, h.long, h.each, same)
 
 -- each lane mapped
-pub lanes_map : (u : ℕ → ℕ) {size : ℕ} {f : ℕ → ℕ} {xs ys : List ℕ} → HasLanes size f xs → ys ≡ map u xs
-    → HasLanes size (λ j. u (f j)) ys
-lanes_map u {xs = xs} h is = record {
-  long = grind (arith, h.long, length-map);
-  each = λ j l. grind (arith, h.long, h.each j l, get_or-map u xs j 0 0);
-}
+pub lanes_map : (u : ℕ → ℕ) {size : ℕ} (xs : List ℕ) {ys : List ℕ} → length xs ≡ size → ys ≡ map u xs
+    → HasLanes size (λ j. u (get_or xs j 0)) ys
+lanes_map u xs long is = grind (arith, length-map, λ (j : ℕ). get_or-map u xs j 0 0)
 
 -- each byte of a chunk that was loaded from a text mapped
 pub lanes_loaded : (u : ℕ → ℕ) (text : List ℕ) (at size : ℕ) {lanes counts : List ℕ} → at + size ≤ length text
     → lanes ≡ take size (drop at text) → counts ≡ map u lanes → HasLanes size (λ j. u (get_or text (at + j) 0)) counts
 lanes_loaded u text at size {lanes} {counts} within loaded mapped = lanes_same
-    (lanes_map u (lanes_of (length-loaded text at size lanes within loaded)) mapped)
+    (lanes_map u lanes (length-loaded text at size lanes within loaded) mapped)
     (λ j l. cc (get_or-take size (drop at text) j 0 l, get_or-drop at text j 0))
 
 -- what u adds over such a chunk
@@ -78,10 +75,8 @@ sum_below-loaded u text at size added lanes counts within loaded mapped summed =
 -- two chunks, lane by lane
 pub lanes_zip2 : (u : ℕ → ℕ → ℕ) {size : ℕ} {f g : ℕ → ℕ} {xs ys zs : List ℕ} → HasLanes size f xs
     → HasLanes size g ys → zs ≡ zip2 u xs ys → HasLanes size (λ j. u (f j) (g j)) zs
-lanes_zip2 u {xs = xs} {ys = ys} h k is = record {
-  long = grind (arith, h.long, k.long, length-zip2 u xs ys);
-  each = λ j l. grind (arith, h.long, k.long, h.each j l, k.each j l, get_or-zip2 u xs ys j 0 0 0);
-}
+lanes_zip2 u {xs = xs} {ys = ys} h k is =
+    grind (arith, h.long, k.long, h.each, k.each, length-zip2 u xs ys, λ (j : ℕ). get_or-zip2 u xs ys j 0 0 0)
 
 -- two chunks of flags, both at once
 pub lanes_and : (p q : ℕ → Bool) {size : ℕ} {xs ys zs : List ℕ} → HasLanes size (λ j. flag (p j)) xs
@@ -104,10 +99,8 @@ lanes_shift n {xs = xs} small none h is = record {
 -- one lane set
 pub lanes_set : {size : ℕ} {f g : ℕ → ℕ} {xs ys : List ℕ} (k n : ℕ) → k < size → HasLanes size f xs
     → ys ≡ slice_set xs k n → n ≡ g k → ((j : ℕ) → j < size → j ≢ k → f j ≡ g j) → HasLanes size g ys
-lanes_set {xs = xs} k n within h is here elsewhere = record {
-  long = grind (arith, h.long, length-set);
-  each = λ j l. grind (arith, h.long, h.each j l, elsewhere j l, get_or-set_same xs k n 0, get_or-set_other xs k j n 0);
-}
+lanes_set {xs = xs} k n within h is here elsewhere = grind (arith, h.long, h.each, elsewhere, length-set,
+    get_or-set_same xs k n 0, λ (j : ℕ). get_or-set_other xs k j n 0)
 
 -- what holds of the number of each place holds of each lane
 pub Each1-lanes : (P : ℕ → Type 0) {size : ℕ} {f : ℕ → ℕ} {xs : List ℕ} → HasLanes size f xs
@@ -134,12 +127,11 @@ module _ {size : ℕ} (chunk : List ℕ) (long : length chunk ≡ size) where
       → HasLanes size (λ j. flag (get_or chunk j 0 == a && get_or chunk (1 + j) 0 == b)) pairs
   pair_lanes a b few some is_first is_second back both =
       lanes_and (λ j. get_or chunk j 0 == a) (λ j. get_or chunk (1 + j) 0 == b)
-      (lanes_map (is_byte a) (lanes_of long) is_first)
-      (lanes_shift 1 few (λ j past. grind (arith, nat_tests, get_or_past chunk j 0)) (lanes_map (is_byte b)
-      (lanes_of long) is_second) back) both
+      (lanes_map (is_byte a) chunk long is_first)
+      (lanes_shift 1 few (λ j past. grind (arith, nat_tests, get_or_past chunk j 0)) (lanes_map (is_byte b) chunk long is_second) back) both
 
   -- no byte of a chunk is one that no lane was found to be
   pub lane_is_not : (a : ℕ) {firsts : List ℕ} → firsts ≡ map (is_byte a) chunk → firsts ≡ replicate size 0
       → (j : ℕ) → j < size → (get_or chunk j 0 == a) ≡ false
   lane_is_not a is_first none j within = grind (arith, nat_tests, rw none at is_first,
-      (lanes_map (is_byte a) (lanes_of long) is_first).each j within, get_or-replicate {A = ℕ} size j 0 0 within)
+      (lanes_map (is_byte a) chunk long is_first).each j within, get_or-replicate {A = ℕ} size j 0 0 within)

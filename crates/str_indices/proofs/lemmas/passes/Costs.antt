@@ -1,9 +1,10 @@
 -- What one turn or load reads, and what the parts of a pass add up to.
-use Rattle.std.proofs.Common.{◌≡◌, ℕ, ◌+◌, ◌-◌, ◌*◌, ◌/◌, ◌≤◌, min, refl, arith, ap, ◌∙◌}
-use Rattle.std.proofs.Math.Nat.{div-le_of_le-mul}
+use Rattle.std.proofs.Common.{◌≡◌, ℕ, ◌+◌, ◌-◌, ◌*◌, ◌/◌, ◌≤◌, min, refl, arith, add-mul}
+use Rattle.std.proofs.lemmas.Nat.{le-div}
+use Rattle.std.proofs.Math.Nat.{div-le_of_le-mul, div-mul-le_self}
 use Rattle.byte_chunk.specs.ProbeState.{ProbeState}
 use Rattle.str_indices.specs.Reads.{Reads}
-use Rattle.str_indices.proofs.lemmas.passes.Quotients.{div-add-le, div-one_more}
+use Rattle.str_indices.proofs.lemmas.passes.Quotients.{div-add-le}
 
 -- nothing was read
 pub nothing : (p : ProbeState) (first : ℕ) → Reads p p first 0 0 0
@@ -35,38 +36,32 @@ pub turns_paying : (old seen new : ProbeState) (first n t spare : ℕ) → seen 
 turns_paying old seen new first n t spare is few a = let b = rw is at a in grind (arith, b)
 
 module _ {old seen new : ProbeState} {from at : ℕ} where
-  -- chunks, and then those from where they end
-  joined : {l l' n : ℕ} → from ≤ at → Reads old seen from 0 l 0 → Reads seen new at 0 l' 0 → l + l' ≤ n
-      → Reads old new from 0 n 0
-  joined le so_far more few = grind arith
-
-  -- whole chunks, and then those from where they end
-  pub chunks_joined : {size to : ℕ} → 4 ≤ size → from ≤ at → at ≤ to → Reads old seen from 0 ((at - from) / size) 0
-      → Reads seen new at 0 ((to - at) / size) 0 → Reads old new from 0 ((to - from) / size) 0
-  chunks_joined {size} {to} least le le' so_far more = joined le so_far more (div-add-le size from at to least le le')
-
   -- the next chunk
   pub chunk_joined : {size : ℕ} → 4 ≤ size → from ≤ at → Reads old seen from 0 ((at - from) / size) 0
       → Reads seen new at 0 1 0 → Reads old new from 0 ((at + size - from) / size) 0
-  chunk_joined {size} least le so_far more = joined le so_far more (div-one_more size from at least le)
+  chunk_joined least le so_far more = grind (arith, le-div, div-mul-le_self, add-mul)
 
   -- the next chunk, which is left and may be walked again
   pub chunk_after : {l : ℕ} → from ≤ at → Reads old seen from 0 l 0 → Reads seen new at 0 1 0
       → Reads old new from 0 (l + 1) 0
-  chunk_after le so_far more = joined le so_far more (omega arith)
+  chunk_after le so_far more = grind arith
 
-  -- whole chunks, and then those from where they end and one more
-  pub chunks_and_one_more : {size to : ℕ} → 4 ≤ size → from ≤ at → at ≤ to
-      → Reads old seen from 0 ((at - from) / size) 0 → Reads seen new at 0 ((to - at) / size + 1) 0
-      → Reads old new from 0 ((to - from) / size + 1) 0
-  chunks_and_one_more {size} {to} least le le' so_far more =
-      joined le so_far more (omega (arith, div-add-le size from at to least le le'))
+  module _ {size to : ℕ} (least : 4 ≤ size) (le : from ≤ at) (le' : at ≤ to)
+      (so_far : Reads old seen from 0 ((at - from) / size) 0) where
+    -- whole chunks, and then those from where they end
+    pub chunks_joined : Reads seen new at 0 ((to - at) / size) 0 → Reads old new from 0 ((to - from) / size) 0
+    chunks_joined more = grind (arith, div-add-le size from at to)
+
+    -- whole chunks, and then those from where they end and one more
+    pub chunks_and_one_more : Reads seen new at 0 ((to - at) / size + 1) 0
+        → Reads old new from 0 ((to - from) / size + 1) 0
+    chunks_and_one_more more = grind (arith, div-add-le size from at to)
 
 -- the chunks of no more bytes than one has are one at most
 pub chunk_of : {old new : ProbeState} {size at to : ℕ} → 4 ≤ size → at ≤ to → to ≤ at + size
     → Reads old new at 0 ((to - at) / size) 0 → Reads old new at 0 1 0
-chunk_of {size = size} {at = at} {to = to} least le near chunks = weaken chunks (omega arith) (omega arith)
-    (div-le_of_le-mul size {m = to - at} {n = 1} (omega arith)) (omega arith)
+chunk_of {size = size} {at = at} {to = to} least le near chunks =
+    grind (arith, div-le_of_le-mul size {m = to - at} {n = 1} (omega arith))
 
 module _ (old led ready chunked behind new : ProbeState) (first at rest : ℕ) {l : ℕ}
     (leads : led ≡ record old { turns = old.turns + first }) (before : Reads led ready 0 0 0 (min first 1))

@@ -1,17 +1,16 @@
 -- What leading bytes, chunks and the rest of a text add up to: the bounds of a whole pass.
-use Rattle.std.proofs.Common.{◌≡◌, ℕ, ◌+◌, ◌-◌, ◌*◌, ◌/◌, ◌≤◌, min, inl, inr, arith}
-use Rattle.std.proofs.lemmas.Bool.{cases_lt}
-use Rattle.std.proofs.Math.Nat.{div-le_self}
+use Rattle.std.proofs.Common.{◌≡◌, ℕ, ◌+◌, ◌-◌, ◌*◌, ◌/◌, ◌≤◌, min, arith}
+use Rattle.std.proofs.lemmas.Nat.{le-div}
+use Rattle.std.proofs.Math.Nat.{div-le_self, div-mul-le_self}
 use Rattle.byte_chunk.specs.ProbeState.{ProbeState}
 use Rattle.str_indices.specs.Reads.{Reads, leading_bytes, pass_turns, pass_loads}
-use Rattle.str_indices.proofs.lemmas.passes.Quotients.{div-le-div}
 
 -- all of a pass that counts in n bytes
 pub counted_pass : {old new : ProbeState} (size lead n : ℕ) {first at t : ℕ} → 4 ≤ size → first ≡ min lead n
     → Reads old new first t ((at - first) / size) 0 → at ≤ n → t ≤ pass_turns size lead n
     → Reads old new (leading_bytes lead n) (pass_turns size lead n) (pass_loads size lead n) 0
 counted_pass size lead n {first} {at} least here all within few =
-    grind (arith, div-le-div size)
+    grind (arith, le-div, div-mul-le_self)
 
 module _ {old led chunked new : ProbeState} (size lead n : ℕ) {first at t t' : ℕ} (least : 4 ≤ size) where
   -- a pass that counts in n bytes: leading bytes, then chunks, then the rest
@@ -20,7 +19,7 @@ module _ {old led chunked new : ProbeState} (size lead n : ℕ) {first at t t' :
       → t + t' ≤ pass_turns size lead n
       → Reads old new (leading_bytes lead n) (pass_turns size lead n) (pass_loads size lead n) 0
   counting_pass here leads chunks rests within few =
-      grind (arith, div-le-div size)
+      grind (arith, le-div, div-mul-le_self)
 
   -- a pass that looks for a place in n bytes
   pub placing_pass : {s : ℕ} (place : ℕ) → first ≡ min lead n → Reads old led 0 t 0 0
@@ -28,12 +27,12 @@ module _ {old led chunked new : ProbeState} (size lead n : ℕ) {first at t t' :
       → t + t' ≤ pass_turns size lead n → s ≤ 3
       → Reads old new (leading_bytes lead n) (pass_turns size lead n) (place / size + 5) 3
   placing_pass place here leads chunks rests before few few' =
-      grind (arith, div-le-div size)
+      grind (arith, le-div, div-mul-le_self)
 
 module _ (size lead end n : ℕ) (least : 4 ≤ size) (le : end ≤ n) where
   -- a pass over the first `end` of n bytes has no more loads than one over n bytes, and none if it only leads
   fewer_loads : (pass_loads size lead end ≤ pass_loads size lead n) × (end ≤ lead → pass_loads size lead end ≡ 0)
-  fewer_loads = grind (arith, div-le-div size (end - min lead end) (n - min lead n), div-le_self 0 size)
+  fewer_loads = grind (arith, le-div, div-mul-le_self, div-le_self 0 size)
 
   module _ {old peeked new : ProbeState} (peeks : Reads old peeked 0 0 0 3) where
     -- after up to three peeks a pass that counts in them keeps within the bounds of one over n bytes

@@ -1,22 +1,13 @@
 -- How many whole chunks fit between two places.
-use Rattle.std.proofs.Common.{◌≡◌, ℕ, zero, suc, ◌+◌, ◌-◌, ◌*◌, ◌/◌, ◌<◌, ◌≤◌, inl, inr, arith, add-mul, suc-mul, mul-suc}
-use Rattle.std.proofs.lemmas.Bool.{cases_lt}
-use Rattle.std.proofs.lemmas.Nat.{le-div}
+use Rattle.std.proofs.Common.{◌≡◌, ℕ, suc, ◌+◌, ◌-◌, ◌*◌, ◌/◌, ◌<◌, ◌≤◌, arith, add-mul, suc-mul, mul-suc}
 use Rattle.str_indices.specs.Reads.{WholeChunks}
-use Rattle.std.proofs.Math.Nat.{div-mul-le_self, mul-le-mul_left, mul-le-mul_right, le-div_iff_mul-le}
-
--- in more bytes fit no fewer chunks
-pub div-le-div : (size a b : ℕ) → 4 ≤ size → a ≤ b → a / size ≤ b / size
-div-le-div size a b least le = grind (arith, le-div, div-mul-le_self)
+use Rattle.std.proofs.lemmas.Nat.{le-div}
+use Rattle.std.proofs.Math.Nat.{div-mul-le_self, mul-le-mul_left, mul-le-mul_right}
 
 -- from one place on and from the next on fit no more than from the first
 pub div-add-le : (size from at to : ℕ) → 4 ≤ size → from ≤ at → at ≤ to
     → (at - from) / size + (to - at) / size ≤ (to - from) / size
 div-add-le size from at to least le le' = grind (arith, le-div, div-mul-le_self, add-mul)
-
--- with one chunk more fits one more
-pub div-one_more : (size from at : ℕ) → 4 ≤ size → from ≤ at → (at - from) / size + 1 ≤ (at + size - from) / size
-div-one_more size from at least le = grind (arith, le-div, div-mul-le_self, add-mul)
 
 -- whole chunks, and then those from where they end
 pub whole_joined : (size from at to : ℕ) → WholeChunks size from at → WholeChunks size at to → WholeChunks size from to
@@ -31,4 +22,5 @@ all_chunks size from at made chunks covered le near = grind (arith, suc-mul made
 -- chunks of fewer bytes than `most`, as many as `most` fits into k, have fewer bytes than k
 pub chunks_below : (size most chunks k bytes : ℕ) → size < most → chunks ≤ k / most → bytes ≤ chunks * size
     → 0 < bytes → bytes < k
-chunks_below size most chunks k bytes less few covered some = grind (arith, mul-suc, div-mul-le_self, mul-le-mul_left, mul-le-mul_right)
+chunks_below size most chunks k bytes less few covered some =
+    grind (arith, mul-suc, div-mul-le_self, mul-le-mul_left, mul-le-mul_right)
