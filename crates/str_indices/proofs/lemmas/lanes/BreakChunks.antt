@@ -1,8 +1,7 @@
 -- The breaks of a chunk, lane by lane: those of one byte, then those of several, and those that cross its end.
-use Rattle.std.proofs.Common.{◌≡◌, ◌≢◌, ℕ, ◌+◌, ◌-◌, ◌/◌, ◌%◌, ◌^◌, ◌<◌, ◌≤◌, inl, inr, Bool, true, false, List, [], ◌∷◌, ◌++◌, map, take, drop, replicate, length, get_or, refl, arith, sym, ◌∙◌, ap, bit_and, slice_set}
+use Rattle.std.proofs.Common.{◌≡◌, ◌≢◌, ℕ, ◌+◌, ◌-◌, ◌/◌, ◌%◌, ◌^◌, ◌<◌, ◌≤◌, true, false, List, [], ◌∷◌, ◌++◌, map, take, drop, replicate, length, get_or, refl, arith, ap, bit_and, slice_set}
 use Rattle.std.specs.Prelude.{◌==◌, ◌&&◌}
 use Rattle.std.specs.Simd.Lanes.{zip2, Each1, Each2}
-use Rattle.std.proofs.lemmas.Bool.{cases_lt, cases_eq, ne_eqb}
 use Rattle.std.proofs.lemmas.Bool.Decides.{nat_tests}
 use Rattle.std.proofs.lemmas.Nat.{and_mask}
 use Rattle.std.proofs.lemmas.Simd.{Each2-of}
@@ -10,7 +9,7 @@ use Rattle.std.proofs.lemmas.List.{get_or-take, get_or_past, get_or-replicate, l
 use Rattle.byte_chunk.specs.Lanes.{is_byte, is_between}
 use Rattle.str_indices.specs.Bytes.{flag}
 use Rattle.str_indices.specs.Lanes.{HasLanes, IsChunk}
-use Rattle.str_indices.specs.Breaks.{is_ascii_break, is_crlf, is_narrow_break, is_next_line, is_separator, ends_separator, is_break, narrow_break_at, next_line_at, separator_at, break_at}
+use Rattle.str_indices.specs.Breaks.{is_crlf, is_separator, ends_separator, narrow_break_at, next_line_at, separator_at, break_at}
 use Rattle.str_indices.proofs.lemmas.bytes.Sums.{flag-le}
 use Rattle.str_indices.proofs.lemmas.lanes.Lanes.{lanes_of, lanes_same, lanes_map, lanes_zip2, lanes_and, lanes_shift, lanes_set, lane_is_not, Each1-lanes, Each2-lanes}
 
@@ -45,8 +44,10 @@ module _ {bytes : List ℕ} {at size : ℕ} {chunk : List ℕ} (least : 4 ≤ si
       inside_same : (j : ℕ) → j < size → (1 + j ≢ size → narrow_break_at chunk j ≡ narrow_break_at bytes (at + j)) ×
           (1 + j ≡ size → narrow_break_at chunk j ≡ narrow_break_at bytes (at + j) + flag
           (is_crlf (get_or bytes (at + (size - 1)) 0) (get_or bytes (1 + (at + (size - 1))) 0)))
-      inside_same j l = (λ other. grind (arith, is_chunk.each j l, is_chunk.each (1 + j)),
-          λ last. grind (arith, nat_tests, is_chunk.each j l, get_or_past chunk (1 + j) 0, is_chunk.long))
+      inside_same j l = (
+        λ other. grind (arith, is_chunk.each j l, is_chunk.each (1 + j)),
+        λ last. grind (arith, nat_tests, is_chunk.each j l, get_or_past chunk (1 + j) 0, is_chunk.long),
+      )
 
       -- where it does not, nothing is to be done
       pub narrow_kept : is_crlf (get_or bytes (at + (size - 1)) 0) (get_or bytes (1 + (at + (size - 1))) 0) ≡ false
@@ -110,8 +111,13 @@ module _ {bytes : List ℕ} {at size : ℕ} {chunk : List ℕ} (least : 4 ≤ si
       -- with them the lanes hold what is counted where no byte behind the chunk is seen
       pub inside_counted : {inside : List ℕ} → HasLanes size (λ j. get_or sums j 0 + separator_at chunk j) inside
           → HasLanes size (inside_at bytes at size) inside
-      inside_counted h = lanes_same h (λ j l. grind (arith, with_next_lines.each j l, lane_alone j, lane_alone (1 + j),
-          lane_alone (2 + j)))
+      inside_counted h = lanes_same h (λ j l. grind (
+        arith,
+        with_next_lines.each j l,
+        lane_alone j,
+        lane_alone (1 + j),
+        lane_alone (2 + j),
+      ))
 
 module _ {size : ℕ} (chunk : List ℕ) (least : 4 ≤ size) (long : length chunk ≡ size) where
   -- the lanes that begin a separator of which all three bytes are in the chunk
@@ -154,8 +160,10 @@ module _ (bytes : List ℕ) (at size : ℕ) {breaks : List ℕ} (least : 4 ≤ s
       ((2 + j ≡ size → inside_at bytes at size j + separator_at bytes (at + j) ≡ break_at bytes (at + j)) ×
       (1 + j ≡ size → inside_at bytes at size j + (next_line_at bytes (at + j) + separator_at bytes (at + j))
       ≡ break_at bytes (at + j)))
-  counted_at j = (λ before. grind (arith, nat_tests, get_or-take),
-      (λ here. grind (arith, nat_tests, get_or-take, unseen), λ here. grind (arith, nat_tests, get_or-take, unseen)))
+  counted_at j = (
+    λ before. grind (arith, nat_tests, get_or-take),
+    (λ here. grind (arith, nat_tests, get_or-take, unseen), λ here. grind (arith, nat_tests, get_or-take, unseen)),
+  )
 
   -- where the last byte is the second of a separator
   module _ {before next : ℕ} (second : get_or bytes (at + (size - 1)) 0 ≡ 0x80)

@@ -1,14 +1,14 @@
 -- The lanes of a chunk that say where the breaks of `Crlf` start.
-use Rattle.std.proofs.Common.{◌≡◌, ℕ, zero, suc, ◌+◌, ◌-◌, ◌<◌, ◌≤◌, Bool, List, [], ◌∷◌, ◌++◌, map, take, drop, length, get_or, refl, arith, sym, ◌∙◌, ap, add-zero, add-suc, bit_and}
+use Rattle.std.proofs.Common.{◌≡◌, ℕ, zero, suc, ◌+◌, ◌-◌, ◌<◌, ◌≤◌, Bool, List, [], ◌∷◌, ◌++◌, map, take, drop, length, get_or, refl, arith, ◌∙◌, add-zero, add-suc, bit_and}
 use Rattle.std.specs.Prelude.{◌&&◌, sum}
 use Rattle.std.specs.Simd.Lanes.{zip2, Each1, Each2}
 use Rattle.std.proofs.Math.ListN.{drop_of_length-le}
 use Rattle.std.proofs.Math.Seq.{drop-cons}
 use Rattle.std.proofs.lemmas.Bool.Decides.{nat_tests}
 use Rattle.std.proofs.lemmas.List.{get_or-take, length-take-le}
-use Rattle.str_indices.specs.Bytes.{flag, mark, is_line_feed, is_carriage_return, byte_before, starts_break, break_start, breaks_before}
+use Rattle.str_indices.specs.Bytes.{flag, mark, is_line_feed, is_carriage_return, byte_before, break_start, breaks_before}
 use Rattle.str_indices.specs.Lanes.{HasLanes}
-use Rattle.str_indices.proofs.lemmas.bytes.Sums.{mark-le, sum_below-more}
+use Rattle.str_indices.proofs.lemmas.bytes.Sums.{sum_below-more}
 use Rattle.str_indices.proofs.lemmas.schemes.CrlfBytes.{break_start-le}
 use Rattle.str_indices.proofs.lemmas.lanes.Lanes.{Each1-lanes, Each2-lanes, lanes_and, lanes_loaded, lanes_same, lanes_zip2, sum_below-chunk}
 
@@ -52,9 +52,12 @@ module _ {text : List ℕ} {at size : ℕ} {chunk before : List ℕ} (loaded : L
   last_is_return {returns} made =
       let marks = marked is_carriage_return made in
       let last : at + size ≡ suc (at + (size - 1)) = omega (arith, loaded.above) in
-      rw last (cc (drop-cons returns (size - 1) 0 (omega (arith, marks.long, loaded.above)),
-      drop_of_length-le returns {i = suc (size - 1)} (omega (arith, marks.long)), marks.each (size - 1)
-      (omega (arith, loaded.above))))
+      rw last (cc (
+        drop-cons returns (size - 1) 0 (omega (arith, marks.long, loaded.above)),
+        drop_of_length-le returns {i = suc (size - 1)} (omega (arith, marks.long)),
+        marks.each (size - 1)
+            (omega (arith, loaded.above)),
+      ))
 
   module _ {feeds returns : List ℕ} (is_feeds : feeds ≡ map (mark is_line_feed) chunk)
       (is_returns : returns ≡ map (mark is_carriage_return) chunk) where

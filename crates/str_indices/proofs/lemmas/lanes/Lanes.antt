@@ -1,9 +1,8 @@
 -- The lanes of a chunk by their places: what each call of a chunk leaves in a lane, and what the lanes add up to.
-use Rattle.std.proofs.Common.{◌≡◌, ◌≢◌, ℕ, suc, ◌+◌, ◌-◌, ◌<◌, ◌≤◌, inl, inr, Bool, true, false, List, [], ◌∷◌, ◌++◌, map, take, drop, replicate, length, get_or, bit_and, refl, arith, sym, ◌∙◌, ap, length-drop, slice_set}
+use Rattle.std.proofs.Common.{◌≡◌, ◌≢◌, ℕ, suc, ◌+◌, ◌-◌, ◌<◌, ◌≤◌, Bool, false, List, [], ◌∷◌, ◌++◌, map, take, drop, replicate, length, get_or, bit_and, refl, arith, length-drop, slice_set}
 use Rattle.std.specs.Prelude.{sum, ◌==◌, ◌&&◌}
 use Rattle.std.specs.Simd.Lanes.{Each1, Each2, zip2}
 use Rattle.std.proofs.Math.ListN.{get_or-append}
-use Rattle.std.proofs.lemmas.Bool.{cases_lt, cases_eq, ne_eqb}
 use Rattle.std.proofs.lemmas.Bool.Decides.{nat_tests}
 use Rattle.std.proofs.lemmas.List.{get_or-take, get_or-drop, get_or-map, get_or_past, get_or-append-add, get_or-replicate, get_or-set_same, get_or-set_other, length-append, length-map, length-take-le, length-replicate, length-set}
 use Rattle.std.proofs.lemmas.List.Sums.{sum_by-cons}
@@ -17,14 +16,23 @@ use Rattle.str_indices.proofs.lemmas.bytes.Sums.{sum_below-add, sum_below-front}
 sum_lanes : (f : ℕ → ℕ) (lanes : List ℕ) → ((j : ℕ) → j < length lanes → get_or lanes j 0 ≡ f j)
     → sum lanes ≡ sum_below f (length lanes)
 sum_lanes f [] each = refl
-sum_lanes f (x ∷ lanes) each = omega (arith, sum_by-cons (λ y. y) x lanes, sum_below-front f (length lanes),
-    each 0 (omega arith), sum_lanes (λ j. f (suc j)) lanes (λ j l. each (suc j) (omega arith)))
+sum_lanes f (x ∷ lanes) each = omega (
+  arith,
+  sum_by-cons (λ y. y) x lanes,
+  sum_below-front f (length lanes),
+  each 0 (omega arith),
+  sum_lanes (λ j. f (suc j)) lanes (λ j l. each (suc j) (omega arith)),
+)
 
 -- a sum over places goes on over a chunk by the sum of the chunk's lanes
 pub sum_below-chunk : (f : ℕ → ℕ) (at : ℕ) {size : ℕ} {lanes : List ℕ} → HasLanes size (λ j. f (at + j)) lanes
     → sum_below f (at + size) ≡ sum_below f at + sum lanes
-sum_below-chunk f at {size} {lanes} h = grind (arith, sum_below-add f at size, h.long,
-    sum_lanes (λ j. f (at + j)) lanes (λ j l. h.each j (omega (arith, h.long))))
+sum_below-chunk f at {size} {lanes} h = grind (
+  arith,
+  sum_below-add f at size,
+  h.long,
+  sum_lanes (λ j. f (at + j)) lanes (λ j l. h.each j (omega (arith, h.long))),
+)
 
 -- a chunk that was loaded from a text is as long as its type says
 pub length-loaded : (text : List ℕ) (at size : ℕ) (lanes : List ℕ) → at + size ≤ length text
@@ -69,8 +77,11 @@ lanes_loaded u text at size {lanes} {counts} within loaded mapped = lanes_same
 pub sum_below-loaded : (u : ℕ → ℕ) (text : List ℕ) (at size added : ℕ) (lanes counts : List ℕ)
     → at + size ≤ length text → lanes ≡ take size (drop at text) → counts ≡ map u lanes → added ≡ sum counts
     → sum_below (λ j. u (get_or text j 0)) (at + size) ≡ sum_below (λ j. u (get_or text j 0)) at + added
-sum_below-loaded u text at size added lanes counts within loaded mapped summed = omega (arith, summed,
-    sum_below-chunk (λ j. u (get_or text j 0)) at (lanes_loaded u text at size within loaded mapped))
+sum_below-loaded u text at size added lanes counts within loaded mapped summed = omega (
+  arith,
+  summed,
+  sum_below-chunk (λ j. u (get_or text j 0)) at (lanes_loaded u text at size within loaded mapped),
+)
 
 -- two chunks, lane by lane
 pub lanes_zip2 : (u : ℕ → ℕ → ℕ) {size : ℕ} {f g : ℕ → ℕ} {xs ys zs : List ℕ} → HasLanes size f xs
@@ -91,16 +102,31 @@ pub lanes_shift : (n : ℕ) {size : ℕ} {f : ℕ → ℕ} {xs ys : List ℕ} �
     → HasLanes size f xs → ys ≡ drop n xs ++ replicate n 0 → HasLanes size (λ j. f (n + j)) ys
 lanes_shift n {xs = xs} small none h is = record {
   long = grind (arith, h.long, length-drop, length-append, length-replicate {A = ℕ});
-  each = λ j l. grind (arith, h.long, h.each (n + j), none (n + j), length-drop n xs, get_or-drop n xs j 0,
-      get_or-append (drop n xs) (replicate n 0) 0 j, get_or-append-add (drop n xs) (replicate n 0) (j - length (drop n xs)) 0,
-      get_or-replicate {A = ℕ} n (j - length (drop n xs)) 0 0);
+  each = λ j l. grind (
+    arith,
+    h.long,
+    h.each (n + j),
+    none (n + j),
+    length-drop n xs,
+    get_or-drop n xs j 0,
+    get_or-append (drop n xs) (replicate n 0) 0 j,
+    get_or-append-add (drop n xs) (replicate n 0) (j - length (drop n xs)) 0,
+    get_or-replicate {A = ℕ} n (j - length (drop n xs)) 0 0,
+  );
 }
 
 -- one lane set
 pub lanes_set : {size : ℕ} {f g : ℕ → ℕ} {xs ys : List ℕ} (k n : ℕ) → k < size → HasLanes size f xs
     → ys ≡ slice_set xs k n → n ≡ g k → ((j : ℕ) → j < size → j ≢ k → f j ≡ g j) → HasLanes size g ys
-lanes_set {xs = xs} k n within h is here elsewhere = grind (arith, h.long, h.each, elsewhere, length-set,
-    get_or-set_same xs k n 0, λ (j : ℕ). get_or-set_other xs k j n 0)
+lanes_set {xs = xs} k n within h is here elsewhere = grind (
+  arith,
+  h.long,
+  h.each,
+  elsewhere,
+  length-set,
+  get_or-set_same xs k n 0,
+  λ (j : ℕ). get_or-set_other xs k j n 0,
+)
 
 -- what holds of the number of each place holds of each lane
 pub Each1-lanes : (P : ℕ → Type 0) {size : ℕ} {f : ℕ → ℕ} {xs : List ℕ} → HasLanes size f xs
@@ -133,5 +159,10 @@ module _ {size : ℕ} (chunk : List ℕ) (long : length chunk ≡ size) where
   -- no byte of a chunk is one that no lane was found to be
   pub lane_is_not : (a : ℕ) {firsts : List ℕ} → firsts ≡ map (is_byte a) chunk → firsts ≡ replicate size 0
       → (j : ℕ) → j < size → (get_or chunk j 0 == a) ≡ false
-  lane_is_not a is_first none j within = grind (arith, nat_tests, rw none at is_first,
-      (lanes_map (is_byte a) chunk long is_first).each j within, get_or-replicate {A = ℕ} size j 0 0 within)
+  lane_is_not a is_first none j within = grind (
+    arith,
+    nat_tests,
+    rw none at is_first,
+    (lanes_map (is_byte a) chunk long is_first).each j within,
+    get_or-replicate {A = ℕ} size j 0 0 within,
+  )

@@ -1,5 +1,5 @@
 -- Rounds: lanes that hold a number of each place are added to an accumulator, chunk after chunk.
-use Rattle.std.proofs.Common.{◌≡◌, ℕ, ◌+◌, ◌<◌, ◌≤◌, Bool, List, [], ◌∷◌, map, take, drop, length, get_or, refl, arith, sym, ◌∙◌, ap, replicate}
+use Rattle.std.proofs.Common.{◌≡◌, ℕ, ◌+◌, ◌<◌, ◌≤◌, Bool, List, [], ◌∷◌, map, take, drop, length, get_or, refl, arith, replicate}
 use Rattle.std.specs.Prelude.{sum}
 use Rattle.std.specs.Simd.Lanes.{zip2, Each1, Each2}
 use Rattle.std.proofs.lemmas.List.{length-replicate}
@@ -22,8 +22,13 @@ sum-zip2 : (xs ys : List ℕ) → length xs ≡ length ys → sum (zip2 (λ a b.
 sum-zip2 [] [] long = refl
 sum-zip2 [] (y ∷ ys) long = absurd (omega arith)
 sum-zip2 (x ∷ xs) [] long = absurd (omega arith)
-sum-zip2 (x ∷ xs) (y ∷ ys) long = omega (arith, sum_by-cons (λ (a : ℕ). a) x xs, sum_by-cons (λ (a : ℕ). a) y ys,
-    sum_by-cons (λ (a : ℕ). a) (x + y) (zip2 (λ a b. a + b) xs ys), sum-zip2 xs ys (omega arith))
+sum-zip2 (x ∷ xs) (y ∷ ys) long = omega (
+  arith,
+  sum_by-cons (λ (a : ℕ). a) x xs,
+  sum_by-cons (λ (a : ℕ). a) y ys,
+  sum_by-cons (λ (a : ℕ). a) (x + y) (zip2 (λ a b. a + b) xs ys),
+  sum-zip2 xs ys (omega arith),
+)
 
 -- before the first round all lanes are 0
 pub nothing_added : (f : ℕ → ℕ) (size from : ℕ) {lanes : List ℕ} → lanes ≡ replicate size 0

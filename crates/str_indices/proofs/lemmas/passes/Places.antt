@@ -1,7 +1,6 @@
 -- The first place before which so much is counted.
-use Rattle.std.proofs.Common.{ℕ, Bool, List, get_or, ◌+◌, ◌<◌, ◌≤◌, ◌⊎◌, inl, inr, arith}
-use Rattle.std.proofs.lemmas.Bool.{cases_lt}
-use Rattle.str_indices.specs.Bytes.{sum_below, mark, passing_before}
+use Rattle.std.proofs.Common.{ℕ, ◌+◌, ◌<◌, ◌≤◌, ◌⊎◌, arith}
+use Rattle.str_indices.specs.Bytes.{sum_below}
 use Rattle.str_indices.proofs.lemmas.bytes.Sums.{sum_below-earlier}
 
 -- where less than a chunk is left, or the chunk at `at` reaches k, the first place from there on before which k are
