@@ -44,10 +44,7 @@ module _ {bytes : List ℕ} {at size : ℕ} {chunk : List ℕ} (least : 4 ≤ si
       inside_same : (j : ℕ) → j < size → (1 + j ≢ size → narrow_break_at chunk j ≡ narrow_break_at bytes (at + j)) ×
           (1 + j ≡ size → narrow_break_at chunk j ≡ narrow_break_at bytes (at + j) + flag
           (is_crlf (get_or bytes (at + (size - 1)) 0) (get_or bytes (1 + (at + (size - 1))) 0)))
-      inside_same j l = (
-        λ other. grind (arith, is_chunk.each j l, is_chunk.each (1 + j)),
-        λ last. grind (arith, nat_tests, is_chunk.each j l, get_or_past chunk (1 + j) 0, is_chunk.long),
-      )
+      inside_same j l = grind (arith, nat_tests, is_chunk.each j l, is_chunk.each (1 + j), get_or_past chunk (1 + j) 0)
 
       -- where it does not, nothing is to be done
       pub narrow_kept : is_crlf (get_or bytes (at + (size - 1)) 0) (get_or bytes (1 + (at + (size - 1))) 0) ≡ false
@@ -111,13 +108,7 @@ module _ {bytes : List ℕ} {at size : ℕ} {chunk : List ℕ} (least : 4 ≤ si
       -- with them the lanes hold what is counted where no byte behind the chunk is seen
       pub inside_counted : {inside : List ℕ} → HasLanes size (λ j. get_or sums j 0 + separator_at chunk j) inside
           → HasLanes size (inside_at bytes at size) inside
-      inside_counted h = lanes_same h (λ j l. grind (
-        arith,
-        with_next_lines.each j l,
-        lane_alone j,
-        lane_alone (1 + j),
-        lane_alone (2 + j),
-      ))
+      inside_counted h = lanes_same h (λ j l. grind (arith, with_next_lines.each j l, lane_alone))
 
 module _ {size : ℕ} (chunk : List ℕ) (least : 4 ≤ size) (long : length chunk ≡ size) where
   -- the lanes that begin a separator of which all three bytes are in the chunk

@@ -52,12 +52,8 @@ module _ {text : List ℕ} {at size : ℕ} {chunk before : List ℕ} (loaded : L
   last_is_return {returns} made =
       let marks = marked is_carriage_return made in
       let last : at + size ≡ suc (at + (size - 1)) = omega (arith, loaded.above) in
-      rw last (cc (
-        drop-cons returns (size - 1) 0 (omega (arith, marks.long, loaded.above)),
-        drop_of_length-le returns {i = suc (size - 1)} (omega (arith, marks.long)),
-        marks.each (size - 1)
-            (omega (arith, loaded.above)),
-      ))
+      let empty = drop_of_length-le returns {i = suc (size - 1)} (omega (arith, marks.long)) in
+      rw last (cc (drop-cons returns (size - 1) 0 (omega arith), empty, marks.each (size - 1) (omega arith)))
 
   module _ {feeds returns : List ℕ} (is_feeds : feeds ≡ map (mark is_line_feed) chunk)
       (is_returns : returns ≡ map (mark is_carriage_return) chunk) where

@@ -16,23 +16,16 @@ use Rattle.str_indices.proofs.lemmas.bytes.Sums.{sum_below-add, sum_below-front}
 sum_lanes : (f : ℕ → ℕ) (lanes : List ℕ) → ((j : ℕ) → j < length lanes → get_or lanes j 0 ≡ f j)
     → sum lanes ≡ sum_below f (length lanes)
 sum_lanes f [] each = refl
-sum_lanes f (x ∷ lanes) each = omega (
-  arith,
-  sum_by-cons (λ y. y) x lanes,
-  sum_below-front f (length lanes),
-  each 0 (omega arith),
-  sum_lanes (λ j. f (suc j)) lanes (λ j l. each (suc j) (omega arith)),
-)
+sum_lanes f (x ∷ lanes) each =
+    let rest = sum_lanes (λ j. f (suc j)) lanes (λ j l. each (suc j) (omega arith)) in
+    omega (arith, sum_by-cons (λ y. y) x lanes, sum_below-front f (length lanes), each 0 (omega arith), rest)
 
 -- a sum over places goes on over a chunk by the sum of the chunk's lanes
 pub sum_below-chunk : (f : ℕ → ℕ) (at : ℕ) {size : ℕ} {lanes : List ℕ} → HasLanes size (λ j. f (at + j)) lanes
     → sum_below f (at + size) ≡ sum_below f at + sum lanes
-sum_below-chunk f at {size} {lanes} h = grind (
-  arith,
-  sum_below-add f at size,
-  h.long,
-  sum_lanes (λ j. f (at + j)) lanes (λ j l. h.each j (omega (arith, h.long))),
-)
+sum_below-chunk f at {size} {lanes} h =
+    let sums = sum_lanes (λ j. f (at + j)) lanes (λ j l. h.each j (omega (arith, h.long))) in
+    grind (arith, sum_below-add f at size, h.long, sums)
 
 -- a chunk that was loaded from a text is as long as its type says
 pub length-loaded : (text : List ℕ) (at size : ℕ) (lanes : List ℕ) → at + size ≤ length text
@@ -77,11 +70,9 @@ lanes_loaded u text at size {lanes} {counts} within loaded mapped = lanes_same
 pub sum_below-loaded : (u : ℕ → ℕ) (text : List ℕ) (at size added : ℕ) (lanes counts : List ℕ)
     → at + size ≤ length text → lanes ≡ take size (drop at text) → counts ≡ map u lanes → added ≡ sum counts
     → sum_below (λ j. u (get_or text j 0)) (at + size) ≡ sum_below (λ j. u (get_or text j 0)) at + added
-sum_below-loaded u text at size added lanes counts within loaded mapped summed = omega (
-  arith,
-  summed,
-  sum_below-chunk (λ j. u (get_or text j 0)) at (lanes_loaded u text at size within loaded mapped),
-)
+sum_below-loaded u text at size added lanes counts within loaded mapped summed =
+    let here = lanes_loaded u text at size within loaded mapped in
+    omega (arith, summed, sum_below-chunk (λ j. u (get_or text j 0)) at here)
 
 -- two chunks, lane by lane
 pub lanes_zip2 : (u : ℕ → ℕ → ℕ) {size : ℕ} {f g : ℕ → ℕ} {xs ys zs : List ℕ} → HasLanes size f xs
@@ -118,15 +109,8 @@ lanes_shift n {xs = xs} small none h is = record {
 -- one lane set
 pub lanes_set : {size : ℕ} {f g : ℕ → ℕ} {xs ys : List ℕ} (k n : ℕ) → k < size → HasLanes size f xs
     → ys ≡ slice_set xs k n → n ≡ g k → ((j : ℕ) → j < size → j ≢ k → f j ≡ g j) → HasLanes size g ys
-lanes_set {xs = xs} k n within h is here elsewhere = grind (
-  arith,
-  h.long,
-  h.each,
-  elsewhere,
-  length-set,
-  get_or-set_same xs k n 0,
-  λ (j : ℕ). get_or-set_other xs k j n 0,
-)
+lanes_set {xs = xs} k n within h is here elsewhere =
+    grind (arith, h.each, elsewhere, length-set, get_or-set_same xs k n 0, λ (j : ℕ). get_or-set_other xs k j n 0)
 
 -- what holds of the number of each place holds of each lane
 pub Each1-lanes : (P : ℕ → Type 0) {size : ℕ} {f : ℕ → ℕ} {xs : List ℕ} → HasLanes size f xs
@@ -159,10 +143,6 @@ module _ {size : ℕ} (chunk : List ℕ) (long : length chunk ≡ size) where
   -- no byte of a chunk is one that no lane was found to be
   pub lane_is_not : (a : ℕ) {firsts : List ℕ} → firsts ≡ map (is_byte a) chunk → firsts ≡ replicate size 0
       → (j : ℕ) → j < size → (get_or chunk j 0 == a) ≡ false
-  lane_is_not a is_first none j within = grind (
-    arith,
-    nat_tests,
-    rw none at is_first,
-    (lanes_map (is_byte a) chunk long is_first).each j within,
-    get_or-replicate {A = ℕ} size j 0 0 within,
-  )
+  lane_is_not a is_first none j within =
+      let here = (lanes_map (is_byte a) chunk long is_first).each j within in
+      grind (arith, nat_tests, here, none, get_or-replicate {A = ℕ} size j 0 0 within)

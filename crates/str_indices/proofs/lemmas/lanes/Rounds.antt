@@ -22,13 +22,9 @@ sum-zip2 : (xs ys : List ℕ) → length xs ≡ length ys → sum (zip2 (λ a b.
 sum-zip2 [] [] long = refl
 sum-zip2 [] (y ∷ ys) long = absurd (omega arith)
 sum-zip2 (x ∷ xs) [] long = absurd (omega arith)
-sum-zip2 (x ∷ xs) (y ∷ ys) long = omega (
-  arith,
-  sum_by-cons (λ (a : ℕ). a) x xs,
-  sum_by-cons (λ (a : ℕ). a) y ys,
-  sum_by-cons (λ (a : ℕ). a) (x + y) (zip2 (λ a b. a + b) xs ys),
-  sum-zip2 xs ys (omega arith),
-)
+sum-zip2 (x ∷ xs) (y ∷ ys) long =
+    let add = sum_by-cons (λ (a : ℕ). a) in
+    omega (arith, add (x + y) (zip2 (λ a b. a + b) xs ys), add x xs, add y ys, sum-zip2 xs ys (omega arith))
 
 -- before the first round all lanes are 0
 pub nothing_added : (f : ℕ → ℕ) (size from : ℕ) {lanes : List ℕ} → lanes ≡ replicate size 0

@@ -16,12 +16,9 @@ whole_joined size from at to (m, covered) (n, covered') = (m + n, omega (arith, 
 -- whole chunks that leave less than one of so many are all of them
 pub all_chunks : (size from at made chunks : ℕ) → from + made * size ≡ at → at ≤ from + chunks * size
     → from + chunks * size < at + size → at ≡ from + chunks * size
-all_chunks size from at made chunks covered le near = grind (
-  arith,
-  suc-mul made size,
-  λ (l : suc made ≤ chunks). mul-le-mul_right size l,
-  λ (l : chunks ≤ made). mul-le-mul_right size l,
-)
+all_chunks size from at made chunks covered le near =
+    let fewer = λ (l : suc made ≤ chunks). mul-le-mul_right size l in
+    grind (arith, suc-mul made size, fewer, λ (l : chunks ≤ made). mul-le-mul_right size l)
 
 -- chunks of fewer bytes than `most`, as many as `most` fits into k, have fewer bytes than k
 pub chunks_below : (size most chunks k bytes : ℕ) → size < most → chunks ≤ k / most → bytes ≤ chunks * size
