@@ -141,20 +141,13 @@ module _ (bytes : List ℕ) (at size : ℕ) {breaks : List ℕ} (least : 4 ≤ s
   pub lane_small : (j : ℕ) → j < size → get_or breaks j 0 < 255
   lane_small j l = grind (arith, counted.each j l, flag-le)
 
-  -- a byte behind the chunk is not seen
-  unseen : (p : ℕ) → at + size ≤ p → get_or (take (at + size) bytes) p 0 ≡ 0
-  unseen p past = grind (arith, get_or_past, length-take)
-
   -- before the last two lanes all is counted; at the last but one a separator may cross the chunk's end, and at the last
   -- any break of several bytes
   counted_at : (j : ℕ) → (2 + j < size → inside_at bytes at size j ≡ break_at bytes (at + j)) ×
       ((2 + j ≡ size → inside_at bytes at size j + separator_at bytes (at + j) ≡ break_at bytes (at + j)) ×
       (1 + j ≡ size → inside_at bytes at size j + (next_line_at bytes (at + j) + separator_at bytes (at + j))
       ≡ break_at bytes (at + j)))
-  counted_at j = (
-    λ before. grind (arith, nat_tests, get_or-take),
-    (λ here. grind (arith, nat_tests, get_or-take, unseen), λ here. grind (arith, nat_tests, get_or-take, unseen)),
-  )
+  counted_at j = grind (arith, nat_tests, get_or-take, get_or_past, length-take)
 
   -- where the last byte is the second of a separator
   module _ {before next : ℕ} (second : get_or bytes (at + (size - 1)) 0 ≡ 0x80)

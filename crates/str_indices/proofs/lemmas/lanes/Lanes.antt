@@ -83,27 +83,17 @@ lanes_zip2 u {xs = xs} {ys = ys} h k is =
 -- two chunks of flags, both at once
 pub lanes_and : (p q : ℕ → Bool) {size : ℕ} {xs ys zs : List ℕ} → HasLanes size (λ j. flag (p j)) xs
     → HasLanes size (λ j. flag (q j)) ys → zs ≡ zip2 bit_and xs ys → HasLanes size (λ j. flag (p j && q j)) zs
-lanes_and p q h k is = lanes_same (lanes_zip2 bit_and h k is) (λ j l. both (p j) (q j))
-  where
-    both : (a b : Bool) → bit_and (flag a) (flag b) ≡ flag (a && b)
-    both a b = grind (arith, nat_tests)
+lanes_and p q h k is = lanes_same (lanes_zip2 bit_and h k is) (λ j l. grind (arith, nat_tests))
 
 -- lanes shifted back by n, where past the last there is nothing
 pub lanes_shift : (n : ℕ) {size : ℕ} {f : ℕ → ℕ} {xs ys : List ℕ} → n < size → ((j : ℕ) → size ≤ j → f j ≡ 0)
     → HasLanes size f xs → ys ≡ drop n xs ++ replicate n 0 → HasLanes size (λ j. f (n + j)) ys
 lanes_shift n {xs = xs} small none h is = record {
   long = grind (arith, h.long, length-drop, length-append, length-replicate {A = ℕ});
-  each = λ j l. grind (
-    arith,
-    h.long,
-    h.each (n + j),
-    none (n + j),
-    length-drop n xs,
-    get_or-drop n xs j 0,
-    get_or-append (drop n xs) (replicate n 0) 0 j,
-    get_or-append-add (drop n xs) (replicate n 0) (j - length (drop n xs)) 0,
-    get_or-replicate {A = ℕ} n (j - length (drop n xs)) 0 0,
-  );
+  each = λ j l.
+      let past = get_or-append-add (drop n xs) (replicate n 0) (j - length (drop n xs)) 0 in
+      let zeros = get_or-replicate {A = ℕ} n (j - length (drop n xs)) 0 0 in
+      grind (arith, h.long, h.each, none, length-drop, get_or-drop, get_or-append, past, zeros);
 }
 
 -- one lane set
