@@ -38,7 +38,9 @@ module _ {bytes : List ℕ} {at size : ℕ} {chunk : List ℕ} (least : 4 ≤ si
     module _ {inside : List ℕ} (is_inside : inside ≡ zip2 (λ a b. a - b) ascii pairs) where
       -- what is left then is counted in the chunk alone
       inside_lanes : HasLanes size (narrow_break_at chunk) inside
-      inside_lanes = lanes_same (lanes_zip2 (λ a b. a - b) (lanes_map (is_between 0x09 0x0E) chunk is_chunk.long is_ascii) is_pairs is_inside) (λ j l. grind (arith, nat_tests))
+      inside_lanes =
+          let firsts = lanes_map (is_between 0x09 0x0E) chunk is_chunk.long is_ascii in
+          lanes_same (lanes_zip2 (λ a b. a - b) firsts is_pairs is_inside) (λ j l. grind (arith, nat_tests))
 
       -- before the last lane that is what is counted, at it one more, where CR LF crosses the chunk's end
       inside_same : (j : ℕ) → j < size → (1 + j ≢ size → narrow_break_at chunk j ≡ narrow_break_at bytes (at + j)) ×
@@ -80,7 +82,7 @@ module _ {bytes : List ℕ} {at size : ℕ} {chunk : List ℕ} (least : 4 ≤ si
         let both = lanes_zip2 (λ a b. a + b) (lanes_map (is_byte 0xC2) chunk is_chunk.long is_next_lines)
         (lanes_map (is_byte 0xE2) chunk is_chunk.long is_separators) summed in
         let zeros = rw none at both in
-        lanes_same h (λ j l. grind (arith, nat_tests, is_chunk.each j l, zeros.each j l, get_or-replicate {A = ℕ} size j 0 0 l))
+        lanes_same h (λ j l. grind (arith, nat_tests, is_chunk.each j l, zeros.each j l, get_or-replicate {A = ℕ}))
 
   -- a lane and past the last lane nothing, as in bytes that are seen up to the chunk's end
   lane_alone : (j : ℕ) → get_or chunk j 0 ≡ get_or (take (at + size) bytes) (at + j) 0
@@ -141,8 +143,8 @@ module _ (bytes : List ℕ) (at size : ℕ) {breaks : List ℕ} (least : 4 ≤ s
   pub lane_small : (j : ℕ) → j < size → get_or breaks j 0 < 255
   lane_small j l = grind (arith, counted.each j l, flag-le)
 
-  -- before the last two lanes all is counted; at the last but one a separator may cross the chunk's end, and at the last
-  -- any break of several bytes
+  -- before the last two lanes all is counted; at the last but one a separator may cross the chunk's end, and at the
+  -- last any break of several bytes
   counted_at : (j : ℕ) → (2 + j < size → inside_at bytes at size j ≡ break_at bytes (at + j)) ×
       ((2 + j ≡ size → inside_at bytes at size j + separator_at bytes (at + j) ≡ break_at bytes (at + j)) ×
       (1 + j ≡ size → inside_at bytes at size j + (next_line_at bytes (at + j) + separator_at bytes (at + j))
@@ -167,7 +169,7 @@ module _ (bytes : List ℕ) (at size : ℕ) {breaks : List ℕ} (least : 4 ≤ s
         → result ≡ slice_set breaks (size - 1 - 1) (get_or breaks (size - 1 - 1) 0 + 1)
         → HasLanes size (λ j. break_at bytes (at + j)) result
     separator_crosses crosses is = lanes_set (size - 1 - 1) _ (omega arith) counted is
-        (grind (arith, counted.each (size - 1 - 1), counted_at (size - 1 - 1), at_second (size - 1 - 1), ap flag crosses))
+        (grind (arith, counted.each, counted_at (size - 1 - 1), at_second (size - 1 - 1), ap flag crosses))
         (λ j l other. grind (arith, counted_at j, at_second j, other))
 
   -- where it is not

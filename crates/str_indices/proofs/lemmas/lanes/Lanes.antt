@@ -126,9 +126,10 @@ module _ {size : ℕ} (chunk : List ℕ) (long : length chunk ≡ size) where
       → pairs ≡ zip2 bit_and firsts shifted
       → HasLanes size (λ j. flag (get_or chunk j 0 == a && get_or chunk (1 + j) 0 == b)) pairs
   pair_lanes a b few some is_first is_second back both =
+      let nexts = lanes_shift 1 few (λ j past. grind (arith, nat_tests, get_or_past chunk j 0))
+      (lanes_map (is_byte b) chunk long is_second) back in
       lanes_and (λ j. get_or chunk j 0 == a) (λ j. get_or chunk (1 + j) 0 == b)
-      (lanes_map (is_byte a) chunk long is_first)
-      (lanes_shift 1 few (λ j past. grind (arith, nat_tests, get_or_past chunk j 0)) (lanes_map (is_byte b) chunk long is_second) back) both
+      (lanes_map (is_byte a) chunk long is_first) nexts both
 
   -- no byte of a chunk is one that no lane was found to be
   pub lane_is_not : (a : ℕ) {firsts : List ℕ} → firsts ≡ map (is_byte a) chunk → firsts ≡ replicate size 0
