@@ -127,8 +127,7 @@ module _ {size : ℕ} (chunk : List ℕ) (least : 4 ≤ size) (long : length chu
   -- they fit in lanes that have room
   pub separators_fit : (breaks : List ℕ) {found : List ℕ} → Each1 (λ lane. lane < 255) breaks
       → HasLanes size (separator_at chunk) found → Each2 (λ a b. a + b ≤ 255) breaks found
-  separators_fit breaks {found} room h =
-      Each2-of (λ a. a < 255) (λ b. b ≤ 1) (λ a b. a + b ≤ 255) (λ a b small one. omega arith) breaks found room
+  separators_fit breaks {found} room h = Each2-of _ _ _ (λ a b small one. omega arith) breaks found room
       (Each1-lanes (λ lane. lane ≤ 1) h (λ j l. grind (arith, flag-le)))
 
   -- without their first byte there is none

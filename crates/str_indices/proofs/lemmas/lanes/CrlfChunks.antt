@@ -35,10 +35,8 @@ module _ {text : List ℕ} {at size : ℕ} {chunk before : List ℕ} (loaded : L
   shifted : {returns lanes : List ℕ} → returns ≡ map (mark is_carriage_return) chunk
       → lanes ≡ drop (size - 1) before ++ take (size - 1) returns
       → HasLanes size (λ j. mark is_carriage_return (byte_before text (at + j))) lanes
-  shifted {returns} made moved = rw (moved, loaded.carried) (record {
-    long = grind (arith, loaded.above, length-take-le (size - 1) returns, (marked is_carriage_return made).long);
-    each = lane;
-  })
+  shifted {returns} made moved = rw (moved, loaded.carried)
+      (grind (arith, loaded.above, length-take-le (size - 1) returns, (marked is_carriage_return made).long, lane))
     where
       lane : (j : ℕ) → j < size → get_or (mark is_carriage_return (byte_before text at) ∷ take (size - 1) returns) j
           0 ≡ mark is_carriage_return (byte_before text (at + j))
