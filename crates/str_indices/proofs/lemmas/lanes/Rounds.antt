@@ -29,11 +29,9 @@ sum-zip2 (x ∷ xs) (y ∷ ys) long =
 -- before the first round all lanes are 0
 pub nothing_added : (f : ℕ → ℕ) (size from : ℕ) {lanes : List ℕ} → lanes ≡ replicate size 0
     → AddsUp f size from from 0 lanes
-nothing_added f size from {lanes} zeros = rw zeros (record {
-  long = length-replicate size 0;
-  small = Each1-replicate (λ lane. lane ≤ 0) size 0 (omega arith);
-  counted = omega (arith, sum_by-replicate (λ a. a) size 0);
-})
+nothing_added f size from zeros =
+    let small = Each1-replicate (λ (lane : ℕ). lane ≤ 0) size 0 (omega arith) in
+    rw zeros (grind (arith, length-replicate {A = ℕ}, sum_by-replicate (λ (a : ℕ). a) size 0, small))
 
 module _ {f : ℕ → ℕ} {size from at rounds : ℕ} {acc : List ℕ} (so_far : AddsUp f size from at rounds acc) where
   -- after no more rounds than the greatest lane that is summed the lanes can be summed
