@@ -29,16 +29,16 @@ module _ {old led chunked new : ProbeState} (size lead n : ℕ) {first at t t' :
   placing_pass place here leads chunks rests before few few' =
       grind (arith, le-div, div-mul-le_self)
 
-module _ (size lead end n : ℕ) (least : 4 ≤ size) (le : end ≤ n) where
-  module _ {old peeked new : ProbeState} (peeks : Reads old peeked 0 0 0 3) where
-    -- after up to three peeks a pass that counts in them keeps within the bounds of one over n bytes
-    pub pass_after_peeks :
-        Reads peeked new (leading_bytes lead end) (pass_turns size lead end) (pass_loads size lead end) 0
-        → Reads old new (leading_bytes lead n) (pass_turns size lead n) (pass_loads size lead n) 3
-    pass_after_peeks pass = grind (arith, le-div, div-mul-le_self, div-le_self 0 size)
+module _ {old peeked new : ProbeState} (size lead end n : ℕ) (least : 4 ≤ size) (le : end ≤ n)
+    (peeks : Reads old peeked 0 0 0 3) where
+  -- after up to three peeks a pass that counts in them keeps within the bounds of one over n bytes
+  pub pass_after_peeks :
+      Reads peeked new (leading_bytes lead end) (pass_turns size lead end) (pass_loads size lead end) 0
+      → Reads old new (leading_bytes lead n) (pass_turns size lead n) (pass_loads size lead n) 3
+  pass_after_peeks pass = grind (arith, le-div, div-mul-le_self, div-le_self 0 size)
 
-    -- the same of two passes
-    pub two_passes_after_peeks :
-        Reads peeked new (leading_bytes lead end) (2 * pass_turns size lead end) (2 * pass_loads size lead end) 0
-        → Reads old new (leading_bytes lead n) (2 * pass_turns size lead n) (2 * pass_loads size lead n) 3
-    two_passes_after_peeks pass = grind (arith, le-div, div-mul-le_self, div-le_self 0 size)
+  -- the same of two passes
+  pub two_passes_after_peeks :
+      Reads peeked new (leading_bytes lead end) (2 * pass_turns size lead end) (2 * pass_loads size lead end) 0
+      → Reads old new (leading_bytes lead n) (2 * pass_turns size lead n) (2 * pass_loads size lead n) 3
+  two_passes_after_peeks pass = grind (arith, le-div, div-mul-le_self, div-le_self 0 size)
