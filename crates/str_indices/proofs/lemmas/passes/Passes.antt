@@ -9,8 +9,7 @@ use Rattle.str_indices.specs.Reads.{Reads, leading_bytes, pass_turns, pass_loads
 pub counted_pass : {old new : ProbeState} (size lead n : ℕ) {first at t : ℕ} → 4 ≤ size → first ≡ min lead n
     → Reads old new first t ((at - first) / size) 0 → at ≤ n → t ≤ pass_turns size lead n
     → Reads old new (leading_bytes lead n) (pass_turns size lead n) (pass_loads size lead n) 0
-counted_pass size lead n {first} {at} least here all within few =
-    grind (arith, le-div, div-mul-le_self)
+counted_pass size lead n {first} {at} least here all within few = grind (arith, le-div, div-mul-le_self)
 
 module _ {old led chunked new : ProbeState} (size lead n : ℕ) {first at t t' : ℕ} (least : 4 ≤ size) where
   -- a pass that counts in n bytes: leading bytes, then chunks, then the rest
@@ -18,16 +17,14 @@ module _ {old led chunked new : ProbeState} (size lead n : ℕ) {first at t t' :
       → Reads led chunked first 0 ((at - first) / size) 0 → Reads chunked new 0 t' 0 0 → at ≤ n
       → t + t' ≤ pass_turns size lead n
       → Reads old new (leading_bytes lead n) (pass_turns size lead n) (pass_loads size lead n) 0
-  counting_pass here leads chunks rests within few =
-      grind (arith, le-div, div-mul-le_self)
+  counting_pass here leads chunks rests within few = grind (arith, le-div, div-mul-le_self)
 
   -- a pass that looks for a place in n bytes
   pub placing_pass : {s : ℕ} (place : ℕ) → first ≡ min lead n → Reads old led 0 t 0 0
       → Reads led chunked first 0 ((at - first) / size + 1) 0 → Reads chunked new 0 t' 0 s → at ≤ place
       → t + t' ≤ pass_turns size lead n → s ≤ 3
       → Reads old new (leading_bytes lead n) (pass_turns size lead n) (place / size + 5) 3
-  placing_pass place here leads chunks rests before few few' =
-      grind (arith, le-div, div-mul-le_self)
+  placing_pass place here leads chunks rests before few few' = grind (arith, le-div, div-mul-le_self)
 
 module _ {old peeked new : ProbeState} (size lead end n : ℕ) (least : 4 ≤ size) (le : end ≤ n)
     (peeks : Reads old peeked 0 0 0 3) where
