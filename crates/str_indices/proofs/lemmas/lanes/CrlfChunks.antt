@@ -1,7 +1,8 @@
 -- The lanes of a chunk that say where the breaks of `Crlf` start.
-use Rattle.std.proofs.Common.{◌≡◌, ℕ, zero, suc, ◌+◌, ◌-◌, ◌<◌, ◌≤◌, Bool, true, false, List, [], ◌∷◌, ◌++◌, map, take, drop, length, get_or, refl, arith, sym, ◌∙◌, ap, add-zero, add-suc, bit_and}
+use Rattle.std.proofs.Common.{◌≡◌, ℕ, zero, suc, ◌+◌, ◌-◌, ◌<◌, ◌≤◌, Bool, true, false, List, [], ◌∷◌, ◌++◌, map, take, drop, length, get_or, refl, arith, ◌∙◌, add-zero, add-suc, bit_and}
 use Rattle.std.specs.Prelude.{◌&&◌, sum}
 use Rattle.std.specs.Simd.Lanes.{zip2, Each1, Each2}
+use Rattle.std.proofs.Math.ListN.{drop_of_length-le}
 use Rattle.std.proofs.Math.Seq.{drop-cons}
 use Rattle.std.proofs.lemmas.Bool.Decides.{nat_tests}
 use Rattle.std.proofs.lemmas.List.{get_or-take, length-take-le}
@@ -9,36 +10,9 @@ use Rattle.byte_chunk.specs.Lanes.{is_byte}
 use Rattle.str_indices.specs.Text.{line_feed, carriage_return}
 use Rattle.str_indices.specs.Bytes.{flag, mark, is_line_feed, is_carriage_return, byte_before, starts_break, break_start, breaks_before}
 use Rattle.str_indices.specs.Lanes.{HasLanes}
-use Rattle.str_indices.proofs.lemmas.bytes.Sums.{mark-le, sum_below-more}
+use Rattle.str_indices.proofs.lemmas.bytes.Sums.{sum_below-more}
 use Rattle.str_indices.proofs.lemmas.schemes.CrlfBytes.{break_start-le}
 use Rattle.str_indices.proofs.lemmas.lanes.Lanes.{Each1-lanes, Each2-lanes, lanes_and, lanes_loaded, lanes_same, lanes_zip2, sum_below-chunk}
-
--- the last lane, where nothing but it is left
-last_left : (last size : ℕ) (lanes : List ℕ) → suc last ≡ size → length lanes ≡ size
-    → drop last lanes ≡ get_or lanes last 0 ∷ []
-last_left last size lanes next long = drop-cons lanes last 0 (omega arith)
-    ∙ ap (λ l. get_or lanes last 0 ∷ l) (nothing_left lanes (suc last) (omega arith))
-  where
-    nothing_left : (lanes : List ℕ) (n : ℕ) → length lanes ≤ n → drop n lanes ≡ []
-    nothing_left [] zero le = refl
-    nothing_left [] (suc n) le = refl
-    nothing_left (x ∷ lanes) zero le = absurd (omega arith)
-    nothing_left (x ∷ lanes) (suc n) le = nothing_left lanes n (omega arith)
-
--- the number that is taken off in a lane is no more than what stands there
-pair_within : (before b : ℕ)
-    → flag (is_carriage_return before && is_line_feed b) ≤ mark is_line_feed b + mark is_carriage_return b
-pair_within before b = grind (arith, nat_tests)
-
--- what is left is 1 where a break starts
-starts_in_lane : (before b : ℕ) → mark is_line_feed b + mark is_carriage_return b - flag
-    (is_carriage_return before && is_line_feed b) ≡ mark (starts_break before) b
-starts_in_lane before b = grind (arith, nat_tests)
-
--- what holds of 0 and of 1 holds of a flag
-of_flag : (P : ℕ → Type 0) → P 0 → P 1 → (b : Bool) → P (flag b)
-of_flag P none one true = one
-of_flag P none one false = none
 
 -- the chunk of `text` at `at`, and the chunk before it, whose last lane says whether the byte before `at` is CR
 pub record Loaded (text : List ℕ) (at size : ℕ) (chunk before : List ℕ) : Type 0 where
@@ -51,7 +25,12 @@ pub record Loaded (text : List ℕ) (at size : ℕ) (chunk before : List ℕ) : 
 pub loaded_by : {text : List ℕ} {at size : ℕ} {chunk before : List ℕ} → chunk ≡ take size (drop at text)
     → drop (size - 1) before ≡ mark is_carriage_return (byte_before text at) ∷ [] → at + size ≤ length text → 4 ≤ size
     → Loaded text at size chunk before
-loaded_by taken carried within least = record { above = omega arith; within = within; taken = taken; carried = carried }
+loaded_by taken carried within least = search arith
+
+-- what holds of 0 and of 1 holds of a flag
+of_flag : (P : ℕ → Type 0) → P 0 → P 1 → (b : Bool) → P (flag b)
+of_flag P none one true = one
+of_flag P none one false = none
 
 module _ {text : List ℕ} {at size : ℕ} {chunk before : List ℕ} (loaded : Loaded text at size chunk before) where
   -- 1 in each lane that passes a test
@@ -63,14 +42,8 @@ module _ {text : List ℕ} {at size : ℕ} {chunk before : List ℕ} (loaded : L
   shifted : {returns lanes : List ℕ} → returns ≡ map (mark is_carriage_return) chunk
       → lanes ≡ drop (size - 1) before ++ take (size - 1) returns
       → HasLanes size (λ j. mark is_carriage_return (byte_before text (at + j))) lanes
-  shifted {returns} {lanes} made moved =
-      let marks = marked is_carriage_return made in
-      let whole = moved ∙ ap (λ l. l ++ take (size - 1) returns) loaded.carried in
-      record {
-        long = ap length whole
-            ∙ omega (arith, loaded.above, length-take-le (size - 1) returns (omega (arith, marks.long)));
-        each = λ j below. ap (λ l. get_or l j 0) whole ∙ lane j below;
-      }
+  shifted {returns} made moved = rw (moved, loaded.carried)
+      (grind (arith, loaded.above, length-take-le (size - 1) returns, (marked is_carriage_return made).long, lane))
     where
       lane : (j : ℕ) → j < size → get_or (mark is_carriage_return (byte_before text at) ∷ take (size - 1) returns) j
           0 ≡ mark is_carriage_return (byte_before text (at + j))
@@ -78,6 +51,7 @@ module _ {text : List ℕ} {at size : ℕ} {chunk before : List ℕ} (loaded : L
       lane (suc j) below = rw add-suc (get_or-take (size - 1) returns j 0 (omega arith)
           ∙ (marked is_carriage_return made).each j (omega arith))
 
+-- What the calls of a chunk leave in its lanes, in the words of their contracts.
 module _ {text : List ℕ} {at size : ℕ} {chunk before returns : List ℕ}
     (is_returns : returns ≡ map (is_byte carriage_return) chunk) where
   -- the last lane says whether the last byte is CR
@@ -85,19 +59,15 @@ module _ {text : List ℕ} {at size : ℕ} {chunk before returns : List ℕ}
       → drop (size - 1) returns ≡ mark is_carriage_return (byte_before text (at + size)) ∷ []
   last_is_return loaded =
       let marks = marked loaded is_carriage_return is_returns in
-      let above = loaded.above in
-      let last : at + size ≡ suc (at + (size - 1)) = omega arith in
-      last_left (size - 1) size returns (omega arith) marks.long
-      ∙ ap (λ n. n ∷ []) (marks.each (size - 1) (omega arith)
-      ∙ ap (λ k. mark is_carriage_return (byte_before text k)) (sym last))
+      let last : at + size ≡ suc (at + (size - 1)) = omega (arith, loaded.above) in
+      let empty = drop_of_length-le returns {i = suc (size - 1)} (omega (arith, marks.long)) in
+      rw last (cc (drop-cons returns (size - 1) 0 (omega arith), empty, marks.each (size - 1) (omega arith)))
 
   module _ {feeds : List ℕ} (is_feeds : feeds ≡ map (is_byte line_feed) chunk) where
     -- no sum of the two passes a lane
     pub sums_fit : Loaded text at size chunk before → Each2 (λ a b. a + b ≤ 255) feeds returns
     sums_fit loaded = Each2-lanes (λ a b. a + b ≤ 255) (marked loaded is_line_feed is_feeds)
-        (marked loaded is_carriage_return is_returns)
-        (λ j l. let byte = get_or text (at + j) 0 in
-        omega (arith, mark-le is_line_feed byte, mark-le is_carriage_return byte))
+        (marked loaded is_carriage_return is_returns) (λ j l. grind (arith, nat_tests))
 
     module _ {moved pairs both : List ℕ} (is_moved : moved ≡ drop (size - 1) before ++ take (size - 1) returns)
         (is_pairs : pairs ≡ zip2 bit_and moved feeds) (is_both : both ≡ zip2 (λ a b. a + b) feeds returns)
@@ -117,14 +87,13 @@ module _ {text : List ℕ} {at size : ℕ} {chunk before returns : List ℕ}
 
       -- no difference borrows
       pub pairs_fit : Each2 (λ a b. b ≤ a) both pairs
-      pairs_fit = Each2-lanes (λ a b. b ≤ a) both_are pairs_are
-          (λ j l. pair_within (byte_before text (at + j)) (get_or text (at + j) 0))
+      pairs_fit = Each2-lanes (λ a b. b ≤ a) both_are pairs_are (λ j l. grind (arith, nat_tests))
 
       module _ {starts : List ℕ} (is_starts : starts ≡ zip2 (λ a b. a - b) both pairs) where
         -- the lanes where a break starts
         starts_are : HasLanes size (λ j. break_start text (at + j)) starts
-        starts_are = lanes_same (λ j. break_start text (at + j)) (lanes_zip2 (λ a b. a - b) both_are pairs_are is_starts)
-            (λ j l. starts_in_lane (byte_before text (at + j)) (get_or text (at + j) 0))
+        starts_are = lanes_same (lanes_zip2 (λ a b. a - b) both_are pairs_are is_starts)
+            (λ j l. grind (arith, nat_tests))
 
         -- each is 0 or 1
         pub each_start : (P : ℕ → Type 0) → P 0 → P 1 → Each1 P starts
@@ -136,7 +105,7 @@ module _ {text : List ℕ} {at size : ℕ} {chunk before returns : List ℕ}
           pub breaks_in_chunk : breaks_before text (at + size) ≡ breaks_before text at + added
           breaks_in_chunk = omega (arith, sum_below-chunk (break_start text) at starts_are, summed)
 
-          -- and are no more than the bytes of the chunk
+          -- and are no more than its bytes
           pub few_in_chunk : added ≤ size
           few_in_chunk = omega (arith, breaks_in_chunk, sum_below-more (break_start text) (break_start-le text) at size)
 

@@ -1,5 +1,5 @@
 -- Rounds: lanes that hold a number of each place are added to an accumulator, chunk after chunk.
-use Rattle.std.proofs.Common.{◌≡◌, ℕ, ◌+◌, ◌<◌, ◌≤◌, Bool, List, [], ◌∷◌, map, take, drop, length, get_or, refl, arith, sym, ◌∙◌, ap, replicate}
+use Rattle.std.proofs.Common.{◌≡◌, ℕ, ◌+◌, ◌<◌, ◌≤◌, Bool, List, [], ◌∷◌, map, take, drop, length, get_or, refl, arith, replicate}
 use Rattle.std.specs.Prelude.{sum}
 use Rattle.std.specs.Simd.Lanes.{zip2, Each1, Each2}
 use Rattle.std.proofs.lemmas.List.{length-replicate}
@@ -29,36 +29,29 @@ sum-zip2 (x ∷ xs) (y ∷ ys) long =
 -- before the first round all lanes are 0
 pub nothing_added : (f : ℕ → ℕ) (size from : ℕ) {lanes : List ℕ} → lanes ≡ replicate size 0
     → AddsUp f size from from 0 lanes
-nothing_added f size from {lanes} zeros = record {
-  long = ap length zeros ∙ length-replicate size 0;
-  small = rw zeros (Each1-replicate (λ lane. lane ≤ 0) size 0 (omega arith));
-  counted = let none : sum lanes ≡ 0 = ap sum zeros ∙ sum_by-replicate (λ a. a) size 0 ∙ omega arith in omega arith;
-}
+nothing_added f size from zeros =
+    let small = Each1-replicate (λ (lane : ℕ). lane ≤ 0) size 0 (omega arith) in
+    rw zeros (grind (arith, length-replicate {A = ℕ}, sum_by-replicate (λ (a : ℕ). a) size 0, small))
 
 module _ {f : ℕ → ℕ} {size from at rounds : ℕ} {acc : List ℕ} (so_far : AddsUp f size from at rounds acc) where
   -- after no more rounds than the greatest lane that is summed the lanes can be summed
   pub lanes_summable : (most : ℕ) → rounds ≤ most → Each1 (λ lane. lane ≤ most) acc
-  lanes_summable most few =
-      Each1-weaker (λ lane. lane ≤ rounds) (λ lane. lane ≤ most) (λ lane le. omega arith) acc so_far.small
+  lanes_summable most few = Each1-weaker _ _ (λ lane le. omega arith) acc so_far.small
 
   -- so many rounds and lanes of one at most fit below a bound
   pub lanes_addable : (most : ℕ) (lanes : List ℕ) → rounds < most → Each1 (λ lane. lane ≤ 1) lanes
       → Each2 (λ a b. a + b ≤ most) acc lanes
-  lanes_addable most lanes room ones =
-      Each2-of (λ a. a ≤ rounds) (λ b. b ≤ 1) (λ a b. a + b ≤ most) (λ a b few few'. omega arith) acc lanes
-      so_far.small ones
+  lanes_addable most lanes room ones = Each2-of _ _ _ (λ a b few few'. omega arith) acc lanes so_far.small ones
 
   -- one round more
   pub chunk_added : {lanes summed : List ℕ} → ((j : ℕ) → f j ≤ 1) → HasLanes size (λ j. f (at + j)) lanes
       → summed ≡ zip2 (λ a b. a + b) acc lanes → AddsUp f size from (at + size) (rounds + 1) summed
-  chunk_added {lanes} one h added =
-      let equal : length acc ≡ length lanes = so_far.long ∙ sym h.long in
-      record {
-        long = ap length added ∙ length-zip2 (λ a b. a + b) acc lanes equal ∙ so_far.long;
-        small = rw added (Each1-zip2 (λ a b. a + b) (λ lane. lane ≤ rounds + 1) acc lanes
-            (lanes_addable (rounds + 1) lanes (omega arith) (Each1-lanes (λ lane. lane ≤ 1) h (λ j l. one (at + j)))));
-        counted = omega (arith, so_far.counted, sum_below-chunk f at h, ap sum added ∙ sum-zip2 acc lanes equal);
-      }
+  chunk_added {lanes} one h added = rw added (record {
+    long = grind (arith, so_far.long, h.long, length-zip2 (λ (a b : ℕ). a + b) acc lanes);
+    small = Each1-zip2 (λ a b. a + b) (λ lane. lane ≤ rounds + 1) acc lanes
+        (lanes_addable (rounds + 1) lanes (omega arith) (Each1-lanes (λ lane. lane ≤ 1) h (λ j l. one (at + j))));
+    counted = grind (arith, so_far.counted, so_far.long, h.long, sum_below-chunk f at h, sum-zip2 acc lanes);
+  })
 
 -- the bytes that pass a test, 1 each
 abbrev pub Accumulates : (ℕ → Bool) → List ℕ → ℕ → ℕ → ℕ → ℕ → List ℕ → Type 0
@@ -77,4 +70,4 @@ module _ (test : ℕ → Bool) (text : List ℕ) {size from at rounds : ℕ} {ac
       → loaded ≡ take size (drop at seen) → marks ≡ map (mark test) loaded → summed ≡ zip2 (λ a b. a + b) acc marks
       → Accumulates test text size from (at + size) (rounds + 1) summed
   one_round_more same within taken mapped added = chunk_added so_far (λ j. mark-le test (get_or text j 0))
-      (lanes_loaded (mark test) text at size within (taken ∙ ap (λ t. take size (drop at t)) same) mapped) added
+      (lanes_loaded (mark test) text at size within (rw same at taken) mapped) added

@@ -1,33 +1,15 @@
 -- The first place before which so much is counted.
-use Rattle.std.proofs.Common.{ℕ, Bool, List, get_or, ◌+◌, ◌<◌, ◌≤◌, ◌⊎◌, inl, inr, arith}
-use Rattle.std.proofs.lemmas.Bool.{cases_lt}
-use Rattle.str_indices.specs.Bytes.{sum_below, mark, passing_before}
+use Rattle.std.proofs.Common.{ℕ, ◌+◌, ◌<◌, ◌≤◌, ◌⊎◌, arith}
+use Rattle.str_indices.specs.Bytes.{sum_below}
 use Rattle.str_indices.proofs.lemmas.bytes.Sums.{sum_below-earlier}
 
 -- where less than a chunk is left, or the chunk at `at` reaches k, the first place from there on before which k are
 -- counted is at most its end
 pub place_is_near : (counted : ℕ → ℕ) (n at size k place : ℕ) → (n < at + size) ⊎ (k ≤ counted (at + size)) → place ≤ n
     → ((d : ℕ) → at ≤ d → d < place → counted d < k) → place ≤ at + size
-place_is_near counted n at size k place stopped within first =
-    elim stopped [
-      | inl short ↦ omega arith
-      | inr reaches ↦ elim (cases_lt (at + size) place) [
-        | inl past ↦ absurd (omega (arith, first (at + size) (omega arith) past))
-        | inr near ↦ near
-      ]
-    ]
+place_is_near counted n at size k place stopped within first = grind arith
 
 -- a place that is the first from `from` on is the first of all, where fewer are counted before `from`
 pub first_of_all : (f : ℕ → ℕ) (k from place : ℕ) → sum_below f from < k
     → ((d : ℕ) → from ≤ d → d < place → sum_below f d < k) → (d : ℕ) → d < place → sum_below f d < k
-first_of_all f k from place fewer first d before =
-    elim (cases_lt d from) [
-      | inl early ↦ sum_below-earlier f k from d fewer (omega arith)
-      | inr late ↦ first d late before
-    ]
-
--- the same of bytes that pass a test
-pub passing_first_of_all : (test : ℕ → Bool) (bytes : List ℕ) (k from place : ℕ) → passing_before test bytes from < k
-    → ((d : ℕ) → from ≤ d → d < place → passing_before test bytes d < k) → (d : ℕ) → d < place
-    → passing_before test bytes d < k
-passing_first_of_all test bytes = first_of_all (λ j. mark test (get_or bytes j 0))
+first_of_all f k from place fewer first d before = grind (arith, sum_below-earlier f k from d fewer, first d)

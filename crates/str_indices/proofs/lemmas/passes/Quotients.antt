@@ -1,27 +1,13 @@
 -- How many whole chunks fit between two places.
-use Rattle.std.proofs.Common.{◌≡◌, ℕ, zero, suc, ◌+◌, ◌-◌, ◌*◌, ◌/◌, ◌<◌, ◌≤◌, inl, inr, arith, add-mul, suc-mul}
-use Rattle.std.proofs.lemmas.Bool.{cases_lt}
-use Rattle.std.proofs.lemmas.Nat.{le-div}
+use Rattle.std.proofs.Common.{◌≡◌, ℕ, suc, ◌+◌, ◌-◌, ◌*◌, ◌/◌, ◌<◌, ◌≤◌, arith, add-mul, suc-mul, mul-suc}
 use Rattle.str_indices.specs.Reads.{WholeChunks}
-use Rattle.std.proofs.Math.Nat.{div-mul-le_self, mul-le-mul_left, mul-le-mul_right, le-div_iff_mul-le}
-
--- in more bytes fit no fewer chunks
-pub div-le-div : (size a b : ℕ) → 4 ≤ size → a ≤ b → a / size ≤ b / size
-div-le-div size a b least le = le-div (a / size) b size (omega arith) (omega (arith, div-mul-le_self a size))
+use Rattle.std.proofs.lemmas.Nat.{le-div}
+use Rattle.std.proofs.Math.Nat.{div-mul-le_self, mul-le-mul_left, mul-le-mul_right}
 
 -- from one place on and from the next on fit no more than from the first
 pub div-add-le : (size from at to : ℕ) → 4 ≤ size → from ≤ at → at ≤ to
     → (at - from) / size + (to - at) / size ≤ (to - from) / size
-div-add-le size from at to least le le' =
-    let front = (at - from) / size in
-    let back = (to - at) / size in
-    le-div (front + back) (to - from) size (omega arith)
-    (omega (arith, add-mul front back size, div-mul-le_self (at - from) size, div-mul-le_self (to - at) size))
-
--- with one chunk more fits one more
-pub div-one_more : (size from at : ℕ) → 4 ≤ size → from ≤ at → (at - from) / size + 1 ≤ (at + size - from) / size
-div-one_more size from at least le = le-div ((at - from) / size + 1) (at + size - from) size (omega arith)
-    (omega (arith, add-mul ((at - from) / size) 1 size, div-mul-le_self (at - from) size))
+div-add-le size from at to least le le' = grind (arith, le-div, div-mul-le_self, add-mul)
 
 -- whole chunks, and then those from where they end
 pub whole_joined : (size from at to : ℕ) → WholeChunks size from at → WholeChunks size at to → WholeChunks size from to
@@ -31,18 +17,11 @@ whole_joined size from at to (m, covered) (n, covered') = (m + n, omega (arith, 
 pub all_chunks : (size from at made chunks : ℕ) → from + made * size ≡ at → at ≤ from + chunks * size
     → from + chunks * size < at + size → at ≡ from + chunks * size
 all_chunks size from at made chunks covered le near =
-    elim (cases_lt made chunks) [
-      | inl fewer ↦
-          let next : suc made ≤ chunks = omega arith in
-          absurd (omega (arith, suc-mul made size, mul-le-mul_right size next))
-      | inr all ↦ omega (arith, mul-le-mul_right size all)
-    ]
+    let fewer = λ (l : suc made ≤ chunks). mul-le-mul_right size l in
+    grind (arith, suc-mul made size, fewer, λ (l : chunks ≤ made). mul-le-mul_right size l)
 
 -- chunks of fewer bytes than `most`, as many as `most` fits into k, have fewer bytes than k
 pub chunks_below : (size most chunks k bytes : ℕ) → size < most → chunks ≤ k / most → bytes ≤ chunks * size
     → 0 < bytes → bytes < k
-chunks_below size most zero k bytes less few covered some = absurd (omega arith)
-chunks_below size most (suc chunks) k bytes less few covered some =
-    let fits = (le-div_iff_mul-le {k = most} {x = suc chunks} {y = k} (omega arith)).0 few in
-    let le : size ≤ most = omega arith in
-    omega (arith, suc-mul chunks size, suc-mul chunks most, mul-le-mul_left chunks le)
+chunks_below size most chunks k bytes less few covered some =
+    grind (arith, mul-suc, div-mul-le_self, mul-le-mul_left, mul-le-mul_right)

@@ -3,7 +3,7 @@ use Rattle.std.proofs.lemmas.Bool.{cases_lt}
 use Rattle.str_indices.specs.Bytes.{passing_before, is_line_feed}
 use Rattle.str_indices.proofs.lemmas.schemes.LineFeedBytes.{line_begins}
 use Rattle.str_indices.proofs.lemmas.passes.Passes.{placing_pass}
-use Rattle.str_indices.proofs.lemmas.passes.Places.{passing_first_of_all, place_is_near}
+use Rattle.str_indices.proofs.lemmas.passes.Places.{first_of_all, place_is_near}
 use Rattle.str_indices.proofs.lines_lf.to_byte_idx_impl.Goals as goal
 
 pub returns-then-led-idx-clause-answer : goal.returns-then-led-idx-clause-answer
@@ -30,7 +30,7 @@ returns-clause-answer g c =
       arith,
       line_begins text c.len-len.ensures.utf8 c.args.idx rest.result.byte (omega (arith, rest.ensures.reached.1))
           (λ inside. omega (arith, rest.ensures.stopped (omega arith)))
-          (passing_first_of_all is_line_feed text c.args.idx chunks.result.byte rest.result.byte
+          (first_of_all _ c.args.idx chunks.result.byte rest.result.byte
           (omega (arith, skipped, chunks.ensures.below)) first),
     )
 
