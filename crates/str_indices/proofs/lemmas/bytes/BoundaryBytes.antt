@@ -8,10 +8,10 @@ use Rattle.str_indices.specs.Text.{size, cut}
 use Rattle.str_indices.specs.Relations.{IsBoundary}
 use Rattle.str_indices.specs.Bytes.{is_trailing, sum_below}
 use Rattle.str_indices.proofs.lemmas.texts.Sizes.{size-append}
-use Rattle.str_indices.proofs.lemmas.texts.Cuts.{cut_is, boundary-le-cut}
+use Rattle.str_indices.proofs.lemmas.texts.Cuts.{cut_is, cut_all, boundary-le-cut}
 use Rattle.str_indices.proofs.lemmas.texts.EndSets.{IsBoundary-start}
 use Rattle.str_indices.proofs.lemmas.bytes.Sums.{sum_below-still}
-use Rattle.str_indices.proofs.lemmas.bytes.Characters.{first_byte, is_trailing_later, scalars_parts}
+use Rattle.str_indices.proofs.lemmas.bytes.Characters.{first_byte, byte_seen, is_trailing_later, scalars_parts}
 use Rattle.str_indices.proofs.lemmas.bytes.Walks.{size-chars, get_or-at_boundary}
 
 -- where std lets a text be cut is a boundary
@@ -192,3 +192,6 @@ still_behind_cut f bytes utf8 end within none =
 -- where a text is cut is a boundary
 pub boundary_of_cut : (cs : List ℕ) (byte end : ℕ) → end ≡ size (cut cs byte) → IsBoundary cs end
 boundary_of_cut cs byte end here = rw here (cut_boundary cs byte)
+
+-- what the walks to a boundary cite, at a byte and at the end
+pub ruleset places = (begins_boundary, cut_at_leading, trailing_above_start, byte_seen, cut_all, size-chars)

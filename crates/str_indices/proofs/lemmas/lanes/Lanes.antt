@@ -176,3 +176,6 @@ module _ {size : ℕ} (chunk : List ℕ) (long : length chunk ≡ size) where
       no_flag : (b : Bool) → flag b ≡ 0 → b ≡ false
       no_flag true zero_ = absurd (omega arith)
       no_flag false zero_ = refl
+
+-- the sum of a chunk, for the search
+pub ruleset chunk_sums = (Each1-lanes, sum_below-chunk)

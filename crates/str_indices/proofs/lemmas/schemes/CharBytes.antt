@@ -13,7 +13,8 @@ use Rattle.str_indices.proofs.lemmas.texts.Ends.{ReadsAlone, count_characters, c
 use Rattle.str_indices.proofs.lemmas.bytes.Characters.{first_byte, is_trailing_later}
 use Rattle.str_indices.proofs.lemmas.bytes.Walks.{AddsAtFirst, bytes_to_boundary, boundary_at_end, cut_at_end, size-chars}
 use Rattle.str_indices.proofs.lemmas.texts.EndSets.{ends_increase_within, end_at-select, end_at-past, zero_or_end}
-use Rattle.str_indices.proofs.lemmas.bytes.BoundaryBytes.{boundary_of_cut, begins_boundary, leading_among_four}
+use Rattle.str_indices.proofs.lemmas.passes.Passes.{pass_after_peeks}
+use Rattle.str_indices.proofs.lemmas.bytes.BoundaryBytes.{begins_boundary, leading_among_four}
 
 -- each character ends at an end of `Chars`
 pub reads_alone : ReadsAlone Chars
@@ -139,7 +140,7 @@ pub chars_of_byte : (cs : List ℕ) (byte end : ℕ) → end ≡ size (cut cs by
 chars_of_byte cs byte end here = rw here (ap (count Chars) (cut-cut cs byte) ∙ end_count-cut Chars reads_alone cs byte)
 
 -- the byte before or at which a text is cut, as the search takes it
-pub ruleset chars_up_to = (boundary_of_cut, chars_of_byte)
+pub ruleset chars_up_to = (chars_of_byte, pass_after_peeks)
 
 -- the bytes before a boundary, as the search takes them
 pub ruleset bytes_at_boundary = (characters_and_trailing, passing_bounds)

@@ -3,7 +3,7 @@
 use Rattle.std.proofs.Common.{◌≡◌, ℕ, ◌+◌, ◌/◌, ◌%◌, ◌<◌, ◌≤◌, List, ◌++◌, get_or, arith, Bool, false, ◌∙◌, ap, inl, inr, length, take, sym, chars, IsUtf8}
 use Rattle.std.specs.Prelude.{◌==◌, ◌&&◌, not}
 use Rattle.std.specs.Char.{char_set_contains}
-use Rattle.std.proofs.lemmas.Bool.{cases_lt, cases_Bool}
+use Rattle.std.proofs.lemmas.Bool.{lt-leb, cases_lt, cases_Bool}
 use Rattle.std.proofs.lemmas.Bool.Decides.{nat_tests}
 use Rattle.str_indices.specs.Text.{carriage_return, line_feed, size, cut}
 use Rattle.str_indices.specs.Schemes.{Lines, break_characters, count, from_byte_idx, to_byte_idx, ends_up_to}
@@ -130,3 +130,6 @@ walks_on bytes count at to most within fits counted stopped =
 
 -- the byte before or at which a text is cut, as the search takes it
 pub ruleset lines_up_to = (boundary_of_cut, line_of_byte)
+
+-- where a boundary stands between CR and LF, for the search
+pub ruleset parted = (moved_is_whole, lt-leb)

@@ -17,7 +17,8 @@ use Rattle.str_indices.proofs.lemmas.texts.Ends.{cut-cut}
 use Rattle.str_indices.proofs.lemmas.bytes.Sums.{sum_below-le-sum_below, sum_below-still, mark-le, passing_or_not, passing_before-between}
 use Rattle.str_indices.proofs.lemmas.bytes.Characters.{by_size}
 use Rattle.str_indices.proofs.lemmas.bytes.Walks.{AddsAtFirst, bytes_to_boundary, boundary_at_end, size-chars}
-use Rattle.str_indices.proofs.lemmas.bytes.BoundaryBytes.{boundary_of_cut, begins_at, begins_boundary}
+use Rattle.str_indices.proofs.lemmas.passes.Passes.{two_passes_after_peeks}
+use Rattle.str_indices.proofs.lemmas.bytes.BoundaryBytes.{begins_at, begins_boundary}
 use Rattle.str_indices.proofs.lemmas.schemes.CharBytes.{CountsLeading, leading_at_boundary}
 
 -- the mask of a first byte of four, as a range
@@ -257,4 +258,4 @@ pub units_of_byte : (cs : List ℕ) (byte end : ℕ) → end ≡ size (cut cs by
 units_of_byte cs byte end here = rw here (ap (count Utf16) (cut-cut cs byte) ∙ count-cut cs byte)
 
 -- the byte before or at which a text is cut, as the search takes it
-pub ruleset units_up_to = (boundary_of_cut, units_of_byte)
+pub ruleset units_up_to = (units_of_byte, two_passes_after_peeks)

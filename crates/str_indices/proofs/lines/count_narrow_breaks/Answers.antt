@@ -12,12 +12,6 @@ sub-inside-requires g c =
     crlf_fits g.met.T.ByteChunk.lawful.least c.requires.chunk c.bytes_between_127-ascii_breaks.ensures
     c.pair_starts.ensures
 
-pub dec_last_lex_byte-requires : goal.dec_last_lex_byte-requires
-dec_last_lex_byte-requires g c =
-    let crosses = rw c.SIZE.ensures at (sym c.starts_crlf.ensures.answer ∙ c.if-starts_crlf.true) in
-    last_is_counted g.met.T.ByteChunk.lawful.least c.requires.chunk c.bytes_between_127-ascii_breaks.ensures
-    c.pair_starts.ensures c.sub-inside.ensures crosses
-
 pub returns-then-starts_crlf-clause-lanes : goal.returns-then-starts_crlf-clause-lanes
 returns-then-starts_crlf-clause-lanes g c =
     let crosses = rw c.SIZE.ensures at (sym c.starts_crlf.ensures.answer ∙ c.if-starts_crlf.true) in
