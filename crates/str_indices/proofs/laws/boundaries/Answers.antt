@@ -2,7 +2,5 @@ use Rattle.str_indices.proofs.lemmas.Callers.{IsCharBoundary-from_boundary, IsBo
 use Rattle.str_indices.proofs.laws.boundaries.Goals as goal
 
 pub returns-clause-sliceable : goal.returns-clause-sliceable
-returns-clause-sliceable c p = (
-  IsCharBoundary-from_boundary c.args.text.now c.utf8.text p,
-  IsBoundary-from_char_boundary c.args.text.now c.utf8.text p,
-)
+returns-clause-sliceable c p =
+    (IsCharBoundary-from_boundary _ c.utf8.text p, IsBoundary-from_char_boundary _ c.utf8.text p)

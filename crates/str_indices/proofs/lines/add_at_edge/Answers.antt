@@ -30,19 +30,19 @@ returns-else-is_separator-clause-lanes g c =
 
 pub returns-then-starts_wide_break-clause-lanes : goal.returns-then-starts_wide_break-clause-lanes
 returns-then-starts_wide_break-clause-lanes g c =
-    let least = g.met.T.ByteChunk.lawful.least in
-    let seen = get_or-take c.args.end c.args.probe.now.text (c.args.at + (g.T.ByteChunk.SIZE - 1)) 0 (omega (arith, least)) in
+    let law = g.met.T.ByteChunk.lawful in
+    let seen = get_or-take c.args.end c.args.probe.now.text (c.args.at + (g.T.ByteChunk.SIZE - 1)) 0 (omega arith) in
     let same = ap (λ p. p.text) c.peek-byte.ensures.state in
-    wide_crosses (take c.args.end c.args.probe.now.text) _ _ least c.requires.counted (λ second. c.if-byte.false (cc))
-    (cc (ap flag c.if-starts_wide_break.true)) c.inc_nth_from_end_lex_byte-then-starts_wide_break.ensures
+    wide_crosses (take c.args.end c.args.probe.now.text) _ _ law.least c.requires.counted
+    (λ second. c.if-byte.false (cc)) (cc (ap flag c.if-starts_wide_break.true)) c.inc_nth_from_end_lex_byte-then-starts_wide_break.ensures
 
 pub returns-else-starts_wide_break-clause-lanes : goal.returns-else-starts_wide_break-clause-lanes
 returns-else-starts_wide_break-clause-lanes g c =
-    let least = g.met.T.ByteChunk.lawful.least in
-    let seen = get_or-take c.args.end c.args.probe.now.text (c.args.at + (g.T.ByteChunk.SIZE - 1)) 0 (omega (arith, least)) in
+    let law = g.met.T.ByteChunk.lawful in
+    let seen = get_or-take c.args.end c.args.probe.now.text (c.args.at + (g.T.ByteChunk.SIZE - 1)) 0 (omega arith) in
     let same = ap (λ p. p.text) c.peek-byte.ensures.state in
-    wide_kept (take c.args.end c.args.probe.now.text) _ _ least c.requires.counted (λ second. c.if-byte.false (cc))
-    (cc (ap flag c.if-starts_wide_break.false))
+    wide_kept (take c.args.end c.args.probe.now.text) _ _ law.least c.requires.counted
+    (λ second. c.if-byte.false (cc)) (cc (ap flag c.if-starts_wide_break.false))
 
 pub inc_nth_from_end_lex_byte-requires-then-starts_wide_break-clause-room :
     goal.inc_nth_from_end_lex_byte-requires-then-starts_wide_break-clause-room

@@ -1,4 +1,3 @@
-use Rattle.std.proofs.Common.{sym, ◌∙◌}
 use Rattle.str_indices.proofs.lemmas.lanes.BreakChunks.{crlf_fits, last_is_counted, narrow_crossing, narrow_kept, no_crlf}
 use Rattle.str_indices.proofs.lines.count_narrow_breaks.Goals as goal
 
@@ -14,12 +13,10 @@ sub-inside-requires g c =
 
 pub returns-then-starts_crlf-clause-lanes : goal.returns-then-starts_crlf-clause-lanes
 returns-then-starts_crlf-clause-lanes g c =
-    let crosses = rw c.SIZE.ensures at (sym c.starts_crlf.ensures.answer ∙ c.if-starts_crlf.true) in
     narrow_crossing g.met.T.ByteChunk.lawful.least c.requires.chunk c.bytes_between_127-ascii_breaks.ensures
-    c.pair_starts.ensures c.sub-inside.ensures crosses c.dec_last_lex_byte.ensures
+    c.pair_starts.ensures c.sub-inside.ensures (cc) c.dec_last_lex_byte.ensures
 
 pub returns-else-starts_crlf-clause-lanes : goal.returns-else-starts_crlf-clause-lanes
 returns-else-starts_crlf-clause-lanes g c =
-    let stays = rw c.SIZE.ensures at (sym c.starts_crlf.ensures.answer ∙ c.if-starts_crlf.false) in
     narrow_kept g.met.T.ByteChunk.lawful.least c.requires.chunk c.bytes_between_127-ascii_breaks.ensures
-    c.pair_starts.ensures c.sub-inside.ensures stays
+    c.pair_starts.ensures c.sub-inside.ensures (cc)

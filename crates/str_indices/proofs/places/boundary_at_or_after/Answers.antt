@@ -4,8 +4,7 @@ use Rattle.str_indices.proofs.places.boundary_at_or_after.Goals as goal
 
 pub returns-after-loop-clause-boundary : goal.returns-after-loop-clause-boundary
 returns-after-loop-clause-boundary g c =
-    let at = c.loop.invariant in
-    boundary_behind_three _ c.len-len.ensures.utf8 _ _ (omega (arith, at.place)) at.within at.trails
+    boundary_behind_three _ c.len-len.ensures.utf8 _ _ (omega arith) c.loop.invariant.within c.loop.invariant.trails
 
 pub returns-after-loop-clause-least : goal.returns-after-loop-clause-least
 returns-after-loop-clause-least g c =
