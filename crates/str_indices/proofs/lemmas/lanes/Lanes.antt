@@ -178,4 +178,4 @@ module _ {size : ℕ} (chunk : List ℕ) (long : length chunk ≡ size) where
       no_flag false zero_ = refl
 
 -- the sum of a chunk, for the search
-pub ruleset chunk_sums = (Each1-lanes, sum_below-chunk)
+pub ruleset chunk_sums = (sum_below-chunk)
