@@ -1,4 +1,4 @@
-use Rattle.std.proofs.Common.{◌≡◌, ◌+◌, take, inl, inr, add-one, arith, ap}
+use Rattle.std.proofs.Common.{◌≡◌, take, inl, inr, add-one, arith, ap}
 use Rattle.std.proofs.lemmas.Bool.{cases_Bool, cases_lt}
 use Rattle.str_indices.specs.Breaks.{breaks_counted_before, break_at}
 use Rattle.str_indices.proofs.lemmas.schemes.LineBytes.{break_at-le}
