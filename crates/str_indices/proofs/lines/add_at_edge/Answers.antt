@@ -34,7 +34,8 @@ returns-then-starts_wide_break-clause-lanes g c =
     let seen = get_or-take c.args.end c.args.probe.now.text (c.args.at + (g.T.ByteChunk.SIZE - 1)) 0 (omega arith) in
     let same = ap (λ p. p.text) c.peek-byte.ensures.state in
     wide_crosses (take c.args.end c.args.probe.now.text) _ _ law.least c.requires.counted
-    (λ second. c.if-byte.false (cc)) (cc (ap flag c.if-starts_wide_break.true)) c.inc_nth_from_end_lex_byte-then-starts_wide_break.ensures
+    (λ second. c.if-byte.false (cc)) (cc (ap flag c.if-starts_wide_break.true))
+    c.inc_nth_from_end_lex_byte-then-starts_wide_break.ensures
 
 pub returns-else-starts_wide_break-clause-lanes : goal.returns-else-starts_wide_break-clause-lanes
 returns-else-starts_wide_break-clause-lanes g c =
