@@ -12,6 +12,7 @@ ghost use Rattle.str_indices.specs.Joins.{joins_crlf};
 /// is past it.
 ///
 /// An editor's go to line relies on it: the line that it goes to is the line that it then shows.
+#[tactic(auto, using(crate::proofs::lemmas::laws::CharacterLaws::index_laws))]
 pub fn round_trip(text: &str, k: usize)
     ensures { (s : Scheme) → s ≢ Utf16 → let cs = chars text.now in
         from_byte_idx s cs (to_byte_idx s cs k) ≡ min k (count s cs) }
@@ -21,6 +22,7 @@ pub fn round_trip(text: &str, k: usize)
 /// most the number at byte `b`.
 ///
 /// A span reporter relies on it: the line and the column of a byte are the greatest that begin at or before it.
+#[tactic(auto, using(crate::proofs::lemmas::laws::EndLaws::to_le_iff))]
 pub fn end_adjunction(text: &str, b: usize, k: usize)
     ensures { (s : Scheme) → s ≢ Utf16 → let cs = chars text.now in
         k ≤ count s cs → (to_byte_idx s cs k ≤ b) ↔ (k ≤ from_byte_idx s cs b) }
@@ -31,6 +33,7 @@ pub fn end_adjunction(text: &str, b: usize, k: usize)
 ///
 /// A position mapper of a language server relies on it: a position inside a surrogate pair goes to the pair's
 /// beginning.
+#[tactic(auto, using(crate::proofs::lemmas::laws::CharacterLaws::boundary_adjunction))]
 pub fn boundary_adjunction(text: &str, b: usize, k: usize)
     ensures { (s : Scheme) → IsCharacterScheme s → let cs = chars text.now in
         IsBoundary cs b → (b ≤ to_byte_idx s cs k) ↔ (from_byte_idx s cs b ≤ k) }
@@ -59,6 +62,7 @@ pub fn start_of_line(text: &str, b: usize)
 ///
 /// A position mapper of a language server relies on it: only a position inside a pair moves, by one unit, and one past
 /// the end, to the end.
+#[tactic(auto, using(crate::proofs::lemmas::laws::UnitLaws::units_or_second_unit))]
 pub fn utf16_round_trip(text: &str, k: usize)
     ensures second_unit { let cs = chars text.now in
         IsSecondUnit cs k → from_byte_idx Utf16 cs (to_byte_idx Utf16 cs k) + 1 ≡ k }
@@ -69,6 +73,7 @@ pub fn utf16_round_trip(text: &str, k: usize)
 /// The text has one UTF-16 code unit for each char, and one more for each surrogate pair.
 ///
 /// It is a check between the modules `chars` and `utf16`.
+#[tactic(auto, using(crate::proofs::lemmas::laws::CountLaws::count_laws))]
 pub fn units(text: &str)
     ensures { let cs = chars text.now in count Utf16 cs ≡ count Chars cs + surrogates cs }
 {}
@@ -76,6 +81,7 @@ pub fn units(text: &str)
 /// Two texts, joined, have the chars, the UTF-16 code units, the surrogate pairs and the line feeds of both.
 ///
 /// A rope with summed counts relies on it: it adds up the counts of its pieces.
+#[tactic(auto, using(crate::proofs::lemmas::laws::CountLaws::joined_sums))]
 pub fn joined_sums(a: &str, b: &str)
     ensures chars { count Chars (chars (a.now ++ b.now))
         ≡ count Chars (chars a.now) + count Chars (chars b.now) }
@@ -92,6 +98,7 @@ pub fn joined_sums(a: &str, b: &str)
 ///
 /// A rope with summed counts relies on it: beside its counts it keeps whether a piece ends in CR and whether it starts
 /// with LF.
+#[tactic(auto, using(crate::proofs::lemmas::laws::CountLaws::joined_breaks))]
 pub fn joined_breaks(a: &str, b: &str)
     ensures lines_crlf { let joined = chars (a.now ++ b.now) in
         count Crlf joined + (if joins_crlf (chars a.now) (chars b.now) then 1 else 0)
@@ -104,6 +111,7 @@ pub fn joined_breaks(a: &str, b: &str)
 /// Each larger set of break characters gives at least as many line breaks.
 ///
 /// It is a check between the modules `lines_lf`, `lines_crlf` and `lines`.
+#[tactic(auto, using(crate::proofs::lemmas::laws::CountLaws::count_laws))]
 pub fn order_of_counts(text: &str)
     ensures lf_to_crlf { count Lf (chars text.now) ≤ count Crlf (chars text.now) }
     ensures crlf_to_lines { count Crlf (chars text.now) ≤ count Lines (chars text.now) }
@@ -113,6 +121,7 @@ pub fn order_of_counts(text: &str)
 /// never a lesser byte index.
 ///
 /// An editor's go to line relies on it: a later line never begins before an earlier one.
+#[tactic(auto, using(crate::proofs::lemmas::laws::CharacterLaws::index_laws))]
 pub fn monotone(text: &str, i: usize, j: usize)
     ensures from { (s : Scheme) → i ≤ j →
         from_byte_idx s (chars text.now) i ≤ from_byte_idx s (chars text.now) j }
@@ -124,6 +133,7 @@ pub fn monotone(text: &str, i: usize, j: usize)
 /// line breaks than bytes.
 ///
 /// A caller that adds to an index relies on it: where the sum does not fit `usize`, `usize::MAX` goes to the same byte.
+#[tactic(auto, using(crate::proofs::lemmas::laws::PastEnds::past_ends))]
 pub fn past_end(text: &str)
     ensures { (s : Scheme) (k : ℕ) → length text.now ≤ k → to_byte_idx s (chars text.now) k ≡ length text.now }
 {}
@@ -134,6 +144,7 @@ pub fn past_end(text: &str)
 ///
 /// A position mapper of a language server relies on it: the text may be split at each byte index that a conversion
 /// answers.
+#[tactic(auto, using(crate::proofs::lemmas::laws::CharacterLaws::end_laws))]
 pub fn boundaries(text: &str, k: usize)
     ensures boundary { (s : Scheme) → IsBoundary (chars text.now) (to_byte_idx s (chars text.now) k) }
     ensures sliceable { (p : ℕ) → IsBoundary (chars text.now) p ↔ IsCharBoundary text.now p }

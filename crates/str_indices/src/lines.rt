@@ -93,6 +93,7 @@ pub fn from_byte_idx_impl<T: ByteChunk>(
 /// Whether `end`, the boundary at or before a byte, stands between CR and LF, by at most two peeks.
 ///
 /// At a boundary before the byte a char of several bytes begins, so there no peek is needed.
+#[tactic(auto, using(crate::proofs::lemmas::schemes::LineBytes::parted))]
 fn parts_crlf<T: ByteChunk>(probe: &mut Probe<'_, T>, end: usize, byte_idx: usize) -> bool
     requires within { end ≤ length probe.old.text }
     requires boundary { end ≡ size (cut (chars probe.old.text) byte_idx) }
@@ -298,6 +299,7 @@ fn skip_chunks<T: ByteChunk>(probe: &mut Probe<'_, T>, from: Position, idx: usiz
 }
 
 /// Counts in the chunk at `at`, for one load and the peeks that it pays.
+#[tactic(auto, using(crate::proofs::lemmas::lanes::Lanes::chunk_sums))]
 fn sum_breaks_in_chunk<T: ByteChunk>(probe: &mut Probe<'_, T>, at: usize, end: usize) -> usize
     requires seen { at + T.SIZE ≤ end }
     requires within { end ≤ length probe.old.text }
@@ -327,6 +329,7 @@ fn count_breaks_in_chunk<T: ByteChunk>(probe: &mut Probe<'_, T>, at: usize, end:
 /// 1 in each lane of the chunk at `at` that is a break of one byte or the LF of CR LF.
 ///
 /// Only where a lane is CR it peeks at the last byte, and only where that is CR at the one behind it.
+#[tactic(auto, using(crate::proofs::lemmas::lanes::BreakChunks::last_is_counted))]
 fn count_narrow_breaks<T: ByteChunk>(probe: &mut Probe<'_, T>, chunk: T, at: usize, end: usize) -> T
     requires seen { at + T.SIZE ≤ end }
     requires within { end ≤ length probe.old.text }

@@ -19,6 +19,7 @@ pub(crate) struct Position {
 const MOST_TRAILING_BYTES: usize = 3;
 
 /// The greatest boundary at or before a byte, by at most three peeks; the text's length where the byte is past it.
+#[tactic(auto, using(crate::proofs::lemmas::bytes::BoundaryBytes::places))]
 pub(crate) fn boundary_at_or_before<T: ByteChunk>(
     probe: &mut Probe<'_, T>,
     byte_idx: usize,
@@ -66,6 +67,7 @@ pub(crate) fn is_not_crlf_middle<T: ByteChunk>(probe: &mut Probe<'_, T>, byte_id
 }
 
 /// The least boundary at or after a byte, by at most three peeks.
+#[tactic(auto, using(crate::proofs::lemmas::bytes::BoundaryBytes::places))]
 pub(crate) fn boundary_at_or_after<T: ByteChunk>(probe: &mut Probe<'_, T>, byte_idx: usize) -> usize
     requires { byte_idx ≤ length probe.old.text }
     ensures boundary { IsBoundary (chars probe.old.text) result }

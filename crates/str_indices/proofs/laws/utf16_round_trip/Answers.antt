@@ -1,9 +1,6 @@
 use Rattle.std.proofs.Common.{chars}
-use Rattle.str_indices.proofs.lemmas.laws.UnitLaws.{units-second_unit, units_or_second_unit}
+use Rattle.str_indices.proofs.lemmas.laws.UnitLaws.{units-second_unit}
 use Rattle.str_indices.proofs.laws.utf16_round_trip.Goals as goal
 
 pub returns-clause-second_unit : goal.returns-clause-second_unit
 returns-clause-second_unit c = units-second_unit (chars c.args.text.now) c.args.k
-
-pub returns-clause-otherwise : goal.returns-clause-otherwise
-returns-clause-otherwise c = units_or_second_unit (chars c.args.text.now) c.args.k

@@ -8,10 +8,10 @@ use Rattle.str_indices.specs.Text.{size, cut}
 use Rattle.str_indices.specs.Relations.{IsBoundary}
 use Rattle.str_indices.specs.Bytes.{is_trailing, sum_below}
 use Rattle.str_indices.proofs.lemmas.texts.Sizes.{size-append}
-use Rattle.str_indices.proofs.lemmas.texts.Cuts.{cut_is, boundary-le-cut}
+use Rattle.str_indices.proofs.lemmas.texts.Cuts.{cut_is, boundary-le-cut, cut_all}
 use Rattle.str_indices.proofs.lemmas.texts.EndSets.{IsBoundary-start}
 use Rattle.str_indices.proofs.lemmas.bytes.Sums.{sum_below-still}
-use Rattle.str_indices.proofs.lemmas.bytes.Characters.{first_byte, is_trailing_later, scalars_parts}
+use Rattle.str_indices.proofs.lemmas.bytes.Characters.{first_byte, is_trailing_later, scalars_parts, byte_seen}
 use Rattle.str_indices.proofs.lemmas.bytes.Walks.{size-chars, get_or-at_boundary}
 
 -- where a text is cut is a boundary
@@ -152,3 +152,6 @@ still_behind_cut f bytes utf8 end within none =
     let fits : place + (end - place) ≡ end = omega (arith, (cut_is (chars bytes) end).at.fits) in
     rw fits at (sum_below-still f place (end - place) (λ j l. none (place + j)
     (wide_behind_cut bytes utf8 end (place + j) (omega arith) (omega arith) (omega arith))))
+
+-- what the walks to a boundary cite, at a byte and at the end
+pub ruleset places = (begins_boundary, cut_at_leading, trailing_above_start, byte_seen, cut_all, size-chars)

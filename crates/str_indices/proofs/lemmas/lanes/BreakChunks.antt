@@ -197,7 +197,7 @@ half_ends half lane same = rw (and_mask half 7, same) (grind (arith, nat_tests))
 
 -- the same of each lane
 pub halves_end : (lanes halves : List ℕ) → map (λ lane. lane % 2 ^ (8 - 1)) halves ≡ map (λ lane. lane / 2 ^ 1) lanes
-    → map (is_byte 0x54) (map (λ lane. bit_and lane 0x7F) halves) ≡ map (λ lane. flag (ends_separator lane)) lanes
+    → map (λ lane. is_byte 0x54 (bit_and lane 0x7F)) halves ≡ map (λ lane. flag (ends_separator lane)) lanes
 halves_end [] [] same = refl
 halves_end [] (half ∷ halves) same = cc
 halves_end (lane ∷ lanes) [] same = cc

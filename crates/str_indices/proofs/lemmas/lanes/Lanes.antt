@@ -137,3 +137,6 @@ module _ {size : ℕ} (chunk : List ℕ) (long : length chunk ≡ size) where
   lane_is_not a is_first none j within =
       let here = (lanes_map (is_byte a) chunk long is_first).each j within in
       grind (arith, nat_tests, here, none, get_or-replicate {A = ℕ} size j 0 0 within)
+
+-- the sum of a chunk, for the search
+pub ruleset chunk_sums = (sum_below-chunk)

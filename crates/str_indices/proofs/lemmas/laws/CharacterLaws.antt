@@ -2,13 +2,15 @@
 use Rattle.std.proofs.Common.{ℕ, ◌≤◌, List, ◌↔◌}
 use Rattle.str_indices.specs.Schemes.{Scheme, Chars, Utf16, from_byte_idx, to_byte_idx, ends}
 use Rattle.str_indices.specs.Relations.{IsBoundary}
-use Rattle.str_indices.proofs.lemmas.texts.EndSets.{IsBoundary-end_at, ends_increase_within, end_at-select, zero_or_end}
+use Rattle.str_indices.proofs.lemmas.texts.EndSets.{IsBoundary-end_at, ends_increase_within, end_at-select, zero_or_end, ends_are, ends_increase}
 use Rattle.str_indices.proofs.lemmas.texts.Units.{boundary_at_units_is_greatest, units-le-units}
 use Rattle.str_indices.proofs.lemmas.laws.UnitLaws.{boundary_at_units-le, boundary_le_iff, boundary_at_units-units-le}
 use Rattle.str_indices.specs.Text.{size}
 use Rattle.str_indices.specs.SchemeGroups.{IsCharacterScheme}
 use Rattle.str_indices.specs.Starts.{IsGreatestBoundary}
 use Rattle.str_indices.proofs.lemmas.texts.Increasing.{rank, rank-le-rank, select-le-select, select-rank-le, member_adjunction}
+use Rattle.str_indices.proofs.lemmas.texts.Cuts.{cut_is_longest}
+use Rattle.str_indices.proofs.lemmas.laws.EndLaws.{from-to}
 
 -- each conversion to a byte index answers a boundary
 pub IsBoundary-to_byte_idx : (s : Scheme) (cs : List ℕ) (k : ℕ) → IsBoundary cs (to_byte_idx s cs k)
@@ -49,3 +51,9 @@ to-from_is_greatest_boundary s character cs b = record {
   greatest = λ q at le. (boundary_adjunction s character cs q (from_byte_idx s cs b) at).1
       (from_byte_idx-le s cs q b le);
 }
+
+-- what the laws of the way there and back and of greater indices cite
+pub ruleset index_laws = (from-to, from_byte_idx-le, to_byte_idx-le)
+
+-- what the law of boundaries and ends cites
+pub ruleset end_laws = (IsBoundary-to_byte_idx, boundary_at_units_is_greatest, cut_is_longest, ends_are, ends_increase)

@@ -9,7 +9,8 @@ use Rattle.str_indices.proofs.lemmas.texts.Ends.{end_weight, end_count_total, co
 use Rattle.std.proofs.lemmas.List.Sums.{sum_by-append}
 use Rattle.str_indices.specs.Text.{weight}
 use Rattle.str_indices.specs.Joins.{joins_crlf}
-use Rattle.str_indices.proofs.lemmas.texts.Units.{count-units}
+use Rattle.std.proofs.lemmas.Str.{chars-append}
+use Rattle.str_indices.proofs.lemmas.texts.Units.{count-units, count-characters-surrogates}
 
 -- a sum of larger numbers is larger
 total-le-total : (v w : ℕ → List ℕ → ℕ) → ((c : ℕ) (cs : List ℕ) → v c cs ≤ w c cs) → (cs : List ℕ)
@@ -54,3 +55,12 @@ count-Crlf-append = end_count-append Crlf crlf_has_return
 pub count-Lines-append : (a b : List ℕ)
     → count Lines (a ++ b) + cond (joins_crlf a b) 1 0 ≡ count Lines a + count Lines b
 count-Lines-append = end_count-append Lines lines_has_return
+
+-- what the laws of the counts cite
+pub ruleset count_laws = (count-characters-surrogates, count-Lf-le-count-Crlf, count-Crlf-le-count-Lines)
+
+-- what the laws of joined texts cite
+pub ruleset joined_sums = (chars-append, count-Chars-append, count-Utf16-append, surrogates-append, count-Lf-append)
+
+-- the same of line breaks
+pub ruleset joined_breaks = (chars-append, count-Crlf-append, count-Lines-append)

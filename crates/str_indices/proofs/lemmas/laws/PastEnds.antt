@@ -34,3 +34,6 @@ pub to_byte_idx-past_bytes : (s : Scheme) (bytes : List ℕ) → IsUtf8 bytes �
     → to_byte_idx s (chars bytes) k ≡ length bytes
 to_byte_idx-past_bytes s bytes utf8 k past =
     omega (arith, to_byte_idx-past s (chars bytes) k, size-chars bytes utf8)
+
+-- what the law of an index past the end cites
+pub ruleset past_ends = (to_byte_idx-past_bytes)

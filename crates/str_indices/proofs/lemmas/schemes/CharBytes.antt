@@ -13,6 +13,7 @@ use Rattle.str_indices.proofs.lemmas.bytes.Characters.{first_byte, is_trailing_l
 use Rattle.str_indices.proofs.lemmas.bytes.Walks.{bytes_to_boundary, size-chars}
 use Rattle.str_indices.proofs.lemmas.texts.EndSets.{ends_increase_within, end_at_reached, zero_or_end}
 use Rattle.str_indices.proofs.lemmas.bytes.BoundaryBytes.{boundary_of_cut, begins_boundary, leading_among_four}
+use Rattle.str_indices.proofs.lemmas.passes.Passes.{pass_after_peeks}
 
 -- a chunk has as many leading bytes as its trailing bytes leave
 pub leading_in_chunk : (text : List ℕ) (at size added : ℕ)
@@ -83,8 +84,8 @@ module _ (bytes : List ℕ) (utf8 : IsUtf8 bytes) where
       → k < passing_before is_leading bytes (i + 1) → i ≡ to_byte_idx Chars (chars bytes) k
   char_found i k below at_most passed = char_reached i k (omega arith) at_most (λ _. passed)
 
--- the byte before or at which a text is cut, as the search takes it
-pub ruleset chars_up_to = (boundary_of_cut, chars_of_byte)
+-- the text that is cut at the boundary at or before a byte, and a pass behind the peeks to it, for the search
+pub ruleset chars_up_to = (chars_of_byte, pass_after_peeks)
 
 -- the bytes before a boundary, as the search takes them
 pub ruleset bytes_at_boundary = (characters_and_trailing, passing_bounds)

@@ -2,7 +2,7 @@
 -- begins.
 use Rattle.std.proofs.Common.{◌≡◌, ℕ, ◌+◌, ◌<◌, ◌≤◌, List, ◌++◌, get_or, arith, false, ◌∙◌, ap, length, take, sym, chars, IsUtf8}
 use Rattle.std.specs.Char.{char_set_contains}
-use Rattle.std.proofs.lemmas.Bool.{false_from_ne_true}
+use Rattle.std.proofs.lemmas.Bool.{false_from_ne_true, lt-leb}
 use Rattle.std.proofs.lemmas.Bool.Decides.{nat_tests}
 use Rattle.str_indices.specs.Text.{size, cut}
 use Rattle.str_indices.specs.Schemes.{Lines, break_characters, count, from_byte_idx, to_byte_idx}
@@ -83,3 +83,6 @@ pub ruleset breaks_in_parts = (breaks_in_cut, counting_pass)
 
 -- no more breaks are counted than bytes, as the search takes it
 pub ruleset breaks_bound = (breaks_counted_before-le)
+
+-- where a boundary stands between CR and LF, for the search
+pub ruleset parted = (moved_is_whole, lt-leb)

@@ -20,6 +20,7 @@ use Rattle.str_indices.proofs.lemmas.bytes.Characters.{by_size}
 use Rattle.str_indices.proofs.lemmas.bytes.Walks.{bytes_to_boundary, boundary_at_end, size-chars}
 use Rattle.str_indices.proofs.lemmas.bytes.BoundaryBytes.{boundary_of_cut, begins_at, begins_boundary}
 use Rattle.str_indices.proofs.lemmas.schemes.CharBytes.{CountsLeading, leading_at_boundary}
+use Rattle.str_indices.proofs.lemmas.passes.Passes.{two_passes_after_peeks}
 
 -- the mask of a first byte of four, as a range
 four_range : (b : ℕ) → b < 256 → begins_four_bytes b ≡ nat_le 240 b
@@ -164,5 +165,5 @@ module _ (bytes : List ℕ) (utf8 : IsUtf8 bytes) where
       let most : units_before bytes p ≤ k = omega (arith, units_at_boundary p answer.boundary, answer.fits) in
       grind (arith, stopped, units_before-le-units_before bytes (at + 1) p)
 
--- the byte before or at which a text is cut, as the search takes it
-pub ruleset units_up_to = (boundary_of_cut, units_of_byte)
+-- the text that is cut at the boundary at or before a byte, and a pass behind the peeks to it, for the search
+pub ruleset units_up_to = (units_of_byte, two_passes_after_peeks)

@@ -11,12 +11,10 @@ returns-then-is_separator-clause-lanes g c =
     let last = c.args.at + (g.T.ByteChunk.SIZE - 1) in
     let same = ap (λ p. p.text) c.peek-byte.ensures.state in
     let same' = ap (λ p. p.text) c.peek-last_but_one.ensures.state ∙ same in
-    separator_crosses (take c.args.end c.args.probe.now.text) c.args.at g.T.ByteChunk.SIZE
-    least c.requires.counted
-    (seen last 0 (omega (arith, least)) ∙ sym (rw c.SIZE.ensures at c.peek-byte.ensures.byte) ∙ c.if-byte.true)
+    separator_crosses (take c.args.end c.args.probe.now.text) _ _ least c.requires.counted
+    (cc (seen last 0 (omega (arith, least))))
     (rw (c.SIZE.ensures, same) at c.peek-last_but_one.ensures.byte ∙ sym (seen (last - 1) 0 (omega (arith, least))))
-    (rw (c.SIZE.ensures, same') at c.peek_ahead.ensures.byte)
-    (sym c.is_separator.ensures ∙ c.if-is_separator.true) c.inc_nth_from_end_lex_byte.ensures
+    (rw (c.SIZE.ensures, same') at c.peek_ahead.ensures.byte) (cc) c.inc_nth_from_end_lex_byte.ensures
 
 pub returns-else-is_separator-clause-lanes : goal.returns-else-is_separator-clause-lanes
 returns-else-is_separator-clause-lanes g c =
@@ -25,39 +23,30 @@ returns-else-is_separator-clause-lanes g c =
     let last = c.args.at + (g.T.ByteChunk.SIZE - 1) in
     let same = ap (λ p. p.text) c.peek-byte.ensures.state in
     let same' = ap (λ p. p.text) c.peek-last_but_one.ensures.state ∙ same in
-    separator_kept (take c.args.end c.args.probe.now.text) c.args.at g.T.ByteChunk.SIZE
-    least c.requires.counted
-    (seen last 0 (omega (arith, least)) ∙ sym (rw c.SIZE.ensures at c.peek-byte.ensures.byte) ∙ c.if-byte.true)
+    separator_kept (take c.args.end c.args.probe.now.text) _ _ least c.requires.counted
+    (cc (seen last 0 (omega (arith, least))))
     (rw (c.SIZE.ensures, same) at c.peek-last_but_one.ensures.byte ∙ sym (seen (last - 1) 0 (omega (arith, least))))
-    (rw (c.SIZE.ensures, same') at c.peek_ahead.ensures.byte) (sym c.is_separator.ensures ∙ c.if-is_separator.false)
+    (rw (c.SIZE.ensures, same') at c.peek_ahead.ensures.byte) (cc)
 
 pub returns-then-starts_wide_break-clause-lanes : goal.returns-then-starts_wide_break-clause-lanes
 returns-then-starts_wide_break-clause-lanes g c =
-    let least = g.met.T.ByteChunk.lawful.least in
-    let size = g.T.ByteChunk.SIZE in
-    let last = get_or-take c.args.end c.args.probe.now.text (c.args.at + (size - 1)) 0 (omega (arith, least))
-    ∙ sym (rw c.SIZE.ensures at c.peek-byte.ensures.byte) in
+    let law = g.met.T.ByteChunk.lawful in
+    let seen = get_or-take c.args.end c.args.probe.now.text (c.args.at + (g.T.ByteChunk.SIZE - 1)) 0 (omega arith) in
     let same = ap (λ p. p.text) c.peek-byte.ensures.state in
-    wide_crosses (take c.args.end c.args.probe.now.text) c.args.at g.T.ByteChunk.SIZE
-    least c.requires.counted (λ second. c.if-byte.false (sym last ∙ second))
-    (sym (rw (c.SIZE.ensures, same) at c.starts_wide_break.ensures.answer) ∙ ap flag c.if-starts_wide_break.true)
+    wide_crosses (take c.args.end c.args.probe.now.text) _ _ law.least c.requires.counted
+    (λ second. c.if-byte.false (cc)) (cc (ap flag c.if-starts_wide_break.true))
     c.inc_nth_from_end_lex_byte-then-starts_wide_break.ensures
 
 pub returns-else-starts_wide_break-clause-lanes : goal.returns-else-starts_wide_break-clause-lanes
 returns-else-starts_wide_break-clause-lanes g c =
-    let least = g.met.T.ByteChunk.lawful.least in
-    let size = g.T.ByteChunk.SIZE in
-    let last = get_or-take c.args.end c.args.probe.now.text (c.args.at + (size - 1)) 0 (omega (arith, least))
-    ∙ sym (rw c.SIZE.ensures at c.peek-byte.ensures.byte) in
+    let law = g.met.T.ByteChunk.lawful in
+    let seen = get_or-take c.args.end c.args.probe.now.text (c.args.at + (g.T.ByteChunk.SIZE - 1)) 0 (omega arith) in
     let same = ap (λ p. p.text) c.peek-byte.ensures.state in
-    wide_kept (take c.args.end c.args.probe.now.text) c.args.at g.T.ByteChunk.SIZE
-    least c.requires.counted (λ second. c.if-byte.false (sym last ∙ second))
-    (sym (rw (c.SIZE.ensures, same) at c.starts_wide_break.ensures.answer) ∙ ap flag c.if-starts_wide_break.false)
+    wide_kept (take c.args.end c.args.probe.now.text) _ _ law.least c.requires.counted
+    (λ second. c.if-byte.false (cc)) (cc (ap flag c.if-starts_wide_break.false))
 
 pub inc_nth_from_end_lex_byte-requires-then-starts_wide_break-clause-room :
     goal.inc_nth_from_end_lex_byte-requires-then-starts_wide_break-clause-room
 inc_nth_from_end_lex_byte-requires-then-starts_wide_break-clause-room g c =
-    let size = g.T.ByteChunk.SIZE in
     let least = g.met.T.ByteChunk.lawful.least in
-    lane_small (take c.args.end c.args.probe.now.text) c.args.at size least c.requires.counted (size - 1 - 0)
-    (omega (arith, least))
+    lane_small (take c.args.end c.args.probe.now.text) c.args.at _ least c.requires.counted _ (omega (arith, least))

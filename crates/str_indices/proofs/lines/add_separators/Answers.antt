@@ -4,20 +4,16 @@ use Rattle.str_indices.proofs.lemmas.lanes.BreakChunks.{no_separators, separator
 use Rattle.str_indices.proofs.lines.add_separators.Goals as goal
 
 pub returns-then-is_zero : goal.returns-then-is_zero
-returns-then-is_zero g c =
-    no_separators (g.T.ByteChunk.lanes c.args.chunk) g.met.T.ByteChunk.lawful.least c.requires.long
-    c.requires.as_long c.requires.first (c.is_zero.ensures.0 c.if-is_zero.true)
+returns-then-is_zero g c = no_separators _ g.met.T.ByteChunk.lawful.least c.requires.long c.requires.as_long
+    c.requires.first (c.is_zero.ensures.0 c.if-is_zero.true)
 
 pub add-requires : goal.add-requires
 add-requires g c =
-    let lanes = g.T.ByteChunk.lanes in
     let least = g.met.T.ByteChunk.lawful.least in
-    let found = separator_lanes (lanes c.args.chunk) least c.requires.long c.pair_starts.ensures
-    c.separator_ends.ensures c.shift_back_lex-thirds.ensures c.bitand.ensures in
-    separators_fit (lanes c.args.chunk) least c.requires.long (lanes c.args.breaks) c.requires.room found
+    separators_fit _ least c.requires.long _ c.requires.room (separator_lanes _ least c.requires.long
+    c.pair_starts.ensures c.separator_ends.ensures c.shift_back_lex-thirds.ensures c.bitand.ensures)
 
 pub returns : goal.returns
-returns g c =
-    let found = separator_lanes (g.T.ByteChunk.lanes c.args.chunk) g.met.T.ByteChunk.lawful.least c.requires.long
-    c.pair_starts.ensures c.separator_ends.ensures c.shift_back_lex-thirds.ensures c.bitand.ensures in
-    lanes_zip2 (λ a b. a + b) (lanes_of c.requires.as_long) found c.add.ensures
+returns g c = lanes_zip2 (λ a b. a + b) (lanes_of c.requires.as_long)
+    (separator_lanes _ g.met.T.ByteChunk.lawful.least c.requires.long c.pair_starts.ensures c.separator_ends.ensures
+    c.shift_back_lex-thirds.ensures c.bitand.ensures) c.add.ensures

@@ -15,16 +15,13 @@ add-with_next_lines-requires g c =
     next_lines_fit g.met.T.ByteChunk.lawful.least c.requires.chunk c.requires.counted c.pair_starts.ensures
 
 pub add_separators-inside-requires-clause-as_long : goal.add_separators-inside-requires-clause-as_long
-add_separators-inside-requires-clause-as_long g c =
-    sums_long g.met.T.ByteChunk.lawful.least c.requires.chunk c.requires.counted c.pair_starts.ensures
-    c.add-with_next_lines.ensures
+add_separators-inside-requires-clause-as_long g c = sums_long g.met.T.ByteChunk.lawful.least c.requires.chunk
+    c.requires.counted c.pair_starts.ensures c.add-with_next_lines.ensures
 
 pub add_separators-inside-requires-clause-room : goal.add_separators-inside-requires-clause-room
-add_separators-inside-requires-clause-room g c =
-    sums_small g.met.T.ByteChunk.lawful.least c.requires.chunk c.requires.counted c.pair_starts.ensures
-    c.add-with_next_lines.ensures
+add_separators-inside-requires-clause-room g c = sums_small g.met.T.ByteChunk.lawful.least c.requires.chunk
+    c.requires.counted c.pair_starts.ensures c.add-with_next_lines.ensures
 
 pub add_at_edge-requires-clause-counted : goal.add_at_edge-requires-clause-counted
-add_at_edge-requires-clause-counted g c =
-    inside_counted g.met.T.ByteChunk.lawful.least c.requires.chunk c.requires.counted c.pair_starts.ensures
-    c.add-with_next_lines.ensures c.add_separators-inside.ensures
+add_at_edge-requires-clause-counted g c = inside_counted g.met.T.ByteChunk.lawful.least c.requires.chunk
+    c.requires.counted c.pair_starts.ensures c.add-with_next_lines.ensures c.add_separators-inside.ensures

@@ -1,4 +1,4 @@
-use Rattle.std.proofs.Common.{◌≡◌, ◌+◌, take, inl, inr, add-one, arith, ap}
+use Rattle.std.proofs.Common.{◌≡◌, take, inl, inr, add-one, arith, ap}
 use Rattle.std.proofs.lemmas.Bool.{cases_Bool, cases_lt}
 use Rattle.str_indices.specs.Breaks.{breaks_counted_before, break_at}
 use Rattle.str_indices.proofs.lemmas.schemes.LineBytes.{break_at-le}
@@ -11,24 +11,20 @@ loop-at-preserved g c =
     let bytes = take c.args.end c.args.probe.now.text in
     let at = c.loop-at.at.byte in
     let one = rw so_far.reads.text_kept at c.is_break_at.ensures.answer in
-    let more : breaks_counted_before bytes (at + 1) ≡ breaks_counted_before bytes at + break_at bytes at =
-    ap (breaks_counted_before bytes) (add-one at) in
+    let more = ap (breaks_counted_before bytes) (add-one at) in
     let added : c.from-breaks.result ≡ break_at bytes at = elim (cases_Bool c.is_break_at.result) [
       | inl counts ↦ omega (arith, rw counts at c.from-breaks.ensures, rw counts at one)
       | inr fails ↦ omega (arith, rw fails at c.from-breaks.ensures, rw fails at one)
     ] in
-    let counted : c.loop-at.at.count + c.from-breaks.result ≡ breaks_counted_before bytes (at + 1) =
-    omega (arith, so_far.counted, added, more) in
     record {
-      from_low = omega (arith, so_far.from_low);
+      from_low = omega arith;
       to_high = omega arith;
-      counted = counted;
-      at_most = omega (arith, added, break_at-le bytes at);
+      counted = omega arith;
+      at_most = omega (arith, break_at-le bytes at);
       first = λ d low high. elim (cases_lt d at) [
         | inl before ↦ so_far.first d low before
-        | inr here ↦ let same : breaks_counted_before bytes d ≡ breaks_counted_before bytes at =
-            ap (breaks_counted_before bytes) (omega arith) in omega (arith, so_far.counted)
+        | inr here ↦ let same : d ≡ at = omega arith in rw same (omega arith)
       ];
-      reads = weaken (then_ so_far.reads c.is_break_at.ensures.reads) (omega arith) (omega (arith, so_far.from_low))
-          (omega arith) (omega arith);
+      reads = weaken (then_ so_far.reads c.is_break_at.ensures.reads) (omega arith) (omega arith) (omega arith)
+          (omega arith);
     }

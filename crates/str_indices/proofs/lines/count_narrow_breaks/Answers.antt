@@ -1,31 +1,18 @@
-use Rattle.std.proofs.Common.{sym, ◌∙◌}
-use Rattle.str_indices.proofs.lemmas.lanes.BreakChunks.{crlf_fits, last_is_counted, narrow_crossing, narrow_kept, no_crlf}
+use Rattle.str_indices.proofs.lemmas.lanes.BreakChunks.{crlf_fits, narrow_crossing, narrow_kept, no_crlf}
 use Rattle.str_indices.proofs.lines.count_narrow_breaks.Goals as goal
 
 pub returns-then-is_zero-clause-lanes : goal.returns-then-is_zero-clause-lanes
-returns-then-is_zero-clause-lanes g c =
-    no_crlf g.met.T.ByteChunk.lawful.least c.requires.chunk c.bytes_between_127-ascii_breaks.ensures
-    c.cmp_eq_byte.ensures (c.is_zero.ensures.0 c.if-is_zero.true)
+returns-then-is_zero-clause-lanes g c = no_crlf g.met.T.ByteChunk.lawful.least c.requires.chunk
+    c.bytes_between_127-ascii_breaks.ensures c.cmp_eq_byte.ensures (c.is_zero.ensures.0 c.if-is_zero.true)
 
 pub sub-inside-requires : goal.sub-inside-requires
-sub-inside-requires g c =
-    crlf_fits g.met.T.ByteChunk.lawful.least c.requires.chunk c.bytes_between_127-ascii_breaks.ensures
-    c.pair_starts.ensures
-
-pub dec_last_lex_byte-requires : goal.dec_last_lex_byte-requires
-dec_last_lex_byte-requires g c =
-    let crosses = rw c.SIZE.ensures at (sym c.starts_crlf.ensures.answer ∙ c.if-starts_crlf.true) in
-    last_is_counted g.met.T.ByteChunk.lawful.least c.requires.chunk c.bytes_between_127-ascii_breaks.ensures
-    c.pair_starts.ensures c.sub-inside.ensures crosses
+sub-inside-requires g c = crlf_fits g.met.T.ByteChunk.lawful.least c.requires.chunk
+    c.bytes_between_127-ascii_breaks.ensures c.pair_starts.ensures
 
 pub returns-then-starts_crlf-clause-lanes : goal.returns-then-starts_crlf-clause-lanes
-returns-then-starts_crlf-clause-lanes g c =
-    let crosses = rw c.SIZE.ensures at (sym c.starts_crlf.ensures.answer ∙ c.if-starts_crlf.true) in
-    narrow_crossing g.met.T.ByteChunk.lawful.least c.requires.chunk c.bytes_between_127-ascii_breaks.ensures
-    c.pair_starts.ensures c.sub-inside.ensures crosses c.dec_last_lex_byte.ensures
+returns-then-starts_crlf-clause-lanes g c = narrow_crossing g.met.T.ByteChunk.lawful.least c.requires.chunk
+    c.bytes_between_127-ascii_breaks.ensures c.pair_starts.ensures c.sub-inside.ensures (cc) c.dec_last_lex_byte.ensures
 
 pub returns-else-starts_crlf-clause-lanes : goal.returns-else-starts_crlf-clause-lanes
-returns-else-starts_crlf-clause-lanes g c =
-    let stays = rw c.SIZE.ensures at (sym c.starts_crlf.ensures.answer ∙ c.if-starts_crlf.false) in
-    narrow_kept g.met.T.ByteChunk.lawful.least c.requires.chunk c.bytes_between_127-ascii_breaks.ensures
-    c.pair_starts.ensures c.sub-inside.ensures stays
+returns-else-starts_crlf-clause-lanes g c = narrow_kept g.met.T.ByteChunk.lawful.least c.requires.chunk
+    c.bytes_between_127-ascii_breaks.ensures c.pair_starts.ensures c.sub-inside.ensures (cc)

@@ -3,6 +3,5 @@ use Rattle.str_indices.proofs.lemmas.lanes.Lanes.{pair_lanes}
 use Rattle.str_indices.proofs.lines.pair_starts.Goals as goal
 
 pub returns : goal.returns
-returns g c = pair_lanes (g.T.ByteChunk.lanes c.args.chunk) c.requires.long c.args.first c.args.second
-    (omega (arith, g.met.T.ByteChunk.lawful.least)) c.requires.some c.cmp_eq_byte.ensures c.cmp_eq_byte-2.ensures
-    c.shift_back_lex.ensures c.bitand.ensures
+returns g c = pair_lanes _ c.requires.long _ _ (omega (arith, g.met.T.ByteChunk.lawful.least)) c.requires.some
+    c.cmp_eq_byte.ensures c.cmp_eq_byte-2.ensures c.shift_back_lex.ensures c.bitand.ensures

@@ -1,4 +1,4 @@
-use Rattle.std.proofs.Common.{◌≡◌, length, take, inl, inr, arith, ap, ◌∙◌}
+use Rattle.std.proofs.Common.{◌≡◌, length, inl, inr, arith, ap, ◌∙◌}
 use Rattle.std.proofs.lemmas.Bool.{cases_lt}
 use Rattle.std.proofs.lemmas.List.{take_all}
 use Rattle.str_indices.specs.Breaks.{break_at, breaks_counted_before}
@@ -11,63 +11,52 @@ use Rattle.str_indices.proofs.lines.to_byte_idx_impl.Goals as goal
 pub returns-then-led-idx-clause-answer : goal.returns-then-led-idx-clause-answer
 returns-then-led-idx-clause-answer g c =
     let text = c.args.probe.now.text in
-    let led = c.count_breaks_up_to-led in
-    let found = c.boundary_at_or_after in
-    let whole : take c.len-len.result text ≡ text =
-    take_all c.len-len.result text (omega (arith, c.len-len.ensures.len)) in
-    let same = led.ensures.reads.text_kept in
-    let counted = rw whole at led.ensures.counted in
-    let first = rw whole at led.ensures.first in
-    let answer = line_begins text c.len-len.ensures.utf8 c.args.idx led.result.byte found.result
-    found.ensures.reached.0 (omega (arith, found.ensures.reached.1, ap length same))
-    (rw same at found.ensures.boundary) (rw same at found.ensures.least)
-    (λ _. omega (arith, counted, c.if-led-idx.true)) (λ d before. first d (omega arith) before) in
-    omega (arith, answer)
+    let led = c.count_breaks_up_to-led.ensures in
+    let found = c.boundary_at_or_after.ensures in
+    let same = led.reads.text_kept in
+    let whole = take_all c.len-len.result text (omega (arith, c.len-len.ensures.len)) in
+    let counted = rw whole at led.counted in
+    let first = rw whole at led.first in
+    line_begins text c.len-len.ensures.utf8 _ _ _ found.reached.0 (omega (arith, found.reached.1, ap length same))
+    (rw same at found.boundary) (rw same at found.least) (λ _. omega (arith, counted, c.if-led-idx.true))
+    (λ d before. first d (omega arith) before)
 
 pub returns-clause-answer : goal.returns-clause-answer
 returns-clause-answer g c =
     let text = c.args.probe.now.text in
-    let led = c.count_breaks_up_to-led in
-    let chunks = c.skip_chunks-chunked in
-    let rest = c.count_breaks_up_to-reached in
-    let found = c.boundary_at_or_after-2 in
-    let whole : take c.len-len.result text ≡ text =
-    take_all c.len-len.result text (omega (arith, c.len-len.ensures.len)) in
-    let same_led = led.ensures.reads.text_kept in
-    let same_chunked = chunks.ensures.reads.text_kept ∙ same_led in
-    let same = rest.ensures.reads.text_kept ∙ same_chunked in
-    let skipped = rw same_led at chunks.ensures.counted in
-    let counted = rw (same_chunked, whole) at rest.ensures.counted in
-    let first = rw (same_chunked, whole) at rest.ensures.first in
-    let answer = line_begins text c.len-len.ensures.utf8 c.args.idx rest.result.byte found.result
-    found.ensures.reached.0 (omega (arith, found.ensures.reached.1, ap length same))
-    (rw same at found.ensures.boundary) (rw same at found.ensures.least)
-    (λ inside. omega (arith, counted, rest.ensures.stopped (omega (arith, c.len-len.ensures.len))))
-    (first_of_all (break_at text) c.args.idx chunks.result.byte rest.result.byte
-    (omega (arith, skipped, chunks.ensures.below)) first) in
-    omega (arith, answer)
+    let chunks = c.skip_chunks-chunked.ensures in
+    let rest = c.count_breaks_up_to-reached.ensures in
+    let found = c.boundary_at_or_after-2.ensures in
+    let same_led = c.count_breaks_up_to-led.ensures.reads.text_kept in
+    let same_chunked = chunks.reads.text_kept ∙ same_led in
+    let same = rest.reads.text_kept ∙ same_chunked in
+    let whole = take_all c.len-len.result text (omega (arith, c.len-len.ensures.len)) in
+    let skipped = rw same_led at chunks.counted in
+    let counted = rw (same_chunked, whole) at rest.counted in
+    let first = rw (same_chunked, whole) at rest.first in
+    line_begins text c.len-len.ensures.utf8 _ _ _ found.reached.0 (omega (arith, found.reached.1, ap length same))
+    (rw same at found.boundary) (rw same at found.least)
+    (λ inside. omega (arith, counted, rest.stopped (omega (arith, c.len-len.ensures.len))))
+    (first_of_all (break_at text) _ _ _ (omega (arith, skipped, chunks.below)) first)
 
 pub returns-clause-pass : goal.returns-clause-pass
 returns-clause-pass g c =
     let text = c.args.probe.now.text in
     let size = g.T.ByteChunk.SIZE in
-    let least = g.met.T.ByteChunk.lawful.least in
     let led = c.count_breaks_up_to-led in
     let chunks = c.skip_chunks-chunked in
-    let rest = c.count_breaks_up_to-reached in
+    let rest = c.count_breaks_up_to-reached.ensures in
     let found = c.boundary_at_or_after-2 in
     let same_led = led.ensures.reads.text_kept in
-    let whole : take c.len-len.result text ≡ text =
-    take_all c.len-len.result text (omega (arith, c.len-len.ensures.len)) in
-    let first = rw (chunks.ensures.reads.text_kept ∙ same_led, whole) at rest.ensures.first in
+    let whole = take_all c.len-len.result text (omega (arith, c.len-len.ensures.len)) in
+    let first = rw (chunks.ensures.reads.text_kept ∙ same_led, whole) at rest.first in
     let all_led : led.result.byte ≡ c.min-first_chunk.result =
     elim (cases_lt led.result.byte c.min-first_chunk.result) [
       | inl stopped ↦ absurd (c.if-led-idx.false (led.ensures.stopped stopped))
       | inr reached ↦ omega (arith, led.ensures.reached.1)
     ] in
-    let near = place_is_near (breaks_counted_before text) (length text) chunks.result.byte size c.args.idx
-    rest.result.byte
-    (rw same_led at chunks.ensures.stopped) (omega (arith, rest.ensures.reached.1, c.len-len.ensures.len)) first in
-    placing_pass size c.args.lead _ least found.result (omega (arith, all_led)) led.ensures.reads chunks.ensures.reads
-    (then_ rest.ensures.reads found.ensures.reads) (omega (arith, rest.ensures.reached.0, found.ensures.reached.0))
-    (omega (arith, near)) (omega arith)
+    let near = place_is_near (breaks_counted_before text) (length text) chunks.result.byte size _ _
+    (rw same_led at chunks.ensures.stopped) (omega (arith, rest.reached.1, c.len-len.ensures.len)) first in
+    placing_pass size c.args.lead _ g.met.T.ByteChunk.lawful.least found.result (omega (arith, all_led))
+    led.ensures.reads chunks.ensures.reads (then_ rest.reads found.ensures.reads)
+    (omega (arith, rest.reached.0, found.ensures.reached.0)) (omega (arith, near)) (omega arith)
