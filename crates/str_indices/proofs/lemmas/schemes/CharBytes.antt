@@ -12,7 +12,7 @@ use Rattle.str_indices.proofs.lemmas.texts.Ends.{count_characters, cut-cut, end_
 use Rattle.str_indices.proofs.lemmas.bytes.Characters.{first_byte, is_trailing_later}
 use Rattle.str_indices.proofs.lemmas.bytes.Walks.{bytes_to_boundary, size-chars}
 use Rattle.str_indices.proofs.lemmas.texts.EndSets.{ends_increase_within, end_at_reached, zero_or_end}
-use Rattle.str_indices.proofs.lemmas.bytes.BoundaryBytes.{boundary_of_cut, begins_boundary, leading_among_four}
+use Rattle.str_indices.proofs.lemmas.bytes.BoundaryBytes.{begins_boundary, leading_among_four}
 use Rattle.str_indices.proofs.lemmas.passes.Passes.{pass_after_peeks}
 
 -- a chunk has as many leading bytes as its trailing bytes leave

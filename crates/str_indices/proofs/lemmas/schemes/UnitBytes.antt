@@ -18,7 +18,7 @@ use Rattle.str_indices.proofs.lemmas.texts.Ends.{cut-cut}
 use Rattle.str_indices.proofs.lemmas.bytes.Sums.{sum_below-le-sum_below, sum_below-still, mark-le, passing_or_not, passing_before-between}
 use Rattle.str_indices.proofs.lemmas.bytes.Characters.{by_size}
 use Rattle.str_indices.proofs.lemmas.bytes.Walks.{bytes_to_boundary, boundary_at_end, size-chars}
-use Rattle.str_indices.proofs.lemmas.bytes.BoundaryBytes.{boundary_of_cut, begins_at, begins_boundary}
+use Rattle.str_indices.proofs.lemmas.bytes.BoundaryBytes.{begins_at, begins_boundary}
 use Rattle.str_indices.proofs.lemmas.schemes.CharBytes.{CountsLeading, leading_at_boundary}
 use Rattle.str_indices.proofs.lemmas.passes.Passes.{two_passes_after_peeks}
 
