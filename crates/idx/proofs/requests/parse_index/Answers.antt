@@ -1,4 +1,4 @@
-use Rattle.std.proofs.Common.{rules, get_or, ◌≢◌, ◌≡◌, ◌<◌, ◌^◌, ℕ, List, true, length, Bool, false, arith, ◌∙◌}
+use Rattle.std.proofs.Common.{rules, ◌≡◌, ◌<◌, ◌^◌, ℕ, List, true, length, Bool, false, arith, ◌∙◌}
 use Rattle.std.specs.Prelude.{Result, Ok, Err, Option, Some, None}
 use Rattle.std.specs.Result.{OkIff, result_ok}
 use Rattle.std.specs.Str.{all_ascii_digits}
@@ -8,7 +8,6 @@ use Rattle.std.proofs.lemmas.Str.Pattern.{starts_char}
 use Rattle.std.proofs.lemmas.Bool.Decides.{not_from_Decides}
 use Rattle.std.specs.Bool.{MatchBool}
 use Rattle.std.specs.Str.{IsCharBoundary}
-use Rattle.std.specs.Option.{MatchOption}
 use Rattle.std.specs.Str.Pattern.{FindsCharPrefix}
 use Rattle.idx.specs.Requests.{index_of}
 use Rattle.idx.proofs.requests.parse_index.Goals as goal

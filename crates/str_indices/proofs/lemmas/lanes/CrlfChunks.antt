@@ -110,4 +110,5 @@ module _ {text : List ℕ} {at size : ℕ} {chunk before returns : List ℕ}
           few_in_chunk = omega (arith, breaks_in_chunk, sum_below-more (break_start text) (break_start-le text) at size)
 
 -- what the lanes of a chunk say, as the search takes it
-pub ruleset starts_in_chunk = (loaded_by, sums_fit, pairs_fit, each_start, breaks_in_chunk, few_in_chunk, last_is_return)
+pub ruleset starts_in_chunk =
+    (loaded_by, sums_fit, pairs_fit, each_start, breaks_in_chunk, few_in_chunk, last_is_return)
