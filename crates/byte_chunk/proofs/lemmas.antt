@@ -1,1 +1,5 @@
 pub mod Lanewise
+pub mod Numbers
+pub mod Arithmetic
+pub mod Formulas
+pub mod Words

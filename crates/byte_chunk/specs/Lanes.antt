@@ -1,5 +1,10 @@
 -- What a chunk is to a contract: the list of its lanes, of which each call answers one.
-use Rattle.std.specs.Prelude.{ℕ, ◌<◌, ◌≤◌, ◌==◌, ◌&&◌, nat_lt, if◌then◌else◌}
+use Rattle.std.specs.Prelude.{ℕ, List, ◌<◌, ◌≤◌, ◌==◌, ◌&&◌, nat_lt, if◌then◌else◌}
+use Rattle.std.specs.Simd.Lanes.{digits_l}
+
+-- the n lanes of a word: lane i is its byte i, the lowest first
+unfoldable pub word_lanes : ℕ → ℕ → List ℕ
+word_lanes n word = digits_l 256 n word
 
 -- 1 where the lane is the byte, else 0
 abbrev pub is_byte : ℕ → ℕ → ℕ

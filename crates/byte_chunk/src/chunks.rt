@@ -1,3 +1,4 @@
 //! The chunk types, one file each.
 
 pub(crate) mod plain_array;
+pub(crate) mod word;

@@ -1,0 +1,6 @@
+use Rattle.std.proofs.Common.{arith, ap, ◌∙◌, ◌+◌, ◌-◌}
+use Rattle.byte_chunk.proofs.lemmas.Words.{word_shr}
+use Rattle.byte_chunk.proofs.chunks.word.UsizeByteChunk.shr.Goals as goal
+
+pub returns : goal.returns
+returns c = word_shr 8 c.args.n c.args.self.now (omega arith)
