@@ -18,7 +18,7 @@ pub use chunks::plain_array::Plain;
 pub use text_probe::Probe;
 
 /// The chunk type that the public functions of the crates above use.
-pub type Chunk = Plain;
+pub type Chunk = usize;
 
 /// A block of `SIZE` bytes, its lanes, in the order of the text.
 pub trait ByteChunk: Copy + Clone {
