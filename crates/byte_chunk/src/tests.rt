@@ -276,6 +276,17 @@ fn threes_with_a_step<T: ByteChunk>() -> T {
         .dec_last_lex_byte()
 }
 
+// `times` chunks of ones added up, lane by lane, and the lanes summed.
+fn sum_of_ones<T: ByteChunk>(times: usize) -> usize
+    requires { times ≤ T.MAX_ACC }
+{
+    let mut sums = T::zero();
+    'rounds: for _ in 0..times {
+        sums = sums.add(T::splat(1));
+    }
+    sums.sum_bytes()
+}
+
 #[test]
 fn generic_code_calls_each_method(rt: HostRuntime) -> Result<(), Fail> {
     assert_eq!(rt;
@@ -296,6 +307,101 @@ fn generic_code_calls_each_method(rt: HostRuntime) -> Result<(), Fail> {
         [0x0, 0x2, 0x4, 0x6, 0x8, 0xA, 0xC, 0xE]
     );
     assert_eq!(rt; threes_with_a_step::<Plain>().0, [3, 3, 3, 3, 3, 3, 4, 2]);
+    assert_eq!(rt; sum_of_ones::<Plain>(255), 2040);
+    Ok(())
+}
+
+#[test]
+fn generic_code_calls_each_method_of_a_word(rt: HostRuntime) -> Result<(), Fail> {
+    assert_eq!(rt;
+        trailing_bytes::<usize>("a\u{e9}\u{305b}bcdef".as_bytes()),
+        3
+    );
+    assert_eq!(rt; trailing_bytes::<usize>(b"abcdefgh"), 0);
+    assert_eq!(rt; lane_count::<usize>(), 8);
+    assert_eq!(rt; has_digit::<usize>(b"/a9b:c-d"), true);
+    assert_eq!(rt; has_digit::<usize>(b"/a.b:c-d"), false);
+    assert_eq!(rt; from_third_byte_on::<usize>(b"abcdefgh"), 0x0000_6867_6665_6463);
+    assert_eq!(rt; from_byte_before::<usize>(b'-', b"abcdefgh"), 0x6766_6564_6362_612D);
+    assert_eq!(rt;
+        upper_halves::<usize>(b"\x01\x23\x45\x67\x89\xAB\xCD\xEF"),
+        0x0E0C_0A08_0604_0200
+    );
+    assert_eq!(rt; threes_with_a_step::<usize>(), 0x0204_0303_0303_0303);
+    assert_eq!(rt; sum_of_ones::<usize>(31), 248);
+    Ok(())
+}
+
+#[test]
+fn a_word_has_its_lowest_byte_in_lane_0(rt: HostRuntime) -> Result<(), Fail> {
+    let word = usize::load(b"\x01\x02\x03\x04\x05\x06\x07\x08");
+    assert_eq!(rt; word, 0x0807_0605_0403_0201);
+    assert_eq!(rt; usize::load(b"abcdefghij"), 0x6867_6665_6463_6261);
+    assert_eq!(rt; usize::zero(), 0);
+    assert_eq!(rt; usize::splat(0xC0), 0xC0C0_C0C0_C0C0_C0C0);
+    assert_eq!(rt; word.shift_back_lex(0), word);
+    assert_eq!(rt; word.shift_back_lex(4), 0x0000_0000_0807_0605);
+    assert_eq!(rt; word.shift_across(usize::splat(9)), 0x0909_0909_0909_0908);
+    assert_eq!(rt; usize::splat(9).shift_across(word), 0x0706_0504_0302_0109);
+    Ok(())
+}
+
+#[test]
+fn a_word_is_zero_where_each_lane_is(rt: HostRuntime) -> Result<(), Fail> {
+    assert_eq!(rt; usize::zero().is_zero(), true);
+    for word in [1usize, 0x80, 0x100, 0x0100_0000_0000_0000, 0x8000_0000_0000_0000] {
+        assert_eq!(rt; word.is_zero(), false, "at {word}");
+    }
+    Ok(())
+}
+
+#[test]
+fn a_word_marks_each_equal_lane(rt: HostRuntime) -> Result<(), Fail> {
+    let word: usize = 0xE209_08A6_E2A6_E209;
+    let table = [
+        (0xE2, 0x0100_0000_0100_0100),
+        (0x07, 0x0000_0000_0000_0000),
+        (0x08, 0x0000_0100_0000_0000),
+        (0x09, 0x0001_0000_0000_0001),
+        (0xA6, 0x0000_0001_0001_0000),
+    ];
+    for (byte, marks) in table {
+        assert_eq!(rt; word.cmp_eq_byte(byte), marks, "at {byte}");
+    }
+    // Lane 1 holds 1: a test by borrows would mark it, next to lane 0.
+    let word: usize = 0x100;
+    assert_eq!(rt; word.cmp_eq_byte(0), 0x0101_0101_0101_0001);
+    Ok(())
+}
+
+#[test]
+fn a_word_leaves_out_both_bounds(rt: HostRuntime) -> Result<(), Fail> {
+    let word: usize = 0x7E09_00A6_FF7F_0807;
+    let table = [
+        (0x07, 0x7E, 0x0001_0000_0000_0100),
+        (0x00, 0x7F, 0x0101_0000_0000_0101),
+        (0x08, 0x7E, 0x0001_0000_0000_0000),
+    ];
+    for (a, b, marks) in table {
+        assert_eq!(rt; word.bytes_between_127(a, b), marks, "at {a} and {b}");
+    }
+    Ok(())
+}
+
+#[test]
+#[tactic(auto, unfolding(crate::specs::Lanes::word_lanes))]
+fn a_word_adds_and_subtracts_lane_by_lane(rt: HostRuntime) -> Result<(), Fail> {
+    let word: usize = 0xFFFE_C880_7F02_0100;
+    let rest: usize = 0x0001_377F_80FD_FEFF;
+    assert_eq!(rt; word.bitand(rest), 0x0000_0000_0000_0000);
+    assert_eq!(rt; word.bitand(usize::splat(0xF0)), 0xF0F0_C080_7000_0000);
+    assert_eq!(rt; word.add(rest), usize::splat(0xFF));
+    assert_eq!(rt; usize::MAX.sub(word), rest);
+    assert_eq!(rt; word.inc_nth_from_end_lex_byte(1), 0xFFFF_C880_7F02_0100);
+    assert_eq!(rt; word.inc_nth_from_end_lex_byte(7), 0xFFFE_C880_7F02_0101);
+    assert_eq!(rt; word.dec_last_lex_byte(), 0xFEFE_C880_7F02_0100);
+    assert_eq!(rt; usize::splat(0xA9).shr(1).bitand(usize::splat(0x7F)), usize::splat(0x54));
+    assert_eq!(rt; usize::sum_bytes(&0x1F00_1F1F_0102_0304), 103);
     Ok(())
 }
 
