@@ -4,6 +4,10 @@ use crate::{ByteChunk, Plain, Probe};
 use std::mem::size_of;
 use std::test::Fail;
 
+mod half_word;
+
+use half_word::HalfWord;
+
 #[test]
 fn load_takes_the_first_eight_bytes(rt: HostRuntime) -> Result<(), Fail> {
     assert_eq!(rt; Plain::load(b"abcdefgh").0, *b"abcdefgh");
@@ -321,14 +325,37 @@ fn generic_code_calls_each_method_of_a_word(rt: HostRuntime) -> Result<(), Fail>
     assert_eq!(rt; lane_count::<usize>(), 8);
     assert_eq!(rt; has_digit::<usize>(b"/a9b:c-d"), true);
     assert_eq!(rt; has_digit::<usize>(b"/a.b:c-d"), false);
-    assert_eq!(rt; from_third_byte_on::<usize>(b"abcdefgh"), 0x0000_6867_6665_6463);
-    assert_eq!(rt; from_byte_before::<usize>(b'-', b"abcdefgh"), 0x6766_6564_6362_612D);
+    assert_eq!(rt;
+        from_third_byte_on::<usize>(b"abcdefgh"),
+        0x0000_6867_6665_6463
+    );
+    assert_eq!(rt;
+        from_byte_before::<usize>(b'-', b"abcdefgh"),
+        0x6766_6564_6362_612D
+    );
     assert_eq!(rt;
         upper_halves::<usize>(b"\x01\x23\x45\x67\x89\xAB\xCD\xEF"),
         0x0E0C_0A08_0604_0200
     );
     assert_eq!(rt; threes_with_a_step::<usize>(), 0x0204_0303_0303_0303);
     assert_eq!(rt; sum_of_ones::<usize>(31), 248);
+    Ok(())
+}
+
+#[test]
+fn generic_code_calls_each_method_of_half_a_word(rt: HostRuntime) -> Result<(), Fail> {
+    assert_eq!(rt; trailing_bytes::<HalfWord>("a\u{e9}\u{305b}".as_bytes()), 1);
+    assert_eq!(rt; lane_count::<HalfWord>(), 4);
+    assert_eq!(rt; has_digit::<HalfWord>(b"/a9b"), true);
+    assert_eq!(rt; has_digit::<HalfWord>(b"/a:b"), false);
+    assert_eq!(rt; from_third_byte_on::<HalfWord>(b"abcd").0, 0x0000_6463);
+    assert_eq!(rt; from_byte_before::<HalfWord>(b'-', b"abcd").0, 0x6362_612D);
+    assert_eq!(rt;
+        upper_halves::<HalfWord>(b"\x01\x23\x89\xEF").0,
+        0x0E08_0200
+    );
+    assert_eq!(rt; threes_with_a_step::<HalfWord>().0, 0x0204_0303);
+    assert_eq!(rt; sum_of_ones::<HalfWord>(63), 252);
     Ok(())
 }
 
@@ -349,7 +376,13 @@ fn a_word_has_its_lowest_byte_in_lane_0(rt: HostRuntime) -> Result<(), Fail> {
 #[test]
 fn a_word_is_zero_where_each_lane_is(rt: HostRuntime) -> Result<(), Fail> {
     assert_eq!(rt; usize::zero().is_zero(), true);
-    for word in [1usize, 0x80, 0x100, 0x0100_0000_0000_0000, 0x8000_0000_0000_0000] {
+    for word in [
+        1usize,
+        0x80,
+        0x100,
+        0x0100_0000_0000_0000,
+        0x8000_0000_0000_0000,
+    ] {
         assert_eq!(rt; word.is_zero(), false, "at {word}");
     }
     Ok(())
@@ -400,7 +433,10 @@ fn a_word_adds_and_subtracts_lane_by_lane(rt: HostRuntime) -> Result<(), Fail> {
     assert_eq!(rt; word.inc_nth_from_end_lex_byte(1), 0xFFFF_C880_7F02_0100);
     assert_eq!(rt; word.inc_nth_from_end_lex_byte(7), 0xFFFE_C880_7F02_0101);
     assert_eq!(rt; word.dec_last_lex_byte(), 0xFEFE_C880_7F02_0100);
-    assert_eq!(rt; usize::splat(0xA9).shr(1).bitand(usize::splat(0x7F)), usize::splat(0x54));
+    assert_eq!(rt;
+        usize::splat(0xA9).shr(1).bitand(usize::splat(0x7F)),
+        usize::splat(0x54)
+    );
     assert_eq!(rt; usize::sum_bytes(&0x1F00_1F1F_0102_0304), 103);
     Ok(())
 }
