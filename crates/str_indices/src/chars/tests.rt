@@ -1,5 +1,6 @@
 use super::{count, count_impl, from_byte_idx, from_byte_idx_impl, to_byte_idx, to_byte_idx_impl};
-use byte_chunk::{Plain, Probe};
+use byte_chunk::{ByteChunk, Plain, Probe};
+use std::process::Abort;
 use std::test::Fail;
 
 const ENGLISH_AND_JAPANESE: &str =
@@ -10,12 +11,12 @@ const REPEATED: &str =
 
 const AROUND_FROG: &str = "aaaaaaa🐸b";
 
-/// The count of the chars before a boundary, over `Plain`.
-fn count_before(text: &str, end: usize, lead: usize) -> Option<usize> {
+/// The count of the chars before a boundary, over one type of chunk.
+fn count_before<T: ByteChunk>(text: &str, end: usize, lead: usize) -> Option<usize> {
     if !text.is_char_boundary(end) {
         return None;
     }
-    Some(count_impl(&mut Probe::<Plain>::of(text), end, lead))
+    Some(count_impl(&mut Probe::<T>::of(text), end, lead))
 }
 
 #[test]
@@ -33,17 +34,19 @@ fn counts_whole_texts(rt: HostRuntime) -> Result<(), Fail> {
     Ok(())
 }
 
-#[test]
-fn counts_before_a_boundary_after_any_lead(rt: HostRuntime) -> Result<(), Fail> {
+fn count_after_each_lead<T: ByteChunk>(rt: &impl Abort) {
     for lead in 0..14 {
         for (end, chars) in [(12, 9), (11, 8), (7, 7), (0, 0)] {
-            assert_eq!(rt;
-                count_before(AROUND_FROG, end, lead),
-                Some(chars),
-                "at {end} after {lead}"
-            );
+            let found = count_before::<T>(AROUND_FROG, end, lead);
+            assert_eq!(rt; found, Some(chars), "at {end} after {lead}");
         }
     }
+}
+
+#[test]
+fn counts_before_a_boundary_after_any_lead(rt: HostRuntime) -> Result<(), Fail> {
+    count_after_each_lead::<Plain>(&rt);
+    count_after_each_lead::<usize>(&rt);
     Ok(())
 }
 
@@ -141,17 +144,22 @@ fn ascii_and_wide_chars_of_one_text(rt: HostRuntime) -> Result<(), Fail> {
     Ok(())
 }
 
-#[test]
-fn kernels_convert_after_any_lead(rt: HostRuntime) -> Result<(), Fail> {
+fn convert_after_each_lead<T: ByteChunk>(rt: &impl Abort) {
     for lead in 0..14 {
         for (index, byte) in [(7, 7), (8, 11), (9, 12), (10, 12)] {
-            let found = to_byte_idx_impl(&mut Probe::<Plain>::of(AROUND_FROG), index, lead);
+            let found = to_byte_idx_impl(&mut Probe::<T>::of(AROUND_FROG), index, lead);
             assert_eq!(rt; found, byte, "at {index} after {lead}");
         }
         for (byte, index) in [(7, 7), (8, 7), (10, 7), (11, 8), (12, 9), (13, 9)] {
-            let found = from_byte_idx_impl(&mut Probe::<Plain>::of(AROUND_FROG), byte, lead);
+            let found = from_byte_idx_impl(&mut Probe::<T>::of(AROUND_FROG), byte, lead);
             assert_eq!(rt; found, index, "at {byte} after {lead}");
         }
     }
+}
+
+#[test]
+fn kernels_convert_after_any_lead(rt: HostRuntime) -> Result<(), Fail> {
+    convert_after_each_lead::<Plain>(&rt);
+    convert_after_each_lead::<usize>(&rt);
     Ok(())
 }

@@ -3,7 +3,8 @@ use super::{
     to_byte_idx_impl,
 };
 use crate::chars;
-use byte_chunk::{Plain, Probe};
+use byte_chunk::{ByteChunk, Plain, Probe};
+use std::process::Abort;
 use std::test::Fail;
 
 const ENGLISH_AND_JAPANESE: &str =
@@ -25,12 +26,12 @@ const SEVEN_BREAKS: &str =
 
 const BEFORE_SEPARATOR: &str = "aaaaaa\u{2028}b";
 
-/// The count of the breaks before a boundary, over `Plain`.
-fn count_before(text: &str, end: usize, lead: usize) -> Option<usize> {
+/// The count of the breaks before a boundary, over one type of chunk.
+fn count_before<T: ByteChunk>(text: &str, end: usize, lead: usize) -> Option<usize> {
     if !text.is_char_boundary(end) {
         return None;
     }
-    Some(count_breaks_impl(&mut Probe::<Plain>::of(text), end, lead))
+    Some(count_breaks_impl(&mut Probe::<T>::of(text), end, lead))
 }
 
 #[test]
@@ -134,35 +135,42 @@ fn round_trips_keep_where_a_line_begins(rt: HostRuntime) -> Result<(), Fail> {
     Ok(())
 }
 
-#[test]
-fn kernels_see_a_separator_at_any_edge(rt: HostRuntime) -> Result<(), Fail> {
+fn see_a_separator_after_each_lead<T: ByteChunk>(rt: &impl Abort) {
     let text = BEFORE_SEPARATOR;
     for lead in 0..12 {
         for (end, breaks) in [(10, 1), (6, 0)] {
-            assert_eq!(rt;
-                count_before(text, end, lead),
-                Some(breaks),
-                "at {end} after {lead}"
-            );
+            let found = count_before::<T>(text, end, lead);
+            assert_eq!(rt; found, Some(breaks), "at {end} after {lead}");
         }
         for (line, byte) in [(0, 0), (1, 9), (2, 10)] {
-            let found = to_byte_idx_impl(&mut Probe::<Plain>::of(text), line, lead);
+            let found = to_byte_idx_impl(&mut Probe::<T>::of(text), line, lead);
             assert_eq!(rt; found, byte, "at {line} after {lead}");
         }
         for (byte, line) in [(8, 0), (9, 1)] {
-            let found = from_byte_idx_impl(&mut Probe::<Plain>::of(text), byte, lead);
+            let found = from_byte_idx_impl(&mut Probe::<T>::of(text), byte, lead);
             assert_eq!(rt; found, line, "at {byte} after {lead}");
         }
     }
+}
+
+#[test]
+fn kernels_see_a_separator_at_any_edge(rt: HostRuntime) -> Result<(), Fail> {
+    see_a_separator_after_each_lead::<Plain>(&rt);
+    see_a_separator_after_each_lead::<usize>(&rt);
     Ok(())
+}
+
+fn count_every_break_after_each_lead<T: ByteChunk>(rt: &impl Abort) {
+    for lead in 0..9 {
+        let found = count_before::<T>(EVERY_BREAK, 48, lead);
+        assert_eq!(rt; found, Some(8), "after {lead}");
+    }
 }
 
 #[test]
 fn each_kind_of_break_counts_at_any_place_of_a_chunk(rt: HostRuntime) -> Result<(), Fail> {
-    for lead in 0..9 {
-        let found = count_before(EVERY_BREAK, 48, lead);
-        assert_eq!(rt; found, Some(8), "after {lead}");
-    }
+    count_every_break_after_each_lead::<Plain>(&rt);
+    count_every_break_after_each_lead::<usize>(&rt);
     Ok(())
 }
 

@@ -2,7 +2,8 @@ use super::{
     count_breaks, count_breaks_impl, from_byte_idx, from_byte_idx_impl, to_byte_idx,
     to_byte_idx_impl,
 };
-use byte_chunk::{Plain, Probe};
+use byte_chunk::{ByteChunk, Plain, Probe};
+use std::process::Abort;
 use std::test::Fail;
 
 const WORDS: &str = "Here\nare\nsome\nwords";
@@ -18,9 +19,9 @@ const BREAKS_AROUND_CRLF: &str = "\r\r\n\n";
 
 const CRLF_ACROSS_CHUNKS: &str = "aaaaaaa\r\nbbbbbbb";
 
-/// The count of the breaks before a byte, over `Plain`.
-fn count_before(text: &str, end: usize, lead: usize) -> Option<usize> {
-    let mut probe = Probe::<Plain>::of(text);
+/// The count of the breaks before a byte, over one type of chunk.
+fn count_before<T: ByteChunk>(text: &str, end: usize, lead: usize) -> Option<usize> {
+    let mut probe = Probe::<T>::of(text);
     if end > probe.len() {
         return None;
     }
@@ -43,8 +44,7 @@ fn counts_whole_texts(rt: HostRuntime) -> Result<(), Fail> {
     Ok(())
 }
 
-#[test]
-fn kernel_counts_before_a_byte_after_any_lead(rt: HostRuntime) -> Result<(), Fail> {
+fn count_after_each_lead<T: ByteChunk>(rt: &impl Abort) {
     let table = [
         ("a\r\nb", 1, 0),
         ("a\r\nb", 2, 1),
@@ -55,13 +55,16 @@ fn kernel_counts_before_a_byte_after_any_lead(rt: HostRuntime) -> Result<(), Fai
     ];
     for lead in 0..18 {
         for (text, end, breaks) in table {
-            assert_eq!(rt;
-                count_before(text, end, lead),
-                Some(breaks),
-                "at {end} of {text} after {lead}"
-            );
+            let found = count_before::<T>(text, end, lead);
+            assert_eq!(rt; found, Some(breaks), "at {end} of {text} after {lead}");
         }
     }
+}
+
+#[test]
+fn kernel_counts_before_a_byte_after_any_lead(rt: HostRuntime) -> Result<(), Fail> {
+    count_after_each_lead::<Plain>(&rt);
+    count_after_each_lead::<usize>(&rt);
     Ok(())
 }
 
@@ -195,17 +198,22 @@ fn line_and_where_it_begins_convert_to_each_other(rt: HostRuntime) -> Result<(),
     Ok(())
 }
 
-#[test]
-fn kernels_convert_after_any_lead(rt: HostRuntime) -> Result<(), Fail> {
+fn convert_after_each_lead<T: ByteChunk>(rt: &impl Abort) {
     for lead in 0..18 {
         for (line, byte) in [(0, 0), (1, 9), (2, 16)] {
-            let found = to_byte_idx_impl(&mut Probe::<Plain>::of(CRLF_ACROSS_CHUNKS), line, lead);
+            let found = to_byte_idx_impl(&mut Probe::<T>::of(CRLF_ACROSS_CHUNKS), line, lead);
             assert_eq!(rt; found, byte, "line {line} after {lead}");
         }
         for (byte, line) in [(8, 0), (9, 1)] {
-            let found = from_byte_idx_impl(&mut Probe::<Plain>::of(CRLF_ACROSS_CHUNKS), byte, lead);
+            let found = from_byte_idx_impl(&mut Probe::<T>::of(CRLF_ACROSS_CHUNKS), byte, lead);
             assert_eq!(rt; found, line, "at {byte} after {lead}");
         }
     }
+}
+
+#[test]
+fn kernels_convert_after_any_lead(rt: HostRuntime) -> Result<(), Fail> {
+    convert_after_each_lead::<Plain>(&rt);
+    convert_after_each_lead::<usize>(&rt);
     Ok(())
 }

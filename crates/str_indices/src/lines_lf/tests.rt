@@ -1,5 +1,6 @@
 use super::*;
 use byte_chunk::Plain;
+use std::process::Abort;
 use std::test::Fail;
 
 const WORDS: &str = "Here\nare\nsome\nwords";
@@ -151,12 +152,11 @@ fn a_line_and_where_it_begins_convert_to_each_other(rt: HostRuntime) -> Result<(
     Ok(())
 }
 
-#[test]
-fn any_number_of_leading_bytes_gives_one_answer(rt: HostRuntime) -> Result<(), Fail> {
+fn answer_after_each_lead<T: ByteChunk>(rt: &impl Abort) {
     let text = WORDS_BETWEEN_BREAKS;
     for lead in 0..text.len() + 2 {
         for (byte, line) in BYTES_AND_LINES {
-            let mut probe = Probe::<Plain>::of(text);
+            let mut probe = Probe::<T>::of(text);
             assert_eq!(rt;
                 from_byte_idx_impl(&mut probe, byte, lead),
                 line,
@@ -170,7 +170,7 @@ fn any_number_of_leading_bytes_gives_one_answer(rt: HostRuntime) -> Result<(), F
             );
         }
         for (line, byte) in LINES_AND_BYTES {
-            let mut probe = Probe::<Plain>::of(text);
+            let mut probe = Probe::<T>::of(text);
             assert_eq!(rt;
                 to_byte_idx_impl(&mut probe, line, lead),
                 byte,
@@ -178,14 +178,19 @@ fn any_number_of_leading_bytes_gives_one_answer(rt: HostRuntime) -> Result<(), F
             );
         }
     }
-    Ok(())
 }
 
 #[test]
-fn breaks_count_up_to_an_end_inside_a_character(rt: HostRuntime) -> Result<(), Fail> {
+fn any_number_of_leading_bytes_gives_one_answer(rt: HostRuntime) -> Result<(), Fail> {
+    answer_after_each_lead::<Plain>(&rt);
+    answer_after_each_lead::<usize>(&rt);
+    Ok(())
+}
+
+fn count_up_to_each_end<T: ByteChunk>(rt: &impl Abort) {
     for lead in 0..5 {
         for (end, breaks) in [(1, 0), (2, 0), (3, 1)] {
-            let mut probe = Probe::<Plain>::of("é\n");
+            let mut probe = Probe::<T>::of("é\n");
             assert_eq!(rt;
                 count_breaks_impl(&mut probe, end, lead),
                 breaks,
@@ -193,5 +198,11 @@ fn breaks_count_up_to_an_end_inside_a_character(rt: HostRuntime) -> Result<(), F
             );
         }
     }
+}
+
+#[test]
+fn breaks_count_up_to_an_end_inside_a_character(rt: HostRuntime) -> Result<(), Fail> {
+    count_up_to_each_end::<Plain>(&rt);
+    count_up_to_each_end::<usize>(&rt);
     Ok(())
 }

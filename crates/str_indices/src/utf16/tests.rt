@@ -2,19 +2,20 @@ use super::{
     count, count_impl, count_surrogates, count_surrogates_impl, from_byte_idx, from_byte_idx_impl,
     to_byte_idx, to_byte_idx_impl,
 };
-use byte_chunk::{Plain, Probe};
+use byte_chunk::{ByteChunk, Plain, Probe};
+use std::process::Abort;
 use std::test::Fail;
 
 const TEXT: &str = "Hel🐸lo world! こん🐸にち🐸🐸は!";
 
 const AROUND_FROG: &str = "aaaaaaa🐸b";
 
-/// The units and the surrogate pairs before a boundary, over `Plain`.
-fn count_before(text: &str, end: usize, lead: usize) -> Option<(usize, usize)> {
+/// The units and the surrogate pairs before a boundary, over one type of chunk.
+fn count_before<T: ByteChunk>(text: &str, end: usize, lead: usize) -> Option<(usize, usize)> {
     if !text.is_char_boundary(end) {
         return None;
     }
-    let mut probe = Probe::<Plain>::of(text);
+    let mut probe = Probe::<T>::of(text);
     let units = count_impl(&mut probe, end, lead);
     Some((units, count_surrogates_impl(&mut probe, end, lead)))
 }
@@ -45,8 +46,7 @@ fn counts_whole_texts(rt: HostRuntime) -> Result<(), Fail> {
     Ok(())
 }
 
-#[test]
-fn kernels_count_before_a_boundary_after_any_lead(rt: HostRuntime) -> Result<(), Fail> {
+fn count_after_each_lead<T: ByteChunk>(rt: &impl Abort) {
     let table = [
         ("🐸🐸", 0, (0, 0)),
         ("🐸🐸", 4, (2, 1)),
@@ -57,28 +57,36 @@ fn kernels_count_before_a_boundary_after_any_lead(rt: HostRuntime) -> Result<(),
     ];
     for lead in 0..14 {
         for (text, end, counts) in table {
-            assert_eq!(rt;
-                count_before(text, end, lead),
-                Some(counts),
-                "at {end} of {text} after {lead}"
-            );
+            let found = count_before::<T>(text, end, lead);
+            assert_eq!(rt; found, Some(counts), "at {end} of {text} after {lead}");
         }
     }
+}
+
+#[test]
+fn kernels_count_before_a_boundary_after_any_lead(rt: HostRuntime) -> Result<(), Fail> {
+    count_after_each_lead::<Plain>(&rt);
+    count_after_each_lead::<usize>(&rt);
     Ok(())
+}
+
+fn convert_after_each_lead<T: ByteChunk>(rt: &impl Abort) {
+    for lead in 0..14 {
+        for (byte, unit) in [(7, 7), (8, 7), (10, 7), (11, 9), (12, 10), (13, 10)] {
+            let found = from_byte_idx_impl(&mut Probe::<T>::of(AROUND_FROG), byte, lead);
+            assert_eq!(rt; found, unit, "at byte {byte} after {lead}");
+        }
+        for (unit, byte) in [(7, 7), (8, 7), (9, 11), (10, 12), (11, 12)] {
+            let found = to_byte_idx_impl(&mut Probe::<T>::of(AROUND_FROG), unit, lead);
+            assert_eq!(rt; found, byte, "at unit {unit} after {lead}");
+        }
+    }
 }
 
 #[test]
 fn kernels_convert_after_any_lead(rt: HostRuntime) -> Result<(), Fail> {
-    for lead in 0..14 {
-        for (byte, unit) in [(7, 7), (8, 7), (10, 7), (11, 9), (12, 10), (13, 10)] {
-            let found = from_byte_idx_impl(&mut Probe::<Plain>::of(AROUND_FROG), byte, lead);
-            assert_eq!(rt; found, unit, "at byte {byte} after {lead}");
-        }
-        for (unit, byte) in [(7, 7), (8, 7), (9, 11), (10, 12), (11, 12)] {
-            let found = to_byte_idx_impl(&mut Probe::<Plain>::of(AROUND_FROG), unit, lead);
-            assert_eq!(rt; found, byte, "at unit {unit} after {lead}");
-        }
-    }
+    convert_after_each_lead::<Plain>(&rt);
+    convert_after_each_lead::<usize>(&rt);
     Ok(())
 }
 

@@ -3,12 +3,12 @@ use Rattle.str_indices.proofs.lemmas.Callers.{IsBoundary-from_char_boundary}
 use Rattle.str_indices.proofs.utf16.tests.count_before.Goals as goal
 
 pub count_impl-units-requires-clause-boundary : goal.count_impl-units-requires-clause-boundary
-count_impl-units-requires-clause-boundary c = rw (ap (λ p. p.text) c.of-probe.ensures.state)
+count_impl-units-requires-clause-boundary g c = rw (ap (λ p. p.text) c.of-probe.ensures.state)
     (IsBoundary-from_char_boundary c.args.text.now c.utf8.text c.args.end
     (c.if-not-is_char_boundary.ensures.test.0 refl))
 
 pub count_surrogates_impl-requires-clause-boundary : goal.count_surrogates_impl-requires-clause-boundary
-count_surrogates_impl-requires-clause-boundary c =
+count_surrogates_impl-requires-clause-boundary g c =
     rw (c.count_impl-units.ensures.text, ap (λ p. p.text) c.of-probe.ensures.state)
     (IsBoundary-from_char_boundary c.args.text.now c.utf8.text c.args.end
     (c.if-not-is_char_boundary.ensures.test.0 refl))
