@@ -160,6 +160,33 @@ fn kernels_see_a_separator_at_any_edge(rt: HostRuntime) -> Result<(), Fail> {
     Ok(())
 }
 
+fn see_crlf_across_chunks_after_each_lead<T: ByteChunk>(rt: &impl Abort) {
+    // The CR is the last byte of a chunk of eight.
+    let text = "aaaaaaa\r\nbbbbbbb";
+    for lead in 0..17 {
+        for (end, breaks) in [(16, 1), (9, 1), (8, 1), (7, 0)] {
+            let found = count_before::<T>(text, end, lead);
+            assert_eq!(rt; found, Some(breaks), "at {end} after {lead}");
+        }
+        assert_eq!(rt;
+            to_byte_idx_impl(&mut Probe::<T>::of(text), 1, lead),
+            9,
+            "after {lead}"
+        );
+        for (byte, line) in [(8, 0), (9, 1)] {
+            let found = from_byte_idx_impl(&mut Probe::<T>::of(text), byte, lead);
+            assert_eq!(rt; found, line, "at {byte} after {lead}");
+        }
+    }
+}
+
+#[test]
+fn kernels_see_crlf_across_chunks(rt: HostRuntime) -> Result<(), Fail> {
+    see_crlf_across_chunks_after_each_lead::<Plain>(&rt);
+    see_crlf_across_chunks_after_each_lead::<usize>(&rt);
+    Ok(())
+}
+
 fn count_every_break_after_each_lead<T: ByteChunk>(rt: &impl Abort) {
     for lead in 0..9 {
         let found = count_before::<T>(EVERY_BREAK, 48, lead);
