@@ -11,4 +11,4 @@ overflow_add-result c =
 pub returns : goal.returns
 returns c =
     ap (λ one. word_lanes 8 (c.args.self.now + one)) (one_in_lane (7 - c.args.n) 64 (omega arith))
-    ∙ word_inc 8 (7 - c.args.n) c.args.self.now (omega arith) (omega arith) c.requires.room
+    ∙ word_inc 8 (7 - c.args.n) c.args.self.now (omega arith) c.requires.room
