@@ -17,16 +17,11 @@ top_of_zero = each_byte (λ y. bit_and (255 - bit_or (bit_and y 127 + 127) y) 12
 
 -- the exclusive or of two bytes is 0 where they are equal
 pub is_byte_by_xor : (b x : ℕ) → is_byte 0 (bit_xor x b) ≡ is_byte b x
-is_byte_by_xor b x = elim (cases_eq x b) [
-  | inl same ↦ ap (λ t. cond t 1 0)
-      (eq-eqb (bit_xor x b) 0 (ap (λ y. bit_xor y b) same ∙ xor_self b) ∙ sym (eq-eqb x b same))
-  | inr apart ↦ ap (λ t. cond t 1 0)
-      (ne_eqb (bit_xor x b) 0 (λ none. apart (same_from_xor none)) ∙ sym (ne_eqb x b apart))
-]
+is_byte_by_xor b x = grind (arith, nat_tests, xor_self, same_from_xor)
   where
-    same_from_xor : bit_xor x b ≡ 0 → x ≡ b
-    same_from_xor none = sym (xor_zero_r x) ∙ ap (bit_xor x) (sym (xor_self b)) ∙ sym (xor_assoc x b b)
-        ∙ ap (λ y. bit_xor y b) none ∙ xor_zero_l b
+    same_from_xor : (y z : ℕ) → bit_xor y z ≡ 0 → y ≡ z
+    same_from_xor y z none = sym (xor_zero_r y) ∙ ap (bit_xor y) (sym (xor_self z)) ∙ sym (xor_assoc y z z)
+        ∙ ap (λ u. bit_xor u z) none ∙ xor_zero_l z
 
 -- the top bit of a byte alone
 top_bit : (x : ℕ) → x < 256 → bit_and x 128 ≡ 128 * (x / 128)
