@@ -32,22 +32,15 @@ splat (suc n) w b small =
     (omega arith, rw above (splat n (w / 256) b small))
 
 module _ (f g : ℕ → ℕ) where
-  -- an operation on bits
-  bits : (op : ℕ → ℕ → ℕ) → op 0 0 ≡ 0 → ((a b k : ℕ) → op a b / 2 ^ k ≡ op (a / 2 ^ k) (b / 2 ^ k))
-      → ((a b k : ℕ) → op a b % 2 ^ k ≡ op (a % 2 ^ k) (b % 2 ^ k)) → (n w a b : ℕ) → LaneByLane f n w a
-      → LaneByLane g n w b → LaneByLane (λ x. op (f x) (g x)) n w (op a b)
-  bits op none above under zero w a b these those = ap₂ op these those ∙ none
-  bits op none above under (suc n) w a b (x, these) (y, those) =
-      (under a b 8 ∙ ap₂ op x y, rw (above a b 8) (bits op none above under n (w / 256) (a / 256) (b / 256) these those))
-
-  -- sums, where none is above a byte
-  add : ((x : ℕ) → f x + g x < 256) → (n w a b : ℕ) → LaneByLane f n w a → LaneByLane g n w b
-      → LaneByLane (λ x. f x + g x) n w (a + b)
-  add small zero w a b these those = omega arith
-  add small (suc n) w a b (x, these) (y, those) =
-      let room = small (w % 256) in
-      let above : (a + b) / 256 ≡ a / 256 + b / 256 = omega arith in
-      (omega arith, rw above (add small n (w / 256) (a / 256) (b / 256) these those))
+  -- an operation that acts on the first lane and on those behind it alike
+  alike : (op : ℕ → ℕ → ℕ) → op 0 0 ≡ 0
+      → ((x a b : ℕ) → a % 256 ≡ f x → b % 256 ≡ g x
+      → (op a b % 256 ≡ op (a % 256) (b % 256)) × (op a b / 256 ≡ op (a / 256) (b / 256)))
+      → (n w a b : ℕ) → LaneByLane f n w a → LaneByLane g n w b → LaneByLane (λ x. op (f x) (g x)) n w (op a b)
+  alike op none step zero w a b these those = ap₂ op these those ∙ none
+  alike op none step (suc n) w a b (x, these) (y, those) =
+      let (first, above) = step (w % 256) a b x y in
+      (first ∙ ap₂ op x y, rw above (alike op none step n (w / 256) (a / 256) (b / 256) these those))
 
   -- differences, where none is below 0
   sub : ((x : ℕ) → g x < 256 → g x ≤ f x) → (n w a b : ℕ) → LaneByLane f n w a → LaneByLane g n w b
@@ -77,16 +70,23 @@ made_splat {n} {w} b small = record { each = splat n w b small }
 
 module _ {f g : ℕ → ℕ} {n w a b : ℕ} (these : Made f n w a) (those : Made g n w b) where
   pub made_and : Made (λ x. bit_and (f x) (g x)) n w (bit_and a b)
-  made_and = record { each = bits f g bit_and refl and_shr and_mod n w a b these.each those.each }
+  made_and = record {
+    each = alike f g bit_and refl (λ _ a b _ _. (and_mod a b 8, and_shr a b 8)) n w a b these.each those.each;
+  }
 
   pub made_or : Made (λ x. bit_or (f x) (g x)) n w (bit_or a b)
-  made_or = record { each = bits f g bit_or refl or_shr or_mod n w a b these.each those.each }
+  made_or = record { each = alike f g bit_or refl (λ _ a b _ _. (or_mod a b 8, or_shr a b 8)) n w a b these.each those.each }
 
   pub made_xor : Made (λ x. bit_xor (f x) (g x)) n w (bit_xor a b)
-  made_xor = record { each = bits f g bit_xor refl xor_shr xor_mod n w a b these.each those.each }
+  made_xor = record {
+    each = alike f g bit_xor refl (λ _ a b _ _. (xor_mod a b 8, xor_shr a b 8)) n w a b these.each those.each;
+  }
 
   pub made_add : ((x : ℕ) → f x + g x < 256) → Made (λ x. f x + g x) n w (a + b)
-  made_add small = record { each = add f g small n w a b these.each those.each }
+  made_add small = record {
+    each = alike f g (λ x y. x + y) refl (λ x a b is is'. let room = small x in (omega arith, omega arith)) n w a b
+        these.each those.each;
+  }
 
   pub made_sub : ((x : ℕ) → g x < 256 → g x ≤ f x) → Made (λ x. f x - g x) n w (a - b)
   made_sub least = record { each = (sub f g least n w a b these.each those.each).1 }
