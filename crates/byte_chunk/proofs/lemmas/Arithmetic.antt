@@ -2,7 +2,7 @@
 --     LaneByLane f n w r    lane i of r is f of lane i of w, for each of n lanes, and r has no more
 --     Made f n w r          the same, as a record
 use Rattle.std.proofs.Common.{◌≡◌, ℕ, zero, suc, ◌+◌, ◌-◌, ◌*◌, ◌/◌, ◌%◌, ◌^◌, ◌<◌, ◌≤◌, List, map, ◌∷◌, refl, ap, ap₂, ◌∙◌, arith, pow-suc, bit_and, bit_or, bit_xor}
-use Rattle.std.proofs.lemmas.Nat.{and_mod, and_shr, or_mod, or_shr, xor_mod, xor_shr}
+use Rattle.std.proofs.lemmas.Nat.{and_mod, and_shr}
 use Rattle.std.specs.Simd.Lanes.{digits_l}
 use Rattle.byte_chunk.specs.Lanes.{word_lanes}
 use Rattle.byte_chunk.proofs.lemmas.Numbers.{ones, ones_pow}
@@ -12,19 +12,18 @@ LaneByLane f zero w r = r ≡ 0
 LaneByLane f (suc n) w r = (r % 256 ≡ f (w % 256)) × LaneByLane f n (w / 256) (r / 256)
 
 -- a word's first lane, and those behind it
-pub next : (n w : ℕ) {q x : ℕ} {xs : List ℕ} → word_lanes n q ≡ xs → w % 256 ≡ x → w / 256 ≡ q → word_lanes (suc n) w ≡ x ∷ xs
+pub next : (n w : ℕ) {q x : ℕ} {xs : List ℕ} → word_lanes n q ≡ xs → w % 256 ≡ x → w / 256 ≡ q
+    → word_lanes (suc n) w ≡ x ∷ xs
 unfolding word_lanes
 next n w rest first behind = ap₂ (λ x xs. x ∷ xs) first (ap (digits_l 256 n) behind ∙ rest)
 
 pub record Made (f : ℕ → ℕ) (n w r : ℕ) : Type 0 where
   pub each : LaneByLane f n w r
 
--- the word itself
 itself : (n w : ℕ) → w < 256 ^ n → LaneByLane (λ x. x) n w w
 itself zero w within = omega arith
 itself (suc n) w within = (refl, itself n (w / 256) (omega (arith, pow-suc 256 n)))
 
--- the same number in each lane
 splat : (n w b : ℕ) → b < 256 → LaneByLane (λ _. b) n w (b * ones n)
 splat zero w b small = omega arith
 splat (suc n) w b small =
@@ -42,7 +41,6 @@ module _ (f g : ℕ → ℕ) where
       let (first, above) = step (w % 256) a b x y in
       (first ∙ ap₂ op x y, rw above (alike op none step n (w / 256) (a / 256) (b / 256) these those))
 
-  -- differences, where none is below 0
   sub : ((x : ℕ) → g x < 256 → g x ≤ f x) → (n w a b : ℕ) → LaneByLane f n w a → LaneByLane g n w b
       → (b ≤ a) × LaneByLane (λ x. f x - g x) n w (a - b)
   sub least zero w a b these those = (omega arith, omega arith)
@@ -52,7 +50,6 @@ module _ (f g : ℕ → ℕ) where
       let above : (a - b) / 256 ≡ a / 256 - b / 256 = omega arith in
       (omega arith, (omega arith, rw above rest))
 
-  -- a shift by seven bits, where no lane but for its top bit has a bit
   tops : ((x : ℕ) → x < 256 → f x ≡ 128 * g x) → (n w a : ℕ) → LaneByLane f n w a
       → (a % 128 ≡ 0) × (word_lanes n (a / 128) ≡ map g (word_lanes n w))
   unfolding word_lanes
@@ -62,32 +59,34 @@ module _ (f g : ℕ → ℕ) where
       let (low, rest) = tops same n (w / 256) (a / 256) these in
       (omega arith, next n (a / 128) rest (omega arith) (omega arith))
 
+-- the word itself
 pub made_self : (n w : ℕ) → w < 256 ^ n → Made (λ x. x) n w w
 made_self n w within = record { each = itself n w within }
 
+-- the same number in each lane
 pub made_splat : {n w : ℕ} (b : ℕ) → b < 256 → Made (λ _. b) n w (b * ones n)
 made_splat {n} {w} b small = record { each = splat n w b small }
 
 module _ {f g : ℕ → ℕ} {n w a b : ℕ} (these : Made f n w a) (those : Made g n w b) where
+  -- an operation on bits
+  pub made_bits : (op : ℕ → ℕ → ℕ) → op 0 0 ≡ 0 → ((a b k : ℕ) → op a b % 2 ^ k ≡ op (a % 2 ^ k) (b % 2 ^ k))
+      → ((a b k : ℕ) → op a b / 2 ^ k ≡ op (a / 2 ^ k) (b / 2 ^ k)) → Made (λ x. op (f x) (g x)) n w (op a b)
+  made_bits op none under above = record {
+    each = alike f g op none (λ _ a b _ _. (under a b 8, above a b 8)) n w a b these.each those.each;
+  }
+
+  -- the bits that are set in both
   pub made_and : Made (λ x. bit_and (f x) (g x)) n w (bit_and a b)
-  made_and = record {
-    each = alike f g bit_and refl (λ _ a b _ _. (and_mod a b 8, and_shr a b 8)) n w a b these.each those.each;
-  }
+  made_and = made_bits bit_and refl and_mod and_shr
 
-  pub made_or : Made (λ x. bit_or (f x) (g x)) n w (bit_or a b)
-  made_or = record { each = alike f g bit_or refl (λ _ a b _ _. (or_mod a b 8, or_shr a b 8)) n w a b these.each those.each }
-
-  pub made_xor : Made (λ x. bit_xor (f x) (g x)) n w (bit_xor a b)
-  made_xor = record {
-    each = alike f g bit_xor refl (λ _ a b _ _. (xor_mod a b 8, xor_shr a b 8)) n w a b these.each those.each;
-  }
-
+  -- sums, where none is above a byte
   pub made_add : ((x : ℕ) → f x + g x < 256) → Made (λ x. f x + g x) n w (a + b)
   made_add small = record {
     each = alike f g (λ x y. x + y) refl (λ x a b is is'. let room = small x in (omega arith, omega arith)) n w a b
         these.each those.each;
   }
 
+  -- differences, where none is below 0
   pub made_sub : ((x : ℕ) → g x < 256 → g x ≤ f x) → Made (λ x. f x - g x) n w (a - b)
   made_sub least = record { each = (sub f g least n w a b these.each those.each).1 }
 
@@ -97,6 +96,7 @@ made_not {n = n} {a = a} these =
     let all : 256 ^ n - 1 - a ≡ 255 * ones n - a = omega (arith, ones_pow n) in
     rw all (made_sub (made_splat 255 (omega arith)) these (λ x small. omega arith))
 
+-- a shift by seven bits, where no lane but for its top bit has a bit
 pub made_tops : {f : ℕ → ℕ} (g : ℕ → ℕ) {n w a : ℕ} → Made f n w a → ((x : ℕ) → x < 256 → f x ≡ 128 * g x)
     → word_lanes n (a / 128) ≡ map g (word_lanes n w)
 made_tops {f} g {n} {w} {a} these same = (tops f g same n w a these.each).1

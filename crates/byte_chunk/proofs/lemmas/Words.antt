@@ -2,7 +2,7 @@
 use Rattle.std.proofs.Common.{◌≡◌, ℕ, zero, suc, ◌+◌, ◌-◌, ◌*◌, ◌/◌, ◌%◌, ◌^◌, ◌<◌, ◌≤◌, ◌↔◌, List, [], ◌∷◌, ◌++◌, map, length, replicate, take, drop, set, get_or, sum, refl, sym, ap, ap₂, subst, ◌∙◌, arith, pow-suc, bit_and, bit_or, bit_xor, inl, inr}
 use Rattle.std.specs.List.{fold}
 use Rattle.std.specs.Simd.Lanes.{zip2, Each1, Each2, digits_l}
-use Rattle.std.proofs.lemmas.Nat.{and_mod, and_shr, and_le_r, xor_lt, or_shifted, pow-add, field_of, one_shl, div_below, div-mul-add, mod-mul-add}
+use Rattle.std.proofs.lemmas.Nat.{and_mod, and_shr, or_mod, or_shr, xor_mod, xor_shr, and_le_r, xor_lt, or_shifted, pow-add, field_of, one_shl, div_below, div-mul-add, mod-mul-add}
 use Rattle.std.specs.Int.Bits.{or_zero_l, or_zero_r}
 use Rattle.std.proofs.Math.Nat.{one-le-pow, div-div-eq-div-mul, mul_comm, pow-succ', mul-le-mul_right}
 use Rattle.std.proofs.Math.Pow.{mod-mod-pow}
@@ -11,7 +11,7 @@ use Rattle.std.proofs.lemmas.Simd.{sum_bound}
 use Rattle.byte_chunk.specs.Lanes.{word_lanes, is_byte, is_between}
 use Rattle.byte_chunk.proofs.lemmas.Formulas.{top_of_zero, is_byte_by_xor, top_of_between}
 use Rattle.byte_chunk.proofs.lemmas.Numbers.{written, ones, ones_pow, pow_of_bytes}
-use Rattle.byte_chunk.proofs.lemmas.Arithmetic.{next, made_self, made_splat, made_and, made_or, made_xor, made_add, made_sub, made_not, made_tops}
+use Rattle.byte_chunk.proofs.lemmas.Arithmetic.{next, made_self, made_splat, made_and, made_bits, made_add, made_sub, made_not, made_tops}
 
 -- `load`
 pub word_load : (n w : ℕ) (bytes : List ℕ) → n ≤ length bytes → ((i : ℕ) → get_or bytes i 0 < 256)
@@ -83,11 +83,11 @@ pub word_is_byte : (n w b : ℕ) → w < 256 ^ n → b < 256 → let y = bit_xor
     word_lanes n (bit_and (256 ^ n - 1 - bit_or (bit_and y (127 * ones n) + 127 * ones n) y) (128 * ones n) / 128)
     ≡ map (is_byte b) (word_lanes n w)
 word_is_byte n w b within small =
-    let y = made_xor (made_self n w within) (made_splat b small) in
+    let y = made_bits (made_self n w within) (made_splat b small) bit_xor refl xor_mod xor_shr in
     let low = made_splat 127 (omega arith) in
     let sum = made_add (made_and y low) low (λ x. omega (arith, and_le_r (bit_xor x b) 127)) in
-    made_tops (is_byte b) (made_and (made_not (made_or sum y)) (made_splat 128 (omega arith))) (λ x below.
-    top_of_zero (bit_xor x b) (xor_lt 8 x b below small) ∙ ap (λ k. 128 * k) (is_byte_by_xor b x))
+    let tops = made_and (made_not (made_bits sum y bit_or refl or_mod or_shr)) (made_splat 128 (omega arith)) in
+    made_tops (is_byte b) tops (λ x below. top_of_zero (bit_xor x b) (xor_lt 8 x b below small) ∙ ap (λ k. 128 * k) (is_byte_by_xor b x))
 
 -- `bytes_between_127`
 pub word_is_between : (n w a b : ℕ) → w < 256 ^ n → a < b → b ≤ 127 → let low = bit_and w (127 * ones n) in
@@ -106,8 +106,8 @@ above : (n k m w : ℕ) → m ≡ n + k → word_lanes n (w / 256 ^ k) ≡ drop 
 unfolding word_lanes
 above n zero m w all = ap₂ word_lanes (omega arith) (omega arith)
 above n (suc k) zero w all = absurd (omega arith)
-above n (suc k) (suc m) w all = ap (λ p. word_lanes n (w / p)) (pow-succ' 256 k)
-    ∙ ap (word_lanes n) (sym (div-div-eq-div-mul w 256 (256 ^ k))) ∙ above n k m (w / 256) (omega arith)
+above n (suc k) (suc m) w all =
+    rw (pow-succ' 256 k, ← div-div-eq-div-mul w 256 (256 ^ k)) (above n k m (w / 256) (omega arith))
 
 -- all lanes but the last
 below : (n w : ℕ) → word_lanes n (w % 2 ^ (8 * n)) ≡ take n (word_lanes (suc n) w)
@@ -157,13 +157,12 @@ pub word_shr : (n k w : ℕ) → k ≤ 8
 unfolding word_lanes
 word_shr zero k w few = refl
 word_shr (suc n) k w few =
-    let eight : 8 ≡ k + (8 - k) = omega arith in
-    let all : 8 - k + k ≡ 8 = omega arith in
-    let above : w / 2 ^ k / 256 ≡ w / 256 / 2 ^ k = div-div-eq-div-mul w (2 ^ k) 256 ∙ ap (λ p. w / p) (mul_comm (2 ^ k) 256)
-    ∙ sym (div-div-eq-div-mul w 256 (2 ^ k)) in
-    ap₂ (λ x xs. x ∷ xs) (ap (λ e. w / 2 ^ k % 2 ^ e % 2 ^ (8 - k)) eight ∙ mod-mod-pow (w / 2 ^ k) k (8 - k)
-    ∙ sym (field_of w (8 - k) k) ∙ ap (λ e. w % 2 ^ e / 2 ^ k) all)
-    (ap (λ v. map (λ x. x % 2 ^ (8 - k)) (word_lanes n v)) above ∙ word_shr n k (w / 256) few)
+    let up : k + (8 - k) ≡ 8 = omega arith in
+    let down : 8 - k + k ≡ 8 = omega arith in
+    let above : w / 2 ^ k / 256 ≡ w / 256 / 2 ^ k =
+    rw (div-div-eq-div-mul w (2 ^ k) 256, div-div-eq-div-mul w 256 (2 ^ k), mul_comm (2 ^ k) 256) refl in
+    ap₂ (λ x xs. x ∷ xs) (rw up at (mod-mod-pow (w / 2 ^ k) k (8 - k)) ∙ sym (rw down at (field_of w (8 - k) k)))
+    (rw above (word_shr n k (w / 256) few))
 
 -- the word with 1 in lane i alone, as a shift makes it
 pub one_in_lane : (i bits : ℕ) → 8 * i < bits → 1 * 2 ^ (8 * i) % 2 ^ bits ≡ 256 ^ i
