@@ -20,15 +20,17 @@ next n w rest first behind = ap₂ (λ x xs. x ∷ xs) first (ap (digits_l 256 n
 pub record Made (f : ℕ → ℕ) (n w r : ℕ) : Type 0 where
   pub each : LaneByLane f n w r
 
-itself : (n w : ℕ) → w < 256 ^ n → LaneByLane (λ x. x) n w w
-itself zero w within = omega arith
-itself (suc n) w within = (refl, itself n (w / 256) (omega (arith, pow-suc 256 n)))
+-- the word itself
+pub made_self : (n w : ℕ) → w < 256 ^ n → Made (λ x. x) n w w
+made_self zero w within = record { each = omega arith }
+made_self (suc n) w within = record { each = (refl, (made_self n (w / 256) (omega (arith, pow-suc 256 n))).each) }
 
-splat : (n w b : ℕ) → b < 256 → LaneByLane (λ _. b) n w (b * ones n)
-splat zero w b small = omega arith
-splat (suc n) w b small =
+-- the same number in each lane
+pub made_splat : {n w : ℕ} (b : ℕ) → b < 256 → Made (λ _. b) n w (b * ones n)
+made_splat {n = zero} b small = record { each = omega arith }
+made_splat {n = suc n} {w = w} b small =
     let above : b * ones (suc n) / 256 ≡ b * ones n = omega arith in
-    (omega arith, rw above (splat n (w / 256) b small))
+    record { each = (omega arith, rw above (made_splat {n = n} {w = w / 256} b small).each) }
 
 module _ (f g : ℕ → ℕ) where
   -- an operation that acts on the first lane and on those behind it alike
@@ -40,32 +42,6 @@ module _ (f g : ℕ → ℕ) where
   alike op none step (suc n) w a b (x, these) (y, those) =
       let (first, above) = step (w % 256) a b x y in
       (first ∙ ap₂ op x y, rw above (alike op none step n (w / 256) (a / 256) (b / 256) these those))
-
-  sub : ((x : ℕ) → g x < 256 → g x ≤ f x) → (n w a b : ℕ) → LaneByLane f n w a → LaneByLane g n w b
-      → (b ≤ a) × LaneByLane (λ x. f x - g x) n w (a - b)
-  sub least zero w a b these those = (omega arith, omega arith)
-  sub least (suc n) w a b (x, these) (y, those) =
-      let room = least (w % 256) (omega arith) in
-      let (le, rest) = sub least n (w / 256) (a / 256) (b / 256) these those in
-      let above : (a - b) / 256 ≡ a / 256 - b / 256 = omega arith in
-      (omega arith, (omega arith, rw above rest))
-
-  tops : ((x : ℕ) → x < 256 → f x ≡ 128 * g x) → (n w a : ℕ) → LaneByLane f n w a
-      → (a % 128 ≡ 0) × (word_lanes n (a / 128) ≡ map g (word_lanes n w))
-  unfolding word_lanes
-  tops same zero w a these = (omega arith, refl)
-  tops same (suc n) w a (x, these) =
-      let top = same (w % 256) (omega arith) in
-      let (low, rest) = tops same n (w / 256) (a / 256) these in
-      (omega arith, next n (a / 128) rest (omega arith) (omega arith))
-
--- the word itself
-pub made_self : (n w : ℕ) → w < 256 ^ n → Made (λ x. x) n w w
-made_self n w within = record { each = itself n w within }
-
--- the same number in each lane
-pub made_splat : {n w : ℕ} (b : ℕ) → b < 256 → Made (λ _. b) n w (b * ones n)
-made_splat {n} {w} b small = record { each = splat n w b small }
 
 module _ {f g : ℕ → ℕ} {n w a b : ℕ} (these : Made f n w a) (those : Made g n w b) where
   -- an operation on bits
@@ -86,17 +62,28 @@ module _ {f g : ℕ → ℕ} {n w a b : ℕ} (these : Made f n w a) (those : Mad
         these.each those.each;
   }
 
-  -- differences, where none is below 0
-  pub made_sub : ((x : ℕ) → g x < 256 → g x ≤ f x) → Made (λ x. f x - g x) n w (a - b)
-  made_sub least = record { each = (sub f g least n w a b these.each those.each).1 }
+-- differences, where none is below 0
+pub made_sub : {f g : ℕ → ℕ} {n w a b : ℕ} → Made f n w a → Made g n w b → ((x : ℕ) → g x < 256 → g x ≤ f x)
+    → (b ≤ a) × Made (λ x. f x - g x) n w (a - b)
+made_sub {n = zero} these those least = (omega arith, record { each = omega arith })
+made_sub {n = suc n} {w} {a} {b} these those least =
+    let room = least (w % 256) (omega arith) in
+    let (le, rest) = made_sub {n = n} (record { each = these.each.1 }) (record { each = those.each.1 }) least in
+    let above : (a - b) / 256 ≡ a / 256 - b / 256 = omega arith in
+    (omega arith, record { each = (omega arith, rw above rest.each) })
 
 -- all bits the other way round
 pub made_not : {f : ℕ → ℕ} {n w a : ℕ} → Made f n w a → Made (λ x. 255 - f x) n w (256 ^ n - 1 - a)
 made_not {n = n} {a = a} these =
     let all : 256 ^ n - 1 - a ≡ 255 * ones n - a = omega (arith, ones_pow n) in
-    rw all (made_sub (made_splat 255 (omega arith)) these (λ x small. omega arith))
+    rw all (made_sub (made_splat 255 (omega arith)) these (λ x small. omega arith)).1
 
 -- a shift by seven bits, where no lane but for its top bit has a bit
 pub made_tops : {f : ℕ → ℕ} (g : ℕ → ℕ) {n w a : ℕ} → Made f n w a → ((x : ℕ) → x < 256 → f x ≡ 128 * g x)
-    → word_lanes n (a / 128) ≡ map g (word_lanes n w)
-made_tops {f} g {n} {w} {a} these same = (tops f g same n w a these.each).1
+    → (a % 128 ≡ 0) × (word_lanes n (a / 128) ≡ map g (word_lanes n w))
+unfolding word_lanes
+made_tops g {n = zero} these same = (omega arith, refl)
+made_tops g {n = suc n} {w} {a} these same =
+    let top = same (w % 256) (omega arith) in
+    let (low, rest) = made_tops g {n = n} (record { each = these.each.1 }) same in
+    (omega arith, next n (a / 128) rest (omega arith) (omega arith))

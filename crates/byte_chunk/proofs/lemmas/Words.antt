@@ -87,7 +87,8 @@ word_is_byte n w b within small =
     let low = made_splat 127 (omega arith) in
     let sum = made_add (made_and y low) low (λ x. omega (arith, and_le_r (bit_xor x b) 127)) in
     let tops = made_and (made_not (made_bits sum y bit_or refl or_mod or_shr)) (made_splat 128 (omega arith)) in
-    made_tops (is_byte b) tops (λ x below. top_of_zero (bit_xor x b) (xor_lt 8 x b below small) ∙ ap (λ k. 128 * k) (is_byte_by_xor b x))
+    (made_tops (is_byte b) tops (λ x below.
+    top_of_zero (bit_xor x b) (xor_lt 8 x b below small) ∙ ap (λ k. 128 * k) (is_byte_by_xor b x))).1
 
 -- `bytes_between_127`
 pub word_is_between : (n w a b : ℕ) → w < 256 ^ n → a < b → b ≤ 127 → let low = bit_and w (127 * ones n) in
@@ -96,10 +97,10 @@ pub word_is_between : (n w a b : ℕ) → w < 256 ^ n → a < b → b ≤ 127 �
 word_is_between n w a b within order ascii =
     let it = made_self n w within in
     let low = made_and it (made_splat 127 (omega arith)) in
-    let under = made_sub (made_splat (127 + b) (omega arith)) low (λ x _. omega (arith, and_le_r x 127)) in
+    let under = (made_sub (made_splat (127 + b) (omega arith)) low (λ x _. omega (arith, and_le_r x 127))).1 in
     let over = made_add low (made_splat (127 - a) (omega arith)) (λ x. omega (arith, and_le_r x 127)) in
-    made_tops (is_between a b) (made_and (made_and (made_and under (made_not it)) over) (made_splat 128 (omega arith)))
-    (top_of_between a b order ascii)
+    let tops = made_and (made_and (made_and under (made_not it)) over) (made_splat 128 (omega arith)) in
+    (made_tops (is_between a b) tops (top_of_between a b order ascii)).1
 
 -- what stands above k lanes
 above : (n k m w : ℕ) → m ≡ n + k → word_lanes n (w / 256 ^ k) ≡ drop k (word_lanes m w)
