@@ -20,6 +20,10 @@ next n w rest first behind = ap₂ (λ x xs. x ∷ xs) first (ap (digits_l 256 n
 pub record Made (f : ℕ → ℕ) (n w r : ℕ) : Type 0 where
   pub each : LaneByLane f n w r
 
+-- the lanes behind the first
+behind : {f : ℕ → ℕ} {n w r : ℕ} → Made f (suc n) w r → Made f n (w / 256) (r / 256)
+behind made = record { each = made.each.1 }
+
 -- the word itself
 pub made_self : (n w : ℕ) → w < 256 ^ n → Made (λ x. x) n w w
 made_self zero w within = record { each = omega arith }
@@ -32,35 +36,29 @@ made_splat {n = suc n} {w = w} b small =
     let above : b * ones (suc n) / 256 ≡ b * ones n = omega arith in
     record { each = (omega arith, rw above (made_splat {n = n} {w = w / 256} b small).each) }
 
-module _ (f g : ℕ → ℕ) where
-  -- an operation that acts on the first lane and on those behind it alike
-  alike : (op : ℕ → ℕ → ℕ) → op 0 0 ≡ 0
-      → ((x a b : ℕ) → a % 256 ≡ f x → b % 256 ≡ g x
-      → (op a b % 256 ≡ op (a % 256) (b % 256)) × (op a b / 256 ≡ op (a / 256) (b / 256)))
-      → (n w a b : ℕ) → LaneByLane f n w a → LaneByLane g n w b → LaneByLane (λ x. op (f x) (g x)) n w (op a b)
-  alike op none step zero w a b these those = ap₂ op these those ∙ none
-  alike op none step (suc n) w a b (x, these) (y, those) =
-      let (first, above) = step (w % 256) a b x y in
-      (first ∙ ap₂ op x y, rw above (alike op none step n (w / 256) (a / 256) (b / 256) these those))
+-- an operation on bits
+pub made_bits : {f g : ℕ → ℕ} {n w a b : ℕ} → Made f n w a → Made g n w b → (op : ℕ → ℕ → ℕ) → op 0 0 ≡ 0
+    → ((a b k : ℕ) → op a b % 2 ^ k ≡ op (a % 2 ^ k) (b % 2 ^ k))
+    → ((a b k : ℕ) → op a b / 2 ^ k ≡ op (a / 2 ^ k) (b / 2 ^ k)) → Made (λ x. op (f x) (g x)) n w (op a b)
+made_bits {n = zero} these those op none under above = record { each = ap₂ op these.each those.each ∙ none }
+made_bits {n = suc n} {w} {a} {b} these those op none under above =
+    let rest = made_bits {n = n} (behind these) (behind those) op none under above in
+    record { each = (under a b 8 ∙ ap₂ op these.each.0 those.each.0, rw (above a b 8) rest.each) }
 
-module _ {f g : ℕ → ℕ} {n w a b : ℕ} (these : Made f n w a) (those : Made g n w b) where
-  -- an operation on bits
-  pub made_bits : (op : ℕ → ℕ → ℕ) → op 0 0 ≡ 0 → ((a b k : ℕ) → op a b % 2 ^ k ≡ op (a % 2 ^ k) (b % 2 ^ k))
-      → ((a b k : ℕ) → op a b / 2 ^ k ≡ op (a / 2 ^ k) (b / 2 ^ k)) → Made (λ x. op (f x) (g x)) n w (op a b)
-  made_bits op none under above = record {
-    each = alike f g op none (λ _ a b _ _. (under a b 8, above a b 8)) n w a b these.each those.each;
-  }
+-- the bits that are set in both
+pub made_and : {f g : ℕ → ℕ} {n w a b : ℕ} → Made f n w a → Made g n w b
+    → Made (λ x. bit_and (f x) (g x)) n w (bit_and a b)
+made_and these those = made_bits these those bit_and refl and_mod and_shr
 
-  -- the bits that are set in both
-  pub made_and : Made (λ x. bit_and (f x) (g x)) n w (bit_and a b)
-  made_and = made_bits bit_and refl and_mod and_shr
-
-  -- sums, where none is above a byte
-  pub made_add : ((x : ℕ) → f x + g x < 256) → Made (λ x. f x + g x) n w (a + b)
-  made_add small = record {
-    each = alike f g (λ x y. x + y) refl (λ x a b is is'. let room = small x in (omega arith, omega arith)) n w a b
-        these.each those.each;
-  }
+-- sums, where none is above a byte
+pub made_add : {f g : ℕ → ℕ} {n w a b : ℕ} → Made f n w a → Made g n w b → ((x : ℕ) → f x + g x < 256)
+    → Made (λ x. f x + g x) n w (a + b)
+made_add {n = zero} these those small = record { each = omega arith }
+made_add {n = suc n} {w} {a} {b} these those small =
+    let room = small (w % 256) in
+    let rest = made_add {n = n} (behind these) (behind those) small in
+    let above : (a + b) / 256 ≡ a / 256 + b / 256 = omega arith in
+    record { each = (omega arith, rw above rest.each) }
 
 -- differences, where none is below 0
 pub made_sub : {f g : ℕ → ℕ} {n w a b : ℕ} → Made f n w a → Made g n w b → ((x : ℕ) → g x < 256 → g x ≤ f x)
@@ -68,7 +66,7 @@ pub made_sub : {f g : ℕ → ℕ} {n w a b : ℕ} → Made f n w a → Made g n
 made_sub {n = zero} these those least = (omega arith, record { each = omega arith })
 made_sub {n = suc n} {w} {a} {b} these those least =
     let room = least (w % 256) (omega arith) in
-    let (le, rest) = made_sub {n = n} (record { each = these.each.1 }) (record { each = those.each.1 }) least in
+    let (le, rest) = made_sub {n = n} (behind these) (behind those) least in
     let above : (a - b) / 256 ≡ a / 256 - b / 256 = omega arith in
     (omega arith, record { each = (omega arith, rw above rest.each) })
 
@@ -85,5 +83,5 @@ unfolding word_lanes
 made_tops g {n = zero} these same = (omega arith, refl)
 made_tops g {n = suc n} {w} {a} these same =
     let top = same (w % 256) (omega arith) in
-    let (low, rest) = made_tops g {n = n} (record { each = these.each.1 }) same in
+    let (low, rest) = made_tops g {n = n} (behind these) same in
     (omega arith, next n (a / 128) rest (omega arith) (omega arith))

@@ -1,4 +1,5 @@
 -- The calls of a chunk, on a word of any number of lanes.
+--     nth n w i    lane i of a word, in the list of its n lanes
 use Rattle.std.proofs.Common.{◌≡◌, ℕ, zero, suc, ◌+◌, ◌-◌, ◌*◌, ◌/◌, ◌%◌, ◌^◌, ◌<◌, ◌≤◌, ◌↔◌, List, [], ◌∷◌, ◌++◌, map, length, replicate, take, drop, set, get_or, sum, refl, sym, ap, ap₂, subst, ◌∙◌, arith, pow-suc, bit_and, bit_or, bit_xor, inl, inr}
 use Rattle.std.specs.List.{fold}
 use Rattle.std.specs.Simd.Lanes.{zip2, Each1, Each2, digits_l}
@@ -13,62 +14,64 @@ use Rattle.byte_chunk.proofs.lemmas.Formulas.{top_of_zero, is_byte_by_xor, top_o
 use Rattle.byte_chunk.proofs.lemmas.Numbers.{written, ones, ones_pow, pow_of_bytes}
 use Rattle.byte_chunk.proofs.lemmas.Arithmetic.{next, made_self, made_splat, made_and, made_bits, made_add, made_sub, made_not, made_tops}
 
--- `load`
+-- `load`: n bytes that are read as a number, the lowest first, stand one in each lane
 pub word_load : (n w : ℕ) (bytes : List ℕ) → n ≤ length bytes → ((i : ℕ) → get_or bytes i 0 < 256)
     → w ≡ written n (λ i. get_or bytes i 0) → word_lanes n w ≡ take n bytes
 unfolding word_lanes
 word_load zero w bytes enough small is = refl
 word_load (suc n) w [] enough small is = absurd (omega arith)
 word_load (suc n) w (x ∷ bytes) enough small is =
-    next n w (word_load n (w / 256) bytes (omega arith) (λ i. small (suc i)) (omega (arith, small 0))) (omega (arith, small 0)) refl
+    let byte = small 0 in
+    next n w (word_load n (w / 256) bytes (omega arith) (λ i. small (suc i)) (omega arith)) (omega arith) refl
 
--- `splat` and `zero`
+-- `splat`: b times the word of ones has b in each lane
 pub word_splat : (n b : ℕ) → b < 256 → word_lanes n (b * ones n) ≡ replicate n b
 unfolding word_lanes
 word_splat zero b small = refl
 word_splat (suc n) b small = next n (b * ones (suc n)) (word_splat n b small) (omega arith) (omega arith)
 
+-- `zero`: the word 0 has 0 in each lane
 pub word_zero : (n : ℕ) → word_lanes n 0 ≡ replicate n 0
 word_zero n = ap (word_lanes n) (omega arith) ∙ word_splat n 0 (omega arith)
 
--- `is_zero`
+-- `is_zero`: the word whose lanes are all 0 is 0
 pub word_is_zero : (n w : ℕ) → w < 256 ^ n → word_lanes n w ≡ replicate n 0 → w ≡ 0
 unfolding word_lanes
 word_is_zero zero w within none = omega arith
 word_is_zero (suc n) w within none =
     let first : w % 256 ≡ 0 = cc in
-    let rest : w / 256 ≡ 0 = word_is_zero n (w / 256) (omega (arith, pow-suc 256 n)) cc in
-    omega arith
+    omega (arith, word_is_zero n (w / 256) (omega (arith, pow-suc 256 n)) cc)
 
--- `bitand`
+-- `bitand`: it acts on each lane by itself
 pub word_and : (n a b : ℕ) → word_lanes n (bit_and a b) ≡ zip2 bit_and (word_lanes n a) (word_lanes n b)
 unfolding word_lanes
 word_and zero a b = refl
 word_and (suc n) a b = next n (bit_and a b) (word_and n (a / 256) (b / 256)) (and_mod a b 8) (and_shr a b 8)
 
--- `add`
+-- `add`: it adds each lane by itself, where no sum is above a byte
 pub word_add : (n a b : ℕ) → Each2 (λ x y. x + y ≤ 255) (word_lanes n a) (word_lanes n b)
     → word_lanes n (a + b) ≡ zip2 (λ x y. x + y) (word_lanes n a) (word_lanes n b)
 unfolding word_lanes
 word_add zero a b room = refl
 word_add (suc n) a b (here, room) = next n (a + b) (word_add n (a / 256) (b / 256) room) (omega arith) (omega arith)
 
+-- and the sum is a word of n lanes
 pub word_add_fits : (n a b : ℕ) → a < 256 ^ n → b < 256 ^ n → Each2 (λ x y. x + y ≤ 255) (word_lanes n a) (word_lanes n b)
     → a + b < 256 ^ n
 unfolding word_lanes
 word_add_fits zero a b within within' room = omega arith
 word_add_fits (suc n) a b within within' (here, room) =
     let power = pow-suc 256 n in
-    let rest = word_add_fits n (a / 256) (b / 256) (omega arith) (omega arith) room in
-    omega arith
+    omega (arith, word_add_fits n (a / 256) (b / 256) (omega arith) (omega arith) room)
 
--- `sub`
+-- `sub`: the whole is not below 0, where no lane is
 pub word_sub_fits : (n a b : ℕ) → b < 256 ^ n → Each2 (λ x y. y ≤ x) (word_lanes n a) (word_lanes n b) → b ≤ a
 unfolding word_lanes
 word_sub_fits zero a b within room = omega arith
 word_sub_fits (suc n) a b within (here, room) =
     omega (arith, word_sub_fits n (a / 256) (b / 256) (omega (arith, pow-suc 256 n)) room)
 
+-- and each lane is subtracted by itself
 pub word_sub : (n a b : ℕ) → b < 256 ^ n → Each2 (λ x y. y ≤ x) (word_lanes n a) (word_lanes n b)
     → word_lanes n (a - b) ≡ zip2 (λ x y. x - y) (word_lanes n a) (word_lanes n b)
 unfolding word_lanes
@@ -78,7 +81,7 @@ word_sub (suc n) a b within (here, room) =
     let fits = word_sub_fits n (a / 256) (b / 256) below room in
     next n (a - b) (word_sub n (a / 256) (b / 256) below room) (omega arith) (omega arith)
 
--- `cmp_eq_byte`
+-- `cmp_eq_byte`: 1 in each lane that is b, and 0 in the others
 pub word_is_byte : (n w b : ℕ) → w < 256 ^ n → b < 256 → let y = bit_xor w (b * ones n) in
     word_lanes n (bit_and (256 ^ n - 1 - bit_or (bit_and y (127 * ones n) + 127 * ones n) y) (128 * ones n) / 128)
     ≡ map (is_byte b) (word_lanes n w)
@@ -90,7 +93,7 @@ word_is_byte n w b within small =
     (made_tops (is_byte b) tops (λ x below.
     top_of_zero (bit_xor x b) (xor_lt 8 x b below small) ∙ ap (λ k. 128 * k) (is_byte_by_xor b x))).1
 
--- `bytes_between_127`
+-- `bytes_between_127`: 1 in each lane between a and b, and 0 in the others
 pub word_is_between : (n w a b : ℕ) → w < 256 ^ n → a < b → b ≤ 127 → let low = bit_and w (127 * ones n) in
     word_lanes n (bit_and (bit_and (bit_and ((127 + b) * ones n - low) (256 ^ n - 1 - w)) (low + (127 - a) * ones n))
     (128 * ones n) / 128) ≡ map (is_between a b) (word_lanes n w)
@@ -125,7 +128,7 @@ past zero k m w all within = ap₂ word_lanes (omega arith) (omega arith) ∙ wo
 past (suc n) k zero w all within = absurd (omega arith)
 past (suc n) k (suc m) w all within = next m w (past n k m (w / 256) (omega arith) (omega (arith, pow-suc 256 n))) refl refl
 
--- `shift_back_lex`
+-- `shift_back_lex`: k lanes go, and k lanes 0 come in behind the others
 pub word_shift_back : (n k w : ℕ) → w < 256 ^ n → k ≤ n
     → word_lanes n (w / 2 ^ (8 * k)) ≡ drop k (word_lanes n w) ++ replicate k 0
 word_shift_back n k w within few =
@@ -135,7 +138,7 @@ word_shift_back n k w within few =
     ∙ past (n - k) k n (w / 256 ^ k) all (div_below w (256 ^ k) (256 ^ (n - k)) (one-le-pow k 256 (omega arith)) small)
     ∙ ap (λ xs. xs ++ replicate k 0) (above (n - k) k n w all)
 
--- `shift_across`
+-- `shift_across`: the last lane of a, and then all lanes of b but its last
 pub word_across : (m a b : ℕ) → a < 256 ^ suc m
     → word_lanes (suc m) (bit_or (b * 256 % 256 ^ suc m) (a / 256 ^ m))
     ≡ drop m (word_lanes (suc m) a) ++ take m (word_lanes (suc m) b)
@@ -152,7 +155,7 @@ word_across m a b within =
     ∙ next m (bit_or p t) {x = t % 256} (below m b) (omega arith) (omega arith)
     ∙ ap (λ xs. xs ++ take m (word_lanes (suc m) b)) (above 1 m (suc m) a (omega arith))
 
--- `shr`
+-- `shr`: the low 8 - k bits of each lane are its own, shifted
 pub word_shr : (n k w : ℕ) → k ≤ 8
     → map (λ x. x % 2 ^ (8 - k)) (word_lanes n (w / 2 ^ k)) ≡ map (λ x. x / 2 ^ k) (word_lanes n w)
 unfolding word_lanes
@@ -169,7 +172,6 @@ word_shr (suc n) k w few =
 pub one_in_lane : (i bits : ℕ) → 8 * i < bits → 1 * 2 ^ (8 * i) % 2 ^ bits ≡ 256 ^ i
 one_in_lane i bits inside = one_shl (8 * i) bits inside ∙ sym (pow_of_bytes i)
 
--- lane i of a word, in the list of its n lanes
 abbrev nth : ℕ → ℕ → ℕ → ℕ
 nth n w i = get_or (word_lanes n w) i 0
 
@@ -187,11 +189,12 @@ changed (suc n) (suc i) w v x inside small is =
     omega (arith, ap (λ p. l * p) (pow-suc 256 i), ap (λ p. x * p) (pow-suc 256 i)) in
     next n v (changed n i (w / 256) (v / 256) x (omega arith) small (omega arith)) (omega arith) refl
 
--- `inc_nth_from_end_lex_byte`
+-- `inc_nth_from_end_lex_byte`: one more in lane i
 pub word_inc : (n i w : ℕ) → i < n → nth n w i < 255
     → word_lanes n (w + 256 ^ i) ≡ set (word_lanes n w) i (nth n w i + 1)
 word_inc n i w inside room = changed n i w (w + 256 ^ i) (nth n w i + 1) inside (λ _. omega arith) (omega arith)
 
+-- and the sum is a word of n lanes
 pub word_inc_fits : (n i w : ℕ) → i < n → w < 256 ^ n → nth n w i < 255 → w + 256 ^ i < 256 ^ n
 unfolding word_lanes
 word_inc_fits zero i w inside within room = absurd (omega arith)
@@ -200,7 +203,7 @@ word_inc_fits (suc n) (suc i) w inside within room =
     let power = pow-suc 256 n in
     omega (arith, pow-suc 256 i, word_inc_fits n i (w / 256) (omega arith) (omega arith) room)
 
--- `dec_last_lex_byte`
+-- `dec_last_lex_byte`: the whole is not below 0
 pub word_dec_fits : (n i w : ℕ) → i < n → 0 < nth n w i → 256 ^ i ≤ w
 unfolding word_lanes
 word_dec_fits zero i w inside room = absurd (omega arith)
@@ -208,6 +211,7 @@ word_dec_fits (suc n) zero w inside room = omega arith
 word_dec_fits (suc n) (suc i) w inside room =
     omega (arith, pow-suc 256 i, word_dec_fits n i (w / 256) (omega arith) room)
 
+-- and lane i has one less
 pub word_dec : (n i w : ℕ) → i < n → 0 < nth n w i → word_lanes n (w - 256 ^ i) ≡ set (word_lanes n w) i (nth n w i - 1)
 word_dec n i w inside room =
     let fits = word_dec_fits n i w inside room in
@@ -215,7 +219,6 @@ word_dec n i w inside room =
     let one : nth n w i * 256 ^ i ≡ (x + 1) * 256 ^ i = ap (λ k. k * 256 ^ i) (omega arith) in
     changed n i w (w - 256 ^ i) x inside (λ byte. omega arith) (omega arith)
 
--- `sum_bytes`
 -- the product with the word of ones: the sum of all lanes stands in its last one
 product : (n acc w most : ℕ) → Each1 (λ x. x ≤ most) (word_lanes (suc n) w) → acc + most * suc n < 256
     → let total = fold (λ a x. a + x) acc (word_lanes (suc n) w) in
@@ -231,6 +234,7 @@ product (suc n) acc w most (here, each) few =
     ap (λ k. w / 256 * k) (ones_pow (suc n)), ap (λ k. total * k) (pow-suc 256 n),
     ap (λ k. (q + w / 256) * k) (pow-suc 256 (suc n))))
 
+-- `sum_bytes`: so the last lane of that product is the sum of all lanes
 pub word_sum : (m w most : ℕ) → most * suc m < 256 → Each1 (λ lane. lane ≤ most) (word_lanes (suc m) w)
     → w * ones (suc m) % 256 ^ suc m / 256 ^ m ≡ sum (word_lanes (suc m) w)
 word_sum m w most few each =
