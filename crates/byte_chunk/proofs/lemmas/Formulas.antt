@@ -1,8 +1,8 @@
 -- What the formulas of a word do to the byte in one lane: the top bit is set where a test holds, and no other bit.
-use Rattle.std.proofs.Common.{◌≡◌, ℕ, zero, suc, ◌+◌, ◌-◌, ◌*◌, ◌/◌, ◌%◌, ◌<◌, ◌≤◌, true, refl, sym, ap, ap₂, ◌∙◌, arith, min, bit_and, bit_or, bit_xor, cond, inl, inr}
+use Rattle.std.proofs.Common.{◌≡◌, ℕ, ◌+◌, ◌-◌, ◌*◌, ◌/◌, ◌%◌, ◌<◌, ◌≤◌, true, refl, arith, bit_and, bit_or, bit_xor}
 use Rattle.std.specs.Prelude.{◌==◌}
 use Rattle.std.specs.Int.Bits.{xor_self, xor_zero_l, xor_zero_r, xor_assoc}
-use Rattle.std.proofs.lemmas.Bool.{agree_below, agree_below_at, cases_eq, eqb-true, eq-eqb, ne_eqb}
+use Rattle.std.proofs.lemmas.Bool.{agree_below_at, eqb-true}
 use Rattle.std.proofs.lemmas.Grind.{and_high_numeral}
 use Rattle.std.proofs.lemmas.Bool.Decides.{nat_tests}
 use Rattle.std.proofs.lemmas.Nat.{and_shr, and_mask, and_le_l, and_le_r}
@@ -30,5 +30,16 @@ top_of_between a b order ascii x below =
     let s = bit_and (bit_and p q) r in
     let i = bit_and (p / 128) (q / 128) in
     let one : bit_and 1 1 ≡ 1 = refl in
-    grind (arith, nat_tests, and_high_numeral s 127 refl, and_le_l (bit_and p q) r, and_le_l p q, and_shr (bit_and p q) r 7,
-    and_shr p q 7, and_le_l (p / 128) (q / 128), and_le_r (p / 128) (q / 128), and_le_l i (r / 128), and_le_r i (r / 128))
+    grind (
+      arith,
+      nat_tests,
+      and_high_numeral s 127 refl,
+      and_le_l (bit_and p q) r,
+      and_le_l p q,
+      and_shr (bit_and p q) r 7,
+      and_shr p q 7,
+      and_le_l (p / 128) (q / 128),
+      and_le_r (p / 128) (q / 128),
+      and_le_l i (r / 128),
+      and_le_r i (r / 128),
+    )

@@ -1,14 +1,11 @@
 -- The calls of a chunk, on a word of any number of lanes.
 --     nth n w i    lane i of a word, in the list of its n lanes
-use Rattle.std.proofs.Common.{◌≡◌, ℕ, zero, suc, ◌+◌, ◌-◌, ◌*◌, ◌/◌, ◌%◌, ◌^◌, ◌<◌, ◌≤◌, ◌↔◌, List, [], ◌∷◌, ◌++◌, map, length, replicate, take, drop, set, get_or, sum, refl, sym, ap, ap₂, subst, ◌∙◌, arith, pow-suc, bit_and, bit_or, bit_xor, inl, inr}
+use Rattle.std.proofs.Common.{◌≡◌, ℕ, zero, suc, ◌+◌, ◌-◌, ◌*◌, ◌/◌, ◌%◌, ◌^◌, ◌<◌, ◌≤◌, List, [], ◌∷◌, ◌++◌, map, length, replicate, take, drop, set, get_or, sum, refl, sym, ap, ap₂, ◌∙◌, arith, pow-suc, bit_and, bit_or, bit_xor}
 use Rattle.std.specs.List.{fold}
-use Rattle.std.specs.Simd.Lanes.{zip2, Each1, Each2, digits_l}
+use Rattle.std.specs.Simd.Lanes.{zip2, Each1, Each2}
 use Rattle.std.proofs.lemmas.Nat.{and_mod, and_shr, or_mod, or_shr, xor_mod, xor_shr, and_le_r, xor_lt, or_shifted, pow-add, field_of, one_shl, div_below, div-mul-add, mod-mul-add}
-use Rattle.std.specs.Int.Bits.{or_zero_l, or_zero_r}
 use Rattle.std.proofs.Math.Nat.{one-le-pow, div-div-eq-div-mul, mul_comm, pow-succ', mul-le-mul_right}
 use Rattle.std.proofs.Math.Pow.{mod-mod-pow}
-use Rattle.std.proofs.lemmas.List.Sums.{sum_by-cons}
-use Rattle.std.proofs.lemmas.Simd.{sum_bound}
 use Rattle.byte_chunk.specs.Lanes.{word_lanes, is_byte, is_between}
 use Rattle.byte_chunk.proofs.lemmas.Formulas.{top_of_zero, is_byte_by_xor, top_of_between}
 use Rattle.byte_chunk.proofs.lemmas.Numbers.{written, ones, ones_pow, pow_of_bytes}
@@ -229,10 +226,20 @@ product zero acc w most (here, each) few = (w / 256, 0, omega arith, omega arith
 product (suc n) acc w most (here, each) few =
     let (q, r, l, le, more) = product n (acc + w % 256) (w / 256) most each (omega arith) in
     let total = fold (λ a x. a + x) (acc + w % 256) (word_lanes (suc n) (w / 256)) in
-    let parts : w * ones (suc n) ≡ (w % 256 + 256 * (w / 256)) * ones (suc n) = ap (λ k. k * ones (suc n)) (omega arith) in
-    (q + w / 256, 256 * r + acc + w % 256, omega (arith, pow-suc 256 n), omega arith, omega (arith, parts, more,
-    ap (λ k. w / 256 * k) (ones_pow (suc n)), ap (λ k. total * k) (pow-suc 256 n),
-    ap (λ k. (q + w / 256) * k) (pow-suc 256 (suc n))))
+    let parts : w * ones (suc n) ≡ (w % 256 + 256 * (w / 256)) * ones (suc n) = ap (λ k. k * ones (suc n)) (omega arith) in (
+      q + w / 256,
+      256 * r + acc + w % 256,
+      omega (arith, pow-suc 256 n),
+      omega arith,
+      omega (
+        arith,
+        parts,
+        more,
+        ap (λ k. w / 256 * k) (ones_pow (suc n)),
+        ap (λ k. total * k) (pow-suc 256 n),
+        ap (λ k. (q + w / 256) * k) (pow-suc 256 (suc n)),
+      ),
+    )
 
 -- `sum_bytes`: so the last lane of that product is the sum of all lanes
 pub word_sum : (m w most : ℕ) → most * suc m < 256 → Each1 (λ lane. lane ≤ most) (word_lanes (suc m) w)
