@@ -28,18 +28,6 @@ top_of_between a b order ascii x below =
     let q = 255 - x in
     let r = bit_and x 127 + (127 - a) in
     let s = bit_and (bit_and p q) r in
-    let i = bit_and (p / 128) (q / 128) in
     let one : bit_and 1 1 ≡ 1 = refl in
-    grind (
-      arith,
-      nat_tests,
-      and_high_numeral s 127 refl,
-      and_le_l (bit_and p q) r,
-      and_le_l p q,
-      and_shr (bit_and p q) r 7,
-      and_shr p q 7,
-      and_le_l (p / 128) (q / 128),
-      and_le_r (p / 128) (q / 128),
-      and_le_l i (r / 128),
-      and_le_r i (r / 128),
-    )
+    let top = and_high_numeral s 127 refl in
+    grind (arith, nat_tests, top, and_le_l, and_le_r, and_shr (bit_and p q) r 7, and_shr p q 7)

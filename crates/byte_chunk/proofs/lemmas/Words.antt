@@ -53,8 +53,8 @@ word_add zero a b room = refl
 word_add (suc n) a b (here, room) = next n (a + b) (word_add n (a / 256) (b / 256) room) (omega arith) (omega arith)
 
 -- and the sum is a word of n lanes
-pub word_add_fits : (n a b : ℕ) → a < 256 ^ n → b < 256 ^ n → Each2 (λ x y. x + y ≤ 255) (word_lanes n a) (word_lanes n b)
-    → a + b < 256 ^ n
+pub word_add_fits : (n a b : ℕ) → a < 256 ^ n → b < 256 ^ n
+    → Each2 (λ x y. x + y ≤ 255) (word_lanes n a) (word_lanes n b) → a + b < 256 ^ n
 unfolding word_lanes
 word_add_fits zero a b within within' room = omega arith
 word_add_fits (suc n) a b within within' (here, room) =
@@ -123,7 +123,8 @@ past : (n k m w : ℕ) → m ≡ n + k → w < 256 ^ n → word_lanes m w ≡ wo
 unfolding word_lanes
 past zero k m w all within = ap₂ word_lanes (omega arith) (omega arith) ∙ word_zero k
 past (suc n) k zero w all within = absurd (omega arith)
-past (suc n) k (suc m) w all within = next m w (past n k m (w / 256) (omega arith) (omega (arith, pow-suc 256 n))) refl refl
+past (suc n) k (suc m) w all within =
+    next m w (past n k m (w / 256) (omega arith) (omega (arith, pow-suc 256 n))) refl refl
 
 -- `shift_back_lex`: k lanes go, and k lanes 0 come in behind the others
 pub word_shift_back : (n k w : ℕ) → w < 256 ^ n → k ≤ n
@@ -226,20 +227,12 @@ product zero acc w most (here, each) few = (w / 256, 0, omega arith, omega arith
 product (suc n) acc w most (here, each) few =
     let (q, r, l, le, more) = product n (acc + w % 256) (w / 256) most each (omega arith) in
     let total = fold (λ a x. a + x) (acc + w % 256) (word_lanes (suc n) (w / 256)) in
-    let parts : w * ones (suc n) ≡ (w % 256 + 256 * (w / 256)) * ones (suc n) = ap (λ k. k * ones (suc n)) (omega arith) in (
-      q + w / 256,
-      256 * r + acc + w % 256,
-      omega (arith, pow-suc 256 n),
-      omega arith,
-      omega (
-        arith,
-        parts,
-        more,
-        ap (λ k. w / 256 * k) (ones_pow (suc n)),
-        ap (λ k. total * k) (pow-suc 256 n),
-        ap (λ k. (q + w / 256) * k) (pow-suc 256 (suc n)),
-      ),
-    )
+    let o = ones (suc n) in
+    let parts : w * o ≡ (w % 256 + 256 * (w / 256)) * o = ap (λ k. k * o) (omega arith) in
+    let power = ap (λ k. w / 256 * k) (ones_pow (suc n)) in
+    let sums = ap (λ k. total * k) (pow-suc 256 n) in
+    let above = ap (λ k. (q + w / 256) * k) (pow-suc 256 (suc n)) in
+    (q + w / 256, 256 * r + acc + w % 256, omega (arith, pow-suc 256 n), omega arith, omega (arith, more))
 
 -- `sum_bytes`: so the last lane of that product is the sum of all lanes
 pub word_sum : (m w most : ℕ) → most * suc m < 256 → Each1 (λ lane. lane ≤ most) (word_lanes (suc m) w)
