@@ -1,126 +1,87 @@
--- What the arithmetic of a word does to its lanes: each lane by itself, where none carries or borrows.
-use Rattle.std.proofs.Common.{◌≡◌, ◌≢◌, ℕ, zero, suc, ◌+◌, ◌-◌, ◌*◌, ◌/◌, ◌%◌, ◌^◌, ◌<◌, ◌≤◌, refl, sym, ap, ap₂, ◌∙◌, subst, arith, pow-suc, bit_and, bit_or, bit_xor}
-use Rattle.std.proofs.lemmas.Nat.{pow-add, and_mod, and_shr, or_mod, or_shr, xor_mod, xor_shr, and_le_l, or_lt, xor_lt, mod-mul-add}
-use Rattle.byte_chunk.proofs.lemmas.Numbers.{lane, written, LanesAre, written-same, of_written, is_written, lane_small, written-add, written-times}
+-- Words that are made of the lanes of one word.
+--     LaneByLane f n w r    lane i of r is f of lane i of w, for each of n lanes, and r has no more
+--     Made f n w r          the same, as a record
+use Rattle.std.proofs.Common.{◌≡◌, ℕ, zero, suc, ◌+◌, ◌-◌, ◌*◌, ◌/◌, ◌%◌, ◌^◌, ◌<◌, ◌≤◌, List, map, ◌∷◌, refl, ap, ap₂, ◌∙◌, arith, pow-suc, bit_and}
+use Rattle.std.proofs.lemmas.Nat.{and_mod, and_shr}
+use Rattle.std.specs.Simd.Lanes.{digits_l}
+use Rattle.byte_chunk.specs.Lanes.{word_lanes}
+use Rattle.byte_chunk.proofs.lemmas.Numbers.{ones, ones_pow}
 
--- the word whose n lanes are each 1
-abbrev pub ones : ℕ → ℕ
-ones n = written n (λ _. 1)
+abbrev pub LaneByLane : (ℕ → ℕ) → ℕ → ℕ → ℕ → Type 0
+LaneByLane f zero w r = r ≡ 0
+LaneByLane f (suc n) w r = (r % 256 ≡ f (w % 256)) × LaneByLane f n (w / 256) (r / 256)
 
-pub ones_pow : (n : ℕ) → 255 * ones n + 1 ≡ 256 ^ n
-ones_pow zero = refl
-ones_pow (suc n) = omega (arith, ones_pow n, pow-suc 256 n)
+-- a word's first lane, and those behind it
+pub next : (n w : ℕ) {q x : ℕ} {xs : List ℕ} → word_lanes n q ≡ xs → w % 256 ≡ x → w / 256 ≡ q
+    → word_lanes (suc n) w ≡ x ∷ xs
+unfolding word_lanes
+next n w rest first behind = ap₂ (λ x xs. x ∷ xs) first (ap (digits_l 256 n) behind ∙ rest)
 
-pub pow_of_bytes : (n : ℕ) → 256 ^ n ≡ 2 ^ (8 * n)
-pow_of_bytes zero = refl
-pow_of_bytes (suc n) =
-    let next : 8 * suc n ≡ 8 + 8 * n = omega arith in
-    omega (arith, pow-suc 256 n, pow_of_bytes n, pow-add 2 8 (8 * n), ap (λ k. 2 ^ k) next)
+pub record Made (f : ℕ → ℕ) (n w r : ℕ) : Type 0 where
+  pub each : LaneByLane f n w r
+
+-- the lanes behind the first
+behind : {f : ℕ → ℕ} {n w r : ℕ} → Made f (suc n) w r → Made f n (w / 256) (r / 256)
+behind made = record { each = made.each.1 }
+
+-- the word itself
+pub made_self : (n w : ℕ) → w < 256 ^ n → Made (λ x. x) n w w
+made_self zero w within = record { each = omega arith }
+made_self (suc n) w within = record { each = (refl, (made_self n (w / 256) (omega (arith, pow-suc 256 n))).each) }
 
 -- the same number in each lane
-pub lanes_splat : (n b : ℕ) → b < 256 → LanesAre n (b * ones n) (λ _. b)
-lanes_splat n b small = of_written n (b * ones n) (λ _. b) (λ i _. small)
-    (sym (written-times n b (λ _. 1)) ∙ written-same n (λ _. b * 1) (λ _. b) (λ i _. omega arith))
+pub made_splat : {n w : ℕ} (b : ℕ) → b < 256 → Made (λ _. b) n w (b * ones n)
+made_splat {n = zero} b small = record { each = omega arith }
+made_splat {n = suc n} {w = w} b small =
+    let above : b * ones (suc n) / 256 ≡ b * ones n = omega arith in
+    record { each = (omega arith, rw above (made_splat {n = n} {w = w / 256} b small).each) }
 
-module _ {n a b : ℕ} {f g : ℕ → ℕ} (these : LanesAre n a f) (those : LanesAre n b g) where
-  pub lanes_add : ((i : ℕ) → i < n → f i + g i < 256) → LanesAre n (a + b) (λ i. f i + g i)
-  lanes_add small =
-      of_written n (a + b) (λ i. f i + g i) small (omega (arith, is_written these, is_written those, written-add n f g))
+-- an operation on bits
+pub made_bits : {f g : ℕ → ℕ} {n w a b : ℕ} → Made f n w a → Made g n w b → (op : ℕ → ℕ → ℕ) → op 0 0 ≡ 0
+    → ((a b k : ℕ) → op a b % 2 ^ k ≡ op (a % 2 ^ k) (b % 2 ^ k))
+    → ((a b k : ℕ) → op a b / 2 ^ k ≡ op (a / 2 ^ k) (b / 2 ^ k)) → Made (λ x. op (f x) (g x)) n w (op a b)
+made_bits {n = zero} these those op none under above = record { each = ap₂ op these.each those.each ∙ none }
+made_bits {n = suc n} {w} {a} {b} these those op none under above =
+    let rest = made_bits {n = n} (behind these) (behind those) op none under above in
+    record { each = (under a b 8 ∙ ap₂ op these.each.0 those.each.0, rw (above a b 8) rest.each) }
 
-  -- what is left and what was taken off make the whole
-  whole : ((i : ℕ) → i < n → g i ≤ f i) → written n (λ i. f i - g i) + b ≡ a
-  whole least = omega (arith, written-add n (λ i. f i - g i) g,
-      written-same n (λ i. f i - g i + g i) f (λ i below. omega (arith, least i below)), is_written these,
-      is_written those)
+-- the bits that are set in both
+pub made_and : {f g : ℕ → ℕ} {n w a b : ℕ} → Made f n w a → Made g n w b
+    → Made (λ x. bit_and (f x) (g x)) n w (bit_and a b)
+made_and these those = made_bits these those bit_and refl and_mod and_shr
 
-  pub sub_le : ((i : ℕ) → i < n → g i ≤ f i) → b ≤ a
-  sub_le least = omega (arith, whole least)
+-- sums, where none is above a byte
+pub made_add : {f g : ℕ → ℕ} {n w a b : ℕ} → Made f n w a → Made g n w b → ((x : ℕ) → f x + g x < 256)
+    → Made (λ x. f x + g x) n w (a + b)
+made_add {n = zero} these those small = record { each = omega arith }
+made_add {n = suc n} {w} {a} {b} these those small =
+    let room = small (w % 256) in
+    let rest = made_add {n = n} (behind these) (behind those) small in
+    let above : (a + b) / 256 ≡ a / 256 + b / 256 = omega arith in
+    record { each = (omega arith, rw above rest.each) }
 
-  pub lanes_sub : ((i : ℕ) → i < n → g i ≤ f i) → LanesAre n (a - b) (λ i. f i - g i)
-  lanes_sub least = of_written n (a - b) (λ i. f i - g i) (λ i below. omega (arith, lane_small these i below))
-      (omega (arith, whole least))
+-- differences, where none is below 0
+pub made_sub : {f g : ℕ → ℕ} {n w a b : ℕ} → Made f n w a → Made g n w b → ((x : ℕ) → g x < 256 → g x ≤ f x)
+    → (b ≤ a) × Made (λ x. f x - g x) n w (a - b)
+made_sub {n = zero} these those least = (omega arith, record { each = omega arith })
+made_sub {n = suc n} {w} {a} {b} these those least =
+    let room = least (w % 256) (omega arith) in
+    let (le, rest) = made_sub {n = n} (behind these) (behind those) least in
+    let above : (a - b) / 256 ≡ a / 256 - b / 256 = omega arith in
+    (omega arith, record { each = (omega arith, rw above rest.each) })
 
 -- all bits the other way round
-pub lanes_not : {n a : ℕ} {f : ℕ → ℕ} → LanesAre n a f → LanesAre n (256 ^ n - 1 - a) (λ i. 255 - f i)
-lanes_not {n} {a} {f} these =
-    let taken = lanes_sub (lanes_splat n 255 (omega arith)) these (λ i below. omega (arith, lane_small these i below)) in
-    subst (λ w. LanesAre n w (λ i. 255 - f i)) (omega (arith, ones_pow n)) taken
+pub made_not : {f : ℕ → ℕ} {n w a : ℕ} → Made f n w a → Made (λ x. 255 - f x) n w (256 ^ n - 1 - a)
+made_not {n = n} {a = a} these =
+    let all : 256 ^ n - 1 - a ≡ 255 * ones n - a = omega (arith, ones_pow n) in
+    rw all (made_sub (made_splat 255 (omega arith)) these (λ x small. omega arith)).1
 
 -- a shift by seven bits, where no lane but for its top bit has a bit
-pub lanes_top : {n a : ℕ} (f : ℕ → ℕ) → LanesAre n a (λ i. 128 * f i) → LanesAre n (a / 128) f
-lanes_top {n} {a} f these = of_written n (a / 128) f (λ i below. omega (arith, lane_small these i below))
-    (omega (arith, is_written these, written-times n 128 f))
-
--- an operation on bits that does the same to any of them
-module _ (op : ℕ → ℕ → ℕ) (above : (a b k : ℕ) → op a b / 2 ^ k ≡ op (a / 2 ^ k) (b / 2 ^ k))
-    (under : (a b k : ℕ) → op a b % 2 ^ k ≡ op (a % 2 ^ k) (b % 2 ^ k)) where
-  bits_of_lane : (a b i : ℕ) → lane (op a b) i ≡ op (lane a i) (lane b i)
-  bits_of_lane a b i =
-      let here : (x : ℕ) → lane x i ≡ x / 2 ^ (8 * i) % 2 ^ 8 = λ x. ap (λ p. x / p % 256) (pow_of_bytes i) in
-      here (op a b) ∙ ap (λ x. x % 2 ^ 8) (above a b (8 * i)) ∙ under (a / 2 ^ (8 * i)) (b / 2 ^ (8 * i)) 8
-      ∙ sym (ap₂ op (here a) (here b))
-
-  lanes_bits : {n a b : ℕ} {f g : ℕ → ℕ} → LanesAre n a f → LanesAre n b g → op a b < 256 ^ n
-      → LanesAre n (op a b) (λ i. op (f i) (g i))
-  lanes_bits {a = a} {b = b} these those within = record {
-    below = within;
-    each = λ i below. bits_of_lane a b i ∙ ap₂ op (these.each i below) (those.each i below);
-  }
-
-module _ {n a b : ℕ} {f g : ℕ → ℕ} (these : LanesAre n a f) (those : LanesAre n b g) where
-  pub lanes_and : LanesAre n (bit_and a b) (λ i. bit_and (f i) (g i))
-  lanes_and = lanes_bits bit_and and_shr and_mod these those (omega (arith, and_le_l a b, these.below))
-
-  pub lanes_or : LanesAre n (bit_or a b) (λ i. bit_or (f i) (g i))
-  lanes_or = lanes_bits bit_or or_shr or_mod these those
-      (rw (pow_of_bytes n) (or_lt (8 * n) a b (rw (pow_of_bytes n) at these.below) (rw (pow_of_bytes n) at those.below)))
-
-  pub lanes_xor : LanesAre n (bit_xor a b) (λ i. bit_xor (f i) (g i))
-  lanes_xor = lanes_bits bit_xor xor_shr xor_mod these those
-      (rw (pow_of_bytes n) (xor_lt (8 * n) a b (rw (pow_of_bytes n) at these.below) (rw (pow_of_bytes n) at those.below)))
-
--- two lists of lanes that differ by one in lane k write numbers that differ by 256 ^ k
-pub written-one_more : (n k : ℕ) (f g : ℕ → ℕ) → k < n → g k ≡ f k + 1 → ((i : ℕ) → i < n → i ≢ k → g i ≡ f i)
-    → written n g ≡ written n f + 256 ^ k
-written-one_more zero k f g below more same = absurd (omega arith)
-written-one_more (suc n) zero f g below more same =
-    let rest = written-same n (λ i. g (suc i)) (λ i. f (suc i)) (λ i l. same (suc i) (omega arith) (omega arith)) in
-    omega (arith, more, rest)
-written-one_more (suc n) (suc k) f g below more same =
-    let rest = written-one_more n k (λ i. f (suc i)) (λ i. g (suc i)) (omega arith) more
-    (λ i l apart. same (suc i) (omega arith) (omega (arith, apart))) in
-    omega (arith, same 0 (omega arith) (omega arith), rest, pow-suc 256 k)
-
--- acc and lanes 0 to i
-abbrev pub total : ℕ → (ℕ → ℕ) → ℕ → ℕ
-total acc f zero = acc + f 0
-total acc f (suc i) = total (acc + f 0) (λ j. f (suc j)) i
-
--- The product with the word of ones is written by the sums of the lanes up to each, but for what stands above lane
--- n - 1.
-product_with_ones : (n acc : ℕ) (f : ℕ → ℕ)
-    → (q : ℕ) × ((acc + written n f) * ones n ≡ q * 256 ^ n + written n (total acc f))
-product_with_ones zero acc f = (0, omega arith)
-product_with_ones (suc n) acc f =
-    let (q, more) = product_with_ones n (acc + f 0) (λ i. f (suc i)) in
-    let rest = written n (λ i. f (suc i)) in
-    (q + rest, next_lane acc (f 0) rest (ones n) (256 ^ n) q (written n (total (acc + f 0) (λ i. f (suc i))))
-        (ones_pow n) more
-    ∙ ap (λ p. (q + rest) * p + written (suc n) (total acc f)) (sym (pow-suc 256 n)))
-  where
-    next_lane : (acc x w o p q t : ℕ) → 255 * o + 1 ≡ p → (acc + x + w) * o ≡ q * p + t
-        → (acc + (x + 256 * w)) * (1 + 256 * o) ≡ (q + w) * (p * 256) + (acc + x + 256 * t)
-    next_lane acc x w o p q t power more =
-        let above : w * (255 * o + 1) ≡ w * p = ap (λ k. w * k) power in
-        omega (arith, more, above)
-
--- so the word that is left has these sums as its lanes
-pub lanes_totals : {n w : ℕ} {f : ℕ → ℕ} → LanesAre n w f → ((i : ℕ) → i < n → total 0 f i < 256)
-    → LanesAre n (w * ones n % 256 ^ n) (total 0 f)
-lanes_totals {n} {w} {f} these small =
-    let (q, product) = product_with_ones n 0 f in
-    let sums = of_written n (written n (total 0 f)) (total 0 f) small refl in
-    let all : w * ones n ≡ q * 256 ^ n + written n (total 0 f) =
-    ap (λ x. x * ones n) (omega (arith, is_written these)) ∙ product in
-    subst (λ x. LanesAre n x (total 0 f))
-    (sym (ap (λ x. x % 256 ^ n) all ∙ mod-mul-add q (256 ^ n) (written n (total 0 f)) sums.below)) sums
+pub made_tops : {f : ℕ → ℕ} (g : ℕ → ℕ) {n w a : ℕ} → Made f n w a → ((x : ℕ) → x < 256 → f x ≡ 128 * g x)
+    → (a % 128 ≡ 0) × (word_lanes n (a / 128) ≡ map g (word_lanes n w))
+unfolding word_lanes
+made_tops g {n = zero} these same = (omega arith, refl)
+made_tops g {n = suc n} {w} {a} these same =
+    let top = same (w % 256) (omega arith) in
+    let (low, rest) = made_tops g {n = n} (behind these) same in
+    (omega arith, next n (a / 128) rest (omega arith) (omega arith))

@@ -1,299 +1,247 @@
 -- The calls of a chunk, on a word of any number of lanes.
-use Rattle.std.proofs.Common.{◌≡◌, ℕ, zero, suc, ◌+◌, ◌-◌, ◌*◌, ◌/◌, ◌%◌, ◌^◌, ◌<◌, ◌≤◌, ◌↔◌, List, [], ◌∷◌, ◌++◌, map, length, replicate, take, drop, set, get_or, sum, refl, sym, ap, ap₂, subst, ◌∙◌, arith, pow-suc, bit_and, bit_or, bit_xor, inl, inr}
+--     nth n w i    lane i of a word, in the list of its n lanes
+use Rattle.std.proofs.Common.{◌≡◌, ℕ, zero, suc, ◌+◌, ◌-◌, ◌*◌, ◌/◌, ◌%◌, ◌^◌, ◌<◌, ◌≤◌, List, [], ◌∷◌, ◌++◌, map, length, replicate, take, drop, set, get_or, sum, refl, sym, ap, ap₂, ◌∙◌, arith, pow-suc, bit_and, bit_or, bit_xor}
+use Rattle.std.specs.List.{fold}
 use Rattle.std.specs.Simd.Lanes.{zip2, Each1, Each2}
-use Rattle.std.proofs.Math.Nat.{div-le_self, one-le-pow, div-div-eq-div-mul, mul_comm}
+use Rattle.std.proofs.lemmas.Nat.{and_mod, and_shr, or_mod, or_shr, xor_mod, xor_shr, and_le_r, xor_lt, or_shifted, pow-add, field_of, one_shl, div_below, div-mul-add, mod-mul-add}
+use Rattle.std.proofs.Math.Nat.{one-le-pow, div-div-eq-div-mul, mul_comm, pow-succ', mul-le-mul_right}
 use Rattle.std.proofs.Math.Pow.{mod-mod-pow}
-use Rattle.std.specs.Int.Bits.{or_zero_l, or_zero_r}
-use Rattle.std.proofs.lemmas.Grind.{elements}
-use Rattle.std.proofs.lemmas.Bool.{cases_lt, cases_eq}
-use Rattle.std.proofs.lemmas.List.{ext_get_or, length-map, get_or-map, length-replicate, get_or-replicate, length-set, get_or-set_same, get_or-set_other, length-append, length-drop, length-take-le, get_or-drop, get_or-take, get_or_append_left, get_or-append_right}
-use Rattle.std.proofs.lemmas.List.Sums.{sum_by-cons}
-use Rattle.std.proofs.lemmas.Nat.{pow-add, field_of, shr-shr, mod-pow-add, mod-mul-add, mod_below, div_below, pow_pos, one_shl, and_le_r}
-use Rattle.std.proofs.lemmas.Simd.{length-zip2, get_or-zip2}
 use Rattle.byte_chunk.specs.Lanes.{word_lanes, is_byte, is_between}
-use Rattle.byte_chunk.proofs.lemmas.Lanewise.{Each2-get_or}
-use Rattle.byte_chunk.proofs.lemmas.Numbers.{lane, written, LanesAre, lane-zero, lane-suc, lane-above, lane-past, written-part, of_written, lane_small, said_as, is_written, written-same, written-lanes}
-use Rattle.byte_chunk.proofs.lemmas.Arithmetic.{ones, pow_of_bytes, lanes_splat, lanes_add, sub_le, lanes_sub, lanes_not, lanes_top, lanes_and, lanes_or, lanes_xor, written-one_more, total, lanes_totals}
 use Rattle.byte_chunk.proofs.lemmas.Formulas.{top_of_zero, is_byte_by_xor, top_of_between}
+use Rattle.byte_chunk.proofs.lemmas.Numbers.{written, ones, ones_pow, pow_of_bytes}
+use Rattle.byte_chunk.proofs.lemmas.Arithmetic.{next, made_self, made_splat, made_and, made_bits, made_add, made_sub, made_not, made_tops}
 
--- lane i of a word, in the list of its n lanes
-abbrev nth : ℕ → ℕ → ℕ → ℕ
-nth n w i = get_or (word_lanes n w) i 0
-
-length-word_lanes : (n w : ℕ) → length (word_lanes n w) ≡ n
-unfolding word_lanes
-length-word_lanes zero w = refl
-length-word_lanes (suc n) w = ap suc (length-word_lanes n (w / 256))
-
-nth-lane : (n w i : ℕ) → i < n → nth n w i ≡ lane w i
-unfolding word_lanes
-nth-lane zero w i below = absurd (omega arith)
-nth-lane (suc n) w zero below = sym (lane-zero w)
-nth-lane (suc n) w (suc i) below = nth-lane n (w / 256) i (omega arith) ∙ sym (lane-suc w i)
-
--- a word of n lanes, by its list
-of_list : (n w : ℕ) → w < 256 ^ n → LanesAre n w (nth n w)
-of_list n w within = record { below = within; each = λ i below. sym (nth-lane n w i below) }
-
--- a word's list is the one that has its lanes
-lanes_are : {n w : ℕ} {f : ℕ → ℕ} → LanesAre n w f → (xs : List ℕ) → length xs ≡ n
-    → ((i : ℕ) → i < n → f i ≡ get_or xs i 0) → word_lanes n w ≡ xs
-lanes_are {n} {w} lanes xs long same = ext_get_or 0 (word_lanes n w) xs (length-word_lanes n w ∙ sym long)
-    (λ i below. let inside : i < n = omega (arith, length-word_lanes n w) in
-    nth-lane n w i inside ∙ lanes.each i inside ∙ same i inside)
-
--- where each lane is made of one lane, or of two
-mapped : {n r : ℕ} (w : ℕ) (f : ℕ → ℕ) → LanesAre n r (λ i. f (nth n w i)) → word_lanes n r ≡ map f (word_lanes n w)
-mapped {n} w f lanes = lanes_are lanes (map f (word_lanes n w)) (length-map (word_lanes n w) f ∙ length-word_lanes n w)
-    (λ i below. sym (get_or-map f (word_lanes n w) i 0 0 (omega (arith, length-word_lanes n w))))
-
-zipped : {n r : ℕ} (a b : ℕ) (f : ℕ → ℕ → ℕ) → LanesAre n r (λ i. f (nth n a i) (nth n b i))
-    → word_lanes n r ≡ zip2 f (word_lanes n a) (word_lanes n b)
-zipped {n} a b f lanes = lanes_are lanes (zip2 f (word_lanes n a) (word_lanes n b))
-    (length-zip2 f (word_lanes n a) (word_lanes n b) (length-word_lanes n a ∙ sym (length-word_lanes n b))
-    ∙ length-word_lanes n a)
-    (λ i below. sym (get_or-zip2 f (word_lanes n a) (word_lanes n b) i 0 0 0 (omega (arith, length-word_lanes n a))
-    (omega (arith, length-word_lanes n b))))
-
--- what holds of each two lanes
-each_two : (n a b : ℕ) (P : ℕ → ℕ → Type 0) → Each2 P (word_lanes n a) (word_lanes n b) → (i : ℕ) → i < n
-    → P (nth n a i) (nth n b i)
-each_two n a b P each i below = Each2-get_or P (word_lanes n a) (word_lanes n b) i
-    (omega (arith, length-word_lanes n a)) (omega (arith, length-word_lanes n b)) each
-
--- `load`
+-- `load`: n bytes that are read as a number, the lowest first, stand one in each lane
 pub word_load : (n w : ℕ) (bytes : List ℕ) → n ≤ length bytes → ((i : ℕ) → get_or bytes i 0 < 256)
     → w ≡ written n (λ i. get_or bytes i 0) → word_lanes n w ≡ take n bytes
-word_load n w bytes enough small is = lanes_are (of_written n w (λ i. get_or bytes i 0) (λ i _. small i) is)
-    (take n bytes) (length-take-le n bytes enough) (λ i below. sym (get_or-take n bytes i 0 below))
+unfolding word_lanes
+word_load zero w bytes enough small is = refl
+word_load (suc n) w [] enough small is = absurd (omega arith)
+word_load (suc n) w (x ∷ bytes) enough small is =
+    let byte = small 0 in
+    next n w (word_load n (w / 256) bytes (omega arith) (λ i. small (suc i)) (omega arith)) (omega arith) refl
 
--- `splat` and `zero`
+-- `splat`: b times the word of ones has b in each lane
 pub word_splat : (n b : ℕ) → b < 256 → word_lanes n (b * ones n) ≡ replicate n b
-word_splat n b small = lanes_are (lanes_splat n b small) (replicate n b) (length-replicate n b)
-    (λ i below. sym (get_or-replicate n i b 0 below))
+unfolding word_lanes
+word_splat zero b small = refl
+word_splat (suc n) b small = next n (b * ones (suc n)) (word_splat n b small) (omega arith) (omega arith)
 
+-- `zero`: the word 0 has 0 in each lane
 pub word_zero : (n : ℕ) → word_lanes n 0 ≡ replicate n 0
 word_zero n = ap (word_lanes n) (omega arith) ∙ word_splat n 0 (omega arith)
 
--- `is_zero`
+-- `is_zero`: the word whose lanes are all 0 is 0
 pub word_is_zero : (n w : ℕ) → w < 256 ^ n → word_lanes n w ≡ replicate n 0 → w ≡ 0
-word_is_zero n w within none =
-    let lanes = of_list n w within in
-    is_written lanes
-    ∙ written-same n (nth n w) (λ _. 0) (λ i below. ap (λ xs. get_or xs i 0) none ∙ get_or-replicate n i 0 0 below)
-    ∙ sym (is_written (lanes_splat n 0 (omega arith))) ∙ omega arith
+unfolding word_lanes
+word_is_zero zero w within none = omega arith
+word_is_zero (suc n) w within none =
+    let first : w % 256 ≡ 0 = cc in
+    omega (arith, word_is_zero n (w / 256) (omega (arith, pow-suc 256 n)) cc)
 
--- `bitand`
-pub word_and : (n a b : ℕ) → a < 256 ^ n → b < 256 ^ n
-    → word_lanes n (bit_and a b) ≡ zip2 bit_and (word_lanes n a) (word_lanes n b)
-word_and n a b within within' = zipped a b bit_and (lanes_and (of_list n a within) (of_list n b within'))
+-- `bitand`: it acts on each lane by itself
+pub word_and : (n a b : ℕ) → word_lanes n (bit_and a b) ≡ zip2 bit_and (word_lanes n a) (word_lanes n b)
+unfolding word_lanes
+word_and zero a b = refl
+word_and (suc n) a b = next n (bit_and a b) (word_and n (a / 256) (b / 256)) (and_mod a b 8) (and_shr a b 8)
 
-module _ (n a b : ℕ) (within : a < 256 ^ n) (within' : b < 256 ^ n) where
-  -- `add`
-  sum_lanes : Each2 (λ x y. x + y ≤ 255) (word_lanes n a) (word_lanes n b) → LanesAre n (a + b) (λ i. nth n a i + nth n b i)
-  sum_lanes room = lanes_add (of_list n a within) (of_list n b within')
-      (λ i below. omega (arith, each_two n a b (λ x y. x + y ≤ 255) room i below))
+-- `add`: it adds each lane by itself, where no sum is above a byte
+pub word_add : (n a b : ℕ) → Each2 (λ x y. x + y ≤ 255) (word_lanes n a) (word_lanes n b)
+    → word_lanes n (a + b) ≡ zip2 (λ x y. x + y) (word_lanes n a) (word_lanes n b)
+unfolding word_lanes
+word_add zero a b room = refl
+word_add (suc n) a b (here, room) = next n (a + b) (word_add n (a / 256) (b / 256) room) (omega arith) (omega arith)
 
-  pub word_add : Each2 (λ x y. x + y ≤ 255) (word_lanes n a) (word_lanes n b)
-      → word_lanes n (a + b) ≡ zip2 (λ x y. x + y) (word_lanes n a) (word_lanes n b)
-  word_add room = zipped a b (λ x y. x + y) (sum_lanes room)
+-- and the sum is a word of n lanes
+pub word_add_fits : (n a b : ℕ) → a < 256 ^ n → b < 256 ^ n
+    → Each2 (λ x y. x + y ≤ 255) (word_lanes n a) (word_lanes n b) → a + b < 256 ^ n
+unfolding word_lanes
+word_add_fits zero a b within within' room = omega arith
+word_add_fits (suc n) a b within within' (here, room) =
+    let power = pow-suc 256 n in
+    omega (arith, word_add_fits n (a / 256) (b / 256) (omega arith) (omega arith) room)
 
-  pub word_add_fits : Each2 (λ x y. x + y ≤ 255) (word_lanes n a) (word_lanes n b) → a + b < 256 ^ n
-  word_add_fits room = (sum_lanes room).below
+-- `sub`: the whole is not below 0, where no lane is
+pub word_sub_fits : (n a b : ℕ) → b < 256 ^ n → Each2 (λ x y. y ≤ x) (word_lanes n a) (word_lanes n b) → b ≤ a
+unfolding word_lanes
+word_sub_fits zero a b within room = omega arith
+word_sub_fits (suc n) a b within (here, room) =
+    omega (arith, word_sub_fits n (a / 256) (b / 256) (omega (arith, pow-suc 256 n)) room)
 
-  -- `sub`
-  pub word_sub : Each2 (λ x y. y ≤ x) (word_lanes n a) (word_lanes n b)
-      → word_lanes n (a - b) ≡ zip2 (λ x y. x - y) (word_lanes n a) (word_lanes n b)
-  word_sub room = zipped a b (λ x y. x - y)
-      (lanes_sub (of_list n a within) (of_list n b within') (each_two n a b (λ x y. y ≤ x) room))
+-- and each lane is subtracted by itself
+pub word_sub : (n a b : ℕ) → b < 256 ^ n → Each2 (λ x y. y ≤ x) (word_lanes n a) (word_lanes n b)
+    → word_lanes n (a - b) ≡ zip2 (λ x y. x - y) (word_lanes n a) (word_lanes n b)
+unfolding word_lanes
+word_sub zero a b within room = refl
+word_sub (suc n) a b within (here, room) =
+    let below : b / 256 < 256 ^ n = omega (arith, pow-suc 256 n) in
+    let fits = word_sub_fits n (a / 256) (b / 256) below room in
+    next n (a - b) (word_sub n (a / 256) (b / 256) below room) (omega arith) (omega arith)
 
-  pub word_sub_fits : Each2 (λ x y. y ≤ x) (word_lanes n a) (word_lanes n b) → b ≤ a
-  word_sub_fits room = sub_le (of_list n a within) (of_list n b within') (each_two n a b (λ x y. y ≤ x) room)
-
--- `cmp_eq_byte`
+-- `cmp_eq_byte`: 1 in each lane that is b, and 0 in the others
 pub word_is_byte : (n w b : ℕ) → w < 256 ^ n → b < 256 → let y = bit_xor w (b * ones n) in
     word_lanes n (bit_and (256 ^ n - 1 - bit_or (bit_and y (127 * ones n) + 127 * ones n) y) (128 * ones n) / 128)
     ≡ map (is_byte b) (word_lanes n w)
 word_is_byte n w b within small =
-    let x = nth n w in
-    let y = lanes_xor (of_list n w within) (lanes_splat n b small) in
-    let low = lanes_splat n 127 (omega arith) in
-    let sum = lanes_add (lanes_and y low) low (λ i _. omega (arith, and_le_r (bit_xor (x i) b) 127)) in
-    let tops = lanes_and (lanes_not (lanes_or sum y)) (lanes_splat n 128 (omega arith)) in
-    mapped w (is_byte b) (lanes_top (λ i. is_byte b (x i)) (said_as tops (λ i. 128 * is_byte b (x i))
-    (λ i below. top_of_zero (bit_xor (x i) b) (lane_small y i below) ∙ ap (λ k. 128 * k) (is_byte_by_xor b (x i)))))
+    let y = made_bits (made_self n w within) (made_splat b small) bit_xor refl xor_mod xor_shr in
+    let low = made_splat 127 (omega arith) in
+    let sum = made_add (made_and y low) low (λ x. omega (arith, and_le_r (bit_xor x b) 127)) in
+    let tops = made_and (made_not (made_bits sum y bit_or refl or_mod or_shr)) (made_splat 128 (omega arith)) in
+    (made_tops (is_byte b) tops (λ x below.
+    top_of_zero (bit_xor x b) (xor_lt 8 x b below small) ∙ ap (λ k. 128 * k) (is_byte_by_xor b x))).1
 
--- `bytes_between_127`
+-- `bytes_between_127`: 1 in each lane between a and b, and 0 in the others
 pub word_is_between : (n w a b : ℕ) → w < 256 ^ n → a < b → b ≤ 127 → let low = bit_and w (127 * ones n) in
     word_lanes n (bit_and (bit_and (bit_and ((127 + b) * ones n - low) (256 ^ n - 1 - w)) (low + (127 - a) * ones n))
     (128 * ones n) / 128) ≡ map (is_between a b) (word_lanes n w)
 word_is_between n w a b within order ascii =
-    let x = nth n w in
-    let it = of_list n w within in
-    let low = lanes_and it (lanes_splat n 127 (omega arith)) in
-    let under = lanes_sub (lanes_splat n (127 + b) (omega arith)) low (λ i _. omega (arith, and_le_r (x i) 127)) in
-    let over = lanes_add low (lanes_splat n (127 - a) (omega arith)) (λ i _. omega (arith, and_le_r (x i) 127)) in
-    let tops = lanes_and (lanes_and (lanes_and under (lanes_not it)) over) (lanes_splat n 128 (omega arith)) in
-    mapped w (is_between a b) (lanes_top (λ i. is_between a b (x i)) (said_as tops (λ i. 128 * is_between a b (x i))
-    (λ i below. top_of_between a b order ascii (x i) (lane_small it i below))))
+    let it = made_self n w within in
+    let low = made_and it (made_splat 127 (omega arith)) in
+    let under = (made_sub (made_splat (127 + b) (omega arith)) low (λ x _. omega (arith, and_le_r x 127))).1 in
+    let over = made_add low (made_splat (127 - a) (omega arith)) (λ x. omega (arith, and_le_r x 127)) in
+    let tops = made_and (made_and (made_and under (made_not it)) over) (made_splat 128 (omega arith)) in
+    (made_tops (is_between a b) tops (top_of_between a b order ascii)).1
 
--- `shift_back_lex`
+-- what stands above k lanes
+above : (n k m w : ℕ) → m ≡ n + k → word_lanes n (w / 256 ^ k) ≡ drop k (word_lanes m w)
+unfolding word_lanes
+above n zero m w all = ap₂ word_lanes (omega arith) (omega arith)
+above n (suc k) zero w all = absurd (omega arith)
+above n (suc k) (suc m) w all =
+    rw (pow-succ' 256 k, ← div-div-eq-div-mul w 256 (256 ^ k)) (above n k m (w / 256) (omega arith))
+
+-- all lanes but the last
+below : (n w : ℕ) → word_lanes n (w % 2 ^ (8 * n)) ≡ take n (word_lanes (suc n) w)
+unfolding word_lanes
+below zero w = refl
+below (suc n) w =
+    let bits : 8 * suc n ≡ 8 * n + 8 = omega arith in
+    rw bits (next n (w % 2 ^ (8 * n + 8)) (below n (w / 256)) (mod-mod-pow w (8 * n) 8) (field_of w (8 * n) 8))
+
+-- above the lanes of a word stands 0
+past : (n k m w : ℕ) → m ≡ n + k → w < 256 ^ n → word_lanes m w ≡ word_lanes n w ++ replicate k 0
+unfolding word_lanes
+past zero k m w all within = ap₂ word_lanes (omega arith) (omega arith) ∙ word_zero k
+past (suc n) k zero w all within = absurd (omega arith)
+past (suc n) k (suc m) w all within =
+    next m w (past n k m (w / 256) (omega arith) (omega (arith, pow-suc 256 n))) refl refl
+
+-- `shift_back_lex`: k lanes go, and k lanes 0 come in behind the others
 pub word_shift_back : (n k w : ℕ) → w < 256 ^ n → k ≤ n
     → word_lanes n (w / 2 ^ (8 * k)) ≡ drop k (word_lanes n w) ++ replicate k 0
 word_shift_back n k w within few =
-    let xs = word_lanes n w in
-    let long = length-word_lanes n w in
+    let all : n ≡ n - k + k = omega arith in
+    let small = rw (all, pow-add 256 (n - k) k) at within in
     ap (λ p. word_lanes n (w / p)) (sym (pow_of_bytes k))
-    ∙ lanes_are (record { below = omega (arith, div-le_self w (256 ^ k), within); each = λ i _. lane-above w k i })
-    (drop k xs ++ replicate k 0) (grind (arith, elements, long)) (λ i below. elim (cases_lt (k + i) n) [
-      | inl inside ↦ sym (nth-lane n w (k + i) inside) ∙ grind (arith, elements, long)
-      | inr past ↦ lane-past n w (k + i) within past ∙ grind (arith, elements, long)
-    ])
+    ∙ past (n - k) k n (w / 256 ^ k) all (div_below w (256 ^ k) (256 ^ (n - k)) (one-le-pow k 256 (omega arith)) small)
+    ∙ ap (λ xs. xs ++ replicate k 0) (above (n - k) k n w all)
 
--- `shift_across`
--- the lanes of b one place on, but for its last
-abbrev moved : ℕ → ℕ → ℕ
-moved b zero = 0
-moved b (suc i) = lane b i
-
-moved_lanes : (m b : ℕ) → LanesAre (suc m) (b * 256 % 256 ^ suc m) (moved b)
-moved_lanes m b =
-    let it = of_written (suc m) (written (suc m) (moved b)) (moved b) (λ i _. small i) refl in
-    let parts : b * 256 ≡ b / 256 ^ m * 256 ^ suc m + written (suc m) (moved b) =
-    omega (arith, written-part m b, ap (λ p. b / 256 ^ m * p) (pow-suc 256 m)) in
-    subst (λ w. LanesAre (suc m) w (moved b)) (sym (ap (λ x. x % 256 ^ suc m) parts
-    ∙ mod-mul-add (b / 256 ^ m) (256 ^ suc m) (written (suc m) (moved b)) it.below)) it
-  where
-    small : (i : ℕ) → moved b i < 256
-    small zero = omega arith
-    small (suc i) = omega arith
-
+-- `shift_across`: the last lane of a, and then all lanes of b but its last
 pub word_across : (m a b : ℕ) → a < 256 ^ suc m
     → word_lanes (suc m) (bit_or (b * 256 % 256 ^ suc m) (a / 256 ^ m))
     ≡ drop m (word_lanes (suc m) a) ++ take m (word_lanes (suc m) b)
+unfolding word_lanes
 word_across m a b within =
-    let last : LanesAre (suc m) (a / 256 ^ m) (λ i. lane a (m + i)) =
-    record { below = omega (arith, div-le_self a (256 ^ m), within); each = λ i _. lane-above a m i } in
-    let long = length-word_lanes (suc m) a in
-    let long' = length-word_lanes (suc m) b in
-    lanes_are (lanes_or (moved_lanes m b) last) (drop m (word_lanes (suc m) a) ++ take m (word_lanes (suc m) b))
-    (grind (arith, elements, long, long')) each
-  where
-    each : (i : ℕ) → i < suc m → bit_or (moved b i) (lane a (m + i))
-        ≡ get_or (drop m (word_lanes (suc m) a) ++ take m (word_lanes (suc m) b)) i 0
-    each zero below = or_zero_l (lane a (m + 0)) ∙ sym (nth-lane (suc m) a (m + 0) (omega arith))
-        ∙ grind (arith, elements, length-word_lanes (suc m) a, length-word_lanes (suc m) b)
-    each (suc i) below = ap (bit_or (lane b i)) (lane-past (suc m) a (m + suc i) within (omega arith))
-        ∙ or_zero_r (lane b i) ∙ sym (nth-lane (suc m) b i (omega arith))
-        ∙ grind (arith, elements, length-word_lanes (suc m) a, length-word_lanes (suc m) b)
+    let t = a / 256 ^ m in
+    let p = b * 256 % 2 ^ (8 * m + 8) in
+    let bits : 256 ^ suc m ≡ 2 ^ (8 * m + 8) = pow_of_bytes (suc m) ∙ ap (λ e. 2 ^ e) (omega arith) in
+    let small : t < 256 = div_below a (256 ^ m) 256 (one-le-pow m 256 (omega arith)) (omega (arith, pow-suc 256 m)) in
+    let low : p % 256 ≡ 0 = mod-mod-pow (b * 256) (8 * m) 8 ∙ omega arith in
+    let high : p / 256 ≡ b % 2 ^ (8 * m) = field_of (b * 256) (8 * m) 8 ∙ ap (λ k. k % 2 ^ (8 * m)) (omega arith) in
+    let joined : bit_or p t ≡ p / 256 * 256 + t = ap (λ k. bit_or k t) (omega arith) ∙ or_shifted (p / 256) 8 t small in
+    ap (λ e. word_lanes (suc m) (bit_or (b * 256 % e) t)) bits
+    ∙ next m (bit_or p t) {x = t % 256} (below m b) (omega arith) (omega arith)
+    ∙ ap (λ xs. xs ++ take m (word_lanes (suc m) b)) (above 1 m (suc m) a (omega arith))
 
--- `shr`
+-- `shr`: the low 8 - k bits of each lane are its own, shifted
 pub word_shr : (n k w : ℕ) → k ≤ 8
     → map (λ x. x % 2 ^ (8 - k)) (word_lanes n (w / 2 ^ k)) ≡ map (λ x. x / 2 ^ k) (word_lanes n w)
-word_shr n k w few =
-    let xs = word_lanes n (w / 2 ^ k) in
-    let ys = word_lanes n w in
-    let long = length-word_lanes n (w / 2 ^ k) in
-    let long' = length-word_lanes n w in
-    ext_get_or 0 (map (λ x. x % 2 ^ (8 - k)) xs) (map (λ x. x / 2 ^ k) ys) (grind (arith, elements, long, long'))
-    (λ i inside.
-    let below : i < n = omega (arith, length-map xs (λ x. x % 2 ^ (8 - k)), long) in
-    get_or-map (λ x. x % 2 ^ (8 - k)) xs i 0 0 (omega (arith, long))
-    ∙ ap (λ x. x % 2 ^ (8 - k)) (nth-lane n (w / 2 ^ k) i below)
-    ∙ lane_shr i ∙ ap (λ x. x / 2 ^ k) (sym (nth-lane n w i below))
-    ∙ sym (get_or-map (λ x. x / 2 ^ k) ys i 0 0 (omega (arith, long'))))
-  where
-    lane_shr : (i : ℕ) → lane (w / 2 ^ k) i % 2 ^ (8 - k) ≡ lane w i / 2 ^ k
-    lane_shr i =
-        let u = w / 256 ^ i in
-        let apart : w / 2 ^ k / 256 ^ i ≡ u / 2 ^ k = div-div-eq-div-mul w (2 ^ k) (256 ^ i)
-        ∙ ap (λ p. w / p) (mul_comm (2 ^ k) (256 ^ i)) ∙ sym (div-div-eq-div-mul w (256 ^ i) (2 ^ k)) in
-        let eight : 8 ≡ k + (8 - k) = omega arith in
-        let all : 8 - k + k ≡ 8 = omega arith in
-        ap (λ x. x % 256 % 2 ^ (8 - k)) apart
-        ∙ ap (λ e. u / 2 ^ k % 2 ^ e % 2 ^ (8 - k)) eight ∙ mod-mod-pow (u / 2 ^ k) k (8 - k)
-        ∙ sym (field_of u (8 - k) k) ∙ ap (λ e. u % 2 ^ e / 2 ^ k) all
+unfolding word_lanes
+word_shr zero k w few = refl
+word_shr (suc n) k w few =
+    let up : k + (8 - k) ≡ 8 = omega arith in
+    let down : 8 - k + k ≡ 8 = omega arith in
+    let above : w / 2 ^ k / 256 ≡ w / 256 / 2 ^ k =
+    rw (div-div-eq-div-mul w (2 ^ k) 256, div-div-eq-div-mul w 256 (2 ^ k), mul_comm (2 ^ k) 256) refl in
+    ap₂ (λ x xs. x ∷ xs) (rw up at (mod-mod-pow (w / 2 ^ k) k (8 - k)) ∙ sym (rw down at (field_of w (8 - k) k)))
+    (rw above (word_shr n k (w / 256) few))
 
 -- the word with 1 in lane i alone, as a shift makes it
 pub one_in_lane : (i bits : ℕ) → 8 * i < bits → 1 * 2 ^ (8 * i) % 2 ^ bits ≡ 256 ^ i
 one_in_lane i bits inside = one_shl (8 * i) bits inside ∙ sym (pow_of_bytes i)
 
-module _ (n i w : ℕ) (below : i < n) (within : w < 256 ^ n) where
-  -- `inc_nth_from_end_lex_byte`
-  more : nth n w i < 255 → LanesAre n (w + 256 ^ i) (λ j. get_or (set (word_lanes n w) i (nth n w i + 1)) j 0)
-  more room =
-      let xs = word_lanes n w in
-      let long = length-word_lanes n w in
-      let it = of_list n w within in
-      of_written n (w + 256 ^ i) (λ j. get_or (set xs i (nth n w i + 1)) j 0)
-      (λ j inside. elim (cases_eq j i) [
-        | inl here ↦ rw here (rw (get_or-set_same xs i (nth n w i + 1) 0 (omega arith)) (omega arith))
-        | inr apart ↦ rw (get_or-set_other xs i j (nth n w i + 1) 0 apart) (lane_small it j inside)
-      ])
-      (ap (λ x. x + 256 ^ i) (is_written it) ∙ sym (written-one_more n i (nth n w)
-      (λ j. get_or (set xs i (nth n w i + 1)) j 0) below (get_or-set_same xs i (nth n w i + 1) 0 (omega arith))
-      (λ j _ apart. get_or-set_other xs i j (nth n w i + 1) 0 apart)))
+abbrev nth : ℕ → ℕ → ℕ → ℕ
+nth n w i = get_or (word_lanes n w) i 0
 
-  pub word_inc : nth n w i < 255 → word_lanes n (w + 256 ^ i) ≡ set (word_lanes n w) i (nth n w i + 1)
-  word_inc room = lanes_are (more room) (set (word_lanes n w) i (nth n w i + 1))
-      (length-set (word_lanes n w) i (nth n w i + 1) ∙ length-word_lanes n w) (λ j _. refl)
+-- another number in lane i
+changed : (n i w v x : ℕ) → i < n → (nth n w i < 256 → x < 256) → v + nth n w i * 256 ^ i ≡ w + x * 256 ^ i
+    → word_lanes n v ≡ set (word_lanes n w) i x
+unfolding word_lanes
+changed zero i w v x inside small is = absurd (omega arith)
+changed (suc n) zero w v x inside small is =
+    let byte = small (omega arith) in
+    next n v refl (omega arith) (omega arith)
+changed (suc n) (suc i) w v x inside small is =
+    let l = nth n (w / 256) i in
+    let both : v + 256 * (l * 256 ^ i) ≡ w + 256 * (x * 256 ^ i) =
+    omega (arith, ap (λ p. l * p) (pow-suc 256 i), ap (λ p. x * p) (pow-suc 256 i)) in
+    next n v (changed n i (w / 256) (v / 256) x (omega arith) small (omega arith)) (omega arith) refl
 
-  pub word_inc_fits : nth n w i < 255 → w + 256 ^ i < 256 ^ n
-  word_inc_fits room = (more room).below
+-- `inc_nth_from_end_lex_byte`: one more in lane i
+pub word_inc : (n i w : ℕ) → i < n → nth n w i < 255
+    → word_lanes n (w + 256 ^ i) ≡ set (word_lanes n w) i (nth n w i + 1)
+word_inc n i w inside room = changed n i w (w + 256 ^ i) (nth n w i + 1) inside (λ _. omega arith) (omega arith)
 
-  -- `dec_last_lex_byte`
-  less : 0 < nth n w i → w ≡ written n (λ j. get_or (set (word_lanes n w) i (nth n w i - 1)) j 0) + 256 ^ i
-  less room =
-      let xs = word_lanes n w in
-      let long = length-word_lanes n w in
-      let here = get_or-set_same xs i (nth n w i - 1) 0 (omega arith) in
-      is_written (of_list n w within)
-      ∙ written-one_more n i (λ j. get_or (set xs i (nth n w i - 1)) j 0) (nth n w) below (omega (arith, here))
-      (λ j _ apart. sym (get_or-set_other xs i j (nth n w i - 1) 0 apart))
+-- and the sum is a word of n lanes
+pub word_inc_fits : (n i w : ℕ) → i < n → w < 256 ^ n → nth n w i < 255 → w + 256 ^ i < 256 ^ n
+unfolding word_lanes
+word_inc_fits zero i w inside within room = absurd (omega arith)
+word_inc_fits (suc n) zero w inside within room = omega (arith, pow-suc 256 n)
+word_inc_fits (suc n) (suc i) w inside within room =
+    let power = pow-suc 256 n in
+    omega (arith, pow-suc 256 i, word_inc_fits n i (w / 256) (omega arith) (omega arith) room)
 
-  pub word_dec : 0 < nth n w i → word_lanes n (w - 256 ^ i) ≡ set (word_lanes n w) i (nth n w i - 1)
-  word_dec room =
-      let xs = word_lanes n w in
-      let long = length-word_lanes n w in
-      let it = of_list n w within in
-      lanes_are (of_written n (w - 256 ^ i) (λ j. get_or (set xs i (nth n w i - 1)) j 0)
-      (λ j inside. elim (cases_eq j i) [
-        | inl here ↦ rw here (rw (get_or-set_same xs i (nth n w i - 1) 0 (omega arith))
-            (omega (arith, lane_small it i below)))
-        | inr apart ↦ rw (get_or-set_other xs i j (nth n w i - 1) 0 apart) (lane_small it j inside)
-      ]) (omega (arith, less room)))
-      (set xs i (nth n w i - 1)) (length-set xs i (nth n w i - 1) ∙ long) (λ j _. refl)
+-- `dec_last_lex_byte`: the whole is not below 0
+pub word_dec_fits : (n i w : ℕ) → i < n → 0 < nth n w i → 256 ^ i ≤ w
+unfolding word_lanes
+word_dec_fits zero i w inside room = absurd (omega arith)
+word_dec_fits (suc n) zero w inside room = omega arith
+word_dec_fits (suc n) (suc i) w inside room =
+    omega (arith, pow-suc 256 i, word_dec_fits n i (w / 256) (omega arith) room)
 
-  pub word_dec_fits : 0 < nth n w i → 256 ^ i ≤ w
-  word_dec_fits room = omega (arith, less room)
+-- and lane i has one less
+pub word_dec : (n i w : ℕ) → i < n → 0 < nth n w i → word_lanes n (w - 256 ^ i) ≡ set (word_lanes n w) i (nth n w i - 1)
+word_dec n i w inside room =
+    let fits = word_dec_fits n i w inside room in
+    let x = nth n w i - 1 in
+    let one : nth n w i * 256 ^ i ≡ (x + 1) * 256 ^ i = ap (λ k. k * 256 ^ i) (omega arith) in
+    changed n i w (w - 256 ^ i) x inside (λ byte. omega arith) (omega arith)
 
--- `sum_bytes`
--- the sums up to each place of a list, and the sum of all of it
-total-le : (xs : List ℕ) (acc i : ℕ) → i < length xs → total acc (λ j. get_or xs j 0) i ≤ acc + sum xs
-total-le [] acc i below = absurd (omega arith)
-total-le (x ∷ xs) acc zero below = omega (arith, sum_by-cons (λ y. y) x xs)
-total-le (x ∷ xs) acc (suc i) below = omega (arith, sum_by-cons (λ y. y) x xs, total-le xs (acc + x) i (omega arith))
+-- the product with the word of ones: the sum of all lanes stands in its last one
+product : (n acc w most : ℕ) → Each1 (λ x. x ≤ most) (word_lanes (suc n) w) → acc + most * suc n < 256
+    → let total = fold (λ a x. a + x) acc (word_lanes (suc n) w) in
+    (q r : ℕ) × (r < 256 ^ n) × (total ≤ acc + most * suc n)
+    × ((acc + w) * ones (suc n) ≡ q * 256 ^ suc n + total * 256 ^ n + r)
+unfolding word_lanes
+product zero acc w most (here, each) few = (w / 256, 0, omega arith, omega arith, omega arith)
+product (suc n) acc w most (here, each) few =
+    let (q, r, l, le, more) = product n (acc + w % 256) (w / 256) most each (omega arith) in
+    let total = fold (λ a x. a + x) (acc + w % 256) (word_lanes (suc n) (w / 256)) in
+    let o = ones (suc n) in
+    let parts : w * o ≡ (w % 256 + 256 * (w / 256)) * o = ap (λ k. k * o) (omega arith) in
+    let power = ap (λ k. w / 256 * k) (ones_pow (suc n)) in
+    let sums = ap (λ k. total * k) (pow-suc 256 n) in
+    let above = ap (λ k. (q + w / 256) * k) (pow-suc 256 (suc n)) in
+    (q + w / 256, 256 * r + acc + w % 256, omega (arith, pow-suc 256 n), omega arith, omega (arith, more))
 
-total_is : (xs : List ℕ) (acc m : ℕ) → length xs ≡ suc m → total acc (λ j. get_or xs j 0) m ≡ acc + sum xs
-total_is [] acc m long = absurd (omega arith)
-total_is (x ∷ []) acc zero long = omega (arith, sum_by-cons (λ y. y) x [])
-total_is (x ∷ y ∷ xs) acc zero long = absurd (omega arith)
-total_is (x ∷ xs) acc (suc m) long =
-    omega (arith, sum_by-cons (λ y. y) x xs, total_is xs (acc + x) m (omega arith))
-
-sum-le : (most : ℕ) (xs : List ℕ) → Each1 (λ x. x ≤ most) xs → sum xs ≤ most * length xs
-sum-le most [] each = omega arith
-sum-le most (x ∷ xs) each = omega (arith, sum_by-cons (λ y. y) x xs, sum-le most xs each.1, each.0)
-
-pub word_sum : (m w most : ℕ) → w < 256 ^ suc m → most * suc m < 256 → Each1 (λ lane. lane ≤ most) (word_lanes (suc m) w)
+-- `sum_bytes`: so the last lane of that product is the sum of all lanes
+pub word_sum : (m w most : ℕ) → most * suc m < 256 → Each1 (λ lane. lane ≤ most) (word_lanes (suc m) w)
     → w * ones (suc m) % 256 ^ suc m / 256 ^ m ≡ sum (word_lanes (suc m) w)
-word_sum m w most within few each =
-    let xs = word_lanes (suc m) w in
-    let long = length-word_lanes (suc m) w in
-    let bound : sum xs ≤ most * suc m = omega (arith, sum-le most xs each, ap (λ k. most * k) long) in
-    let sums = lanes_totals (of_list (suc m) w within)
-    (λ i below. omega (arith, total-le xs 0 i (omega (arith, long)))) in
-    let top = w * ones (suc m) % 256 ^ suc m / 256 ^ m in
-    let small : top < 256 = div_below _ (256 ^ m) 256 (one-le-pow m 256 (omega arith))
-    (omega (arith, sums.below, pow-suc 256 m)) in
-    omega (arith, sums.each m (omega arith), total_is xs 0 m long)
+word_sum m w most few each =
+    let total = sum (word_lanes (suc m) w) in
+    let (q, r, l, le, more) = product m 0 w most each (omega arith) in
+    let low : total * 256 ^ m + r < 256 ^ suc m =
+    omega (arith, pow-suc 256 m, mul-le-mul_right {m = total} {n = 255} (256 ^ m) (omega arith)) in
+    let is : w * ones (suc m) ≡ q * 256 ^ suc m + (total * 256 ^ m + r) = omega arith in
+    ap (λ k. k % 256 ^ suc m / 256 ^ m) is
+    ∙ ap (λ k. k / 256 ^ m) (mod-mul-add q (256 ^ suc m) (total * 256 ^ m + r) low) ∙ div-mul-add total (256 ^ m) r l

@@ -30,22 +30,27 @@ impl ByteChunk for usize {
         ])
     }
 
+    #[tactic(auto, using(crate::proofs::lemmas::Words::word_zero))]
     fn zero() -> Self {
         0
     }
 
+    #[tactic(auto, using(crate::proofs::lemmas::Words::word_splat))]
     fn splat(n: u8) -> Self {
         usize::from(n) * ONES
     }
 
+    #[tactic(auto, using(crate::proofs::lemmas::Words::word_zero, crate::proofs::lemmas::Words::word_is_zero))]
     fn is_zero(&self) -> bool {
         *self == 0
     }
 
+    #[tactic(auto, using(crate::proofs::lemmas::Words::word_shift_back))]
     fn shift_back_lex(&self, n: usize) -> Self {
         *self >> (8 * n)
     }
 
+    #[tactic(auto, using(crate::proofs::lemmas::Words::word_across))]
     fn shift_across(&self, n: Self) -> Self {
         (n << 8) | (*self >> 56)
     }
@@ -54,12 +59,14 @@ impl ByteChunk for usize {
         *self >> n
     }
 
+    #[tactic(auto, using(crate::proofs::lemmas::Words::word_is_byte))]
     fn cmp_eq_byte(&self, byte: u8) -> Self {
         // 0 in each lane that is the byte.
         let word = *self ^ (usize::from(byte) * ONES);
         (!(((word & LOW) + LOW) | word) & HIGH) >> 7
     }
 
+    #[tactic(auto, using(crate::proofs::lemmas::Words::word_is_between))]
     fn bytes_between_127(&self, a: u8, b: u8) -> Self {
         let low = *self & LOW;
         let below = usize::from(127 + b) * ONES - low;
@@ -67,14 +74,17 @@ impl ByteChunk for usize {
         (below & !*self & above & HIGH) >> 7
     }
 
+    #[tactic(auto, using(crate::proofs::lemmas::Words::word_and))]
     fn bitand(&self, other: Self) -> Self {
         *self & other
     }
 
+    #[tactic(auto, using(crate::proofs::lemmas::Words::word_add, crate::proofs::lemmas::Words::word_add_fits))]
     fn add(&self, other: Self) -> Self {
         *self + other
     }
 
+    #[tactic(auto, using(crate::proofs::lemmas::Words::word_sub, crate::proofs::lemmas::Words::word_sub_fits))]
     fn sub(&self, other: Self) -> Self {
         *self - other
     }
@@ -83,6 +93,7 @@ impl ByteChunk for usize {
         *self + (1 << (8 * (7 - n)))
     }
 
+    #[tactic(auto, using(crate::proofs::lemmas::Words::word_dec_fits))]
     fn dec_last_lex_byte(&self) -> Self {
         *self - (1 << 56)
     }

@@ -1,14 +1,13 @@
-use Rattle.std.proofs.Common.{arith, ap, ◌∙◌, ◌+◌, ◌-◌}
-use Rattle.byte_chunk.specs.Lanes.{word_lanes}
+use Rattle.std.proofs.Common.{arith, ◌-◌}
 use Rattle.byte_chunk.proofs.lemmas.Words.{word_inc, word_inc_fits, one_in_lane}
 use Rattle.byte_chunk.proofs.chunks.word.UsizeByteChunk.inc_nth_from_end_lex_byte.Goals as goal
 
 pub overflow_add-result : goal.overflow_add-result
-overflow_add-result c =
-    let fits = word_inc_fits 8 (7 - c.args.n) c.args.self.now (omega arith) (omega arith) c.requires.room in
-    record { fits = rw (one_in_lane (7 - c.args.n) 64 (omega arith)) fits }
+overflow_add-result c = record {
+  fits = rw (one_in_lane (7 - c.args.n) 64 (omega arith))
+      (word_inc_fits 8 (7 - c.args.n) c.args.self.now (omega arith) (omega arith) c.requires.room);
+}
 
 pub returns : goal.returns
-returns c =
-    ap (λ one. word_lanes 8 (c.args.self.now + one)) (one_in_lane (7 - c.args.n) 64 (omega arith))
-    ∙ word_inc 8 (7 - c.args.n) c.args.self.now (omega arith) (omega arith) c.requires.room
+returns c = rw (one_in_lane (7 - c.args.n) 64 (omega arith))
+    (word_inc 8 (7 - c.args.n) c.args.self.now (omega arith) c.requires.room)
