@@ -42,22 +42,27 @@ impl ByteChunk for HalfWord {
         HalfWord(u32::from_le_bytes([bytes[0], bytes[1], bytes[2], bytes[3]]))
     }
 
+    #[tactic(auto, using(crate::proofs::lemmas::Words::word_zero))]
     fn zero() -> Self {
         HalfWord(0)
     }
 
+    #[tactic(auto, using(crate::proofs::lemmas::Words::word_splat))]
     fn splat(n: u8) -> Self {
         HalfWord(u32::from(n) * ONES)
     }
 
+    #[tactic(auto, using(crate::proofs::lemmas::Words::word_zero, crate::proofs::lemmas::Words::word_is_zero))]
     fn is_zero(&self) -> bool {
         self.0 == 0
     }
 
+    #[tactic(auto, using(crate::proofs::lemmas::Words::word_shift_back))]
     fn shift_back_lex(&self, n: usize) -> Self {
         HalfWord(self.0 >> (8 * n))
     }
 
+    #[tactic(auto, using(crate::proofs::lemmas::Words::word_across))]
     fn shift_across(&self, n: Self) -> Self {
         HalfWord((n.0 << 8) | (self.number() >> 24))
     }
@@ -66,11 +71,13 @@ impl ByteChunk for HalfWord {
         HalfWord(self.0 >> n)
     }
 
+    #[tactic(auto, using(crate::proofs::lemmas::Words::word_is_byte))]
     fn cmp_eq_byte(&self, byte: u8) -> Self {
         let word = self.0 ^ (u32::from(byte) * ONES);
         HalfWord((!(((word & LOW) + LOW) | word) & HIGH) >> 7)
     }
 
+    #[tactic(auto, using(crate::proofs::lemmas::Words::word_is_between))]
     fn bytes_between_127(&self, a: u8, b: u8) -> Self {
         let low = self.0 & LOW;
         let below = u32::from(127 + b) * ONES - low;
@@ -78,14 +85,17 @@ impl ByteChunk for HalfWord {
         HalfWord((below & !self.0 & above & HIGH) >> 7)
     }
 
+    #[tactic(auto, using(crate::proofs::lemmas::Words::word_and))]
     fn bitand(&self, other: Self) -> Self {
         HalfWord(self.0 & other.0)
     }
 
+    #[tactic(auto, using(crate::proofs::lemmas::Words::word_add, crate::proofs::lemmas::Words::word_add_fits))]
     fn add(&self, other: Self) -> Self {
         HalfWord(self.0 + other.0)
     }
 
+    #[tactic(auto, using(crate::proofs::lemmas::Words::word_sub, crate::proofs::lemmas::Words::word_sub_fits))]
     fn sub(&self, other: Self) -> Self {
         HalfWord(self.0 - other.0)
     }
@@ -94,6 +104,7 @@ impl ByteChunk for HalfWord {
         HalfWord(self.0 + (1 << (8 * (3 - n))))
     }
 
+    #[tactic(auto, using(crate::proofs::lemmas::Words::word_dec_fits))]
     fn dec_last_lex_byte(&self) -> Self {
         HalfWord(self.0 - (1 << 24))
     }

@@ -1,4 +1,4 @@
-use Rattle.std.proofs.Common.{arith, ap, ◌∙◌, ◌+◌, ◌-◌}
+use Rattle.std.proofs.Common.{arith}
 use Rattle.byte_chunk.proofs.lemmas.Words.{word_load}
 use Rattle.byte_chunk.proofs.tests.half_word.HalfWordByteChunk.load.Goals as goal
 

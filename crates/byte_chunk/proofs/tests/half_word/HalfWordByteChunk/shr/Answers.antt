@@ -1,4 +1,4 @@
-use Rattle.std.proofs.Common.{arith, ap, ◌∙◌, ◌+◌, ◌-◌}
+use Rattle.std.proofs.Common.{arith}
 use Rattle.byte_chunk.proofs.lemmas.Words.{word_shr}
 use Rattle.byte_chunk.proofs.tests.half_word.HalfWordByteChunk.shr.Goals as goal
 
