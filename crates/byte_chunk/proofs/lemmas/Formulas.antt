@@ -1,5 +1,5 @@
 -- What the formulas of a word do to the byte in one lane: the top bit is set where a test holds, and no other bit.
-use Rattle.std.proofs.Common.{◌≡◌, ℕ, ◌+◌, ◌-◌, ◌*◌, ◌/◌, ◌%◌, ◌<◌, ◌≤◌, true, refl, arith, bit_and, bit_or, bit_xor}
+use Rattle.std.proofs.Common.{◌≡◌, ℕ, ◌+◌, ◌-◌, ◌*◌, ◌%◌, ◌<◌, ◌≤◌, true, refl, arith, bit_and, bit_or, bit_xor}
 use Rattle.std.specs.Prelude.{◌==◌}
 use Rattle.std.specs.Int.Bits.{xor_self, xor_zero_l, xor_zero_r, xor_assoc}
 use Rattle.std.proofs.lemmas.Bool.{agree_below_at, eqb-true}

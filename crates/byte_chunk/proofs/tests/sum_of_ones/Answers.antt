@@ -1,4 +1,4 @@
-use Rattle.std.proofs.Common.{◌≡◌, ℕ, zero, suc, ◌+◌, ◌<◌, ◌≤◌, ◌∷◌, replicate, refl, ap, arith, ◌∙◌}
+use Rattle.std.proofs.Common.{◌≡◌, ℕ, zero, suc, ◌+◌, ◌≤◌, ◌∷◌, replicate, refl, ap, arith}
 use Rattle.std.proofs.lemmas.Simd.{Each1-replicate, Each2-of}
 use Rattle.std.specs.Simd.Lanes.{zip2, Each2}
 use Rattle.byte_chunk.proofs.tests.sum_of_ones.Goals as goal
