@@ -3,4 +3,4 @@ use Rattle.byte_chunk.proofs.lemmas.Words.{word_dec}
 use Rattle.byte_chunk.proofs.chunks.word.UsizeByteChunk.dec_last_lex_byte.Goals as goal
 
 pub returns : goal.returns
-returns c = word_dec 8 7 c.args.self.now (omega arith) c.requires
+returns c = cc (word_dec 8 7 c.args.self.now (omega arith) c.requires)

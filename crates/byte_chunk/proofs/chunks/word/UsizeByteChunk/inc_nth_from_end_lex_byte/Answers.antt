@@ -4,10 +4,15 @@ use Rattle.byte_chunk.proofs.chunks.word.UsizeByteChunk.inc_nth_from_end_lex_byt
 
 pub overflow_add-result : goal.overflow_add-result
 overflow_add-result c = record {
-  fits = rw (one_in_lane (7 - c.args.n) 64 (omega arith))
-      (word_inc_fits 8 (7 - c.args.n) c.args.self.now (omega arith) (omega arith) c.requires.room);
+  fits = omega (
+    arith,
+    one_in_lane (7 - c.args.n) 64 (omega arith),
+    word_inc_fits 8 (7 - c.args.n) c.args.self.now (omega arith) (omega arith) c.requires.room,
+  );
 }
 
 pub returns : goal.returns
-returns c = rw (one_in_lane (7 - c.args.n) 64 (omega arith))
-    (word_inc 8 (7 - c.args.n) c.args.self.now (omega arith) c.requires.room)
+returns c = cc (
+  one_in_lane (7 - c.args.n) 64 (omega arith),
+  word_inc 8 (7 - c.args.n) c.args.self.now (omega arith) c.requires.room,
+)

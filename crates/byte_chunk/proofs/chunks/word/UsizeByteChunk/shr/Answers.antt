@@ -3,4 +3,4 @@ use Rattle.byte_chunk.proofs.lemmas.Words.{word_shr}
 use Rattle.byte_chunk.proofs.chunks.word.UsizeByteChunk.shr.Goals as goal
 
 pub returns : goal.returns
-returns c = word_shr 8 c.args.n c.args.self.now (omega arith)
+returns c = cc (word_shr 8 c.args.n c.args.self.now (omega arith))

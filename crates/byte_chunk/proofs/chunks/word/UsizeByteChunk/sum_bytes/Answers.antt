@@ -3,4 +3,4 @@ use Rattle.byte_chunk.proofs.lemmas.Words.{word_sum}
 use Rattle.byte_chunk.proofs.chunks.word.UsizeByteChunk.sum_bytes.Goals as goal
 
 pub returns : goal.returns
-returns c = word_sum 7 c.args.self.now 31 (omega arith) c.requires
+returns c = omega (arith, word_sum 7 c.args.self.now 31 (omega arith) c.requires)

@@ -3,4 +3,4 @@ use Rattle.byte_chunk.proofs.lemmas.Words.{word_dec}
 use Rattle.byte_chunk.proofs.tests.half_word.HalfWordByteChunk.dec_last_lex_byte.Goals as goal
 
 pub returns : goal.returns
-returns c = word_dec 4 3 c.args.self.now.0 (omega arith) c.requires
+returns c = cc (word_dec 4 3 c.args.self.now.0 (omega arith) c.requires)

@@ -4,10 +4,15 @@ use Rattle.byte_chunk.proofs.tests.half_word.HalfWordByteChunk.inc_nth_from_end_
 
 pub overflow_add-result : goal.overflow_add-result
 overflow_add-result c = record {
-  fits = rw (one_in_lane (3 - c.args.n) 32 (omega arith))
-      (word_inc_fits 4 (3 - c.args.n) c.args.self.now.0 (omega arith) (omega arith) c.requires.room);
+  fits = omega (
+    arith,
+    one_in_lane (3 - c.args.n) 32 (omega arith),
+    word_inc_fits 4 (3 - c.args.n) c.args.self.now.0 (omega arith) (omega arith) c.requires.room,
+  );
 }
 
 pub returns : goal.returns
-returns c = rw (one_in_lane (3 - c.args.n) 32 (omega arith))
-    (word_inc 4 (3 - c.args.n) c.args.self.now.0 (omega arith) c.requires.room)
+returns c = cc (
+  one_in_lane (3 - c.args.n) 32 (omega arith),
+  word_inc 4 (3 - c.args.n) c.args.self.now.0 (omega arith) c.requires.room,
+)

@@ -3,4 +3,4 @@ use Rattle.byte_chunk.proofs.lemmas.Words.{word_shr}
 use Rattle.byte_chunk.proofs.tests.half_word.HalfWordByteChunk.shr.Goals as goal
 
 pub returns : goal.returns
-returns c = word_shr 4 c.args.n c.args.self.now.0 (omega arith)
+returns c = cc (word_shr 4 c.args.n c.args.self.now.0 (omega arith))
