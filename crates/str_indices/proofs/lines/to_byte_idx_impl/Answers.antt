@@ -17,9 +17,10 @@ returns-then-led-idx-clause-answer g c =
     let whole = take_all c.len-len.result text (omega (arith, c.len-len.ensures.len)) in
     let counted = rw whole at led.counted in
     let first = rw whole at led.first in
-    line_begins text c.len-len.ensures.utf8 _ _ _ found.reached.0 (omega (arith, found.reached.1, ap length same))
-    (rw same at found.boundary) (rw same at found.least) (λ _. omega (arith, counted, c.if-led-idx.true))
-    (λ d before. first d (omega arith) before)
+    let answer = line_begins text c.len-len.ensures.utf8 c.args.idx _ _ found.reached.0
+    (omega (arith, found.reached.1, ap length same)) (rw same at found.boundary) (rw same at found.least)
+    (λ _. omega (arith, counted, c.if-led-idx.true)) (λ d before. first d (omega arith) before) in
+    omega (arith, answer)
 
 pub returns-clause-answer : goal.returns-clause-answer
 returns-clause-answer g c =
@@ -34,10 +35,11 @@ returns-clause-answer g c =
     let skipped = rw same_led at chunks.counted in
     let counted = rw (same_chunked, whole) at rest.counted in
     let first = rw (same_chunked, whole) at rest.first in
-    line_begins text c.len-len.ensures.utf8 _ _ _ found.reached.0 (omega (arith, found.reached.1, ap length same))
-    (rw same at found.boundary) (rw same at found.least)
+    let answer = line_begins text c.len-len.ensures.utf8 c.args.idx _ _ found.reached.0
+    (omega (arith, found.reached.1, ap length same)) (rw same at found.boundary) (rw same at found.least)
     (λ inside. omega (arith, counted, rest.stopped (omega (arith, c.len-len.ensures.len))))
-    (first_of_all (break_at text) _ _ _ (omega (arith, skipped, chunks.below)) first)
+    (first_of_all (break_at text) _ _ _ (omega (arith, skipped, chunks.below)) first) in
+    omega (arith, answer)
 
 pub returns-clause-pass : goal.returns-clause-pass
 returns-clause-pass g c =
