@@ -1,6 +1,6 @@
 -- Lists that are made lane by lane: what an array's `map` and `from_fn` give by a closure that its calls leave as it
 -- is.
-use Rattle.std.proofs.Common.{◌≡◌, ℕ, zero, suc, ◌+◌, ◌<◌, ◌≤◌, List, [], ◌∷◌, map, length, get_or, inl, inr, sym, ap, ◌∙◌, subst, arith}
+use Rattle.std.proofs.Common.{◌≡◌, ℕ, zero, suc, ◌+◌, ◌<◌, ◌≤◌, List, [], ◌∷◌, map, length, replicate, get_or, inl, inr, sym, ap, ◌∙◌, subst, arith}
 use Rattle.std.proofs.lemmas.Bool.{cases_lt}
 use Rattle.std.proofs.lemmas.List.{length-map, ext_get_or, get_or-map}
 use Rattle.std.proofs.lemmas.Simd.{length-zip2, get_or-zip2}
@@ -69,3 +69,8 @@ Each2-get_or P [] ys k in_xs in_ys each = absurd (omega arith)
 Each2-get_or P (x ∷ xs) [] k in_xs in_ys each = absurd (omega arith)
 Each2-get_or P (x ∷ xs) (y ∷ ys) zero in_xs in_ys each = each.0
 Each2-get_or P (x ∷ xs) (y ∷ ys) (suc k) in_xs in_ys each = Each2-get_or P xs ys k (omega arith) (omega arith) each.1
+
+-- what holds of two numbers holds of each two lanes that are these
+pub Each2-replicate : (P : ℕ → ℕ → Type 0) (n a b : ℕ) → P a b → Each2 P (replicate n a) (replicate n b)
+Each2-replicate P zero a b holds = tt
+Each2-replicate P (suc n) a b holds = (holds, Each2-replicate P n a b holds)
