@@ -12,7 +12,8 @@ zip2-replicate (suc n) a b = ap (λ l. (a + b) ∷ l) (zip2-replicate n a b)
 pub add-sums-requires : goal.add-sums-requires
 add-sums-requires g c =
     rw (c.rounds.invariant, c.splat.ensures)
-    (Each2-replicate (λ x y. x + y ≤ 255) g.T.ByteChunk.SIZE c.rounds.counter 1 (omega (arith, g.met.T.ByteChunk.lawful.fits)))
+    (Each2-replicate (λ x y. x + y ≤ 255) g.T.ByteChunk.SIZE c.rounds.counter 1
+    (omega (arith, g.met.T.ByteChunk.lawful.fits)))
 
 pub rounds-preserved : goal.rounds-preserved
 rounds-preserved g c =
