@@ -1,0 +1,102 @@
+/*
+ * Worked answers, from the documentation and the tests of the Rust crate
+ * str_indices, with each function of the header called. It is compiled as C
+ * and as C++. The last line printed is 'N passed, M failed'.
+ */
+#include <stdio.h>
+#include <string.h>
+
+#include <str_indices.h>
+
+/* 45 bytes, 23 chars, 27 UTF-16 code units. */
+static const char frogs[] =
+    "Hel\360\237\220\270lo world! \343\201\223\343\202\223\360\237\220\270"
+    "\343\201\253\343\201\241\360\237\220\270\360\237\220\270\343\201\257!";
+
+/* 48 bytes: LF, CR LF, CR, VT, FF, NEL, LS and PS between words. */
+static const char all_breaks[] =
+    "\nHello\r\n\r\343\201\233\013\343\201\213\014\343\201\204\302\205."
+    " There\342\200\250is something.\342\200\251";
+
+static const char crlf[] = "Here\r\nare\r\nsome\r\nwords";
+static const char crs[] = "\r\r\n\n";
+
+static int passed, failed;
+
+static void same(const char *call, size_t answer, size_t expected)
+{
+    if (answer == expected) {
+        passed++;
+        return;
+    }
+    failed++;
+    printf("%s: %zu, not %zu\n", call, answer, expected);
+}
+
+/* Each SAME is one call over a text which is an array. */
+#define SAME(expected, name, text) \
+    same(#name " of " #text, str_indices_##name(text, sizeof text - 1), expected)
+#define SAME_AT(expected, name, text, index) \
+    same(#name " of " #text " at " #index, str_indices_##name(text, sizeof text - 1, index), expected)
+
+static void is_utf8(void)
+{
+    SAME(1, is_utf8, frogs);
+    SAME(1, is_utf8, "");
+    SAME(1, is_utf8, "a\0b");
+    SAME(0, is_utf8, "\343\201");
+    SAME(0, is_utf8, "\300\200");
+    SAME(0, is_utf8, "\355\240\200");
+}
+
+static void chars_and_utf16(void)
+{
+    SAME(23, chars_count, frogs);
+    SAME(3, chars_count, "a\0b");
+    SAME_AT(3, chars_from_byte_idx, frogs, 5);
+    SAME_AT(23, chars_from_byte_idx, frogs, 99);
+    SAME_AT(7, chars_to_byte_idx, frogs, 4);
+    SAME_AT(45, chars_to_byte_idx, frogs, 24);
+
+    SAME(27, utf16_count, frogs);
+    SAME(4, utf16_count_surrogates, frogs);
+    SAME_AT(17, utf16_from_byte_idx, frogs, 26);
+    SAME_AT(19, utf16_from_byte_idx, frogs, 27);
+    SAME_AT(23, utf16_to_byte_idx, frogs, 18);
+    SAME_AT(45, utf16_to_byte_idx, frogs, 28);
+}
+
+static void line_breaks(void)
+{
+    SAME(3, lines_lf_count_breaks, crlf);
+    SAME(2, lines_lf_count_breaks, crs);
+    SAME_AT(1, lines_lf_from_byte_idx, crs, 3);
+    SAME_AT(6, lines_lf_to_byte_idx, crlf, 1);
+
+    SAME(3, lines_crlf_count_breaks, crs);
+    SAME_AT(0, lines_crlf_from_byte_idx, crlf, 5);
+    SAME_AT(1, lines_crlf_from_byte_idx, crlf, 6);
+    SAME_AT(5, lines_crlf_to_byte_idx, "a\342\200\250b", 1);
+
+    SAME(8, lines_count_breaks, all_breaks);
+    SAME_AT(8, lines_from_byte_idx, all_breaks, 48);
+    SAME_AT(4, lines_to_byte_idx, "a\342\200\250b", 1);
+    SAME_AT(22, lines_to_byte_idx, crlf, 4);
+}
+
+static void the_empty_text(void)
+{
+    SAME(0, chars_count, "");
+    SAME_AT(0, utf16_from_byte_idx, "", (size_t)-1);
+    SAME_AT(0, lines_to_byte_idx, "", (size_t)-1);
+}
+
+int main(void)
+{
+    is_utf8();
+    chars_and_utf16();
+    line_breaks();
+    the_empty_text();
+    printf("%d passed, %d failed\n", passed, failed);
+    return failed != 0;
+}
