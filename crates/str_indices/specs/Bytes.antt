@@ -2,10 +2,12 @@
 --     sum_below f n                    f 0 + f 1 + .. up to n, without n
 --     flag b                           1 for true, 0 for false
 --     mark test b                      1 for a byte that passes the test, else 0
+--     weight_before weight bytes n     the weights of the first n bytes, added
 --     passing_before test bytes n      how many of the first n bytes pass the test
 --     is_trailing b                    whether a byte doesn't begin its character
 --     is_leading b                     whether a byte begins its character
 --     begins_four_bytes b              whether a byte begins a character of four bytes, which takes a surrogate pair
+--     units_begun b                    how many UTF-16 code units the character takes that a byte begins, else 0
 --     units_before bytes n             how many UTF-16 code units the characters take that begin in the first n bytes
 --     is_line_feed b                   whether a byte is LF
 --     is_carriage_return b             whether a byte is CR
@@ -27,8 +29,11 @@ flag b = if b then 1 else 0
 abbrev pub mark : (ℕ → Bool) → ℕ → ℕ
 mark test b = flag (test b)
 
+abbrev pub weight_before : (ℕ → ℕ) → List ℕ → ℕ → ℕ
+weight_before weight bytes n = sum_below (λ j. weight (slice_index bytes j)) n
+
 abbrev pub passing_before : (ℕ → Bool) → List ℕ → ℕ → ℕ
-passing_before test bytes n = sum_below (λ j. mark test (slice_index bytes j)) n
+passing_before test bytes n = weight_before (mark test) bytes n
 
 abbrev pub is_trailing : ℕ → Bool
 is_trailing b = bit_and b 0xC0 == 0x80
@@ -39,9 +44,12 @@ is_leading b = not (is_trailing b)
 abbrev pub begins_four_bytes : ℕ → Bool
 begins_four_bytes b = bit_and b 0xF0 == 0xF0
 
--- one at each byte that begins a character, and one more where it begins four bytes
+-- one at a byte that begins a character, and one more where it begins four bytes
+abbrev pub units_begun : ℕ → ℕ
+units_begun b = mark is_leading b + mark begins_four_bytes b
+
 abbrev pub units_before : List ℕ → ℕ → ℕ
-units_before bytes n = passing_before is_leading bytes n + passing_before begins_four_bytes bytes n
+units_before bytes n = weight_before units_begun bytes n
 
 abbrev pub is_line_feed : ℕ → Bool
 is_line_feed b = b == line_feed

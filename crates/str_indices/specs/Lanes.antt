@@ -1,7 +1,11 @@
 -- What stands in the lanes of a chunk, by their places.
 --     HasLanes size f lanes            there are `size` lanes, and f of its place in each
 --     IsChunk bytes at size lanes      the lanes are the `size` bytes from `at` on
-use Rattle.std.specs.Prelude.{ℕ, ◌≡◌, ◌+◌, ◌<◌, List, length, slice_index}
+--     AddsUp counted most size from to chunks lanes
+--                                      the lanes of so many chunks were added, and hold what is counted there
+--     FitsIn counted n                 before no place up to n is more counted than n
+use Rattle.std.specs.Prelude.{ℕ, ◌≡◌, ◌+◌, ◌*◌, ◌<◌, ◌≤◌, List, length, slice_index, sum}
+use Rattle.std.specs.Simd.Lanes.{Each1}
 
 pub record HasLanes (size : ℕ) (f : ℕ → ℕ) (lanes : List ℕ) : Type 0 where
   pub long : length lanes ≡ size
@@ -10,3 +14,14 @@ pub record HasLanes (size : ℕ) (f : ℕ → ℕ) (lanes : List ℕ) : Type 0 w
 pub record IsChunk (bytes : List ℕ) (at size : ℕ) (lanes : List ℕ) : Type 0 where
   pub long : length lanes ≡ size
   pub each : (j : ℕ) → j < size → slice_index lanes j ≡ slice_index bytes (at + j)
+
+-- From one place to another the lanes of so many chunks were added, each lane `most` at most: `size` lanes, which add
+-- up to what `counted`, the count before a place, grows by from the one to the other.
+pub record AddsUp (counted : ℕ → ℕ) (most size from to chunks : ℕ) (lanes : List ℕ) : Type 0 where
+  pub long : length lanes ≡ size
+  pub small : Each1 (λ lane. lane ≤ chunks * most) lanes
+  pub added : counted to ≡ counted from + sum lanes
+
+-- before no place up to n is more counted than n
+abbrev pub FitsIn : (ℕ → ℕ) → ℕ → Type 0
+FitsIn counted n = (place : ℕ) → place ≤ n → counted place ≤ n

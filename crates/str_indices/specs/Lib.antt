@@ -9,3 +9,4 @@ pub mod Lanes
 pub mod SchemeGroups
 pub mod Starts
 pub mod Joins
+pub mod TraitLaws

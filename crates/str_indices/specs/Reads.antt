@@ -1,6 +1,5 @@
 -- What code may read of a text, by the counters of its probe, and how much a pass of a kernel may.
 --     Reads old new first turns loads spare    what was read between two states of a probe
---     WholeChunks size from to                 from one place to another there are whole chunks
 --     pass_turns size lead n                   the most single-byte turns of one pass over n bytes
 --     pass_loads size lead n                   the most loads of one pass over n bytes
 use Rattle.std.specs.Prelude.{ℕ, ◌≡◌, ◌+◌, ◌-◌, ◌*◌, ◌/◌, ◌≤◌, min}
@@ -21,10 +20,6 @@ pub record Reads (old new : ProbeState) (first turns loads spare : ℕ) : Type 0
   pub peeks_within : RisesWithin old.peeks new.peeks (2 * (new.turns - old.turns) + 4 * (new.loads - old.loads) + spare)
   pub low_reached : min old.low first ≤ new.low
   pub low_kept : new.loads ≡ old.loads → new.low ≡ old.low
-
--- from one place to the other there are whole chunks
-abbrev pub WholeChunks : ℕ → ℕ → ℕ → Type 0
-WholeChunks size from to = (chunks : ℕ) × (from + chunks * size ≡ to)
 
 -- of `lead` leading bytes those that a pass over n bytes can cover
 abbrev pub leading_bytes : ℕ → ℕ → ℕ

@@ -1,6 +1,8 @@
-//! LF, CR and the tests of a byte, beside their forms for all lanes of a chunk.
-ghost use Rattle.std.specs.Prelude.{◌≡◌, ℕ, Bool, length, map};
-ghost use Rattle.str_indices.specs.Bytes.{mark, is_trailing, is_leading, begins_four_bytes, is_line_feed};
+//! LF, CR, and what a byte counts, beside its form for all lanes of a chunk.
+ghost use Rattle.std.specs.Prelude.{◌≡◌, ℕ, ◌<◌, ◌≤◌, length, map};
+ghost use Rattle.std.proofs.Common.{lit≤, lit<};
+ghost use Rattle.str_indices.specs.Bytes.{mark, is_trailing, is_leading, begins_four_bytes, is_line_feed, units_begun};
+ghost use Rattle.str_indices.specs.TraitLaws.{mark-le, units_begun-le};
 
 use byte_chunk::ByteChunk;
 
@@ -8,63 +10,119 @@ pub(crate) const LF: u8 = b'\n';
 
 pub(crate) const CR: u8 = b'\r';
 
-/// A test of one byte, and of all lanes of a chunk at once.
-pub(crate) trait ByteTest {
-    ghost passes: { ℕ → Bool };
+/// A weight of one byte, and of all lanes of a chunk at once.
+pub(crate) trait ByteWeight {
+    ghost weight: { ℕ → ℕ };
 
-    /// Whether the byte passes.
-    fn passes_byte(byte: u8) -> bool
-        ensures { result ≡ passes byte };
+    ghost MOST: { ℕ };
 
-    /// 1 in each lane whose byte passes, and 0 in the others.
-    fn passing_lanes<T: ByteChunk>(chunk: T) -> T
+    /// The greatest weight of a byte.
+    const MOST: usize;
+
+    /// The weight of the byte.
+    fn in_byte(byte: u8) -> usize
+        ensures { result ≡ weight byte };
+
+    /// The weight of each lane.
+    fn in_lanes<T: ByteChunk>(chunk: T) -> T
         requires { length (T.lanes chunk) ≡ T.SIZE }
-        ensures { T.lanes result ≡ map (mark passes) (T.lanes chunk) };
+        ensures { T.lanes result ≡ map weight (T.lanes chunk) };
+
+    ghost few: { (0 < MOST) × (MOST ≤ 2) };
+
+    ghost bounded: { (byte : ℕ) → weight byte ≤ MOST };
 }
 
-/// The bytes that are LF.
+/// 1 for each LF.
 pub(crate) struct LineFeeds;
 
-impl ByteTest for LineFeeds {
-    ghost passes = { is_line_feed };
+impl ByteWeight for LineFeeds {
+    ghost weight = { mark is_line_feed };
 
-    fn passes_byte(byte: u8) -> bool {
-        byte == LF
+    ghost MOST = { 1 };
+
+    const MOST: usize = 1;
+
+    fn in_byte(byte: u8) -> usize {
+        usize::from(byte == LF)
     }
 
-    fn passing_lanes<T: ByteChunk>(chunk: T) -> T {
+    fn in_lanes<T: ByteChunk>(chunk: T) -> T {
         chunk.cmp_eq_byte(LF)
     }
+
+    ghost few = { (lit< tt, lit≤ tt) };
+
+    ghost bounded = { mark-le is_line_feed };
 }
 
-/// The bytes that do not begin their char.
-pub(crate) struct TrailingBytes;
+/// 1 for each byte that begins a char.
+pub(crate) struct LeadingBytes;
 
-impl ByteTest for TrailingBytes {
-    ghost passes = { is_trailing };
+impl ByteWeight for LeadingBytes {
+    ghost weight = { mark is_leading };
 
-    fn passes_byte(byte: u8) -> bool {
-        is_trailing_byte(byte)
+    ghost MOST = { 1 };
+
+    const MOST: usize = 1;
+
+    fn in_byte(byte: u8) -> usize {
+        usize::from(is_leading_byte(byte))
     }
 
-    fn passing_lanes<T: ByteChunk>(chunk: T) -> T {
-        count_trailing_chunk(chunk)
+    fn in_lanes<T: ByteChunk>(chunk: T) -> T {
+        count_leading_chunk(chunk)
     }
+
+    ghost few = { (lit< tt, lit≤ tt) };
+
+    ghost bounded = { mark-le is_leading };
 }
 
-/// The bytes that begin a char of four bytes, which takes a surrogate pair.
+/// 1 for each byte that begins a char of four bytes, which takes a surrogate pair.
 pub(crate) struct FourByteLeads;
 
-impl ByteTest for FourByteLeads {
-    ghost passes = { begins_four_bytes };
+impl ByteWeight for FourByteLeads {
+    ghost weight = { mark begins_four_bytes };
 
-    fn passes_byte(byte: u8) -> bool {
-        is_four_byte_lead(byte)
+    ghost MOST = { 1 };
+
+    const MOST: usize = 1;
+
+    fn in_byte(byte: u8) -> usize {
+        usize::from(is_four_byte_lead(byte))
     }
 
-    fn passing_lanes<T: ByteChunk>(chunk: T) -> T {
+    fn in_lanes<T: ByteChunk>(chunk: T) -> T {
         count_surrogates_chunk(chunk)
     }
+
+    ghost few = { (lit< tt, lit≤ tt) };
+
+    ghost bounded = { mark-le begins_four_bytes };
+}
+
+/// For each byte that begins a char the UTF-16 code units of that char, 1 or 2.
+pub(crate) struct Units;
+
+impl ByteWeight for Units {
+    ghost weight = { units_begun };
+
+    ghost MOST = { 2 };
+
+    const MOST: usize = 2;
+
+    fn in_byte(byte: u8) -> usize {
+        usize::from(is_leading_byte(byte)) + usize::from(is_four_byte_lead(byte))
+    }
+
+    fn in_lanes<T: ByteChunk>(chunk: T) -> T {
+        count_leading_chunk(chunk).add(count_surrogates_chunk(chunk))
+    }
+
+    ghost few = { (lit< tt, lit≤ tt) };
+
+    ghost bounded = { units_begun-le };
 }
 
 pub(crate) fn is_leading_byte(byte: u8) -> bool
@@ -80,21 +138,29 @@ pub(crate) fn is_trailing_byte(byte: u8) -> bool
 }
 
 /// 1 in each lane that is a trailing byte.
-pub(crate) fn count_trailing_chunk<T: ByteChunk>(chunk: T) -> T
+fn count_trailing_chunk<T: ByteChunk>(chunk: T) -> T
     requires { length (T.lanes chunk) ≡ T.SIZE }
     ensures { T.lanes result ≡ map (mark is_trailing) (T.lanes chunk) }
 {
     chunk.bitand(T::splat(0xC0)).cmp_eq_byte(0x80)
 }
 
-pub(crate) fn is_four_byte_lead(byte: u8) -> bool
+/// 1 in each lane that begins a char.
+fn count_leading_chunk<T: ByteChunk>(chunk: T) -> T
+    requires { length (T.lanes chunk) ≡ T.SIZE }
+    ensures { T.lanes result ≡ map (mark is_leading) (T.lanes chunk) }
+{
+    T::splat(1).sub(count_trailing_chunk(chunk))
+}
+
+fn is_four_byte_lead(byte: u8) -> bool
     ensures { result ≡ begins_four_bytes byte }
 {
     byte & 0xF0 == 0xF0
 }
 
 /// 1 in each lane that begins a char of four bytes.
-pub(crate) fn count_surrogates_chunk<T: ByteChunk>(chunk: T) -> T
+fn count_surrogates_chunk<T: ByteChunk>(chunk: T) -> T
     requires { length (T.lanes chunk) ≡ T.SIZE }
     ensures { T.lanes result ≡ map (mark begins_four_bytes) (T.lanes chunk) }
 {

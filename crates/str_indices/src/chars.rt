@@ -1,5 +1,5 @@
 //! Index by chars: the Unicode scalar values of a text (the Unicode Standard, chapter 3).
-ghost use Rattle.std.specs.Prelude.{◌≡◌, ◌+◌, ◌-◌, ◌/◌, ◌<◌, ◌≤◌, ◌⊎◌, IsCharBoundary, chars, length, min};
+ghost use Rattle.std.specs.Prelude.{◌≡◌, ◌+◌, ◌-◌, ◌/◌, ◌<◌, ◌≤◌, IsCharBoundary, chars, length, min};
 ghost use Rattle.str_indices.specs.Text.{cut};
 ghost use Rattle.str_indices.specs.Schemes.{count, from_byte_idx, to_byte_idx, Chars};
 ghost use Rattle.str_indices.specs.Relations.{IsBoundary};
@@ -9,8 +9,9 @@ ghost use Rattle.str_indices.specs.Reads.{Reads, leading_bytes, pass_turns, pass
 #[cfg(test)]
 mod tests;
 
-use crate::bytes::{TrailingBytes, is_leading_byte};
-use crate::counting::{count_in_chunk, count_passing};
+use crate::bytes::{LeadingBytes, is_leading_byte};
+use crate::chunk_counts::skip_chunks;
+use crate::counting::{Weights, count_weights, skip_surely};
 use crate::places::{Position, boundary_at_or_before};
 use byte_chunk::{ByteChunk, Chunk, Probe};
 
@@ -56,7 +57,7 @@ pub fn count_impl<T: ByteChunk>(probe: &mut Probe<'_, T>, end: usize, lead: usiz
         (pass_turns T.SIZE lead end) (pass_loads T.SIZE lead end) 0 }
 {
     prove!(end <= probe.len());
-    end - count_passing::<TrailingBytes, T>(probe, end, lead)
+    count_weights::<LeadingBytes, T>(probe, end, lead)
 }
 
 /// Converts a byte index to a char index, as [`from_byte_idx`], over chunks of any type.
@@ -80,6 +81,7 @@ pub fn from_byte_idx_impl<T: ByteChunk>(
 /// Converts a char index to a byte index, as [`to_byte_idx`], over chunks of any type.
 ///
 /// `lead` bytes, or as many of them as the text has, are walked one by one before the first chunk.
+#[tactic(auto, using(crate::proofs::lemmas::bytes::Sums::passing_bounds))]
 pub fn to_byte_idx_impl<T: ByteChunk>(probe: &mut Probe<'_, T>, idx: usize, lead: usize) -> usize
     ensures answer { result ≡ to_byte_idx Chars (chars probe.old.text) idx }
     ensures text { probe.new.text ≡ probe.old.text }
@@ -93,7 +95,8 @@ pub fn to_byte_idx_impl<T: ByteChunk>(probe: &mut Probe<'_, T>, idx: usize, lead
     if led.byte < first_chunk {
         return led.byte;
     }
-    let chunked = skip_chunks(probe, led, idx);
+    let surely = skip_surely::<LeadingBytes, T>(probe, led, idx);
+    let chunked = skip_chunks::<Weights<LeadingBytes>, T, 1>(probe, surely, idx, ()).at;
     walk_to_char(probe, chunked, len, idx).byte
 }
 
@@ -127,33 +130,6 @@ fn walk_to_char<T: ByteChunk>(
         }
         at = Position {
             byte: at.byte + 1,
-            count,
-        };
-    }
-    at
-}
-
-/// Skips whole chunks from a position on, while fewer chars than the index begin before their end.
-fn skip_chunks<T: ByteChunk>(probe: &mut Probe<'_, T>, from: Position, idx: usize) -> Position
-    requires within { from.byte ≤ length probe.old.text }
-    requires counted { from.count ≡ passing_before is_leading probe.old.text from.byte }
-    requires at_most { from.count ≤ idx }
-    ensures reached { (from.byte ≤ result.byte) × (result.byte ≤ length probe.old.text) }
-    ensures counted { result.count ≡ passing_before is_leading probe.old.text result.byte }
-    ensures at_most { result.count ≤ idx }
-    ensures stopped { (length probe.old.text < result.byte + T.SIZE)
-        ⊎ (idx ≤ passing_before is_leading probe.old.text (result.byte + T.SIZE)) }
-    ensures reads { Reads probe.old probe.new from.byte 0 ((result.byte - from.byte) / T.SIZE + 1) 0 }
-{
-    let len = probe.len();
-    let mut at = from;
-    'chunks: while T::SIZE <= len - at.byte {
-        let count = at.count + T::SIZE - count_in_chunk::<TrailingBytes, T>(probe, at.byte);
-        if count >= idx {
-            break;
-        }
-        at = Position {
-            byte: at.byte + T::SIZE,
             count,
         };
     }

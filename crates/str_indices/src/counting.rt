@@ -1,110 +1,126 @@
-//! Counts the bytes of a text that pass a test: leading bytes one by one, then whole chunks, then the rest one by one.
-ghost use Rattle.std.specs.Prelude.{◌≡◌, ◌+◌, ◌-◌, ◌/◌, ◌<◌, ◌≤◌, length};
-ghost use Rattle.str_indices.specs.Bytes.{passing_before};
+//! Counts by a weight of each byte: leading bytes one by one, then whole chunks, then the rest one by one.
+ghost use Rattle.std.specs.Prelude.{◌≡◌, ℕ, ◌+◌, ◌-◌, ◌*◌, ◌/◌, ◌<◌, ◌≤◌, length};
+ghost use Rattle.str_indices.specs.Lanes.{FitsIn};
+ghost use Rattle.str_indices.specs.Bytes.{weight_before};
 ghost use Rattle.str_indices.specs.Reads.{Reads, leading_bytes, pass_turns, pass_loads};
 
-use crate::bytes::ByteTest;
+use crate::bytes::ByteWeight;
+use crate::chunk_counts::{CountedLanes, LaneCounts, count_chunks};
 use crate::places::Position;
 use byte_chunk::{ByteChunk, Probe};
+use std::marker::PhantomData;
 
-/// Counts the first `end` bytes that pass, of which `lead` are walked one by one before the first chunk.
+/// How many chunks are added in one step: two groups of four.
+const GROUP: usize = 8;
+
+/// The weights of the first `end` bytes, of which `lead` are walked one by one before the first chunk.
 #[tactic(auto, using(crate::proofs::lemmas::passes::Passes::counting_pass))]
-pub(crate) fn count_passing<B: ByteTest, T: ByteChunk>(
+pub(crate) fn count_weights<B: ByteWeight, T: ByteChunk>(
     probe: &mut Probe<'_, T>,
     end: usize,
     lead: usize,
 ) -> usize
-    requires { end ≤ length probe.old.text }
-    ensures counted { result ≡ passing_before B.passes probe.old.text end }
+    requires within { end ≤ length probe.old.text }
+    requires fits { FitsIn (weight_before B.weight probe.old.text) (length probe.old.text) }
+    ensures counted { result ≡ weight_before B.weight probe.old.text end }
     ensures reads { Reads probe.old probe.new (leading_bytes lead end)
         (pass_turns T.SIZE lead end) (pass_loads T.SIZE lead end) 0 }
 {
     let start = Position { byte: 0, count: 0 };
     let led = count_in_bytes::<B, T>(probe, start, lead.min(end));
-    let chunked = count_in_chunks::<B, T>(probe, led, end);
+    let chunked = count_chunks::<Weights<B>, T, GROUP>(probe, led, end, ()).at;
     count_in_bytes::<B, T>(probe, chunked, end).count
 }
 
-/// Counts in the whole chunks from a position on that end at or before `end`.
-fn count_in_chunks<B: ByteTest, T: ByteChunk>(
+/// The weights of bytes in the lanes of a chunk, each by itself.
+pub(crate) struct Weights<B>(PhantomData<B>);
+
+impl<B: ByteWeight, T: ByteChunk> LaneCounts<T> for Weights<B> {
+    type Carry = ();
+
+    ghost MOST = { B.MOST };
+
+    ghost counted_before = { λ _. weight_before B.weight };
+
+    ghost carries = { λ _ _ _. Unit {0} };
+
+    const MOST: usize = B::MOST;
+
+    fn count_lanes(
+        probe: &mut Probe<'_, T>,
+        at: usize,
+        _end: usize,
+        _carry: (),
+    ) -> CountedLanes<T, ()> {
+        CountedLanes {
+            lanes: B::in_lanes(probe.load(at)),
+            carry: (),
+        }
+    }
+
+    ghost few = { B.few };
+}
+
+/// Goes on in whole chunks from a position, in so many that their weights cannot pass the index.
+///
+/// Between two places there is at most one unit more than bytes.
+pub(crate) fn skip_surely<B: ByteWeight, T: ByteChunk>(
     probe: &mut Probe<'_, T>,
     from: Position,
-    end: usize,
+    idx: usize,
 ) -> Position
-    requires ordered { from.byte ≤ end }
-    requires within { end ≤ length probe.old.text }
-    requires counted { from.count ≡ passing_before B.passes probe.old.text from.byte }
-    ensures reached { (from.byte ≤ result.byte) × (result.byte ≤ end) × (end < result.byte + T.SIZE) }
-    ensures counted { result.count ≡ passing_before B.passes probe.old.text result.byte }
+    requires within { from.byte ≤ length probe.old.text }
+    requires fits { FitsIn (weight_before B.weight probe.old.text) (length probe.old.text) }
+    requires counted { from.count ≡ weight_before B.weight probe.old.text from.byte }
+    requires at_most { from.count ≤ idx }
+    requires steady { (at n : ℕ) → at + n ≤ length probe.old.text
+        → weight_before B.weight probe.old.text (at + n) ≤ weight_before B.weight probe.old.text at + n + 1 }
+    ensures reached { (from.byte ≤ result.byte) × (result.byte ≤ length probe.old.text) }
+    ensures counted { result.count ≡ weight_before B.weight probe.old.text result.byte }
+    ensures at_most { result.count ≤ idx }
     ensures reads { Reads probe.old probe.new from.byte 0 ((result.byte - from.byte) / T.SIZE) 0 }
 {
+    let len = probe.len();
     let mut at = from;
-    'rounds: while T::SIZE <= end - at.byte {
-        at = count_round::<B, T>(probe, at, end);
+    'rounds: loop {
+        let chunks = sure_chunks::<T>(idx - at.count, len - at.byte);
+        if chunks < GROUP {
+            break;
+        }
+        let end = at.byte + chunks * T::SIZE;
+        at = count_chunks::<Weights<B>, T, GROUP>(probe, at, end, ()).at;
     }
     at
 }
 
-/// Counts in at most `MAX_ACC` of these chunks: their lanes are added, and summed once.
-fn count_round<B: ByteTest, T: ByteChunk>(
-    probe: &mut Probe<'_, T>,
-    from: Position,
-    end: usize,
-) -> Position
-    requires ordered { from.byte ≤ end }
-    requires within { end ≤ length probe.old.text }
-    requires counted { from.count ≡ passing_before B.passes probe.old.text from.byte }
-    ensures reached { (from.byte ≤ result.byte) × (result.byte ≤ end) }
-    ensures goes_on { from.byte + T.SIZE ≤ end → from.byte + T.SIZE ≤ result.byte }
-    ensures counted { result.count ≡ passing_before B.passes probe.old.text result.byte }
-    ensures reads { Reads probe.old probe.new from.byte 0 ((result.byte - from.byte) / T.SIZE) 0 }
+/// How many whole chunks of so many bytes weigh at most so much, whatever is in them.
+fn sure_chunks<T: ByteChunk>(most: usize, bytes: usize) -> usize
+    ensures within { result * T.SIZE ≤ bytes }
+    ensures sure { 0 < result → result * T.SIZE + 1 ≤ most }
 {
-    let mut acc = T::zero();
-    let mut rounds = 0;
-    let mut at = from.byte;
-    'chunks: while rounds < T::MAX_ACC && T::SIZE <= end - at {
-        acc = acc.add(B::passing_lanes(probe.load(at)));
-        at += T::SIZE;
-        rounds += 1;
-    }
-    Position {
-        byte: at,
-        count: from.count + acc.sum_bytes(),
-    }
-}
-
-/// Counts in the chunk at `at`, for one load.
-pub(crate) fn count_in_chunk<B: ByteTest, T: ByteChunk>(
-    probe: &mut Probe<'_, T>,
-    at: usize,
-) -> usize
-    requires { at + T.SIZE ≤ length probe.old.text }
-    ensures counted { passing_before B.passes probe.old.text (at + T.SIZE)
-        ≡ passing_before B.passes probe.old.text at + result }
-    ensures reads { Reads probe.old probe.new at 0 1 0 }
-{
-    B::passing_lanes(probe.load(at)).sum_bytes()
+    let surely = most.saturating_sub(1) / T::SIZE;
+    surely.min(bytes / T::SIZE)
 }
 
 /// Counts from a position on in the bytes before `to`, one turn each.
 #[tactic(auto, using(crate::proofs::lemmas::bytes::Sums::passing_bounds))]
-fn count_in_bytes<B: ByteTest, T: ByteChunk>(
+fn count_in_bytes<B: ByteWeight, T: ByteChunk>(
     probe: &mut Probe<'_, T>,
     from: Position,
     to: usize,
 ) -> Position
     requires ordered { from.byte ≤ to }
     requires within { to ≤ length probe.old.text }
-    requires counted { from.count ≡ passing_before B.passes probe.old.text from.byte }
+    requires fits { FitsIn (weight_before B.weight probe.old.text) (length probe.old.text) }
+    requires counted { from.count ≡ weight_before B.weight probe.old.text from.byte }
     ensures reached { result.byte ≡ to }
-    ensures counted { result.count ≡ passing_before B.passes probe.old.text to }
+    ensures counted { result.count ≡ weight_before B.weight probe.old.text to }
     ensures reads { Reads probe.old probe.new 0 (to - from.byte) 0 0 }
 {
+    prove!(to <= probe.len());
     let mut count = from.count;
     for i in from.byte..to {
-        if B::passes_byte(probe.turn(i)) {
-            count += 1;
-        }
+        count += B::in_byte(probe.turn(i));
     }
     Position { byte: to, count }
 }

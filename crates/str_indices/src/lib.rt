@@ -6,6 +6,7 @@
 
 mod bytes;
 pub mod chars;
+mod chunk_counts;
 mod counting;
 pub mod laws;
 pub mod lines;

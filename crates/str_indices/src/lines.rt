@@ -4,6 +4,7 @@
 //! characters of the Unicode Standard's Annex 14 that the Rust crate `str_indices` lists.
 ghost use Rattle.std.specs.Prelude.{◌≡◌, ◌+◌, ◌-◌, ◌*◌, ◌/◌, ◌<◌, ◌≤◌, ◌==◌, ◌&&◌, ◌⊎◌, ℕ, IsCharBoundary, chars, length, map, min, slice_index, take};
 ghost use Rattle.std.specs.Simd.Lanes.{Each1};
+ghost use Rattle.std.proofs.Common.{lit≤, lit<};
 ghost use Rattle.byte_chunk.specs.Lanes.{is_between, is_byte};
 ghost use Rattle.str_indices.specs.Text.{cut, size};
 ghost use Rattle.str_indices.specs.Schemes.{count, from_byte_idx, to_byte_idx, Lines};
@@ -14,11 +15,15 @@ ghost use Rattle.str_indices.specs.Lanes.{HasLanes, IsChunk};
 ghost use Rattle.str_indices.specs.Reads.{Reads, leading_bytes, pass_turns, pass_loads};
 
 use crate::bytes::{CR, LF};
+use crate::chunk_counts::{CountedLanes, LaneCounts, count_chunks, skip_chunks};
 use crate::places::{Position, boundary_at_or_after, boundary_at_or_before, is_not_crlf_middle};
 use byte_chunk::{ByteChunk, Chunk, Probe};
 
 #[cfg(test)]
 mod tests;
+
+/// How many chunks are added in one step.
+const GROUP: usize = 2;
 
 /// How many line breaks the text has.
 ///
@@ -67,7 +72,7 @@ pub fn count_breaks_impl<T: ByteChunk>(probe: &mut Probe<'_, T>, end: usize, lea
     let first_chunk = lead.min(end);
     let start = Position { byte: 0, count: 0 };
     let led = count_breaks_up_to(probe, start, first_chunk, end, usize::MAX);
-    let chunked = count_breaks_in_chunks(probe, led, end);
+    let chunked = count_chunks::<LineBreaks, T, GROUP>(probe, led, end, ()).at;
     count_breaks_up_to(probe, chunked, end, end, usize::MAX).count
 }
 
@@ -106,6 +111,7 @@ fn parts_crlf<T: ByteChunk>(probe: &mut Probe<'_, T>, end: usize, byte_idx: usiz
 }
 
 /// Converts a line index to a byte index, over chunks of any type, after `lead` bytes that are walked one by one.
+#[tactic(auto, using(crate::proofs::lemmas::schemes::LineBytes::breaks_bound))]
 pub fn to_byte_idx_impl<T: ByteChunk>(probe: &mut Probe<'_, T>, idx: usize, lead: usize) -> usize
     ensures answer { result ≡ to_byte_idx Lines (chars probe.old.text) idx }
     ensures text { probe.new.text ≡ probe.old.text }
@@ -119,7 +125,7 @@ pub fn to_byte_idx_impl<T: ByteChunk>(probe: &mut Probe<'_, T>, idx: usize, lead
     if led.count == idx {
         return boundary_at_or_after(probe, led.byte);
     }
-    let chunked = skip_chunks(probe, led, idx);
+    let chunked = skip_chunks::<LineBreaks, T, 1>(probe, led, idx, ()).at;
     let reached = count_breaks_up_to(probe, chunked, len, len, idx);
     boundary_at_or_after(probe, reached.byte)
 }
@@ -223,91 +229,33 @@ fn is_separator(byte: u8, next: u8, after: u8) -> bool
     byte == 0xE2 && next == 0x80 && (after == 0xA8 || after == 0xA9)
 }
 
-/// Counts in the whole chunks from a position on that end at or before `end`.
-fn count_breaks_in_chunks<T: ByteChunk>(
-    probe: &mut Probe<'_, T>,
-    from: Position,
-    end: usize,
-) -> Position
-    requires ordered { from.byte ≤ end }
-    requires within { end ≤ length probe.old.text }
-    requires counted { from.count ≡ breaks_counted_before (take end probe.old.text) from.byte }
-    ensures reached { (from.byte ≤ result.byte) × (result.byte ≤ end) × (end < result.byte + T.SIZE) }
-    ensures counted { result.count ≡ breaks_counted_before (take end probe.old.text) result.byte }
-    ensures reads { Reads probe.old probe.new from.byte 0 ((result.byte - from.byte) / T.SIZE) 0 }
-{
-    let mut at = from;
-    'rounds: while T::SIZE <= end - at.byte {
-        at = count_breaks_in_round(probe, at, end);
-    }
-    at
-}
+/// The breaks that are counted in the lanes of a chunk, 1 each.
+struct LineBreaks;
 
-/// Counts in at most `MAX_ACC` of these chunks: their lanes are added, and summed once.
-fn count_breaks_in_round<T: ByteChunk>(
-    probe: &mut Probe<'_, T>,
-    from: Position,
-    end: usize,
-) -> Position
-    requires ordered { from.byte ≤ end }
-    requires within { end ≤ length probe.old.text }
-    requires counted { from.count ≡ breaks_counted_before (take end probe.old.text) from.byte }
-    ensures reached { (from.byte ≤ result.byte) × (result.byte ≤ end) }
-    ensures goes_on { from.byte + T.SIZE ≤ end → from.byte + T.SIZE ≤ result.byte }
-    ensures counted { result.count ≡ breaks_counted_before (take end probe.old.text) result.byte }
-    ensures reads { Reads probe.old probe.new from.byte 0 ((result.byte - from.byte) / T.SIZE) 0 }
-{
-    let mut breaks = T::zero();
-    let mut rounds = 0;
-    let mut at = from.byte;
-    'chunks: while rounds < T::MAX_ACC && T::SIZE <= end - at {
-        breaks = breaks.add(count_breaks_in_chunk(probe, at, end));
-        at += T::SIZE;
-        rounds += 1;
-    }
-    Position {
-        byte: at,
-        count: from.count + breaks.sum_bytes(),
-    }
-}
+impl<T: ByteChunk> LaneCounts<T> for LineBreaks {
+    type Carry = ();
 
-/// Skips whole chunks from a position on, while fewer breaks than the index are counted before their end.
-fn skip_chunks<T: ByteChunk>(probe: &mut Probe<'_, T>, from: Position, idx: usize) -> Position
-    requires within { from.byte ≤ length probe.old.text }
-    requires counted { from.count ≡ breaks_counted_before probe.old.text from.byte }
-    requires below { from.count < idx }
-    ensures reached { (from.byte ≤ result.byte) × (result.byte ≤ length probe.old.text) }
-    ensures counted { result.count ≡ breaks_counted_before probe.old.text result.byte }
-    ensures below { result.count < idx }
-    ensures stopped { (length probe.old.text < result.byte + T.SIZE)
-        ⊎ (idx ≤ breaks_counted_before probe.old.text (result.byte + T.SIZE)) }
-    ensures reads { Reads probe.old probe.new from.byte 0 ((result.byte - from.byte) / T.SIZE + 1) 0 }
-{
-    let len = probe.len();
-    let mut at = from;
-    'chunks: while T::SIZE <= len - at.byte {
-        let count = at.count + sum_breaks_in_chunk(probe, at.byte, len);
-        if count >= idx {
-            break;
+    ghost MOST = { 1 };
+
+    ghost counted_before = { λ end text. breaks_counted_before (take end text) };
+
+    ghost carries = { λ _ _ _. Unit {0} };
+
+    const MOST: usize = 1;
+
+    fn count_lanes(
+        probe: &mut Probe<'_, T>,
+        at: usize,
+        end: usize,
+        _carry: (),
+    ) -> CountedLanes<T, ()> {
+        CountedLanes {
+            lanes: count_breaks_in_chunk(probe, at, end),
+            carry: (),
         }
-        at = Position {
-            byte: at.byte + T::SIZE,
-            count,
-        };
     }
-    at
-}
 
-/// Counts in the chunk at `at`, for one load and the peeks that it pays.
-#[tactic(auto, using(crate::proofs::lemmas::lanes::Lanes::chunk_sums))]
-fn sum_breaks_in_chunk<T: ByteChunk>(probe: &mut Probe<'_, T>, at: usize, end: usize) -> usize
-    requires seen { at + T.SIZE ≤ end }
-    requires within { end ≤ length probe.old.text }
-    ensures counted { breaks_counted_before (take end probe.old.text) (at + T.SIZE)
-        ≡ breaks_counted_before (take end probe.old.text) at + result }
-    ensures reads { Reads probe.old probe.new at 0 1 0 }
-{
-    count_breaks_in_chunk(probe, at, end).sum_bytes()
+    ghost few = { (lit< tt, lit≤ tt) };
 }
 
 /// 1 in each lane of the chunk at `at` where a break is counted, and 0 in the others.

@@ -3,17 +3,22 @@
 //! The Unicode Standard's Annex 14 lists the characters that break lines; of those in the Rust crate's list only LF
 //! and CR count here.
 ghost use Rattle.std.specs.Prelude.{◌≡◌, ◌+◌, ◌-◌, ◌/◌, ◌<◌, ◌≤◌, ◌⊎◌, ℕ, ◌∷◌, [], Bool, IsCharBoundary, chars, drop, length, min};
+ghost use Rattle.std.proofs.Common.{lit≤, lit<};
 ghost use Rattle.str_indices.specs.Text.{cut};
 ghost use Rattle.str_indices.specs.Schemes.{count, from_byte_idx, to_byte_idx, Crlf};
-ghost use Rattle.str_indices.specs.Bytes.{mark, is_carriage_return, byte_before, starts_break, breaks_before, is_middle};
+ghost use Rattle.str_indices.specs.Bytes.{flag, mark, is_carriage_return, byte_before, starts_break, breaks_before, is_middle};
 ghost use Rattle.str_indices.specs.Reads.{Reads, leading_bytes, pass_turns, pass_loads};
 
 use crate::bytes::{CR, LF};
-use crate::places::{Position, follows_carriage_return, is_not_crlf_middle};
+use crate::chunk_counts::{CountedLanes, LaneCounts, Reached, count_chunks, skip_chunks};
+use crate::places::{Position, is_not_crlf_middle};
 use byte_chunk::{ByteChunk, Chunk, Probe};
 
 #[cfg(test)]
 mod tests;
+
+/// How many chunks are added in one step.
+const GROUP: usize = 4;
 
 /// How many line breaks the text has: LF, CR and CRLF, which is one break.
 ///
@@ -52,6 +57,7 @@ pub fn to_byte_idx(text: &str, line_idx: usize) -> usize
 ///
 /// `end` may lie inside a character, and between CR and LF: what stands before it is then a text that ends in CR,
 /// which counts.
+#[tactic(auto, using(crate::proofs::lemmas::schemes::CrlfBytes::starts_in_parts))]
 pub fn count_breaks_impl<T: ByteChunk>(probe: &mut Probe<'_, T>, end: usize, lead: usize) -> usize
     requires within { end ≤ length probe.old.text }
     ensures count { result ≡ count Crlf (cut (chars probe.old.text) end) }
@@ -62,10 +68,10 @@ pub fn count_breaks_impl<T: ByteChunk>(probe: &mut Probe<'_, T>, end: usize, lea
     prove!(end <= probe.len());
     let start = Position { byte: 0, count: 0 };
     let led = count_in_bytes(probe, start, lead.min(end), false);
-    let follows_return = follows_carriage_return(probe, led.byte);
-    let chunked = count_in_chunks(probe, led, end, follows_return);
-    let follows_return = follows_carriage_return(probe, chunked.byte);
-    count_in_bytes(probe, chunked, end, follows_return).count
+    let returns = T::splat(u8::from(led.carry));
+    let chunked = count_chunks::<BreakStarts, T, GROUP>(probe, led.at, end, returns);
+    let follows_return = ends_in_return(chunked.carry);
+    count_in_bytes(probe, chunked.at, end, follows_return).at.count
 }
 
 /// Converts a byte index to a line index, over chunks of any type, after `lead` bytes that are walked one by one.
@@ -87,6 +93,7 @@ pub fn from_byte_idx_impl<T: ByteChunk>(
 }
 
 /// Converts a line index to a byte index, over chunks of any type, after `lead` bytes that are walked one by one.
+#[tactic(auto, using(crate::proofs::lemmas::schemes::CrlfBytes::starts_fit))]
 pub fn to_byte_idx_impl<T: ByteChunk>(probe: &mut Probe<'_, T>, idx: usize, lead: usize) -> usize
     ensures answer { result ≡ to_byte_idx Crlf (chars probe.old.text) idx }
     ensures text { probe.new.text ≡ probe.old.text }
@@ -97,14 +104,15 @@ pub fn to_byte_idx_impl<T: ByteChunk>(probe: &mut Probe<'_, T>, idx: usize, lead
     let first_chunk = lead.min(len);
     let start = Position { byte: 0, count: 0 };
     let led = walk_to_line(probe, start, first_chunk, idx, false);
-    if led.count == idx {
-        return behind_crlf(probe, led.byte);
+    if led.at.count == idx {
+        return behind_crlf(probe, led.at.byte);
     }
-    let follows_return = follows_carriage_return(probe, led.byte);
-    let chunked = skip_chunks(probe, led, idx, follows_return);
-    let follows_return = follows_carriage_return(probe, chunked.byte);
-    let rest = walk_to_line(probe, chunked, len, idx, follows_return);
-    behind_crlf(probe, rest.byte)
+    let returns = T::splat(u8::from(led.carry));
+    let grouped = skip_chunks::<BreakStarts, T, 2>(probe, led.at, idx, returns);
+    let chunked = skip_chunks::<BreakStarts, T, 1>(probe, grouped.at, idx, grouped.carry);
+    let follows_return = ends_in_return(chunked.carry);
+    let rest = walk_to_line(probe, chunked.at, len, idx, follows_return);
+    behind_crlf(probe, rest.at.byte)
 }
 
 /// Walks on from a position, one turn a byte, up to `to` or to the byte before which the count is the index.
@@ -115,18 +123,19 @@ fn walk_to_line<T: ByteChunk>(
     to: usize,
     idx: usize,
     mut follows_return: bool,
-) -> Position
+) -> Reached<bool>
     requires ordered { from.byte ≤ to }
     requires within { to ≤ length probe.old.text }
     requires counted { from.count ≡ breaks_before probe.old.text from.byte }
     requires at_most { from.count ≤ idx }
     requires follows { follows_return ≡ is_carriage_return (byte_before probe.old.text from.byte) }
-    ensures reached { (from.byte ≤ result.byte) × (result.byte ≤ to) }
-    ensures counted { result.count ≡ breaks_before probe.old.text result.byte }
-    ensures at_most { result.count ≤ idx }
-    ensures first { (d : ℕ) → from.byte ≤ d → d < result.byte → breaks_before probe.old.text d < idx }
-    ensures stopped { result.byte < to → result.count ≡ idx }
-    ensures turns { probe.new ≡ record probe.old { turns = probe.old.turns + (result.byte - from.byte) } }
+    ensures reached { (from.byte ≤ result.at.byte) × (result.at.byte ≤ to) }
+    ensures counted { result.at.count ≡ breaks_before probe.old.text result.at.byte }
+    ensures at_most { result.at.count ≤ idx }
+    ensures first { (d : ℕ) → from.byte ≤ d → d < result.at.byte → breaks_before probe.old.text d < idx }
+    ensures stopped { result.at.byte < to → result.at.count ≡ idx }
+    ensures follows { result.carry ≡ is_carriage_return (byte_before probe.old.text result.at.byte) }
+    ensures reads { Reads probe.old probe.new 0 (result.at.byte - from.byte) 0 0 }
 {
     let mut at = from;
     while at.byte < to && at.count < idx {
@@ -137,45 +146,10 @@ fn walk_to_line<T: ByteChunk>(
         };
         follows_return = byte == CR;
     }
-    at
-}
-
-/// Skips whole chunks from a position on, while fewer breaks than the index start before their end.
-/// `follows_return` is whether the byte before the position is CR.
-#[tactic(auto, using(crate::proofs::lemmas::schemes::CrlfBytes::starts_bound))]
-fn skip_chunks<T: ByteChunk>(
-    probe: &mut Probe<'_, T>,
-    from: Position,
-    idx: usize,
-    follows_return: bool,
-) -> Position
-    requires within { from.byte ≤ length probe.old.text }
-    requires counted { from.count ≡ breaks_before probe.old.text from.byte }
-    requires below { from.count < idx }
-    requires follows { follows_return ≡ is_carriage_return (byte_before probe.old.text from.byte) }
-    ensures reached { (from.byte ≤ result.byte) × (result.byte ≤ length probe.old.text) }
-    ensures counted { result.count ≡ breaks_before probe.old.text result.byte }
-    ensures below { result.count < idx }
-    ensures stopped { (length probe.old.text < result.byte + T.SIZE)
-        ⊎ (idx ≤ breaks_before probe.old.text (result.byte + T.SIZE)) }
-    ensures reads { Reads probe.old probe.new from.byte 0 ((result.byte - from.byte) / T.SIZE + 1) 0 }
-{
-    let len = probe.len();
-    let mut at = from;
-    let mut returns = T::splat(u8::from(follows_return));
-    'chunks: while T::SIZE <= len - at.byte {
-        let chunk = count_starts_in_chunk(probe, at.byte, returns);
-        let count = at.count + chunk.breaks;
-        if count >= idx {
-            break;
-        }
-        at = Position {
-            byte: at.byte + T::SIZE,
-            count,
-        };
-        returns = chunk.returns;
+    Reached {
+        at,
+        carry: follows_return,
     }
-    at
 }
 
 /// The place itself, or where it stands between CR and LF the place behind the LF, by at most two peeks.
@@ -192,71 +166,46 @@ fn behind_crlf<T: ByteChunk>(probe: &mut Probe<'_, T>, place: usize) -> usize
     }
 }
 
-/// Counts the breaks that start in the whole chunks from a position on that end at or before `end`.
-/// `follows_return` is whether the byte before the position is CR.
-#[tactic(auto, using(crate::proofs::lemmas::schemes::CrlfBytes::starts_bound))]
-fn count_in_chunks<T: ByteChunk>(
-    probe: &mut Probe<'_, T>,
-    from: Position,
-    end: usize,
-    follows_return: bool,
-) -> Position
-    requires ordered { from.byte ≤ end }
-    requires within { end ≤ length probe.old.text }
-    requires counted { from.count ≡ breaks_before probe.old.text from.byte }
-    requires follows { follows_return ≡ is_carriage_return (byte_before probe.old.text from.byte) }
-    ensures reached { (from.byte ≤ result.byte) × (result.byte ≤ end) × (end < result.byte + T.SIZE) }
-    ensures counted { result.count ≡ breaks_before probe.old.text result.byte }
-    ensures loaded { probe.old.loads + min 1 (result.byte - from.byte) ≤ probe.new.loads }
-    ensures unpeeked { probe.new.peeks ≡ probe.old.peeks }
-    ensures reads { Reads probe.old probe.new from.byte 0 ((result.byte - from.byte) / T.SIZE) 0 }
-{
-    let mut at = from;
-    let mut returns = T::splat(u8::from(follows_return));
-    'chunks: while T::SIZE <= end - at.byte {
-        let chunk = count_starts_in_chunk(probe, at.byte, returns);
-        at = Position {
-            byte: at.byte + T::SIZE,
-            count: at.count + chunk.breaks,
-        };
-        returns = chunk.returns;
+/// The breaks that start in the lanes of a chunk, 1 each. A chunk hands on 1 in each lane that is CR, of which the chunk
+/// behind it reads the last.
+struct BreakStarts;
+
+impl<T: ByteChunk> LaneCounts<T> for BreakStarts {
+    type Carry = T;
+
+    ghost MOST = { 1 };
+
+    ghost counted_before = { λ _. breaks_before };
+
+    ghost carries = { λ text at returns.
+        drop (T.SIZE - 1) (T.lanes returns) ≡ mark is_carriage_return (byte_before text at) ∷ [] };
+
+    const MOST: usize = 1;
+
+    fn count_lanes(
+        probe: &mut Probe<'_, T>,
+        at: usize,
+        _end: usize,
+        before: T,
+    ) -> CountedLanes<T, T> {
+        let chunk = probe.load(at);
+        let feeds = chunk.cmp_eq_byte(LF);
+        let returns = chunk.cmp_eq_byte(CR);
+        let pairs = before.shift_across(returns).bitand(feeds);
+        CountedLanes {
+            lanes: feeds.add(returns).sub(pairs),
+            carry: returns,
+        }
     }
-    at
+
+    ghost few = { (lit< tt, lit≤ tt) };
 }
 
-/// How many breaks start in a chunk, and 1 in each lane that is CR.
-#[derive(Clone, Copy)]
-struct ChunkBreaks<T> {
-    breaks: usize,
-    returns: T,
-}
-
-/// Counts the breaks that start in the chunk at `at`, for one load.
-///
-/// `before` is the chunk before it with 1 in each lane that is CR; only its last lane is read.
-#[tactic(auto, using(crate::proofs::lemmas::lanes::CrlfChunks::starts_in_chunk))]
-fn count_starts_in_chunk<T: ByteChunk>(
-    probe: &mut Probe<'_, T>,
-    at: usize,
-    before: T,
-) -> ChunkBreaks<T>
-    requires within { at + T.SIZE ≤ length probe.old.text }
-    requires carried { drop (T.SIZE - 1) (T.lanes before)
-        ≡ mark is_carriage_return (byte_before probe.old.text at) ∷ [] }
-    ensures counted { breaks_before probe.old.text (at + T.SIZE) ≡ breaks_before probe.old.text at + result.breaks }
-    ensures few { result.breaks ≤ T.SIZE }
-    ensures carried { drop (T.SIZE - 1) (T.lanes result.returns)
-        ≡ mark is_carriage_return (byte_before probe.old.text (at + T.SIZE)) ∷ [] }
-    ensures load { probe.new ≡ record probe.old { loads = probe.old.loads + 1; low = min probe.old.low at } }
+/// Whether the last lane of a chunk is 1, where each lane is 1 or 0.
+fn ends_in_return<T: ByteChunk>(returns: T) -> bool
+    ensures { (b : Bool) → drop (T.SIZE - 1) (T.lanes returns) ≡ flag b ∷ [] → result ≡ b }
 {
-    let chunk = probe.load(at);
-    let feeds = chunk.cmp_eq_byte(LF);
-    let returns = chunk.cmp_eq_byte(CR);
-    let pairs = before.shift_across(returns).bitand(feeds);
-    ChunkBreaks {
-        breaks: feeds.add(returns).sub(pairs).sum_bytes(),
-        returns,
-    }
+    !returns.shift_across(T::zero()).is_zero()
 }
 
 /// Counts from a position on the breaks that start in the bytes before `to`, one turn each.
@@ -267,14 +216,15 @@ fn count_in_bytes<T: ByteChunk>(
     from: Position,
     to: usize,
     mut follows_return: bool,
-) -> Position
+) -> Reached<bool>
     requires ordered { from.byte ≤ to }
     requires within { to ≤ length probe.old.text }
     requires counted { from.count ≡ breaks_before probe.old.text from.byte }
     requires follows { follows_return ≡ is_carriage_return (byte_before probe.old.text from.byte) }
-    ensures reached { result.byte ≡ to }
-    ensures counted { result.count ≡ breaks_before probe.old.text to }
-    ensures turns { probe.new ≡ record probe.old { turns = probe.old.turns + (to - from.byte) } }
+    ensures reached { result.at.byte ≡ to }
+    ensures counted { result.at.count ≡ breaks_before probe.old.text to }
+    ensures follows { result.carry ≡ is_carriage_return (byte_before probe.old.text to) }
+    ensures reads { Reads probe.old probe.new 0 (to - from.byte) 0 0 }
 {
     let mut count = from.count;
     for i in from.byte..to {
@@ -282,7 +232,10 @@ fn count_in_bytes<T: ByteChunk>(
         count += count_in_byte(byte, follows_return);
         follows_return = byte == CR;
     }
-    Position { byte: to, count }
+    Reached {
+        at: Position { byte: to, count },
+        carry: follows_return,
+    }
 }
 
 /// How many breaks start with the byte: 1 with a CR, and with an LF that doesn't follow a CR, else 0.

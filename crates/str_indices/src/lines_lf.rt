@@ -9,7 +9,8 @@ ghost use Rattle.str_indices.specs.Bytes.{passing_before, is_line_feed};
 ghost use Rattle.str_indices.specs.Reads.{Reads, leading_bytes, pass_turns, pass_loads};
 
 use crate::bytes::{LF, LineFeeds};
-use crate::counting::{count_in_chunk, count_passing};
+use crate::chunk_counts::skip_chunks;
+use crate::counting::{Weights, count_weights};
 use crate::places::Position;
 use byte_chunk::{ByteChunk, Chunk, Probe};
 
@@ -51,7 +52,7 @@ pub fn to_byte_idx(text: &str, line_idx: usize) -> usize
 /// Counts the line breaks before `end`, over chunks of any type, after `lead` bytes that are walked one by one.
 ///
 /// An `end` inside a character leaves that character out.
-#[tactic(auto, using(crate::proofs::lemmas::schemes::LineFeedBytes::line_feeds_before))]
+#[tactic(auto, using(crate::proofs::lemmas::schemes::LineFeedBytes::line_feeds_at_end))]
 pub fn count_breaks_impl<T: ByteChunk>(probe: &mut Probe<'_, T>, end: usize, lead: usize) -> usize
     requires within { end ≤ length probe.old.text }
     ensures count { result ≡ count Lf (cut (chars probe.old.text) end) }
@@ -60,7 +61,7 @@ pub fn count_breaks_impl<T: ByteChunk>(probe: &mut Probe<'_, T>, end: usize, lea
         (pass_turns T.SIZE lead end) (pass_loads T.SIZE lead end) 0 }
 {
     prove!(end <= probe.len());
-    count_passing::<LineFeeds, T>(probe, end, lead)
+    count_weights::<LineFeeds, T>(probe, end, lead)
 }
 
 /// Converts a byte index to a line index, over chunks of any type, after `lead` bytes that are walked one by one.
@@ -80,6 +81,7 @@ pub fn from_byte_idx_impl<T: ByteChunk>(
 }
 
 /// Converts a line index to a byte index, over chunks of any type, after `lead` bytes that are walked one by one.
+#[tactic(auto, using(crate::proofs::lemmas::bytes::Sums::passing_bounds))]
 pub fn to_byte_idx_impl<T: ByteChunk>(probe: &mut Probe<'_, T>, idx: usize, lead: usize) -> usize
     ensures answer { result ≡ to_byte_idx Lf (chars probe.old.text) idx }
     ensures text { probe.new.text ≡ probe.old.text }
@@ -93,7 +95,8 @@ pub fn to_byte_idx_impl<T: ByteChunk>(probe: &mut Probe<'_, T>, idx: usize, lead
     if led.count == idx {
         return led.byte;
     }
-    let chunked = skip_chunks(probe, led, idx);
+    let grouped = skip_chunks::<Weights<LineFeeds>, T, 4>(probe, led, idx, ()).at;
+    let chunked = skip_chunks::<Weights<LineFeeds>, T, 1>(probe, grouped, idx, ()).at;
     walk_to_line(probe, chunked, len, idx).byte
 }
 
@@ -120,33 +123,6 @@ fn walk_to_line<T: ByteChunk>(
         at = Position {
             byte: at.byte + 1,
             count: at.count + usize::from(probe.turn(at.byte) == LF),
-        };
-    }
-    at
-}
-
-/// Skips whole chunks from a position on, while fewer breaks than the index stand before their end.
-fn skip_chunks<T: ByteChunk>(probe: &mut Probe<'_, T>, from: Position, idx: usize) -> Position
-    requires within { from.byte ≤ length probe.old.text }
-    requires counted { from.count ≡ passing_before is_line_feed probe.old.text from.byte }
-    requires below { from.count < idx }
-    ensures reached { (from.byte ≤ result.byte) × (result.byte ≤ length probe.old.text) }
-    ensures counted { result.count ≡ passing_before is_line_feed probe.old.text result.byte }
-    ensures below { result.count < idx }
-    ensures stopped { (length probe.old.text < result.byte + T.SIZE)
-        ⊎ (idx ≤ passing_before is_line_feed probe.old.text (result.byte + T.SIZE)) }
-    ensures reads { Reads probe.old probe.new from.byte 0 ((result.byte - from.byte) / T.SIZE + 1) 0 }
-{
-    let len = probe.len();
-    let mut at = from;
-    'chunks: while T::SIZE <= len - at.byte {
-        let count = at.count + count_in_chunk::<LineFeeds, T>(probe, at.byte);
-        if count >= idx {
-            break;
-        }
-        at = Position {
-            byte: at.byte + T::SIZE,
-            count,
         };
     }
     at

@@ -7,16 +7,14 @@ ghost use Rattle.str_indices.specs.Text.{cut};
 ghost use Rattle.str_indices.specs.Schemes.{count, from_byte_idx, to_byte_idx, surrogates, Utf16};
 ghost use Rattle.str_indices.specs.Relations.{IsBoundary};
 ghost use Rattle.str_indices.specs.Bytes.{mark, units_before, is_leading, begins_four_bytes};
-ghost use Rattle.str_indices.specs.Reads.{Reads, WholeChunks, leading_bytes, pass_turns, pass_loads};
+ghost use Rattle.str_indices.specs.Reads.{Reads, leading_bytes, pass_turns, pass_loads};
 
 #[cfg(test)]
 mod tests;
 
-use crate::bytes::{
-    FourByteLeads, count_surrogates_chunk, count_trailing_chunk, is_four_byte_lead, is_leading_byte,
-};
-use crate::chars;
-use crate::counting::count_passing;
+use crate::bytes::{ByteWeight, FourByteLeads, Units};
+use crate::chunk_counts::skip_chunks;
+use crate::counting::{Weights, count_weights, skip_surely};
 use crate::places::{Position, boundary_at_or_before};
 use byte_chunk::{ByteChunk, Chunk, Probe};
 
@@ -61,24 +59,24 @@ pub fn to_byte_idx(text: &str, utf16_idx: usize) -> usize
 
 /// Counts the UTF-16 code units of the text before `end`, over chunks of any type, after `lead` bytes that are walked
 /// one by one.
-#[tactic(auto, using(crate::proofs::lemmas::schemes::UnitBytes::units_of_cut))]
+#[tactic(auto, using(crate::proofs::lemmas::schemes::UnitBytes::units_at_end))]
 pub fn count_impl<T: ByteChunk>(probe: &mut Probe<'_, T>, end: usize, lead: usize) -> usize
     requires within { end ≤ length probe.old.text }
     requires boundary { IsBoundary (chars probe.old.text) end }
     ensures count { result ≡ count Utf16 (cut (chars probe.old.text) end) }
     ensures text { probe.new.text ≡ probe.old.text }
     ensures pass { Reads probe.old probe.new (leading_bytes lead end)
-        (2 * pass_turns T.SIZE lead end) (2 * pass_loads T.SIZE lead end) 0 }
+        (pass_turns T.SIZE lead end) (pass_loads T.SIZE lead end) 0 }
 {
-    let chars = chars::count_impl(probe, end, lead);
-    chars + count_surrogates_impl(probe, end, lead)
+    prove!(end <= probe.len());
+    count_weights::<Units, T>(probe, end, lead)
 }
 
 /// Counts the surrogate pairs of the text before `end`, over chunks of any type, after `lead` bytes that are walked
 /// one by one.
 ///
 /// No char of four bytes begins in the last three bytes, so the pass covers `end - 3` bytes.
-#[tactic(auto, using(crate::proofs::lemmas::schemes::UnitBytes::pairs_before_last_three))]
+#[tactic(auto, using(crate::proofs::lemmas::schemes::UnitBytes::pairs_at_end))]
 pub fn count_surrogates_impl<T: ByteChunk>(
     probe: &mut Probe<'_, T>,
     end: usize,
@@ -92,7 +90,7 @@ pub fn count_surrogates_impl<T: ByteChunk>(
         Reads probe.old probe.new first (pass_turns T.SIZE lead (end - 3)) ((end - first) / T.SIZE) 0 }
 {
     prove!(end <= probe.len());
-    count_passing::<FourByteLeads, T>(probe, end.saturating_sub(3), lead)
+    count_weights::<FourByteLeads, T>(probe, end.saturating_sub(3), lead)
 }
 
 /// Converts a byte index to a UTF-16 code unit index, over chunks of any type, after `lead` bytes that are walked one
@@ -106,8 +104,7 @@ pub fn from_byte_idx_impl<T: ByteChunk>(
     ensures answer { result ≡ from_byte_idx Utf16 (chars probe.old.text) byte_idx }
     ensures text { probe.new.text ≡ probe.old.text }
     ensures pass { let n = min byte_idx (length probe.old.text) in
-        Reads probe.old probe.new (leading_bytes lead n)
-        (2 * pass_turns T.SIZE lead n) (2 * pass_loads T.SIZE lead n) 3 }
+        Reads probe.old probe.new (leading_bytes lead n) (pass_turns T.SIZE lead n) (pass_loads T.SIZE lead n) 3 }
 {
     let end = boundary_at_or_before(probe, byte_idx);
     count_impl(probe, end, lead)
@@ -115,6 +112,7 @@ pub fn from_byte_idx_impl<T: ByteChunk>(
 
 /// Converts a UTF-16 code unit index to a byte index, over chunks of any type, after `lead` bytes that are walked one
 /// by one.
+#[tactic(auto, using(crate::proofs::lemmas::schemes::UnitBytes::units_bounds))]
 pub fn to_byte_idx_impl<T: ByteChunk>(probe: &mut Probe<'_, T>, idx: usize, lead: usize) -> usize
     ensures answer { result ≡ to_byte_idx Utf16 (chars probe.old.text) idx }
     ensures text { probe.new.text ≡ probe.old.text }
@@ -128,8 +126,8 @@ pub fn to_byte_idx_impl<T: ByteChunk>(probe: &mut Probe<'_, T>, idx: usize, lead
     if led.byte < first_chunk {
         return led.byte;
     }
-    let in_rounds = skip_rounds(probe, led, idx);
-    let chunked = skip_chunks(probe, in_rounds, idx);
+    let surely = skip_surely::<Units, T>(probe, led, idx);
+    let chunked = skip_chunks::<Weights<Units>, T, 1>(probe, surely, idx, ()).at;
     walk_to_unit(probe, chunked, len, idx).byte
 }
 
@@ -154,7 +152,7 @@ fn walk_to_unit<T: ByteChunk>(
     prove!(to <= probe.len());
     let mut at = from;
     while at.byte < to {
-        let count = at.count + units_at(probe.turn(at.byte));
+        let count = at.count + Units::in_byte(probe.turn(at.byte));
         if count > idx {
             break;
         }
@@ -164,90 +162,4 @@ fn walk_to_unit<T: ByteChunk>(
         };
     }
     at
-}
-
-/// Skips rounds of whole chunks from a position on, over so few chunks that their units can't pass the index.
-///
-/// A chunk has at most one unit more than bytes, so at most `MAX_ACC` units.
-fn skip_rounds<T: ByteChunk>(probe: &mut Probe<'_, T>, from: Position, idx: usize) -> Position
-    requires within { from.byte ≤ length probe.old.text }
-    requires counted { from.count ≡ units_before probe.old.text from.byte }
-    requires at_most { from.count ≤ idx }
-    ensures reached { (from.byte ≤ result.byte) × (result.byte ≤ length probe.old.text) }
-    ensures counted { result.count ≡ units_before probe.old.text result.byte }
-    ensures at_most { result.count ≤ idx }
-    ensures place { let chunks = min ((idx - from.count) / T.MAX_ACC) ((length probe.old.text - from.byte) / T.SIZE) in
-        result.byte ≡ from.byte + chunks * T.SIZE }
-    ensures reads { Reads probe.old probe.new from.byte 0 ((result.byte - from.byte) / T.SIZE) 0 }
-{
-    let left = probe.len() - from.byte;
-    let chunks = ((idx - from.count) / T::MAX_ACC).min(left / T::SIZE);
-    let end = from.byte + chunks * T::SIZE;
-    let mut at = from;
-    'rounds: while T::SIZE <= end - at.byte {
-        at = skip_round(probe, at, end);
-    }
-    at
-}
-
-/// Skips at most `MAX_ACC` whole chunks that end at or before `end`: each is loaded once, and their lanes are added
-/// and summed once.
-fn skip_round<T: ByteChunk>(probe: &mut Probe<'_, T>, from: Position, end: usize) -> Position
-    requires ordered { from.byte ≤ end }
-    requires within { end ≤ length probe.old.text }
-    requires counted { from.count ≡ units_before probe.old.text from.byte }
-    ensures reached { (from.byte ≤ result.byte) × (result.byte ≤ end) }
-    ensures goes_on { from.byte + T.SIZE ≤ end → from.byte + T.SIZE ≤ result.byte }
-    ensures counted { result.count ≡ units_before probe.old.text result.byte }
-    ensures whole { WholeChunks T.SIZE from.byte result.byte }
-    ensures reads { Reads probe.old probe.new from.byte 0 ((result.byte - from.byte) / T.SIZE) 0 }
-{
-    prove!(end <= probe.len());
-    let mut trailing = T::zero();
-    let mut four_byte_leads = T::zero();
-    let mut rounds = 0;
-    let mut at = from.byte;
-    'chunks: while rounds < T::MAX_ACC && T::SIZE <= end - at {
-        let chunk = probe.load(at);
-        trailing = trailing.add(count_trailing_chunk(chunk));
-        four_byte_leads = four_byte_leads.add(count_surrogates_chunk(chunk));
-        at += T::SIZE;
-        rounds += 1;
-    }
-    let leading = at - from.byte - trailing.sum_bytes();
-    Position {
-        byte: at,
-        count: from.count + leading + four_byte_leads.sum_bytes(),
-    }
-}
-
-/// Skips whole chunks one at a time from a position on, while the units before their end are below the index.
-fn skip_chunks<T: ByteChunk>(probe: &mut Probe<'_, T>, from: Position, idx: usize) -> Position
-    requires within { from.byte ≤ length probe.old.text }
-    requires counted { from.count ≡ units_before probe.old.text from.byte }
-    requires at_most { from.count ≤ idx }
-    ensures reached { (from.byte ≤ result.byte) × (result.byte ≤ length probe.old.text) }
-    ensures counted { result.count ≡ units_before probe.old.text result.byte }
-    ensures below { (result ≡ from) ⊎ (result.count < idx) }
-    ensures stopped { (length probe.old.text < result.byte + T.SIZE)
-        ⊎ (idx ≤ units_before probe.old.text (result.byte + T.SIZE)) }
-    ensures reads { Reads probe.old probe.new from.byte 0 ((result.byte - from.byte) / T.SIZE + 1) 0 }
-{
-    let len = probe.len();
-    let mut at = from;
-    'chunks: while T::SIZE <= len - at.byte {
-        let next = skip_round(probe, at, at.byte + T::SIZE);
-        if next.count >= idx {
-            break;
-        }
-        at = next;
-    }
-    at
-}
-
-/// How many units the char takes that the byte begins; 0 for a trailing byte.
-fn units_at(byte: u8) -> usize
-    ensures { result ≡ mark is_leading byte + mark begins_four_bytes byte }
-{
-    usize::from(is_leading_byte(byte)) + usize::from(is_four_byte_lead(byte))
 }

@@ -1,7 +1,9 @@
 -- Sums of a number at each place.
-use Rattle.std.proofs.Common.{◌≡◌, ℕ, zero, suc, ◌+◌, ◌-◌, ◌<◌, ◌≤◌, Bool, List, get_or, refl, arith, add-suc, add-zero, ap}
+use Rattle.std.proofs.Common.{◌≡◌, ℕ, zero, suc, ◌+◌, ◌-◌, ◌<◌, ◌≤◌, Bool, List, length, get_or, refl, arith, add-one, add-suc, add-zero, ap}
 use Rattle.std.specs.Prelude.{not}
-use Rattle.str_indices.specs.Bytes.{sum_below, flag, mark, passing_before}
+use Rattle.str_indices.specs.Bytes.{sum_below, weight_before, passing_before}
+use Rattle.str_indices.specs.Lanes.{FitsIn}
+use Rattle.str_indices.specs.TraitLaws.{mark-le}
 
 -- up to m and then n places more
 pub sum_below-add : (f : ℕ → ℕ) (m n : ℕ) → sum_below f (m + n) ≡ sum_below f m + sum_below (λ j. f (m + j)) n
@@ -28,13 +30,10 @@ sum_below-le f one (suc n) = omega (arith, one n, sum_below-le f one n)
 pub sum_below-more : (f : ℕ → ℕ) → ((j : ℕ) → f j ≤ 1) → (m n : ℕ) → sum_below f (m + n) ≤ sum_below f m + n
 sum_below-more f one m n = omega (arith, sum_below-add f m n, sum_below-le (λ j. f (m + j)) (λ j. one (m + j)) n)
 
--- a flag is at most one
-pub flag-le : (b : Bool) → flag b ≤ 1
-flag-le b = grind arith
-
--- a byte counts one at most
-pub mark-le : (test : ℕ → Bool) (b : ℕ) → mark test b ≤ 1
-mark-le test b = flag-le (test b)
+-- one byte more
+pub weight_before-next : (weight : ℕ → ℕ) (bytes : List ℕ) (i : ℕ)
+    → weight_before weight bytes (i + 1) ≡ weight_before weight bytes i + weight (get_or bytes i 0)
+weight_before-next weight bytes i = rw add-one refl
 
 module _ (test : ℕ → Bool) (bytes : List ℕ) where
   -- each byte passes a test or doesn't
@@ -46,9 +45,18 @@ module _ (test : ℕ → Bool) (bytes : List ℕ) where
   pub passing_before-le : (n : ℕ) → passing_before test bytes n ≤ n
   passing_before-le n = sum_below-le _ (λ j. mark-le test (get_or bytes j 0)) n
 
+  -- so before no place of a text more pass than it has bytes
+  pub passing_fits : FitsIn (passing_before test bytes) (length bytes)
+  passing_fits place within = omega (arith, passing_before-le place)
+
   -- among n bytes more at most n more pass
   pub passing_before-more : (m n : ℕ) → passing_before test bytes (m + n) ≤ passing_before test bytes m + n
   passing_before-more m n = sum_below-more _ (λ j. mark-le test (get_or bytes j 0)) m n
+
+  -- the same, as code asks for it
+  pub passing_steady : (at n : ℕ) → at + n ≤ length bytes
+      → passing_before test bytes (at + n) ≤ passing_before test bytes at + n + 1
+  passing_steady at n within = omega (arith, passing_before-more at n)
 
   -- between two places no more bytes pass than stand there
   pub passing_before-between : (m n : ℕ) → m ≤ n → passing_before test bytes n ≤ passing_before test bytes m + (n - m)
@@ -72,4 +80,4 @@ sum_below-still f m (suc n) none = rw add-suc
     (omega (arith, sum_below-still f m n (λ j h. none j (omega arith)), none n (omega arith)))
 
 -- how many bytes may pass a test, as the search takes it
-pub ruleset passing_bounds = (passing_or_not, passing_before-le, passing_before-more)
+pub ruleset passing_bounds = (passing_or_not, passing_before-le, passing_before-more, passing_fits, passing_steady)

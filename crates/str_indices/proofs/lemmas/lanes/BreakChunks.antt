@@ -10,7 +10,7 @@ use Rattle.byte_chunk.specs.Lanes.{is_byte, is_between}
 use Rattle.str_indices.specs.Bytes.{flag}
 use Rattle.str_indices.specs.Lanes.{HasLanes, IsChunk}
 use Rattle.str_indices.specs.Breaks.{is_crlf, is_separator, ends_separator, narrow_break_at, next_line_at, separator_at, break_at}
-use Rattle.str_indices.proofs.lemmas.bytes.Sums.{flag-le}
+use Rattle.str_indices.specs.TraitLaws.{flag-le}
 use Rattle.str_indices.proofs.lemmas.lanes.Lanes.{lanes_of, lanes_same, lanes_map, lanes_zip2, lanes_and, lanes_shift, lanes_set, lane_is_not, Each1-lanes, Each2-lanes}
 
 -- what is counted at a byte of a chunk where of the breaks of several bytes those are seen that end in it

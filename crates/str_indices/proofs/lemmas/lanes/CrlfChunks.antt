@@ -1,18 +1,18 @@
 -- The lanes of a chunk that say where the breaks of `Crlf` start.
-use Rattle.std.proofs.Common.{◌≡◌, ℕ, zero, suc, ◌+◌, ◌-◌, ◌<◌, ◌≤◌, Bool, true, false, List, [], ◌∷◌, ◌++◌, map, take, drop, length, get_or, refl, arith, ◌∙◌, add-zero, add-suc, bit_and}
-use Rattle.std.specs.Prelude.{◌&&◌, sum}
-use Rattle.std.specs.Simd.Lanes.{zip2, Each1, Each2}
+use Rattle.std.proofs.Common.{◌≡◌, ℕ, zero, suc, ◌+◌, ◌-◌, ◌<◌, ◌≤◌, Bool, List, [], ◌∷◌, ◌++◌, ◌↔◌, replicate, IsTrue, ap, sym, map, take, drop, length, get_or, refl, arith, ◌∙◌, add-zero, add-suc, bit_and}
+use Rattle.std.specs.Prelude.{◌&&◌, not}
+use Rattle.std.specs.Simd.Lanes.{zip2, Each2}
 use Rattle.std.proofs.Math.ListN.{drop_of_length-le}
 use Rattle.std.proofs.Math.Seq.{drop-cons}
 use Rattle.std.proofs.lemmas.Bool.Decides.{nat_tests}
-use Rattle.std.proofs.lemmas.List.{get_or-take, length-take-le}
+use Rattle.std.proofs.lemmas.List.{get_or-take, length-take-le, take-replicate}
 use Rattle.byte_chunk.specs.Lanes.{is_byte}
 use Rattle.str_indices.specs.Text.{line_feed, carriage_return}
-use Rattle.str_indices.specs.Bytes.{flag, mark, is_line_feed, is_carriage_return, byte_before, starts_break, break_start, breaks_before}
-use Rattle.str_indices.specs.Lanes.{HasLanes}
-use Rattle.str_indices.proofs.lemmas.bytes.Sums.{sum_below-more}
+use Rattle.str_indices.specs.Bytes.{flag, mark, is_line_feed, is_carriage_return, byte_before, break_start, breaks_before}
+use Rattle.str_indices.specs.Lanes.{AddsUp, HasLanes}
+use Rattle.str_indices.proofs.lemmas.lanes.Rounds.{lanes_of_places}
 use Rattle.str_indices.proofs.lemmas.schemes.CrlfBytes.{break_start-le}
-use Rattle.str_indices.proofs.lemmas.lanes.Lanes.{Each1-lanes, Each2-lanes, lanes_and, lanes_loaded, lanes_same, lanes_zip2, sum_below-chunk}
+use Rattle.str_indices.proofs.lemmas.lanes.Lanes.{Each2-lanes, lanes_and, lanes_loaded, lanes_same, lanes_zip2}
 
 -- the chunk of `text` at `at`, and the chunk before it, whose last lane says whether the byte before `at` is CR
 pub record Loaded (text : List ℕ) (at size : ℕ) (chunk before : List ℕ) : Type 0 where
@@ -26,11 +26,6 @@ pub loaded_by : {text : List ℕ} {at size : ℕ} {chunk before : List ℕ} → 
     → drop (size - 1) before ≡ mark is_carriage_return (byte_before text at) ∷ [] → at + size ≤ length text → 4 ≤ size
     → Loaded text at size chunk before
 loaded_by taken carried within least = search arith
-
--- what holds of 0 and of 1 holds of a flag
-of_flag : (P : ℕ → Type 0) → P 0 → P 1 → (b : Bool) → P (flag b)
-of_flag P none one true = one
-of_flag P none one false = none
 
 module _ {text : List ℕ} {at size : ℕ} {chunk before : List ℕ} (loaded : Loaded text at size chunk before) where
   -- 1 in each lane that passes a test
@@ -95,20 +90,26 @@ module _ {text : List ℕ} {at size : ℕ} {chunk before returns : List ℕ}
         starts_are = lanes_same (lanes_zip2 (λ a b. a - b) both_are pairs_are is_starts)
             (λ j l. grind (arith, nat_tests))
 
-        -- each is 0 or 1
-        pub each_start : (P : ℕ → Type 0) → P 0 → P 1 → Each1 P starts
-        each_start P none one = Each1-lanes P starts_are
-            (λ j l. of_flag P none one (starts_break (byte_before text (at + j)) (get_or text (at + j) 0)))
-
-        module _ {added : ℕ} (summed : added ≡ sum starts) where
-          -- they add up to the breaks that start in the chunk
-          pub breaks_in_chunk : breaks_before text (at + size) ≡ breaks_before text at + added
-          breaks_in_chunk = omega (arith, sum_below-chunk (break_start text) at starts_are, summed)
-
-          -- and are no more than its bytes
-          pub few_in_chunk : added ≤ size
-          few_in_chunk = omega (arith, breaks_in_chunk, sum_below-more (break_start text) (break_start-le text) at size)
+        -- they add up to the breaks that start in the chunk
+        pub starts_added : AddsUp (breaks_before text) 1 size at (at + size) 1 starts
+        starts_added = lanes_of_places (break_start text) (break_start-le text) starts_are
 
 -- what the lanes of a chunk say, as the search takes it
-pub ruleset starts_in_chunk =
-    (loaded_by, sums_fit, pairs_fit, each_start, breaks_in_chunk, few_in_chunk, last_is_return)
+pub ruleset starts_in_chunk = (loaded_by, sums_fit, pairs_fit, starts_added, last_is_return)
+
+-- what is 0 exactly where a flag is, is not where the flag is 1
+unlike_flag : (is_zero b : Bool) → IsTrue is_zero ↔ (flag b ≡ 0) → not is_zero ≡ b
+unlike_flag is_zero b both = grind (arith, nat_tests, both.0, both.1)
+
+-- the last lane of a chunk, moved in front of zeros, leaves all lanes 0 exactly where it was 0
+pub last_lane : (before : List ℕ) {size : ℕ} {zeros moved : List ℕ} (is_zero b : Bool) → 0 < size
+    → zeros ≡ replicate size 0 → moved ≡ drop (size - 1) before ++ take (size - 1) zeros
+    → IsTrue is_zero ↔ (moved ≡ replicate size 0) → drop (size - 1) before ≡ flag b ∷ [] → not is_zero ≡ b
+last_lane before {size} {zeros} {moved} is_zero b some filled is tested last =
+    let whole : suc (size - 1) ≡ size = omega arith in
+    let here : moved ≡ flag b ∷ replicate (size - 1) 0 =
+    rw (is, last, filled) (ap (λ rest. flag b ∷ rest) (take-replicate (size - 1) size 0 (omega arith))) in
+    let empty : replicate {A = ℕ} size 0 ≡ 0 ∷ replicate (size - 1) 0 = sym (ap (λ n. replicate n 0) whole) in
+    unlike_flag is_zero b
+    ((λ yes. let same = sym here ∙ tested.0 yes ∙ empty in ap (λ xs. get_or xs 0 0) same),
+     (λ none. tested.1 (here ∙ ap (λ n. n ∷ replicate (size - 1) 0) none ∙ sym empty)))

@@ -1,15 +1,16 @@
 -- The lanes of a chunk by their places: what each call of a chunk leaves in a lane, and what the lanes add up to.
-use Rattle.std.proofs.Common.{◌≡◌, ◌≢◌, ℕ, suc, ◌+◌, ◌-◌, ◌<◌, ◌≤◌, Bool, false, List, [], ◌∷◌, ◌++◌, map, take, drop, replicate, length, get_or, bit_and, refl, arith, length-drop, slice_set}
-use Rattle.std.specs.Prelude.{sum, ◌==◌, ◌&&◌}
+use Rattle.std.proofs.Common.{◌≡◌, ◌≢◌, ℕ, suc, ◌+◌, ◌-◌, ◌<◌, ◌≤◌, Bool, true, false, List, [], ◌∷◌, ◌++◌, map, take, drop, replicate, length, get_or, bit_and, refl, arith, length-drop, slice_set, ◌∙◌}
+use Rattle.std.specs.Prelude.{sum, not, ◌==◌, ◌&&◌}
 use Rattle.std.specs.Simd.Lanes.{Each1, Each2, zip2}
 use Rattle.std.proofs.Math.ListN.{get_or-append}
 use Rattle.std.proofs.lemmas.Bool.Decides.{nat_tests}
 use Rattle.std.proofs.lemmas.List.{get_or-take, get_or-drop, get_or-map, get_or_past, get_or-append-add, get_or-replicate, get_or-set_same, get_or-set_other, length-append, length-map, length-take-le, length-replicate, length-set}
 use Rattle.std.proofs.lemmas.List.Sums.{sum_by-cons}
-use Rattle.std.proofs.lemmas.Simd.{zip2_splat, map-map, Each1-from_get_or, get_or-zip2, length-zip2}
+use Rattle.std.proofs.lemmas.Simd.{zip2_splat, zip2_splat_left, zip2_of_maps, map-map, Each1-replicate, Each1-from_get_or, Each2-of, get_or-zip2, length-zip2}
 use Rattle.byte_chunk.specs.Lanes.{is_byte}
-use Rattle.str_indices.specs.Bytes.{flag, sum_below}
+use Rattle.str_indices.specs.Bytes.{flag, mark, sum_below}
 use Rattle.str_indices.specs.Lanes.{HasLanes}
+use Rattle.str_indices.specs.TraitLaws.{mark-le}
 use Rattle.str_indices.proofs.lemmas.bytes.Sums.{sum_below-add, sum_below-front}
 
 -- lanes that hold f of each place add up to f summed over the places
@@ -44,6 +45,40 @@ pub lanes_at_most : (u : ℕ → ℕ) (most : ℕ) → ((b : ℕ) → u b ≤ mo
     → Each1 (λ lane. lane ≤ most) (map u lanes)
 lanes_at_most u most each [] = tt
 lanes_at_most u most each (x ∷ lanes) = (each x, lanes_at_most u most each lanes)
+
+-- what each byte weighs in two ways is added, lane by lane
+pub weights_added : (u v : ℕ → ℕ) (lanes : List ℕ) {xs ys zs : List ℕ} → xs ≡ map u lanes → ys ≡ map v lanes
+    → zs ≡ zip2 (λ a b. a + b) xs ys → zs ≡ map (λ b. u b + v b) lanes
+weights_added u v lanes is_left is_right added =
+    cc (added, zip2_of_maps (λ (a b : ℕ). a + b) u v lanes is_left is_right)
+
+-- marks of two kinds have room for one another
+pub marks_addable : (p q : ℕ → Bool) (lanes : List ℕ) {xs ys : List ℕ} → xs ≡ map (mark p) lanes
+    → ys ≡ map (mark q) lanes → Each2 (λ a b. a + b ≤ 255) xs ys
+marks_addable p q lanes {xs} {ys} is_left is_right =
+    Each2-of (λ a. a ≤ 1) (λ b. b ≤ 1) (λ a b. a + b ≤ 255) (λ a b few few'. omega arith) xs ys
+    (rw is_left (lanes_at_most (mark p) 1 (mark-le p) lanes)) (rw is_right (lanes_at_most (mark q) 1 (mark-le q) lanes))
+
+module _ (test : ℕ → Bool) (lanes : List ℕ) {size : ℕ} {ones marks : List ℕ} (long : length lanes ≡ size)
+    (filled : ones ≡ replicate size 1) (marked : marks ≡ map (mark test) lanes) where
+  -- no mark is above 1
+  pub marks_below_ones : Each2 (λ a b. b ≤ a) ones marks
+  marks_below_ones = Each2-of (λ a. 1 ≤ a) (λ b. b ≤ 1) (λ a b. b ≤ a) (λ a b le le'. omega arith) ones marks
+      (rw filled (Each1-replicate (λ a. 1 ≤ a) size 1 (omega arith)))
+      (rw marked (lanes_at_most (mark test) 1 (mark-le test) lanes))
+
+  -- 1 less the mark is the mark of the others
+  pub others_marked : {others : List ℕ} → others ≡ zip2 (λ a b. a - b) ones marks
+      → others ≡ map (mark (λ b. not (test b))) lanes
+  others_marked is = rw (is, filled, marked) (zip2_splat_left (λ a b. a - b) 1 size (map (mark test) lanes)
+      (grind (arith, long, length-map)) ∙ map-map (λ b. 1 - b) (mark test) lanes ∙ each lanes)
+    where
+      other : (b : Bool) → 1 - flag b ≡ flag (not b)
+      other true = refl
+      other false = refl
+      each : (xs : List ℕ) → map (λ b. 1 - mark test b) xs ≡ map (mark (λ b. not (test b))) xs
+      each [] = refl
+      each (x ∷ xs) = cc (other (test x), each xs)
 
 -- lanes by themselves
 pub lanes_of : {size : ℕ} {xs : List ℕ} → length xs ≡ size → HasLanes size (λ j. get_or xs j 0) xs

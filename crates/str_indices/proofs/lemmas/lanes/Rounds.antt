@@ -1,21 +1,14 @@
--- Rounds: lanes that hold a number of each place are added to an accumulator, chunk after chunk.
-use Rattle.std.proofs.Common.{◌≡◌, ℕ, ◌+◌, ◌<◌, ◌≤◌, Bool, List, [], ◌∷◌, map, take, drop, length, get_or, refl, arith, replicate}
+-- Lanes that hold what is counted in chunks are added, chunk after chunk, and summed once.
+use Rattle.std.proofs.Common.{◌≡◌, ℕ, ◌+◌, ◌*◌, ◌≤◌, List, [], ◌∷◌, map, take, drop, length, get_or, refl, arith, replicate}
 use Rattle.std.specs.Prelude.{sum}
 use Rattle.std.specs.Simd.Lanes.{zip2, Each1, Each2}
 use Rattle.std.proofs.lemmas.List.{length-replicate}
 use Rattle.std.proofs.lemmas.List.Folds.{sum_by-replicate}
 use Rattle.std.proofs.lemmas.List.Sums.{sum_by-cons}
 use Rattle.std.proofs.lemmas.Simd.{Each1-replicate, Each1-weaker, Each1-zip2, Each2-of, length-zip2}
-use Rattle.str_indices.specs.Bytes.{sum_below, mark}
-use Rattle.str_indices.specs.Lanes.{HasLanes}
-use Rattle.str_indices.proofs.lemmas.bytes.Sums.{mark-le}
-use Rattle.str_indices.proofs.lemmas.lanes.Lanes.{Each1-lanes, lanes_at_most, lanes_loaded, sum_below-chunk}
-
--- after so many rounds the lanes hold in all what f adds from `from` to `at`
-pub record AddsUp (f : ℕ → ℕ) (size from at rounds : ℕ) (lanes : List ℕ) : Type 0 where
-  pub long : length lanes ≡ size
-  pub small : Each1 (λ lane. lane ≤ rounds) lanes
-  pub counted : sum_below f at ≡ sum_below f from + sum lanes
+use Rattle.str_indices.specs.Bytes.{sum_below, weight_before}
+use Rattle.str_indices.specs.Lanes.{AddsUp, HasLanes}
+use Rattle.str_indices.proofs.lemmas.lanes.Lanes.{Each1-lanes, lanes_loaded, sum_below-chunk}
 
 -- the sum of lanes that were added two by two
 sum-zip2 : (xs ys : List ℕ) → length xs ≡ length ys → sum (zip2 (λ a b. a + b) xs ys) ≡ sum xs + sum ys
@@ -26,48 +19,51 @@ sum-zip2 (x ∷ xs) (y ∷ ys) long =
     let add = sum_by-cons (λ (a : ℕ). a) in
     omega (arith, add (x + y) (zip2 (λ a b. a + b) xs ys), add x xs, add y ys, sum-zip2 xs ys (omega arith))
 
--- before the first round all lanes are 0
-pub nothing_added : (f : ℕ → ℕ) (size from : ℕ) {lanes : List ℕ} → lanes ≡ replicate size 0
-    → AddsUp f size from from 0 lanes
-nothing_added f size from zeros =
-    let small = Each1-replicate (λ (lane : ℕ). lane ≤ 0) size 0 (omega arith) in
-    rw zeros (grind (arith, length-replicate {A = ℕ}, sum_by-replicate (λ (a : ℕ). a) size 0, small))
+module _ {counted : ℕ → ℕ} {most size from : ℕ} where
+  -- before the first chunk all lanes are 0
+  pub nothing_added : {lanes : List ℕ} → lanes ≡ replicate size 0 → AddsUp counted most size from from 0 lanes
+  nothing_added zeros =
+      let small = Each1-replicate (λ (lane : ℕ). lane ≤ 0 * most) size 0 (omega arith) in
+      rw zeros (grind (arith, length-replicate {A = ℕ}, sum_by-replicate (λ (a : ℕ). a) size 0, small))
 
-module _ {f : ℕ → ℕ} {size from at rounds : ℕ} {acc : List ℕ} (so_far : AddsUp f size from at rounds acc) where
-  -- after no more rounds than the greatest lane that is summed the lanes can be summed
-  pub lanes_summable : (most : ℕ) → rounds ≤ most → Each1 (λ lane. lane ≤ most) acc
-  lanes_summable most few = Each1-weaker _ _ (λ lane le. omega arith) acc so_far.small
+  -- the same number of chunks, written in another way
+  pub as_many : {at m n : ℕ} {xs : List ℕ} → m ≡ n → AddsUp counted most size from at m xs
+      → AddsUp counted most size from at n xs
+  as_many same lanes = rw same at lanes
 
-  -- so many rounds and lanes of one at most fit below a bound
-  pub lanes_addable : (most : ℕ) (lanes : List ℕ) → rounds < most → Each1 (λ lane. lane ≤ 1) lanes
-      → Each2 (λ a b. a + b ≤ most) acc lanes
-  lanes_addable most lanes room ones = Each2-of _ _ _ (λ a b few few'. omega arith) acc lanes so_far.small ones
+  module _ {at m : ℕ} {xs : List ℕ} (so_far : AddsUp counted most size from at m xs) where
+    -- chunks that count no more than is summed can be summed
+    pub lanes_summable : (limit : ℕ) → m * most ≤ limit → Each1 (λ lane. lane ≤ limit) xs
+    lanes_summable limit few = Each1-weaker _ _ (λ lane le. omega arith) xs so_far.small
 
-  -- one round more
-  pub chunk_added : {lanes summed : List ℕ} → ((j : ℕ) → f j ≤ 1) → HasLanes size (λ j. f (at + j)) lanes
-      → summed ≡ zip2 (λ a b. a + b) acc lanes → AddsUp f size from (at + size) (rounds + 1) summed
-  chunk_added {lanes} one h added = rw added (record {
-    long = grind (arith, so_far.long, h.long, length-zip2 (λ (a b : ℕ). a + b) acc lanes);
-    small = Each1-zip2 (λ a b. a + b) (λ lane. lane ≤ rounds + 1) acc lanes
-        (lanes_addable (rounds + 1) lanes (omega arith) (Each1-lanes (λ lane. lane ≤ 1) h (λ j l. one (at + j))));
-    counted = grind (arith, so_far.counted, so_far.long, h.long, sum_below-chunk f at h, sum-zip2 acc lanes);
-  })
+    module _ {to n : ℕ} {ys : List ℕ} (more : AddsUp counted most size at to n ys) where
+      -- lanes below a bound have room for one another
+      pub lanes_addable : (limit : ℕ) → (m + n) * most ≤ limit → Each2 (λ a b. a + b ≤ limit) xs ys
+      lanes_addable limit room = Each2-of _ _ _ (λ a b few few'. omega arith) xs ys so_far.small more.small
 
--- the bytes that pass a test, 1 each
-abbrev pub Accumulates : (ℕ → Bool) → List ℕ → ℕ → ℕ → ℕ → ℕ → List ℕ → Type 0
-Accumulates test text size from at rounds lanes = AddsUp (λ j. mark test (get_or text j 0)) size from at rounds lanes
+      -- chunks, and then more chunks
+      pub lanes_added : {sums : List ℕ} → sums ≡ zip2 (λ a b. a + b) xs ys
+          → AddsUp counted most size from to (m + n) sums
+      lanes_added added = rw added (record {
+        long = grind (arith, so_far.long, more.long, length-zip2 (λ (a b : ℕ). a + b) xs ys);
+        small = Each1-zip2 (λ a b. a + b) (λ lane. lane ≤ (m + n) * most) xs ys
+            (lanes_addable ((m + n) * most) (omega arith));
+        added = omega (arith, so_far.added, more.added, sum-zip2 xs ys (omega (arith, so_far.long, more.long)));
+      })
 
-module _ (test : ℕ → Bool) (text : List ℕ) {size from at rounds : ℕ} {acc : List ℕ}
-    (so_far : Accumulates test text size from at rounds acc) where
-  -- before the last round of them that fits in a byte there is room for one more
-  pub room_to_add : (loaded : List ℕ) {marks : List ℕ} → rounds < 255 → marks ≡ map (mark test) loaded
-      → Each2 (λ a b. a + b ≤ 255) acc marks
-  room_to_add loaded {marks} room mapped =
-      lanes_addable so_far 255 marks room (rw mapped (lanes_at_most (mark test) 1 (mark-le test) loaded))
+-- the lanes of one chunk, each with what f adds at its place
+pub lanes_of_places : (f : ℕ → ℕ) {most size at : ℕ} {lanes : List ℕ} → ((j : ℕ) → f j ≤ most)
+    → HasLanes size (λ j. f (at + j)) lanes → AddsUp (sum_below f) most size at (at + size) 1 lanes
+lanes_of_places f {most} {size} {at} few h = record {
+  long = h.long;
+  small = Each1-lanes (λ lane. lane ≤ 1 * most) h (λ j l. omega (arith, few (at + j)));
+  added = sum_below-chunk f at h;
+}
 
-  -- one round of them more
-  pub one_round_more : {seen loaded marks summed : List ℕ} → seen ≡ text → at + size ≤ length text
-      → loaded ≡ take size (drop at seen) → marks ≡ map (mark test) loaded → summed ≡ zip2 (λ a b. a + b) acc marks
-      → Accumulates test text size from (at + size) (rounds + 1) summed
-  one_round_more same within taken mapped added = chunk_added so_far (λ j. mark-le test (get_or text j 0))
-      (lanes_loaded (mark test) text at size within (rw same at taken) mapped) added
+-- the lanes of one chunk that was loaded from a text, each with its byte's weight
+pub lanes_of_weights : (weight : ℕ → ℕ) (text : List ℕ) {most size at : ℕ} {loaded lanes : List ℕ} → ((b : ℕ) → weight b ≤ most)
+    → at + size ≤ length text → loaded ≡ take size (drop at text) → lanes ≡ map weight loaded
+    → AddsUp (weight_before weight text) most size at (at + size) 1 lanes
+lanes_of_weights weight text {size = size} {at = at} few within taken mapped =
+    lanes_of_places (λ j. weight (get_or text j 0)) (λ j. few (get_or text j 0))
+    (lanes_loaded weight text at size within taken mapped)

@@ -1,5 +1,5 @@
 -- What leading bytes, chunks and the rest of a text add up to: the bounds of a whole pass.
-use Rattle.std.proofs.Common.{◌≡◌, ℕ, ◌+◌, ◌-◌, ◌*◌, ◌/◌, ◌≤◌, min, arith}
+use Rattle.std.proofs.Common.{◌≡◌, ℕ, ◌+◌, ◌-◌, ◌/◌, ◌≤◌, min, arith}
 use Rattle.std.proofs.lemmas.Nat.{le-div}
 use Rattle.std.proofs.Math.Nat.{div-le_self, div-mul-le_self}
 use Rattle.byte_chunk.specs.ProbeState.{ProbeState}
@@ -21,7 +21,7 @@ module _ {old led chunked new : ProbeState} (size lead n : ℕ) {first at t t' :
 
   -- a pass that looks for a place in n bytes
   pub placing_pass : {s : ℕ} (place : ℕ) → first ≡ min lead n → Reads old led 0 t 0 0
-      → Reads led chunked first 0 ((at - first) / size + 1) 0 → Reads chunked new 0 t' 0 s → at ≤ place
+      → Reads led chunked first 0 ((at - first) / size + 5) 0 → Reads chunked new 0 t' 0 s → at ≤ place
       → t + t' ≤ pass_turns size lead n → s ≤ 3
       → Reads old new (leading_bytes lead n) (pass_turns size lead n) (place / size + 5) 3
   placing_pass place here leads chunks rests before few few' = grind (arith, le-div, div-mul-le_self)
@@ -33,9 +33,3 @@ module _ {old peeked new : ProbeState} (size lead end n : ℕ) (least : 4 ≤ si
       Reads peeked new (leading_bytes lead end) (pass_turns size lead end) (pass_loads size lead end) 0
       → Reads old new (leading_bytes lead n) (pass_turns size lead n) (pass_loads size lead n) 3
   pass_after_peeks pass = grind (arith, le-div, div-mul-le_self, div-le_self 0 size)
-
-  -- the same of two passes
-  pub two_passes_after_peeks :
-      Reads peeked new (leading_bytes lead end) (2 * pass_turns size lead end) (2 * pass_loads size lead end) 0
-      → Reads old new (leading_bytes lead n) (2 * pass_turns size lead n) (2 * pass_loads size lead n) 3
-  two_passes_after_peeks pass = grind (arith, le-div, div-mul-le_self, div-le_self 0 size)

@@ -4,9 +4,10 @@ use Rattle.std.proofs.lemmas.Bool.{cases_lt}
 use Rattle.str_indices.specs.Text.{size, cut}
 use Rattle.str_indices.specs.Schemes.{count, ends, ends_up_to, from_byte_idx, to_byte_idx, Chars}
 use Rattle.str_indices.specs.Relations.{IsBoundary}
-use Rattle.str_indices.specs.Bytes.{mark, passing_before, is_trailing, is_leading}
+use Rattle.str_indices.specs.Bytes.{mark, passing_before, is_leading}
 use Rattle.std.proofs.Math.Utf8.{encodes}
-use Rattle.str_indices.proofs.lemmas.bytes.Sums.{mark-le, passing_bounds, sum_below-le-sum_below, passing_or_not}
+use Rattle.str_indices.proofs.lemmas.bytes.Sums.{passing_fits, sum_below-le-sum_below, passing_or_not}
+use Rattle.str_indices.specs.TraitLaws.{mark-le}
 use Rattle.str_indices.proofs.lemmas.texts.Increasing.{member_adjunction, select-rank-le}
 use Rattle.str_indices.proofs.lemmas.texts.Ends.{count_characters, cut-cut, end_count-cut}
 use Rattle.str_indices.proofs.lemmas.bytes.Characters.{first_byte, is_trailing_later}
@@ -14,13 +15,6 @@ use Rattle.str_indices.proofs.lemmas.bytes.Walks.{bytes_to_boundary, size-chars}
 use Rattle.str_indices.proofs.lemmas.texts.EndSets.{ends_increase_within, end_at_reached, zero_or_end}
 use Rattle.str_indices.proofs.lemmas.bytes.BoundaryBytes.{begins_boundary, leading_among_four}
 use Rattle.str_indices.proofs.lemmas.passes.Passes.{pass_after_peeks}
-
--- a chunk has as many leading bytes as its trailing bytes leave
-pub leading_in_chunk : (text : List ℕ) (at size added : ℕ)
-    → passing_before is_trailing text (at + size) ≡ passing_before is_trailing text at + added
-    → passing_before is_leading text (at + size) + added ≡ passing_before is_leading text at + size
-leading_in_chunk text at size added counted =
-    omega (arith, passing_or_not is_trailing text at, passing_or_not is_trailing text (at + size))
 
 -- what is counted grows by at least one at each leading byte
 abbrev pub CountsLeading : (List ℕ → ℕ → ℕ) → Type 0
@@ -57,11 +51,6 @@ module _ (bytes : List ℕ) (utf8 : IsUtf8 bytes) where
       (record { first = λ c cs s t. rw (first_byte c (encodes cs) s); later = λ b _ _ t. rw (is_trailing_later b t) })
       bytes utf8 end b ∙ sym (count_characters (cut (chars bytes) end))
 
-  -- the bytes before a boundary are the characters of the cut text and the trailing bytes
-  pub characters_and_trailing : (end : ℕ) → IsBoundary (chars bytes) end
-      → count Chars (cut (chars bytes) end) + passing_before is_trailing bytes end ≡ end
-  characters_and_trailing end b = omega (arith, leading_at_boundary end b, passing_or_not is_trailing bytes end)
-
   -- where a walk stops at or before the end of the text, it is where the k-th character ends
   pub char_reached : (at k : ℕ) → at ≤ length bytes → passing_before is_leading bytes at ≤ k
       → (at < length bytes → k < passing_before is_leading bytes (at + 1)) → at ≡ to_byte_idx Chars (chars bytes) k
@@ -88,4 +77,4 @@ module _ (bytes : List ℕ) (utf8 : IsUtf8 bytes) where
 pub ruleset chars_up_to = (chars_of_byte, pass_after_peeks)
 
 -- the bytes before a boundary, as the search takes them
-pub ruleset bytes_at_boundary = (characters_and_trailing, passing_bounds)
+pub ruleset bytes_at_boundary = (leading_at_boundary, passing_fits)

@@ -7,12 +7,15 @@ use Rattle.std.proofs.lemmas.Bool.Decides.{nat_tests}
 use Rattle.str_indices.specs.Text.{size, cut}
 use Rattle.str_indices.specs.Schemes.{Crlf, break_characters, count, from_byte_idx, to_byte_idx, ends}
 use Rattle.str_indices.specs.Bytes.{sum_below, flag, mark, is_line_feed, is_carriage_return, byte_before, starts_break, break_start, breaks_before, is_middle}
+use Rattle.str_indices.specs.Lanes.{FitsIn}
+use Rattle.str_indices.proofs.lemmas.passes.Passes.{counting_pass}
 use Rattle.str_indices.proofs.lemmas.texts.Cuts.{cut_at_least}
 use Rattle.str_indices.proofs.lemmas.texts.Increasing.{rank-le-rank}
 use Rattle.str_indices.proofs.lemmas.texts.Ends.{end_weight}
 use Rattle.str_indices.proofs.lemmas.texts.Seams.{crlf_has_return}
 use Rattle.str_indices.proofs.lemmas.texts.EndSets.{end_at_reached}
-use Rattle.str_indices.proofs.lemmas.bytes.Sums.{sum_below-le, mark-le}
+use Rattle.str_indices.proofs.lemmas.bytes.Sums.{sum_below-le}
+use Rattle.str_indices.specs.TraitLaws.{mark-le}
 use Rattle.str_indices.proofs.lemmas.bytes.Characters.{by_width}
 use Rattle.str_indices.proofs.lemmas.bytes.Walks.{AddsAtFirst, counted_at, size-chars}
 use Rattle.str_indices.proofs.lemmas.bytes.BoundaryBytes.{still_behind_cut}
@@ -110,3 +113,10 @@ break_walked text i byte added follows is carried counted = rw (add-one, counted
 pub return_walked : (text : List ℕ) (i byte : ℕ) → byte ≡ get_or text i 0
     → is_carriage_return byte ≡ is_carriage_return (byte_before text (i + 1))
 return_walked text i byte is = rw (is, add-one)
+
+-- so before no place of a text more start than it has bytes, as code asks for it
+pub starts_fit : (bytes : List ℕ) → FitsIn (breaks_before bytes) (length bytes)
+starts_fit bytes place within = omega (arith, starts_bound bytes place)
+
+-- what a pass of chunks asks, and what it reads, as the search takes it
+pub ruleset starts_in_parts = (starts_fit, counting_pass)

@@ -9,11 +9,13 @@ use Rattle.str_indices.specs.Schemes.{Lines, break_characters, count, from_byte_
 use Rattle.str_indices.specs.Breaks.{is_break, break_at, breaks_counted_before}
 use Rattle.str_indices.specs.Relations.{IsBoundary}
 use Rattle.str_indices.specs.Bytes.{flag, is_middle}
+use Rattle.str_indices.specs.Lanes.{FitsIn}
 use Rattle.str_indices.proofs.lemmas.texts.Cuts.{cut_is}
 use Rattle.str_indices.proofs.lemmas.texts.Ends.{end_weight, end_count_total, cut-cut}
 use Rattle.str_indices.proofs.lemmas.texts.Seams.{lines_has_return}
 use Rattle.str_indices.proofs.lemmas.texts.EndSets.{end_at_reached}
-use Rattle.str_indices.proofs.lemmas.bytes.Sums.{flag-le, sum_below-le, sum_below-le-sum_below}
+use Rattle.str_indices.proofs.lemmas.bytes.Sums.{sum_below-le, sum_below-le-sum_below}
+use Rattle.str_indices.specs.TraitLaws.{flag-le}
 use Rattle.str_indices.proofs.lemmas.bytes.Characters.{by_size}
 use Rattle.str_indices.proofs.lemmas.bytes.Walks.{AddsAtFirst, size-chars, size-cut, walk_to_boundary}
 use Rattle.str_indices.proofs.lemmas.bytes.BoundaryBytes.{boundary_of_cut, cut_boundary, wide_behind_cut}
@@ -78,11 +80,15 @@ module _ (bytes : List ℕ) (utf8 : IsUtf8 bytes) where
 -- the byte before or at which a text is cut, as the search takes it
 pub ruleset lines_up_to = (boundary_of_cut, line_of_byte)
 
--- the breaks before a boundary, and a pass over them, as the search takes it
-pub ruleset breaks_in_parts = (breaks_in_cut, counting_pass)
+-- before no place are more counted than there are bytes, as code asks for it
+pub breaks_fit : (bytes : List ℕ) (n : ℕ) → FitsIn (breaks_counted_before bytes) n
+breaks_fit bytes n place within = omega (arith, breaks_counted_before-le bytes place)
 
 -- no more breaks are counted than bytes, as the search takes it
-pub ruleset breaks_bound = (breaks_counted_before-le)
+pub ruleset breaks_bound = (breaks_counted_before-le, breaks_fit)
 
 -- where a boundary stands between CR and LF, for the search
 pub ruleset parted = (moved_is_whole, lt-leb)
+
+-- the breaks before a boundary, and a pass over them, as the search takes it
+pub ruleset breaks_in_parts = (breaks_in_cut, breaks_fit, counting_pass)

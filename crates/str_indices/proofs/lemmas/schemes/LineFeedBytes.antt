@@ -6,6 +6,7 @@ use Rattle.std.proofs.lemmas.Bool.{and_from}
 use Rattle.str_indices.specs.Text.{cut}
 use Rattle.str_indices.specs.Bytes.{flag, passing_before, is_line_feed}
 use Rattle.str_indices.specs.Schemes.{Lf, count, from_byte_idx, to_byte_idx}
+use Rattle.str_indices.proofs.lemmas.bytes.Sums.{passing_fits}
 use Rattle.str_indices.proofs.lemmas.texts.Cuts.{cut_at_least}
 use Rattle.str_indices.proofs.lemmas.texts.Ends.{end_weight-Lf, end_count-cut}
 use Rattle.str_indices.proofs.lemmas.texts.EndSets.{end_at_reached}
@@ -47,3 +48,6 @@ module _ (bytes : List ℕ) (utf8 : IsUtf8 bytes) where
   line_of_byte byte end here =
       ap (count Lf) (cut_at_least (chars bytes) byte end (omega (arith, size-chars bytes utf8)))
       ∙ breaks_of_cut (chars bytes) byte
+
+-- the line feeds before a place, as the search takes them
+pub ruleset line_feeds_at_end = (line_feeds_before, passing_fits)

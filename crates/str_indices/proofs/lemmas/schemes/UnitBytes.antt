@@ -11,16 +11,18 @@ use Rattle.std.proofs.lemmas.Bool.Decides.{nat_tests}
 use Rattle.str_indices.specs.Text.{size, cut, weight}
 use Rattle.str_indices.specs.Schemes.{count, from_byte_idx, Chars, Utf16, surrogates, boundary_at_units}
 use Rattle.str_indices.specs.Relations.{IsBoundary}
-use Rattle.str_indices.specs.Bytes.{flag, mark, passing_before, is_trailing, is_leading, begins_four_bytes, units_before, byte_before}
+use Rattle.str_indices.specs.Bytes.{flag, mark, passing_before, is_trailing, is_leading, begins_four_bytes, units_begun, units_before, byte_before}
+use Rattle.str_indices.specs.Lanes.{FitsIn}
 use Rattle.str_indices.proofs.lemmas.texts.Sizes.{size-append, boundary_beside}
 use Rattle.str_indices.proofs.lemmas.texts.Units.{units_at, boundary_at_units_is_greatest, count-units, count-characters-surrogates, weight-le}
 use Rattle.str_indices.proofs.lemmas.texts.Ends.{cut-cut}
-use Rattle.str_indices.proofs.lemmas.bytes.Sums.{sum_below-le-sum_below, sum_below-still, mark-le, passing_or_not, passing_before-between}
+use Rattle.str_indices.proofs.lemmas.bytes.Sums.{sum_below-le-sum_below, sum_below-still, passing_fits}
+use Rattle.str_indices.specs.TraitLaws.{mark-le}
 use Rattle.str_indices.proofs.lemmas.bytes.Characters.{by_size}
 use Rattle.str_indices.proofs.lemmas.bytes.Walks.{bytes_to_boundary, boundary_at_end, size-chars}
 use Rattle.str_indices.proofs.lemmas.bytes.BoundaryBytes.{begins_at, begins_boundary}
 use Rattle.str_indices.proofs.lemmas.schemes.CharBytes.{CountsLeading, leading_at_boundary}
-use Rattle.str_indices.proofs.lemmas.passes.Passes.{two_passes_after_peeks}
+use Rattle.str_indices.proofs.lemmas.passes.Passes.{pass_after_peeks}
 
 -- the mask of a first byte of four, as a range
 four_range : (b : ℕ) → b < 256 → begins_four_bytes b ≡ nat_le 240 b
@@ -49,25 +51,21 @@ units_of_cut cs end = count-characters-surrogates (cut cs end)
 pub count-le-size : (cs : List ℕ) → count Utf16 cs ≤ size cs
 count-le-size cs = omega (arith, count-units cs, sum_by-le-sum_by weight len_utf8 cs weight-le)
 
--- what the trailing bytes and the first bytes of four between two places leave and add
-pub units_between : (bytes : List ℕ) (from at trailing fours count : ℕ) → from ≤ at → count ≡ units_before bytes from
-    → passing_before is_trailing bytes at ≡ passing_before is_trailing bytes from + trailing
-    → passing_before begins_four_bytes bytes at ≡ passing_before begins_four_bytes bytes from + fours
-    → count + (at - from - trailing) + fours ≡ units_before bytes at
-units_between bytes from at trailing fours count le counted in_trailing in_fours =
-    let few = passing_before-between is_trailing bytes from at le in
-    omega (arith, passing_or_not is_trailing bytes from, passing_or_not is_trailing bytes at)
+-- the units are the bytes that begin a character, and those that begin four bytes once more
+units_are : (bytes : List ℕ) (n : ℕ)
+    → units_before bytes n ≡ passing_before is_leading bytes n + passing_before begins_four_bytes bytes n
+units_are bytes zero = refl
+units_are bytes (suc n) = omega (arith, units_are bytes n)
 
 -- units grow by at least one at each leading byte
 pub units_count_leading : CountsLeading units_before
 units_count_leading bytes m n le =
-    omega (arith, sum_below-le-sum_below (λ j. mark begins_four_bytes (get_or bytes j 0)) m n le)
+    let fours = sum_below-le-sum_below (λ j. mark begins_four_bytes (get_or bytes j 0)) m n le in
+    omega (arith, units_are bytes m, units_are bytes n, fours)
 
 -- more bytes show no fewer units
 units_before-le-units_before : (bytes : List ℕ) (m n : ℕ) → m ≤ n → units_before bytes m ≤ units_before bytes n
-units_before-le-units_before bytes m n le =
-    let grown = units_count_leading bytes m n le in
-    omega (arith, sum_below-le-sum_below (λ j. mark is_leading (get_or bytes j 0)) m n le)
+units_before-le-units_before bytes m n le = sum_below-le-sum_below (λ j. units_begun (get_or bytes j 0)) m n le
 
 -- one byte more
 pub units_before-next : (bytes : List ℕ) (i : ℕ) → units_before bytes (i + 1)
@@ -115,7 +113,13 @@ module _ (bytes : List ℕ) (utf8 : IsUtf8 bytes) where
   units_at_boundary p b =
       let units = units_at (chars bytes) p b in
       let pairs = pairs_at_boundary p b in
-      omega (arith, count-units (cut (chars bytes) p), units_of_cut (chars bytes) p, leading_at_boundary bytes utf8 p b)
+      omega (arith, units_are bytes p, count-units (cut (chars bytes) p), units_of_cut (chars bytes) p,
+          leading_at_boundary bytes utf8 p b)
+
+  -- and those of the text that is cut there
+  pub units_in_cut : (p : ℕ) → IsBoundary (chars bytes) p → units_before bytes p ≡ count Utf16 (cut (chars bytes) p)
+  units_in_cut p b = omega (arith, units_are bytes p, units_of_cut (chars bytes) p, pairs_at_boundary p b,
+      leading_at_boundary bytes utf8 p b)
 
   -- no place in a text has more units before it than the text has bytes
   pub units_before-le : (i : ℕ) → i ≤ length bytes → units_before bytes i ≤ length bytes
@@ -124,6 +128,10 @@ module _ (bytes : List ℕ) (utf8 : IsUtf8 bytes) where
       let fits = sum_by-le-sum_by weight len_utf8 b.front weight-le in
       let more = units_before-le-units_before bytes i (length bytes) within in
       omega (arith, b.place, units_at_boundary (length bytes) b)
+
+  -- the same, as code asks for it
+  pub units_fit : FitsIn (units_before bytes) (length bytes)
+  units_fit = units_before-le
 
   -- behind a byte that begins four stands no leading byte
   leads_or_behind_four : (n : ℕ) → n < length bytes
@@ -166,4 +174,13 @@ module _ (bytes : List ℕ) (utf8 : IsUtf8 bytes) where
       grind (arith, stopped, units_before-le-units_before bytes (at + 1) p)
 
 -- the text that is cut at the boundary at or before a byte, and a pass behind the peeks to it, for the search
-pub ruleset units_up_to = (units_of_byte, two_passes_after_peeks)
+pub ruleset units_up_to = (units_of_byte, pass_after_peeks)
+
+-- the units before a boundary, as the search takes them
+pub ruleset units_at_end = (units_in_cut, units_fit)
+
+-- the first bytes of four before a boundary, as the search takes them
+pub ruleset pairs_at_end = (pairs_before_last_three, passing_fits)
+
+-- how the units grow, as the search takes it
+pub ruleset units_bounds = (units_fit, units_before-more)

@@ -1,9 +1,11 @@
-use Rattle.std.proofs.Common.{◌≡◌, length, inl, inr, arith, ap, ◌∙◌}
+use Rattle.std.proofs.Common.{◌≡◌, ◌+◌, ◌-◌, ◌/◌, length, inl, inr, arith, ap, ◌∙◌}
 use Rattle.std.proofs.lemmas.Bool.{cases_lt}
 use Rattle.std.proofs.lemmas.List.{take_all}
+use Rattle.str_indices.specs.Reads.{Reads}
 use Rattle.str_indices.specs.Breaks.{break_at, breaks_counted_before}
 use Rattle.str_indices.proofs.lemmas.schemes.LineBytes.{line_begins}
-use Rattle.str_indices.proofs.lemmas.passes.Costs.{then_}
+use Rattle.str_indices.proofs.lemmas.passes.Costs.{then_, weaken}
+use Rattle.std.proofs.Math.Nat.{one-mul}
 use Rattle.str_indices.proofs.lemmas.passes.Passes.{placing_pass}
 use Rattle.str_indices.proofs.lemmas.passes.Places.{first_of_all, place_is_near}
 use Rattle.str_indices.proofs.lines.to_byte_idx_impl.Goals as goal
@@ -25,14 +27,14 @@ returns-then-led-idx-clause-answer g c =
 pub returns-clause-answer : goal.returns-clause-answer
 returns-clause-answer g c =
     let text = c.args.probe.now.text in
-    let chunks = c.skip_chunks-chunked.ensures in
+    let chunks = c.skip_chunks.ensures in
     let rest = c.count_breaks_up_to-reached.ensures in
     let found = c.boundary_at_or_after-2.ensures in
     let same_led = c.count_breaks_up_to-led.ensures.reads.text_kept in
     let same_chunked = chunks.reads.text_kept ∙ same_led in
     let same = rest.reads.text_kept ∙ same_chunked in
     let whole = take_all c.len-len.result text (omega (arith, c.len-len.ensures.len)) in
-    let skipped = rw same_led at chunks.counted in
+    let skipped = rw (same_led, take_all (length text) text (omega arith)) at chunks.counted in
     let counted = rw (same_chunked, whole) at rest.counted in
     let first = rw (same_chunked, whole) at rest.first in
     let answer = line_begins text c.len-len.ensures.utf8 c.args.idx _ _ found.reached.0
@@ -46,7 +48,7 @@ returns-clause-pass g c =
     let text = c.args.probe.now.text in
     let size = g.T.ByteChunk.SIZE in
     let led = c.count_breaks_up_to-led in
-    let chunks = c.skip_chunks-chunked in
+    let chunks = c.skip_chunks in
     let rest = c.count_breaks_up_to-reached.ensures in
     let found = c.boundary_at_or_after-2 in
     let same_led = led.ensures.reads.text_kept in
@@ -57,8 +59,11 @@ returns-clause-pass g c =
       | inl stopped ↦ absurd (c.if-led-idx.false (led.ensures.stopped stopped))
       | inr reached ↦ omega (arith, led.ensures.reached.1)
     ] in
-    let near = place_is_near (breaks_counted_before text) (length text) chunks.result.byte size _ _
-    (rw same_led at chunks.ensures.stopped) (omega (arith, rest.reached.1, c.len-len.ensures.len)) first in
+    let near = place_is_near (breaks_counted_before text) (length text) chunks.result.at.byte size _ _
+    (rw (same_led, take_all (length text) text (omega arith), one-mul size) at chunks.ensures.stopped) (omega (arith, rest.reached.1, c.len-len.ensures.len)) first in
+    let loads : Reads led.new.probe chunks.new.probe led.result.byte 0
+        ((chunks.result.at.byte - led.result.byte) / size + 5) 0 =
+    weaken chunks.ensures.reads (omega arith) (omega arith) (omega arith) (omega arith) in
     placing_pass size c.args.lead _ g.met.T.ByteChunk.lawful.least found.result (omega (arith, all_led))
-    led.ensures.reads chunks.ensures.reads (then_ rest.reads found.ensures.reads)
+    led.ensures.reads loads (then_ rest.reads found.ensures.reads)
     (omega (arith, rest.reached.0, found.ensures.reached.0)) (omega (arith, near)) (omega arith)

@@ -1,8 +1,9 @@
 use Rattle.std.proofs.Common.{◌<◌, ◌+◌, arith, ◌∙◌}
+use Rattle.std.proofs.Math.Nat.{one-mul}
 use Rattle.str_indices.specs.Bytes.{units_before}
 use Rattle.str_indices.proofs.lemmas.schemes.CharBytes.{end_is_near}
 use Rattle.str_indices.proofs.lemmas.schemes.UnitBytes.{unit_reached, units_count_leading}
-use Rattle.str_indices.proofs.lemmas.passes.Costs.{chunks_and_one_more}
+use Rattle.str_indices.proofs.lemmas.passes.Costs.{loads_to_place}
 use Rattle.str_indices.proofs.lemmas.passes.Passes.{placing_pass}
 use Rattle.str_indices.proofs.utf16.to_byte_idx_impl.Goals as goal
 
@@ -18,7 +19,7 @@ returns-then-led-first_chunk-clause-answer g c =
 pub returns-clause-answer : goal.returns-clause-answer
 returns-clause-answer g c =
     let rest = c.walk_to_unit in
-    let same = c.skip_chunks-chunked.ensures.reads.text_kept ∙ c.skip_rounds-in_rounds.ensures.reads.text_kept
+    let same = c.skip_chunks.ensures.reads.text_kept ∙ c.skip_surely-surely.ensures.reads.text_kept
     ∙ c.walk_to_unit-led.ensures.reads.text_kept in
     let counted = rw same at rest.ensures.counted in
     let stopped = rw same at rest.ensures.stopped in
@@ -35,16 +36,16 @@ returns-clause-pass g c =
     let size = g.T.ByteChunk.SIZE in
     let least = g.met.T.ByteChunk.lawful.least in
     let led = c.walk_to_unit-led in
-    let rounds = c.skip_rounds-in_rounds in
-    let chunks = c.skip_chunks-chunked in
+    let surely = c.skip_surely-surely in
+    let chunks = c.skip_chunks in
     let rest = c.walk_to_unit in
-    let same = rounds.ensures.reads.text_kept ∙ led.ensures.reads.text_kept in
+    let same = surely.ensures.reads.text_kept ∙ led.ensures.reads.text_kept in
     let counted = rw (chunks.ensures.reads.text_kept ∙ same) at rest.ensures.counted in
-    let stopped = rw same at chunks.ensures.stopped in
-    let near : rest.result.byte < chunks.result.byte + size + 4 =
-    end_is_near units_before units_count_leading text c.len-len.ensures.utf8 chunks.result.byte size c.args.idx
+    let stopped = rw (same, one-mul size) at chunks.ensures.stopped in
+    let near : rest.result.byte < chunks.result.at.byte + size + 4 =
+    end_is_near units_before units_count_leading text c.len-len.ensures.utf8 chunks.result.at.byte size c.args.idx
     rest.result.byte stopped (omega (arith, rest.ensures.reached.1)) (omega (arith, rest.ensures.at_most)) in
-    let loads = chunks_and_one_more least rounds.ensures.reached.0 chunks.ensures.reached.0 rounds.ensures.reads
-    chunks.ensures.reads in
+    let loads = loads_to_place least surely.ensures.reached.0 chunks.ensures.reached.0 surely.ensures.reads
+    chunks.ensures.reads (omega arith) (omega arith) in
     placing_pass size c.args.lead _ least rest.result.byte (omega (arith, led.ensures.reached.1))
     led.ensures.reads loads rest.ensures.reads rest.ensures.reached.0 (omega arith) (omega arith)

@@ -1,0 +1,31 @@
+use Rattle.std.proofs.Common.{◌+◌, ◌*◌, arith, inr}
+use Rattle.str_indices.proofs.lemmas.passes.Costs.{group_joined}
+use Rattle.str_indices.proofs.chunk_counts.skip_chunks.Goals as goal
+
+pub overflow_add-count : goal.overflow_add-count
+overflow_add-count g c =
+    let so_far = c.groups.invariant in
+    let lanes = rw (so_far.reads.text_kept, c.len-len.ensures.len) at c.add_chunks-group.ensures.lanes in
+    let here = rw c.SIZE-size.ensures at c.groups-test.true in
+    omega (
+      arith,
+      so_far.counted,
+      lanes.added,
+      c.sum_bytes.ensures,
+      c.requires.fits (c.groups.at.byte + g.row.GROUP * g.T.ByteChunk.SIZE) (omega (arith, here)),
+    )
+
+pub groups-preserved : goal.groups-preserved
+groups-preserved g c =
+    let so_far = c.groups.invariant in
+    let group = c.add_chunks-group.ensures in
+    let lanes = rw (so_far.reads.text_kept, c.len-len.ensures.len) at group.lanes in
+    let here = rw c.SIZE-size.ensures at c.groups-test.true in
+    rw c.SIZE-size.ensures (record {
+      from_low = omega (arith, so_far.from_low);
+      to_high = omega (arith, here);
+      counted = omega (arith, so_far.counted, lanes.added, c.sum_bytes.ensures);
+      below = inr (omega arith);
+      carried = rw so_far.reads.text_kept at group.carried;
+      reads = group_joined g.met.T.ByteChunk.lawful.least so_far.from_low so_far.reads group.reads;
+    })

@@ -1,0 +1,247 @@
+//! Counts over the whole chunks of a text, whatever is counted in their lanes.
+ghost use Rattle.std.specs.Prelude.{◌≡◌, ℕ, ◌+◌, ◌-◌, ◌*◌, ◌/◌, ◌<◌, ◌≤◌, ◌⊎◌, List, length};
+ghost use Rattle.str_indices.specs.Lanes.{AddsUp, FitsIn};
+ghost use Rattle.str_indices.specs.Reads.{Reads};
+
+use crate::places::Position;
+use byte_chunk::{ByteChunk, Probe};
+
+/// What is counted in the lanes of a chunk.
+pub(crate) trait LaneCounts<T: ByteChunk> {
+    /// What a chunk hands on to the chunk behind it.
+    type Carry: Copy;
+
+    ghost MOST: { ℕ };
+
+    ghost counted_before: { ℕ → List ℕ → ℕ → ℕ };
+
+    ghost carries: { List ℕ → ℕ → Self.Carry → Type 0 };
+
+    /// The most that is counted in one lane.
+    const MOST: usize;
+
+    /// Counts in each lane of the chunk at `at`, for one load and the peeks that it pays.
+    ///
+    /// Of the text the bytes before `end` are seen. `carry` is what the chunk before hands on.
+    fn count_lanes(
+        probe: &mut Probe<'_, T>,
+        at: usize,
+        end: usize,
+        carry: Self::Carry,
+    ) -> CountedLanes<T, Self::Carry>
+        requires seen { at + T.SIZE ≤ end }
+        requires within { end ≤ length probe.old.text }
+        requires carried { carries probe.old.text at carry }
+        ensures lanes { AddsUp (counted_before end probe.old.text) MOST T.SIZE at (at + T.SIZE) 1 (T.lanes result.lanes) }
+        ensures carried { carries probe.old.text (at + T.SIZE) result.carry }
+        ensures reads { Reads probe.old probe.new at 0 1 0 };
+
+    ghost few: { (0 < MOST) × (MOST ≤ 2) };
+}
+
+/// The lanes in which was counted, and what is handed on.
+#[derive(Clone, Copy)]
+pub(crate) struct CountedLanes<T, C> {
+    pub(crate) lanes: T,
+    pub(crate) carry: C,
+}
+
+/// The position that was reached, and what is handed on there.
+#[derive(Clone, Copy)]
+pub(crate) struct Reached<C> {
+    pub(crate) at: Position,
+    pub(crate) carry: C,
+}
+
+/// Counts in the whole chunks from a position on that end at or before `end`.
+pub(crate) fn count_chunks<C: LaneCounts<T>, T: ByteChunk, const GROUP: usize>(
+    probe: &mut Probe<'_, T>,
+    from: Position,
+    end: usize,
+    mut carry: C::Carry,
+) -> Reached<C::Carry>
+    requires some { 0 < GROUP }
+    requires ordered { from.byte ≤ end }
+    requires within { end ≤ length probe.old.text }
+    requires fits { FitsIn (C.counted_before end probe.old.text) (length probe.old.text) }
+    requires counted { from.count ≡ C.counted_before end probe.old.text from.byte }
+    requires carried { C.carries probe.old.text from.byte carry }
+    ensures reached { (from.byte ≤ result.at.byte) × (result.at.byte ≤ end) × (end < result.at.byte + T.SIZE) }
+    ensures counted { result.at.count ≡ C.counted_before end probe.old.text result.at.byte }
+    ensures carried { C.carries probe.old.text result.at.byte result.carry }
+    ensures reads { Reads probe.old probe.new from.byte 0 ((result.at.byte - from.byte) / T.SIZE) 0 }
+{
+    let mut at = from;
+    'rounds: while T::SIZE <= end - at.byte {
+        let round = count_round::<C, T, GROUP>(probe, at, end, carry);
+        at = round.at;
+        carry = round.carry;
+    }
+    Reached { at, carry }
+}
+
+/// Counts in at most so many of these chunks that their lanes can be added and summed once.
+fn count_round<C: LaneCounts<T>, T: ByteChunk, const GROUP: usize>(
+    probe: &mut Probe<'_, T>,
+    from: Position,
+    end: usize,
+    carry: C::Carry,
+) -> Reached<C::Carry>
+    requires some { 0 < GROUP }
+    requires room { from.byte + T.SIZE ≤ end }
+    requires within { end ≤ length probe.old.text }
+    requires fits { FitsIn (C.counted_before end probe.old.text) (length probe.old.text) }
+    requires counted { from.count ≡ C.counted_before end probe.old.text from.byte }
+    requires carried { C.carries probe.old.text from.byte carry }
+    ensures reached { (from.byte < result.at.byte) × (result.at.byte ≤ end) }
+    ensures counted { result.at.count ≡ C.counted_before end probe.old.text result.at.byte }
+    ensures carried { C.carries probe.old.text result.at.byte result.carry }
+    ensures reads { Reads probe.old probe.new from.byte 0 ((result.at.byte - from.byte) / T.SIZE) 0 }
+{
+    prove!(end <= probe.len());
+    let chunks = chunks_of_round::<C, T, GROUP>(end - from.byte);
+    let added = add_in_groups::<C, T, GROUP>(probe, from.byte, chunks, end, carry);
+    Reached {
+        at: Position {
+            byte: from.byte + chunks * T::SIZE,
+            count: from.count + added.lanes.sum_bytes(),
+        },
+        carry: added.carry,
+    }
+}
+
+/// How many chunks are added in a round, where so many bytes are left: so few that what they count in a lane can be
+/// summed, and groups as a whole while there are enough.
+fn chunks_of_round<C: LaneCounts<T>, T: ByteChunk, const GROUP: usize>(left: usize) -> usize
+    requires some { 0 < GROUP }
+    requires room { T.SIZE ≤ left }
+    ensures some { 0 < result }
+    ensures within { result * T.SIZE ≤ left }
+    ensures summable { result * C.MOST ≤ T.MAX_ACC }
+{
+    let most = (T::MAX_ACC / C::MOST / GROUP * GROUP).max(1);
+    (left / T::SIZE).min(most)
+}
+
+/// Skips groups of `GROUP` chunks from a position on, while fewer than the index are counted before their end.
+pub(crate) fn skip_chunks<C: LaneCounts<T>, T: ByteChunk, const GROUP: usize>(
+    probe: &mut Probe<'_, T>,
+    from: Position,
+    idx: usize,
+    mut carry: C::Carry,
+) -> Reached<C::Carry>
+    requires some { 0 < GROUP }
+    requires room { GROUP * C.MOST ≤ 4 }
+    requires within { from.byte ≤ length probe.old.text }
+    requires fits { let n = length probe.old.text in FitsIn (C.counted_before n probe.old.text) n }
+    requires counted { from.count ≡ C.counted_before (length probe.old.text) probe.old.text from.byte }
+    requires carried { C.carries probe.old.text from.byte carry }
+    ensures reached { (from.byte ≤ result.at.byte) × (result.at.byte ≤ length probe.old.text) }
+    ensures counted { result.at.count ≡ C.counted_before (length probe.old.text) probe.old.text result.at.byte }
+    ensures below { (result.at.count ≡ from.count) ⊎ (result.at.count < idx) }
+    ensures carried { C.carries probe.old.text result.at.byte result.carry }
+    ensures stopped { (length probe.old.text < result.at.byte + GROUP * T.SIZE)
+        ⊎ (idx ≤ C.counted_before (length probe.old.text) probe.old.text (result.at.byte + GROUP * T.SIZE)) }
+    ensures reads { Reads probe.old probe.new from.byte 0 ((result.at.byte - from.byte) / T.SIZE + GROUP) 0 }
+{
+    let len = probe.len();
+    let size = GROUP * T::SIZE;
+    let mut at = from;
+    'groups: while size <= len - at.byte {
+        let group = add_chunks::<C, T>(probe, at.byte, GROUP, len, carry);
+        let count = at.count + group.lanes.sum_bytes();
+        if count >= idx {
+            break;
+        }
+        at = Position {
+            byte: at.byte + size,
+            count,
+        };
+        carry = group.carry;
+    }
+    Reached { at, carry }
+}
+
+/// Adds what is counted in the lanes of so many chunks: of groups of `GROUP`, and then of what is left one at a time.
+fn add_in_groups<C: LaneCounts<T>, T: ByteChunk, const GROUP: usize>(
+    probe: &mut Probe<'_, T>,
+    from: usize,
+    chunks: usize,
+    end: usize,
+    carry: C::Carry,
+) -> CountedLanes<T, C::Carry>
+    requires some { 0 < GROUP }
+    requires room { chunks * C.MOST ≤ 255 }
+    requires seen { from + chunks * T.SIZE ≤ end }
+    requires within { end ≤ length probe.old.text }
+    requires carried { C.carries probe.old.text from carry }
+    ensures lanes { AddsUp (C.counted_before end probe.old.text) C.MOST T.SIZE from (from + chunks * T.SIZE) chunks
+        (T.lanes result.lanes) }
+    ensures carried { C.carries probe.old.text (from + chunks * T.SIZE) result.carry }
+    ensures reads { Reads probe.old probe.new from 0 chunks 0 }
+{
+    let groups = chunks / GROUP;
+    let grouped = add_groups::<C, T, GROUP>(probe, from, groups, end, carry);
+    let behind = from + groups * GROUP * T::SIZE;
+    let single = add_chunks::<C, T>(probe, behind, chunks % GROUP, end, grouped.carry);
+    CountedLanes {
+        lanes: grouped.lanes.add(single.lanes),
+        carry: single.carry,
+    }
+}
+
+/// Adds what is counted in the lanes of so many groups of `GROUP` chunks.
+fn add_groups<C: LaneCounts<T>, T: ByteChunk, const GROUP: usize>(
+    probe: &mut Probe<'_, T>,
+    from: usize,
+    groups: usize,
+    end: usize,
+    mut carry: C::Carry,
+) -> CountedLanes<T, C::Carry>
+    requires room { groups * GROUP * C.MOST ≤ 255 }
+    requires seen { from + groups * GROUP * T.SIZE ≤ end }
+    requires within { end ≤ length probe.old.text }
+    requires carried { C.carries probe.old.text from carry }
+    ensures lanes { AddsUp (C.counted_before end probe.old.text) C.MOST T.SIZE from (from + groups * GROUP * T.SIZE)
+        (groups * GROUP) (T.lanes result.lanes) }
+    ensures carried { C.carries probe.old.text (from + groups * GROUP * T.SIZE) result.carry }
+    ensures reads { Reads probe.old probe.new from 0 (groups * GROUP) 0 }
+{
+    let mut lanes = T::zero();
+    let mut at = from;
+    'groups: for _ in 0..groups {
+        let group = add_chunks::<C, T>(probe, at, GROUP, end, carry);
+        lanes = lanes.add(group.lanes);
+        carry = group.carry;
+        at += GROUP * T::SIZE;
+    }
+    CountedLanes { lanes, carry }
+}
+
+/// Adds what is counted in the lanes of so many chunks.
+fn add_chunks<C: LaneCounts<T>, T: ByteChunk>(
+    probe: &mut Probe<'_, T>,
+    from: usize,
+    chunks: usize,
+    end: usize,
+    mut carry: C::Carry,
+) -> CountedLanes<T, C::Carry>
+    requires room { chunks * C.MOST ≤ 255 }
+    requires seen { from + chunks * T.SIZE ≤ end }
+    requires within { end ≤ length probe.old.text }
+    requires carried { C.carries probe.old.text from carry }
+    ensures lanes { AddsUp (C.counted_before end probe.old.text) C.MOST T.SIZE from (from + chunks * T.SIZE) chunks
+        (T.lanes result.lanes) }
+    ensures carried { C.carries probe.old.text (from + chunks * T.SIZE) result.carry }
+    ensures reads { Reads probe.old probe.new from 0 chunks 0 }
+{
+    let mut lanes = T::zero();
+    let mut at = from;
+    'chunks: for _ in 0..chunks {
+        let chunk = C::count_lanes(probe, at, end, carry);
+        lanes = lanes.add(chunk.lanes);
+        carry = chunk.carry;
+        at += T::SIZE;
+    }
+    CountedLanes { lanes, carry }
+}
