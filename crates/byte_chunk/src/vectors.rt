@@ -82,7 +82,7 @@ pub fn dec_lane<const N: usize>(lanes: Simd<u8, N>, at: usize) -> Simd<u8, N>
     Simd::from_array(array)
 }
 
-/// The sum of all lanes.
+/// The sum of all lanes, of which a vector has at most 64.
 #[tactic(auto, using(crate::proofs::lemmas::VectorLanes::total_fits))]
 pub fn sum_bytes<const N: usize>(lanes: Simd<u8, N>) -> usize
     requires { N ≤ 64 }
