@@ -3,3 +3,4 @@ pub mod Numbers
 pub mod Arithmetic
 pub mod Formulas
 pub mod Words
+pub mod VectorLanes

@@ -1,4 +1,5 @@
 //! The chunk types, one file each.
 
 pub(crate) mod plain_array;
+pub(crate) mod vector_16;
 pub(crate) mod word;

@@ -13,6 +13,7 @@ mod counters;
 #[cfg(test)]
 mod tests;
 mod text_probe;
+pub mod vectors;
 
 pub use chunks::plain_array::Plain;
 pub use text_probe::Probe;

@@ -2,9 +2,11 @@ ghost use Rattle.std.specs.Prelude.{◌≤◌, length};
 
 use crate::{ByteChunk, Plain, Probe};
 use std::mem::size_of;
+use std::simd::prelude::*;
 use std::test::Fail;
 
 mod half_word;
+mod vectors;
 
 use half_word::HalfWord;
 
@@ -356,6 +358,40 @@ fn generic_code_calls_each_method_of_half_a_word(rt: HostRuntime) -> Result<(), 
     );
     assert_eq!(rt; threes_with_a_step::<HalfWord>().0, 0x0204_0303);
     assert_eq!(rt; sum_of_ones::<HalfWord>(63), 252);
+    Ok(())
+}
+
+#[test]
+fn generic_code_calls_each_method_of_a_vector(rt: HostRuntime) -> Result<(), Fail> {
+    assert_eq!(rt;
+        trailing_bytes::<u8x16>("a\u{e9}\u{305b}bcdefghijk".as_bytes()),
+        3
+    );
+    assert_eq!(rt; trailing_bytes::<u8x16>(b"abcdefghijklmnop"), 0);
+    assert_eq!(rt; lane_count::<u8x16>(), 16);
+    assert_eq!(rt; has_digit::<u8x16>(b"/a.b:c-d/a.b:c-9"), true);
+    assert_eq!(rt; has_digit::<u8x16>(b"/a.b:c-d/a.b:c-d"), false);
+    assert_eq!(rt;
+        from_third_byte_on::<u8x16>(b"abcdefghijklmnop").to_array(),
+        *b"cdefghijklmnop\0\0"
+    );
+    assert_eq!(rt;
+        from_byte_before::<u8x16>(b'-', b"abcdefghijklmnop").to_array(),
+        *b"-abcdefghijklmno"
+    );
+    assert_eq!(rt;
+        upper_halves::<u8x16>(
+            b"\x01\x23\x45\x67\x89\xAB\xCD\xEF\x10\x32\x54\x76\x98\xBA\xDC\xFE"
+        ).to_array(),
+        [
+            0x0, 0x2, 0x4, 0x6, 0x8, 0xA, 0xC, 0xE, 0x1, 0x3, 0x5, 0x7, 0x9, 0xB, 0xD, 0xF,
+        ]
+    );
+    assert_eq!(rt;
+        threes_with_a_step::<u8x16>().to_array(),
+        [3, 3, 3, 3, 3, 3, 3, 3, 3, 3, 3, 3, 3, 3, 4, 2]
+    );
+    assert_eq!(rt; sum_of_ones::<u8x16>(255), 4080);
     Ok(())
 }
 

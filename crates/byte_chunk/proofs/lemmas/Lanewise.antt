@@ -1,12 +1,13 @@
 -- Lists that are made lane by lane: what an array's `map` and `from_fn` give by a closure that its calls leave as it
 -- is.
-use Rattle.std.proofs.Common.{◌≡◌, ℕ, zero, suc, ◌+◌, ◌<◌, ◌≤◌, List, [], ◌∷◌, map, length, replicate, get_or, inl, inr, sym, ap, ◌∙◌, subst, arith}
+use Rattle.std.proofs.Common.{◌≡◌, ℕ, zero, suc, ◌+◌, ◌-◌, ◌/◌, ◌%◌, ◌^◌, ◌<◌, ◌≤◌, Fits, w8, List, [], ◌∷◌, map, length, replicate, get_or, inl, inr, refl, sym, ap, ap₂, ◌∙◌, subst, arith, mod-eq_of_lt}
 use Rattle.std.proofs.lemmas.Bool.{cases_lt}
 use Rattle.std.proofs.lemmas.List.{length-map, ext_get_or, get_or-map}
+use Rattle.std.proofs.lemmas.Nat.{shr_below}
 use Rattle.std.proofs.lemmas.Simd.{length-zip2, get_or-zip2}
 use Rattle.std.specs.Array.{IsMapOf, MapsFrom, IsFromFnResult, IsFromFnResultFrom}
 use Rattle.std.specs.Iterator.{ActsAs}
-use Rattle.std.specs.Simd.Lanes.{zip2, Each2}
+use Rattle.std.specs.Simd.Lanes.{zip2, Each1, Each2}
 use denote.Param.Members.{Mut}
 
 module _ {F : Type 0} {g : Mut F (ℕ × Unit {0}) ℕ} {closure : F} where
@@ -74,3 +75,16 @@ Each2-get_or P (x ∷ xs) (y ∷ ys) (suc k) in_xs in_ys each = Each2-get_or P x
 pub Each2-replicate : (P : ℕ → ℕ → Type 0) (n a b : ℕ) → P a b → Each2 P (replicate n a) (replicate n b)
 Each2-replicate P zero a b holds = tt
 Each2-replicate P (suc n) a b holds = (holds, Each2-replicate P n a b holds)
+
+-- a byte shifted right by n bits has no bit above the low 8 - n
+low_bits : (n byte : ℕ) → n ≤ 8 → byte < 256 → byte / 2 ^ n % 2 ^ (8 - n) ≡ byte / 2 ^ n
+low_bits n byte few small =
+    let all : 8 - n + n ≡ 8 = omega arith in
+    mod-eq_of_lt (shr_below byte (8 - n) n (rw all small))
+
+-- the same of each byte of a list
+pub low_bits_of_each : (n : ℕ) (bytes : List ℕ) → n ≤ 8 → Each1 (Fits w8) bytes
+    → map (λ lane. lane % 2 ^ (8 - n)) (map (λ lane. lane / 2 ^ n) bytes) ≡ map (λ lane. lane / 2 ^ n) bytes
+low_bits_of_each n [] few fits = refl
+low_bits_of_each n (byte ∷ bytes) few (here, rest) =
+    ap₂ (λ lane lanes. lane ∷ lanes) (low_bits n byte few here.fits) (low_bits_of_each n bytes few rest)

@@ -1,6 +1,7 @@
 use super::{count, count_impl, from_byte_idx, from_byte_idx_impl, to_byte_idx, to_byte_idx_impl};
 use byte_chunk::{ByteChunk, Plain, Probe};
 use std::process::Abort;
+use std::simd::u8x16;
 use std::test::Fail;
 
 const ENGLISH_AND_JAPANESE: &str =
@@ -10,6 +11,8 @@ const REPEATED: &str =
     "Hello world! Hello せかい! Hello world! Hello せかい! Hello world! Hello せかい! Hello world! Hello せかい! Hello world! Hello せかい! Hello world! Hello せかい! Hello world! Hello せかい! Hello world! Hello せかい!";
 
 const AROUND_FROG: &str = "aaaaaaa🐸b";
+
+const FROG_BEHIND_FIFTEEN: &str = "aaaaaaaaaaaaaaa🐸b";
 
 /// The count of the chars before a boundary, over one type of chunk.
 fn count_before<T: ByteChunk>(text: &str, end: usize, lead: usize) -> Option<usize> {
@@ -35,10 +38,20 @@ fn counts_whole_texts(rt: HostRuntime) -> Result<(), Fail> {
 }
 
 fn count_after_each_lead<T: ByteChunk>(rt: &impl Abort) {
-    for lead in 0..14 {
-        for (end, chars) in [(12, 9), (11, 8), (7, 7), (0, 0)] {
-            let found = count_before::<T>(AROUND_FROG, end, lead);
-            assert_eq!(rt; found, Some(chars), "at {end} after {lead}");
+    let table = [
+        (AROUND_FROG, 12, 9),
+        (AROUND_FROG, 11, 8),
+        (AROUND_FROG, 7, 7),
+        (AROUND_FROG, 0, 0),
+        (FROG_BEHIND_FIFTEEN, 20, 17),
+        (FROG_BEHIND_FIFTEEN, 19, 16),
+        (FROG_BEHIND_FIFTEEN, 15, 15),
+        (REPEATED, 239, 191),
+    ];
+    for lead in 0..241 {
+        for (text, end, chars) in table {
+            let found = count_before::<T>(text, end, lead);
+            assert_eq!(rt; found, Some(chars), "at {end} of {text} after {lead}");
         }
     }
 }
@@ -47,6 +60,7 @@ fn count_after_each_lead<T: ByteChunk>(rt: &impl Abort) {
 fn counts_before_a_boundary_after_any_lead(rt: HostRuntime) -> Result<(), Fail> {
     count_after_each_lead::<Plain>(&rt);
     count_after_each_lead::<usize>(&rt);
+    count_after_each_lead::<u8x16>(&rt);
     Ok(())
 }
 
@@ -145,14 +159,35 @@ fn ascii_and_wide_chars_of_one_text(rt: HostRuntime) -> Result<(), Fail> {
 }
 
 fn convert_after_each_lead<T: ByteChunk>(rt: &impl Abort) {
-    for lead in 0..14 {
-        for (index, byte) in [(7, 7), (8, 11), (9, 12), (10, 12)] {
-            let found = to_byte_idx_impl(&mut Probe::<T>::of(AROUND_FROG), index, lead);
-            assert_eq!(rt; found, byte, "at {index} after {lead}");
+    let begins = [
+        (AROUND_FROG, 7, 7),
+        (AROUND_FROG, 8, 11),
+        (AROUND_FROG, 9, 12),
+        (AROUND_FROG, 10, 12),
+        (FROG_BEHIND_FIFTEEN, 15, 15),
+        (FROG_BEHIND_FIFTEEN, 16, 19),
+        (FROG_BEHIND_FIFTEEN, 17, 20),
+        (REPEATED, 191, 239),
+    ];
+    let inside = [
+        (AROUND_FROG, 7, 7),
+        (AROUND_FROG, 8, 7),
+        (AROUND_FROG, 10, 7),
+        (AROUND_FROG, 11, 8),
+        (AROUND_FROG, 12, 9),
+        (AROUND_FROG, 13, 9),
+        (FROG_BEHIND_FIFTEEN, 18, 15),
+        (FROG_BEHIND_FIFTEEN, 19, 16),
+        (FROG_BEHIND_FIFTEEN, 20, 17),
+    ];
+    for lead in 0..241 {
+        for (text, index, byte) in begins {
+            let found = to_byte_idx_impl(&mut Probe::<T>::of(text), index, lead);
+            assert_eq!(rt; found, byte, "at {index} of {text} after {lead}");
         }
-        for (byte, index) in [(7, 7), (8, 7), (10, 7), (11, 8), (12, 9), (13, 9)] {
-            let found = from_byte_idx_impl(&mut Probe::<T>::of(AROUND_FROG), byte, lead);
-            assert_eq!(rt; found, index, "at {byte} after {lead}");
+        for (text, byte, index) in inside {
+            let found = from_byte_idx_impl(&mut Probe::<T>::of(text), byte, lead);
+            assert_eq!(rt; found, index, "at {byte} of {text} after {lead}");
         }
     }
 }
@@ -161,5 +196,6 @@ fn convert_after_each_lead<T: ByteChunk>(rt: &impl Abort) {
 fn kernels_convert_after_any_lead(rt: HostRuntime) -> Result<(), Fail> {
     convert_after_each_lead::<Plain>(&rt);
     convert_after_each_lead::<usize>(&rt);
+    convert_after_each_lead::<u8x16>(&rt);
     Ok(())
 }

@@ -5,6 +5,7 @@ use super::{
 use crate::chars;
 use byte_chunk::{ByteChunk, Plain, Probe};
 use std::process::Abort;
+use std::simd::u8x16;
 use std::test::Fail;
 
 const ENGLISH_AND_JAPANESE: &str =
@@ -25,6 +26,12 @@ const SEVEN_BREAKS: &str =
     "\u{A}Hello\u{D}\u{A}せ\u{B}か\u{C}い\u{85}. There\u{A}is something.\u{2029}";
 
 const BEFORE_SEPARATOR: &str = "aaaaaa\u{2028}b";
+
+const SEPARATOR_BEHIND_THIRTY: &str = "aaaaaaaaaaaaaaaaaaaaaaaaaaaaaa\u{2028}b";
+
+const CRLF_BEHIND_SEVEN: &str = "aaaaaaa\r\nbbbbbbb";
+
+const CRLF_BEHIND_THIRTY_ONE: &str = "aaaaaaaaaaaaaaaaaaaaaaaaaaaaaaa\r\nb";
 
 /// The count of the breaks before a boundary, over one type of chunk.
 fn count_before<T: ByteChunk>(text: &str, end: usize, lead: usize) -> Option<usize> {
@@ -135,60 +142,66 @@ fn round_trips_keep_where_a_line_begins(rt: HostRuntime) -> Result<(), Fail> {
     Ok(())
 }
 
-fn see_a_separator_after_each_lead<T: ByteChunk>(rt: &impl Abort) {
-    let text = BEFORE_SEPARATOR;
-    for lead in 0..12 {
-        for (end, breaks) in [(10, 1), (6, 0)] {
+fn see_breaks_at_any_edge<T: ByteChunk>(rt: &impl Abort) {
+    let counts = [
+        (BEFORE_SEPARATOR, 10, 1),
+        (BEFORE_SEPARATOR, 6, 0),
+        (SEPARATOR_BEHIND_THIRTY, 34, 1),
+        (SEPARATOR_BEHIND_THIRTY, 30, 0),
+        (CRLF_BEHIND_SEVEN, 16, 1),
+        (CRLF_BEHIND_SEVEN, 9, 1),
+        (CRLF_BEHIND_SEVEN, 8, 1),
+        (CRLF_BEHIND_SEVEN, 7, 0),
+        (CRLF_BEHIND_THIRTY_ONE, 34, 1),
+        (CRLF_BEHIND_THIRTY_ONE, 32, 1),
+        (CRLF_BEHIND_THIRTY_ONE, 31, 0),
+    ];
+    let begins = [
+        (BEFORE_SEPARATOR, 0, 0),
+        (BEFORE_SEPARATOR, 1, 9),
+        (BEFORE_SEPARATOR, 2, 10),
+        (SEPARATOR_BEHIND_THIRTY, 1, 33),
+        (SEPARATOR_BEHIND_THIRTY, 2, 34),
+        (CRLF_BEHIND_SEVEN, 1, 9),
+        (CRLF_BEHIND_THIRTY_ONE, 1, 33),
+        (CRLF_BEHIND_THIRTY_ONE, 2, 34),
+    ];
+    let inside = [
+        (BEFORE_SEPARATOR, 8, 0),
+        (BEFORE_SEPARATOR, 9, 1),
+        (SEPARATOR_BEHIND_THIRTY, 32, 0),
+        (SEPARATOR_BEHIND_THIRTY, 33, 1),
+        (CRLF_BEHIND_SEVEN, 8, 0),
+        (CRLF_BEHIND_SEVEN, 9, 1),
+        (CRLF_BEHIND_THIRTY_ONE, 32, 0),
+        (CRLF_BEHIND_THIRTY_ONE, 33, 1),
+    ];
+    for lead in 0..36 {
+        for (text, end, breaks) in counts {
             let found = count_before::<T>(text, end, lead);
-            assert_eq!(rt; found, Some(breaks), "at {end} after {lead}");
+            assert_eq!(rt; found, Some(breaks), "at {end} of {text} after {lead}");
         }
-        for (line, byte) in [(0, 0), (1, 9), (2, 10)] {
+        for (text, line, byte) in begins {
             let found = to_byte_idx_impl(&mut Probe::<T>::of(text), line, lead);
-            assert_eq!(rt; found, byte, "at {line} after {lead}");
+            assert_eq!(rt; found, byte, "line {line} of {text} after {lead}");
         }
-        for (byte, line) in [(8, 0), (9, 1)] {
+        for (text, byte, line) in inside {
             let found = from_byte_idx_impl(&mut Probe::<T>::of(text), byte, lead);
-            assert_eq!(rt; found, line, "at {byte} after {lead}");
+            assert_eq!(rt; found, line, "at {byte} of {text} after {lead}");
         }
     }
 }
 
 #[test]
-fn kernels_see_a_separator_at_any_edge(rt: HostRuntime) -> Result<(), Fail> {
-    see_a_separator_after_each_lead::<Plain>(&rt);
-    see_a_separator_after_each_lead::<usize>(&rt);
-    Ok(())
-}
-
-fn see_crlf_across_chunks_after_each_lead<T: ByteChunk>(rt: &impl Abort) {
-    // The CR is the last byte of a chunk of eight.
-    let text = "aaaaaaa\r\nbbbbbbb";
-    for lead in 0..17 {
-        for (end, breaks) in [(16, 1), (9, 1), (8, 1), (7, 0)] {
-            let found = count_before::<T>(text, end, lead);
-            assert_eq!(rt; found, Some(breaks), "at {end} after {lead}");
-        }
-        assert_eq!(rt;
-            to_byte_idx_impl(&mut Probe::<T>::of(text), 1, lead),
-            9,
-            "after {lead}"
-        );
-        for (byte, line) in [(8, 0), (9, 1)] {
-            let found = from_byte_idx_impl(&mut Probe::<T>::of(text), byte, lead);
-            assert_eq!(rt; found, line, "at {byte} after {lead}");
-        }
-    }
-}
-
-#[test]
-fn kernels_see_crlf_across_chunks(rt: HostRuntime) -> Result<(), Fail> {
-    see_crlf_across_chunks_after_each_lead::<Plain>(&rt);
-    see_crlf_across_chunks_after_each_lead::<usize>(&rt);
+fn kernels_see_breaks_at_any_edge_of_a_chunk(rt: HostRuntime) -> Result<(), Fail> {
+    see_breaks_at_any_edge::<Plain>(&rt);
+    see_breaks_at_any_edge::<usize>(&rt);
+    see_breaks_at_any_edge::<u8x16>(&rt);
     Ok(())
 }
 
 fn count_every_break_after_each_lead<T: ByteChunk>(rt: &impl Abort) {
-    for lead in 0..9 {
+    for lead in 0..50 {
         let found = count_before::<T>(EVERY_BREAK, 48, lead);
         assert_eq!(rt; found, Some(8), "after {lead}");
     }
@@ -198,6 +211,7 @@ fn count_every_break_after_each_lead<T: ByteChunk>(rt: &impl Abort) {
 fn each_kind_of_break_counts_at_any_place_of_a_chunk(rt: HostRuntime) -> Result<(), Fail> {
     count_every_break_after_each_lead::<Plain>(&rt);
     count_every_break_after_each_lead::<usize>(&rt);
+    count_every_break_after_each_lead::<u8x16>(&rt);
     Ok(())
 }
 

@@ -4,6 +4,7 @@ use super::{
 };
 use byte_chunk::{ByteChunk, Plain, Probe};
 use std::process::Abort;
+use std::simd::u8x16;
 use std::test::Fail;
 
 const WORDS: &str = "Here\nare\nsome\nwords";
@@ -18,6 +19,8 @@ const TWO_SCRIPTS: &str =
 const BREAKS_AROUND_CRLF: &str = "\r\r\n\n";
 
 const CRLF_ACROSS_CHUNKS: &str = "aaaaaaa\r\nbbbbbbb";
+
+const CRLF_ACROSS_32: &str = "aaaaaaaaaaaaaaaaaaaaaaaaaaaaaaa\r\nb";
 
 /// The count of the breaks before a byte, over one type of chunk.
 fn count_before<T: ByteChunk>(text: &str, end: usize, lead: usize) -> Option<usize> {
@@ -52,8 +55,12 @@ fn count_after_each_lead<T: ByteChunk>(rt: &impl Abort) {
         ("a\r\nb", 4, 1),
         (BREAKS_AROUND_CRLF, 4, 3),
         (CRLF_ACROSS_CHUNKS, 16, 1),
+        (CRLF_ACROSS_32, 31, 0),
+        (CRLF_ACROSS_32, 32, 1),
+        (CRLF_ACROSS_32, 33, 1),
+        (CRLF_ACROSS_32, 34, 1),
     ];
-    for lead in 0..18 {
+    for lead in 0..36 {
         for (text, end, breaks) in table {
             let found = count_before::<T>(text, end, lead);
             assert_eq!(rt; found, Some(breaks), "at {end} of {text} after {lead}");
@@ -65,6 +72,7 @@ fn count_after_each_lead<T: ByteChunk>(rt: &impl Abort) {
 fn kernel_counts_before_a_byte_after_any_lead(rt: HostRuntime) -> Result<(), Fail> {
     count_after_each_lead::<Plain>(&rt);
     count_after_each_lead::<usize>(&rt);
+    count_after_each_lead::<u8x16>(&rt);
     Ok(())
 }
 
@@ -199,14 +207,27 @@ fn line_and_where_it_begins_convert_to_each_other(rt: HostRuntime) -> Result<(),
 }
 
 fn convert_after_each_lead<T: ByteChunk>(rt: &impl Abort) {
-    for lead in 0..18 {
-        for (line, byte) in [(0, 0), (1, 9), (2, 16)] {
-            let found = to_byte_idx_impl(&mut Probe::<T>::of(CRLF_ACROSS_CHUNKS), line, lead);
-            assert_eq!(rt; found, byte, "line {line} after {lead}");
+    let begins = [
+        (CRLF_ACROSS_CHUNKS, 0, 0),
+        (CRLF_ACROSS_CHUNKS, 1, 9),
+        (CRLF_ACROSS_CHUNKS, 2, 16),
+        (CRLF_ACROSS_32, 1, 33),
+        (CRLF_ACROSS_32, 2, 34),
+    ];
+    let inside = [
+        (CRLF_ACROSS_CHUNKS, 8, 0),
+        (CRLF_ACROSS_CHUNKS, 9, 1),
+        (CRLF_ACROSS_32, 32, 0),
+        (CRLF_ACROSS_32, 33, 1),
+    ];
+    for lead in 0..36 {
+        for (text, line, byte) in begins {
+            let found = to_byte_idx_impl(&mut Probe::<T>::of(text), line, lead);
+            assert_eq!(rt; found, byte, "line {line} of {text} after {lead}");
         }
-        for (byte, line) in [(8, 0), (9, 1)] {
-            let found = from_byte_idx_impl(&mut Probe::<T>::of(CRLF_ACROSS_CHUNKS), byte, lead);
-            assert_eq!(rt; found, line, "at {byte} after {lead}");
+        for (text, byte, line) in inside {
+            let found = from_byte_idx_impl(&mut Probe::<T>::of(text), byte, lead);
+            assert_eq!(rt; found, line, "at {byte} of {text} after {lead}");
         }
     }
 }
@@ -215,5 +236,6 @@ fn convert_after_each_lead<T: ByteChunk>(rt: &impl Abort) {
 fn kernels_convert_after_any_lead(rt: HostRuntime) -> Result<(), Fail> {
     convert_after_each_lead::<Plain>(&rt);
     convert_after_each_lead::<usize>(&rt);
+    convert_after_each_lead::<u8x16>(&rt);
     Ok(())
 }

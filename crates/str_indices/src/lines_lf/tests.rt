@@ -1,6 +1,7 @@
 use super::*;
 use byte_chunk::Plain;
 use std::process::Abort;
+use std::simd::u8x16;
 use std::test::Fail;
 
 const WORDS: &str = "Here\nare\nsome\nwords";
@@ -184,6 +185,49 @@ fn answer_after_each_lead<T: ByteChunk>(rt: &impl Abort) {
 fn any_number_of_leading_bytes_gives_one_answer(rt: HostRuntime) -> Result<(), Fail> {
     answer_after_each_lead::<Plain>(&rt);
     answer_after_each_lead::<usize>(&rt);
+    answer_after_each_lead::<u8x16>(&rt);
+    Ok(())
+}
+
+fn stop_at_the_edge_of_four_chunks<T: ByteChunk>(rt: &impl Abort) {
+    // The line is 64 bytes with its break, and 65: four chunks of sixteen, and one byte more.
+    let table = [
+        (
+            "aaaaaaaaaaaaaaaaaaaaaaaaaaaaaaaaaaaaaaaaaaaaaaaaaaaaaaaaaaaaaaa\nb",
+            64,
+        ),
+        (
+            "aaaaaaaaaaaaaaaaaaaaaaaaaaaaaaaaaaaaaaaaaaaaaaaaaaaaaaaaaaaaaaaa\n",
+            65,
+        ),
+    ];
+    for lead in 0..67 {
+        for (text, byte) in table {
+            let mut probe = Probe::<T>::of(text);
+            assert_eq!(rt;
+                to_byte_idx_impl(&mut probe, 1, lead),
+                byte,
+                "the line of {byte} after {lead}"
+            );
+            assert_eq!(rt;
+                from_byte_idx_impl(&mut probe, byte - 1, lead),
+                0,
+                "the break of {byte} after {lead}"
+            );
+            assert_eq!(rt;
+                from_byte_idx_impl(&mut probe, byte, lead),
+                1,
+                "past the line of {byte} after {lead}"
+            );
+        }
+    }
+}
+
+#[test]
+fn a_line_may_end_where_four_chunks_do(rt: HostRuntime) -> Result<(), Fail> {
+    stop_at_the_edge_of_four_chunks::<Plain>(&rt);
+    stop_at_the_edge_of_four_chunks::<usize>(&rt);
+    stop_at_the_edge_of_four_chunks::<u8x16>(&rt);
     Ok(())
 }
 
@@ -204,5 +248,6 @@ fn count_up_to_each_end<T: ByteChunk>(rt: &impl Abort) {
 fn breaks_count_up_to_an_end_inside_a_character(rt: HostRuntime) -> Result<(), Fail> {
     count_up_to_each_end::<Plain>(&rt);
     count_up_to_each_end::<usize>(&rt);
+    count_up_to_each_end::<u8x16>(&rt);
     Ok(())
 }

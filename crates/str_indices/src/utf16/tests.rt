@@ -4,11 +4,14 @@ use super::{
 };
 use byte_chunk::{ByteChunk, Plain, Probe};
 use std::process::Abort;
+use std::simd::u8x16;
 use std::test::Fail;
 
 const TEXT: &str = "Hel🐸lo world! こん🐸にち🐸🐸は!";
 
 const AROUND_FROG: &str = "aaaaaaa🐸b";
+
+const FROG_BEHIND_FIFTEEN: &str = "aaaaaaaaaaaaaaa🐸b";
 
 /// The units and the surrogate pairs before a boundary, over one type of chunk.
 fn count_before<T: ByteChunk>(text: &str, end: usize, lead: usize) -> Option<(usize, usize)> {
@@ -54,8 +57,11 @@ fn count_after_each_lead<T: ByteChunk>(rt: &impl Abort) {
         (AROUND_FROG, 7, (7, 0)),
         (AROUND_FROG, 11, (9, 1)),
         (AROUND_FROG, 12, (10, 1)),
+        (FROG_BEHIND_FIFTEEN, 15, (15, 0)),
+        (FROG_BEHIND_FIFTEEN, 19, (17, 1)),
+        (FROG_BEHIND_FIFTEEN, 20, (18, 1)),
     ];
-    for lead in 0..14 {
+    for lead in 0..22 {
         for (text, end, counts) in table {
             let found = count_before::<T>(text, end, lead);
             assert_eq!(rt; found, Some(counts), "at {end} of {text} after {lead}");
@@ -67,18 +73,41 @@ fn count_after_each_lead<T: ByteChunk>(rt: &impl Abort) {
 fn kernels_count_before_a_boundary_after_any_lead(rt: HostRuntime) -> Result<(), Fail> {
     count_after_each_lead::<Plain>(&rt);
     count_after_each_lead::<usize>(&rt);
+    count_after_each_lead::<u8x16>(&rt);
     Ok(())
 }
 
 fn convert_after_each_lead<T: ByteChunk>(rt: &impl Abort) {
-    for lead in 0..14 {
-        for (byte, unit) in [(7, 7), (8, 7), (10, 7), (11, 9), (12, 10), (13, 10)] {
-            let found = from_byte_idx_impl(&mut Probe::<T>::of(AROUND_FROG), byte, lead);
-            assert_eq!(rt; found, unit, "at byte {byte} after {lead}");
+    let units = [
+        (AROUND_FROG, 7, 7),
+        (AROUND_FROG, 8, 7),
+        (AROUND_FROG, 10, 7),
+        (AROUND_FROG, 11, 9),
+        (AROUND_FROG, 12, 10),
+        (AROUND_FROG, 13, 10),
+        (FROG_BEHIND_FIFTEEN, 18, 15),
+        (FROG_BEHIND_FIFTEEN, 19, 17),
+        (FROG_BEHIND_FIFTEEN, 20, 18),
+    ];
+    let bytes = [
+        (AROUND_FROG, 7, 7),
+        (AROUND_FROG, 8, 7),
+        (AROUND_FROG, 9, 11),
+        (AROUND_FROG, 10, 12),
+        (AROUND_FROG, 11, 12),
+        (FROG_BEHIND_FIFTEEN, 15, 15),
+        (FROG_BEHIND_FIFTEEN, 16, 15),
+        (FROG_BEHIND_FIFTEEN, 17, 19),
+        (FROG_BEHIND_FIFTEEN, 18, 20),
+    ];
+    for lead in 0..22 {
+        for (text, byte, unit) in units {
+            let found = from_byte_idx_impl(&mut Probe::<T>::of(text), byte, lead);
+            assert_eq!(rt; found, unit, "at byte {byte} of {text} after {lead}");
         }
-        for (unit, byte) in [(7, 7), (8, 7), (9, 11), (10, 12), (11, 12)] {
-            let found = to_byte_idx_impl(&mut Probe::<T>::of(AROUND_FROG), unit, lead);
-            assert_eq!(rt; found, byte, "at unit {unit} after {lead}");
+        for (text, unit, byte) in bytes {
+            let found = to_byte_idx_impl(&mut Probe::<T>::of(text), unit, lead);
+            assert_eq!(rt; found, byte, "at unit {unit} of {text} after {lead}");
         }
     }
 }
@@ -87,6 +116,7 @@ fn convert_after_each_lead<T: ByteChunk>(rt: &impl Abort) {
 fn kernels_convert_after_any_lead(rt: HostRuntime) -> Result<(), Fail> {
     convert_after_each_lead::<Plain>(&rt);
     convert_after_each_lead::<usize>(&rt);
+    convert_after_each_lead::<u8x16>(&rt);
     Ok(())
 }
 
