@@ -74,7 +74,8 @@ def draw(heading, means):
     for place, (name, mean) in enumerate(means):
         parts += bar(place, name, mean, end)
     parts += [
-        f'<line x1="{one:.1f}" x2="{one:.1f}" y1="{TOP - 4}" y2="{bottom + 6}" stroke="#222222" stroke-dasharray="4 3"/>',
+        f'<line x1="{one:.1f}" x2="{one:.1f}" y1="{TOP - 4}" y2="{bottom + 6}" stroke="#222222" '
+        'stroke-dasharray="4 3"/>',
         text(one, bottom + 22, "1.0: as fast as the original", text_anchor="middle", font_size=11),
         "</svg>",
     ]

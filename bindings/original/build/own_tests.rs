@@ -80,7 +80,7 @@ pub fn as_macro(tests: &[OwnTests]) -> String {
         write!(modules, "mod {module} {{\nuse {subject}::*;\n{text}}}\n")
             .expect("a String takes all text");
     }
-    let head = "/// The original's own tests over a crate in scope named `str_indices`; nothing where they are not at hand.";
+    let head = "/// The original's own tests over a crate `str_indices` in scope; nothing where they are not at hand.";
     format!("{head}\n#[macro_export]\nmacro_rules! own_tests {{\n() => {{\n{modules}}};\n}}\n")
 }
 
