@@ -1,0 +1,203 @@
+//! The table of ratios: our time over the original's, for each function and sample of texts.
+
+use crate::options::Scale;
+use crate::table::Table;
+use crate::texts::{samples, Sample};
+use crate::timing::{geometric_mean, Best, Input, Work};
+use original::Function;
+
+/// What was measured: a row for each function, in it a ratio for each sample.
+pub struct Ratios {
+    functions: Vec<&'static str>,
+    samples: Vec<String>,
+    /// Ours over the original's.
+    ours: Vec<Vec<f64>>,
+    /// The original's second timings over its first ones, which a quiet machine makes 1.
+    control: Vec<Vec<f64>>,
+}
+
+/// One function over one sample.
+struct Cell<'a> {
+    work: Work<'a>,
+    ours: Timed,
+    original: Timed,
+    again: Timed,
+}
+
+/// A function and its best time.
+struct Timed {
+    function: Function,
+    best: Best,
+}
+
+impl Timed {
+    fn new(function: Function) -> Self {
+        let best = Best::NONE;
+        Self { function, best }
+    }
+
+    fn over(&self, other: &Self) -> f64 {
+        self.best.nanoseconds() / other.best.nanoseconds()
+    }
+}
+
+impl Cell<'_> {
+    /// Times ours, the original, and the original again.
+    fn round(&mut self) {
+        for timed in [&mut self.ours, &mut self.original, &mut self.again] {
+            timed.best.take(self.work.time(timed.function));
+        }
+    }
+}
+
+impl Ratios {
+    /// Measures, where both answer the same for every text; else says where they differ.
+    pub fn measure(
+        ours: &[Function],
+        original: &[Function],
+        scale: &Scale,
+        rounds: usize,
+    ) -> Result<Self, String> {
+        let samples = samples(scale);
+        let mut rows = Vec::new();
+        for (ours, function) in ours.iter().zip(original) {
+            let row = samples.iter().map(|sample| {
+                let inputs = inputs(function, original, sample);
+                check(ours, function, &sample.name, &inputs)?;
+                Ok(cell(*ours, *function, inputs, scale))
+            });
+            rows.push(row.collect::<Result<Vec<Cell>, String>>()?);
+        }
+        // Each round goes over all cells, so that a disturbance of seconds cannot spoil all timings of one cell.
+        for _ in 0..rounds {
+            rows.iter_mut().flatten().for_each(Cell::round);
+        }
+        Ok(Self {
+            functions: original.iter().map(Function::name).collect(),
+            samples: samples.iter().map(|sample| sample.name.clone()).collect(),
+            ours: by_cell(&rows, |cell| cell.ours.over(&cell.original)),
+            control: by_cell(&rows, |cell| cell.again.over(&cell.original)),
+        })
+    }
+
+    /// The table that is printed.
+    pub fn table(&self) -> Table {
+        let mut rows = Vec::new();
+        for (name, ratios) in self.functions.iter().zip(&self.ours) {
+            let mean = geometric_mean(ratios.iter().copied());
+            rows.push(row(name, ratios.iter().copied(), mean));
+        }
+        for (name, ratios) in [("mean", &self.ours), ("the original, twice", &self.control)] {
+            let by_sample = (0..self.samples.len())
+                .map(|place| geometric_mean(ratios.iter().map(|row| row[place])));
+            let mean = geometric_mean(ratios.iter().flatten().copied());
+            rows.push(row(name, by_sample, mean));
+        }
+        let samples = self.samples.iter().map(String::as_str);
+        let headings = ["function"].into_iter().chain(samples).chain(["mean"]);
+        Table {
+            title: "Our time / the original's, with geometric means. Below 1, ours is the faster."
+                .to_string(),
+            headings: headings.map(str::to_string).collect(),
+            rows,
+        }
+    }
+}
+
+fn by_cell(rows: &[Vec<Cell>], ratio: fn(&Cell) -> f64) -> Vec<Vec<f64>> {
+    let of_row = |row: &Vec<Cell>| row.iter().map(ratio).collect();
+    rows.iter().map(of_row).collect()
+}
+
+/// What the function is called with: each text of the sample, and the index at three quarters, rounded up, of what its
+/// indices count, which are bytes, or what its module counts.
+fn inputs<'a>(function: &Function, all: &[Function], sample: &'a Sample) -> Vec<Input<'a>> {
+    let back = function.name().strip_suffix("to_byte_idx").map(|module| {
+        let back = format!("{module}from_byte_idx");
+        let named = all.iter().find(|other| other.name() == back);
+        named.expect("each module has both conversions")
+    });
+    let input = |text: &'a String| {
+        let whole = back.map_or(text.len(), |back| back.answer(text, text.len()));
+        let index = whole - whole / 4;
+        Input { text, index }
+    };
+    sample.texts.iter().map(input).collect()
+}
+
+/// Says where the answers differ, if they do.
+fn check(
+    ours: &Function,
+    original: &Function,
+    sample: &str,
+    inputs: &[Input],
+) -> Result<(), String> {
+    for (place, input) in inputs.iter().enumerate() {
+        let [our_answer, answer] =
+            [ours, original].map(|function| function.answer(input.text, input.index));
+        if our_answer != answer {
+            return Err(format!(
+                "{} differs: {sample}, text {place}, index {}: ours {our_answer}, the original's {answer}",
+                original.name(),
+                input.index
+            ));
+        }
+    }
+    Ok(())
+}
+
+fn cell<'a>(ours: Function, original: Function, inputs: Vec<Input<'a>>, scale: &Scale) -> Cell<'a> {
+    Cell {
+        work: Work::lasting(scale.timing, original, inputs),
+        ours: Timed::new(ours),
+        original: Timed::new(original),
+        again: Timed::new(original),
+    }
+}
+
+fn row(name: &str, ratios: impl Iterator<Item = f64>, mean: f64) -> Vec<String> {
+    let cells = ratios.chain([mean]).map(|ratio| format!("{ratio:.2}"));
+    [name.to_string()].into_iter().chain(cells).collect()
+}
+
+#[cfg(test)]
+mod tests {
+    use super::*;
+
+    fn measure(ours: &[Function]) -> Result<Ratios, String> {
+        let functions = original::functions!(str_indices);
+        Ratios::measure(ours, &functions, &Scale::of(true), 1)
+    }
+
+    #[test]
+    fn the_table_has_a_row_for_each_function_and_two_for_all() {
+        let table = measure(&original::functions!(str_indices)).unwrap().table();
+        assert_eq!(table.rows.len(), 16 + 2);
+        let columns = table.headings.len();
+        assert!(table.rows.iter().all(|row| row.len() == columns));
+    }
+
+    #[test]
+    fn a_difference_is_told() {
+        let mut wrong = original::functions!(str_indices);
+        wrong[5] = Function::Converting("", |_, index| index + 1);
+        let difference = measure(&wrong).err().unwrap();
+        assert_eq!(
+            difference,
+            "utf16::from_byte_idx differs: 2 KiB ASCII, text 0, index 1536: ours 1537, the original's 1536"
+        );
+    }
+
+    #[test]
+    fn indices_are_at_three_quarters_of_what_is_counted() {
+        let functions = original::functions!(str_indices);
+        let sample = Sample {
+            name: String::new(),
+            texts: vec!["über\nüber\nüber\nüber\n".to_string()],
+        };
+        let index = |place: usize| inputs(&functions[place], &functions, &sample)[0].index;
+        assert_eq!(index(1), 18); // chars::from_byte_idx, of 24 bytes
+        assert_eq!(index(2), 15); // chars::to_byte_idx, of 20 characters
+        assert_eq!(index(9), 3); // lines_lf::to_byte_idx, of 4 breaks
+    }
+}

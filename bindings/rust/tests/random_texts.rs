@@ -1,0 +1,100 @@
+//! Random texts: the functions of this crate beside the original's, at every index up to past the end.
+//!
+//! The original is that of the folder which the environment variable `STR_INDICES_ORIGINAL` names. Without it nothing
+//! is compared, and nothing judged.
+use original::Function;
+use std::process::exit;
+
+const TEXTS: u64 = 20_000;
+
+/// A text has fewer chars than this.
+const MOST_CHARS: u64 = 120;
+
+/// What texts are made of: every kind of line break, chars of every length, and chars whose bytes look like a break's.
+const CHARS: &str = "ab \n\n\r\r\u{B}\u{C}\u{85}\u{2028}\u{2029}é\u{84}\u{C5}\u{1028}\u{2027}\u{202A}\u{2068}\
+                     せ\u{FFFD}🐸\u{10FFFF}\0";
+
+/// A small generator of numbers (splitmix64), so that each run compares the same texts.
+struct Numbers(u64);
+
+impl Numbers {
+    fn below(&mut self, limit: u64) -> u64 {
+        self.0 = self.0.wrapping_add(0x9E37_79B9_7F4A_7C15);
+        let mut mixed = self.0;
+        mixed = (mixed ^ (mixed >> 30)).wrapping_mul(0xBF58_476D_1CE4_E5B9);
+        mixed = (mixed ^ (mixed >> 27)).wrapping_mul(0x94D0_49BB_1331_11EB);
+        (mixed ^ (mixed >> 31)) % limit
+    }
+
+    /// A text over a few of the chars, so that it has runs of alike ones.
+    fn text(&mut self) -> String {
+        let some = 1 + self.below(4);
+        let pool: Vec<char> = (0..some).map(|_| self.char()).collect();
+        let len = self.below(MOST_CHARS);
+        (0..len)
+            .map(|_| match self.below(16) {
+                0 => self.char(),
+                _ => pool[self.below(some) as usize],
+            })
+            .collect()
+    }
+
+    fn char(&mut self) -> char {
+        let at = self.below(CHARS.chars().count() as u64);
+        CHARS.chars().nth(at as usize).unwrap_or('a')
+    }
+}
+
+/// Compares two functions on a text, and answers how many answers that were; or tells where they differ.
+fn compare(ours: Function, originals: Function, text: &str) -> Result<u64, String> {
+    match (ours, originals) {
+        (Function::Counting(name, ours), Function::Counting(_, originals)) => {
+            alike(name, text, None, ours(text), originals(text))?;
+            Ok(1)
+        }
+        (Function::Converting(name, ours), Function::Converting(_, originals)) => {
+            let indices = (0..text.len() + 2).chain([usize::MAX]);
+            for index in indices.clone() {
+                alike(name, text, Some(index), ours(text, index), originals(text, index))?;
+            }
+            Ok(indices.count() as u64)
+        }
+        _ => Err("the two tables differ".to_string()),
+    }
+}
+
+fn alike(name: &str, text: &str, index: Option<usize>, ours: usize, originals: usize) -> Result<(), String> {
+    if ours == originals {
+        return Ok(());
+    }
+    Err(format!(
+        "{name} of {text:?} at {index:?}: {ours}, and {originals} by the original"
+    ))
+}
+
+fn main() {
+    let Some(originals) = original::functions() else {
+        println!("random texts: STR_INDICES_ORIGINAL names no folder, so nothing was compared");
+        return;
+    };
+    let ours = original::functions!(str_indices);
+    let mut numbers = Numbers(1);
+    let mut answers = 0;
+    for _ in 0..TEXTS {
+        let text = numbers.text();
+        // Two starts, so that the text also begins off the alignment of its allocation.
+        let first_len = text.chars().next().map_or(0, char::len_utf8);
+        for part in [&text[..], &text[first_len..]] {
+            for (ours, originals) in ours.into_iter().zip(originals) {
+                answers += compare(ours, originals, part).unwrap_or_else(|different| {
+                    eprintln!("random texts: {different}");
+                    exit(1);
+                });
+            }
+        }
+    }
+    println!(
+        "random texts: {} texts, {answers} answers, none differs from the original's",
+        2 * TEXTS
+    );
+}

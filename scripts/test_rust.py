@@ -1,0 +1,92 @@
+#!/usr/bin/env python3
+"""Builds and runs what Rust has of the library, as a user would.
+
+The tests and the doc examples of bindings/rust; the message where its library is missing; the example of a project
+that uses it; and the benchmark, one round over small texts, whose times nobody looks at. The original is compared where
+the environment variable STR_INDICES_ORIGINAL names its folder. Where cargo is not on the path nothing is tried. The
+last line printed is 'N passed, M failed'.
+"""
+import os
+import pathlib
+import re
+import shutil
+import subprocess
+import sys
+import tempfile
+
+from test_c import ROWS, TEXT
+
+ROOT = pathlib.Path(__file__).resolve().parent.parent
+BINDINGS = ROOT / "bindings/rust"
+EXAMPLE = ROOT / "examples/rust"
+
+TEST_RESULT = re.compile(r"^test result: \w+\. (\d+) passed; (\d+) failed", re.MULTILINE)
+COMPARED = re.compile(r"^random texts: .*", re.MULTILINE)
+
+passed, failed = 0, 0
+
+
+def result(right, line):
+    global passed, failed
+    passed, failed = passed + right, failed + (not right)
+    print(f"{'ok' if right else 'FAILED'}: {line}", flush=True)
+    return right
+
+
+def cargo(folder, *words, **options):
+    return subprocess.run(["cargo", *words, "--offline"], cwd=folder, capture_output=True, text=True, **options)
+
+
+def test_bindings():
+    done = cargo(BINDINGS, "test")
+    output = done.stdout + done.stderr
+    counts = [(int(right), int(wrong)) for right, wrong in TEST_RESULT.findall(output)]
+    right = sum(count[0] for count in counts)
+    compared = COMPARED.search(output)
+    if result(done.returncode == 0 and compared is not None, f"bindings/rust, {right} tests and doc examples"):
+        print(compared.group(0))
+    else:
+        print(output)
+
+
+def test_missing_library(folder):
+    named = dict(os.environ, STR_INDICES_LIB_DIR=folder)
+    done = cargo(BINDINGS, "build", env=named)
+    said = f"STR_INDICES_LIB_DIR names {folder}, which has no libstr_indices_c.a" in done.stderr
+    result(done.returncode != 0 and said, "bindings/rust says what is missing")
+
+
+def test_example(target):
+    done = cargo(EXAMPLE, "build")
+    if not result(done.returncode == 0, "examples/rust builds"):
+        print(done.stderr)
+        return
+    program = pathlib.Path(target) / "debug/line_and_column"
+    for byte, expected in ROWS.items():
+        done = subprocess.run([program, str(byte)], input=TEXT, capture_output=True)
+        printed = done.stdout.decode().strip()
+        result(printed == expected, f"examples/rust, byte {byte}: {printed}")
+
+
+def test_benchmark():
+    done = subprocess.run([ROOT / "bench/run", "--small", "--rounds", "1"], capture_output=True, text=True)
+    if not result(done.returncode == 0 and "chars::count" in done.stdout, "bench/run, one round over small texts"):
+        print(done.stdout + done.stderr)
+
+
+def main():
+    if not shutil.which("cargo"):
+        print("not tried: cargo is not on the path")
+    elif result(subprocess.run([ROOT / "scripts/build_library"], capture_output=True).returncode == 0, "build_library"):
+        with tempfile.TemporaryDirectory() as target, tempfile.TemporaryDirectory() as empty:
+            os.environ["CARGO_TARGET_DIR"] = target
+            test_bindings()
+            test_missing_library(empty)
+            test_example(target)
+            test_benchmark()
+    print(f"{passed} passed, {failed} failed")
+    return failed != 0
+
+
+if __name__ == "__main__":
+    sys.exit(main())
