@@ -123,8 +123,9 @@ fn chunks_of_round<C: LaneCounts<T>, T: ByteChunk, const GROUP: usize>(left: usi
     (left / T::SIZE).min(most)
 }
 
-/// Skips groups of `GROUP` chunks from a position on, while fewer than the index are counted before their end.
-pub(crate) fn skip_chunks<C: LaneCounts<T>, T: ByteChunk, const GROUP: usize>(
+/// Skips groups of `GROUP` chunks from a position on, while fewer than the index are counted before their end and at least
+/// `LEAST` chunks are left.
+pub(crate) fn skip_chunks<C: LaneCounts<T>, T: ByteChunk, const GROUP: usize, const LEAST: usize>(
     probe: &mut Probe<'_, T>,
     from: Position,
     idx: usize,
@@ -132,6 +133,7 @@ pub(crate) fn skip_chunks<C: LaneCounts<T>, T: ByteChunk, const GROUP: usize>(
 ) -> Reached<C::Carry>
     requires some { 0 < GROUP }
     requires room { GROUP * C.MOST ≤ 4 }
+    requires least { (GROUP ≤ LEAST) × (LEAST ≤ 16) }
     requires within { from.byte ≤ length probe.old.text }
     requires fits { let n = length probe.old.text in FitsIn (C.counted_before n probe.old.text) n }
     requires counted { from.count ≡ C.counted_before (length probe.old.text) probe.old.text from.byte }
@@ -140,21 +142,20 @@ pub(crate) fn skip_chunks<C: LaneCounts<T>, T: ByteChunk, const GROUP: usize>(
     ensures counted { result.at.count ≡ C.counted_before (length probe.old.text) probe.old.text result.at.byte }
     ensures below { (result.at.count ≡ from.count) ⊎ (result.at.count < idx) }
     ensures carried { C.carries probe.old.text result.at.byte result.carry }
-    ensures stopped { (length probe.old.text < result.at.byte + GROUP * T.SIZE)
+    ensures stopped { (length probe.old.text < result.at.byte + LEAST * T.SIZE)
         ⊎ (idx ≤ C.counted_before (length probe.old.text) probe.old.text (result.at.byte + GROUP * T.SIZE)) }
     ensures reads { Reads probe.old probe.new from.byte 0 ((result.at.byte - from.byte) / T.SIZE + GROUP) 0 }
 {
     let len = probe.len();
-    let size = GROUP * T::SIZE;
     let mut at = from;
-    'groups: while size <= len - at.byte {
+    'groups: while LEAST * T::SIZE <= len - at.byte {
         let group = add_chunks::<C, T>(probe, at.byte, GROUP, len, carry);
         let count = at.count + group.lanes.sum_bytes();
         if count >= idx {
             break;
         }
         at = Position {
-            byte: at.byte + size,
+            byte: at.byte + GROUP * T::SIZE,
             count,
         };
         carry = group.carry;

@@ -125,7 +125,8 @@ pub fn to_byte_idx_impl<T: ByteChunk>(probe: &mut Probe<'_, T>, idx: usize, lead
     if led.count == idx {
         return boundary_at_or_after(probe, led.byte);
     }
-    let chunked = skip_chunks::<LineBreaks, T, 1>(probe, led, idx, ()).at;
+    let grouped = skip_chunks::<LineBreaks, T, 4, 8>(probe, led, idx, ()).at;
+    let chunked = skip_chunks::<LineBreaks, T, 1, 1>(probe, grouped, idx, ()).at;
     let reached = count_breaks_up_to(probe, chunked, len, len, idx);
     boundary_at_or_after(probe, reached.byte)
 }

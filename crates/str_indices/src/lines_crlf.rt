@@ -71,7 +71,9 @@ pub fn count_breaks_impl<T: ByteChunk>(probe: &mut Probe<'_, T>, end: usize, lea
     let returns = T::splat(u8::from(led.carry));
     let chunked = count_chunks::<BreakStarts, T, GROUP>(probe, led.at, end, returns);
     let follows_return = ends_in_return(chunked.carry);
-    count_in_bytes(probe, chunked.at, end, follows_return).at.count
+    count_in_bytes(probe, chunked.at, end, follows_return)
+        .at
+        .count
 }
 
 /// Converts a byte index to a line index, over chunks of any type, after `lead` bytes that are walked one by one.
@@ -108,8 +110,8 @@ pub fn to_byte_idx_impl<T: ByteChunk>(probe: &mut Probe<'_, T>, idx: usize, lead
         return behind_crlf(probe, led.at.byte);
     }
     let returns = T::splat(u8::from(led.carry));
-    let grouped = skip_chunks::<BreakStarts, T, 2>(probe, led.at, idx, returns);
-    let chunked = skip_chunks::<BreakStarts, T, 1>(probe, grouped.at, idx, grouped.carry);
+    let grouped = skip_chunks::<BreakStarts, T, 4, 4>(probe, led.at, idx, returns);
+    let chunked = skip_chunks::<BreakStarts, T, 1, 1>(probe, grouped.at, idx, grouped.carry);
     let follows_return = ends_in_return(chunked.carry);
     let rest = walk_to_line(probe, chunked.at, len, idx, follows_return);
     behind_crlf(probe, rest.at.byte)

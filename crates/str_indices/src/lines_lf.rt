@@ -95,8 +95,8 @@ pub fn to_byte_idx_impl<T: ByteChunk>(probe: &mut Probe<'_, T>, idx: usize, lead
     if led.count == idx {
         return led.byte;
     }
-    let grouped = skip_chunks::<Weights<LineFeeds>, T, 4>(probe, led, idx, ()).at;
-    let chunked = skip_chunks::<Weights<LineFeeds>, T, 1>(probe, grouped, idx, ()).at;
+    let grouped = skip_chunks::<Weights<LineFeeds>, T, 4, 4>(probe, led, idx, ()).at;
+    let chunked = skip_chunks::<Weights<LineFeeds>, T, 1, 1>(probe, grouped, idx, ()).at;
     walk_to_line(probe, chunked, len, idx).byte
 }
 

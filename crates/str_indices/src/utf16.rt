@@ -127,7 +127,7 @@ pub fn to_byte_idx_impl<T: ByteChunk>(probe: &mut Probe<'_, T>, idx: usize, lead
         return led.byte;
     }
     let surely = skip_surely::<Units, T>(probe, led, idx);
-    let chunked = skip_chunks::<Weights<Units>, T, 1>(probe, surely, idx, ()).at;
+    let chunked = skip_chunks::<Weights<Units>, T, 1, 1>(probe, surely, idx, ()).at;
     walk_to_unit(probe, chunked, len, idx).byte
 }
 

@@ -6,8 +6,11 @@ use Rattle.str_indices.proofs.chunk_counts.add_in_groups.Goals as goal
 
 pub add_chunks-single-requires-clause-seen : goal.add_chunks-single-requires-clause-seen
 add_chunks-single-requires-clause-seen g c =
-    rw c.SIZE.ensures (omega (arith, c.requires.seen,
-        parts_of_chunks c.args.chunks g.row.GROUP g.T.ByteChunk.SIZE))
+    rw c.SIZE.ensures (omega (
+      arith,
+      c.requires.seen,
+      parts_of_chunks c.args.chunks g.row.GROUP g.T.ByteChunk.SIZE,
+    ))
 
 pub add-requires : goal.add-requires
 add-requires g c =

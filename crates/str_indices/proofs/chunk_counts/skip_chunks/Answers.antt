@@ -1,4 +1,5 @@
 use Rattle.std.proofs.Common.{◌+◌, ◌*◌, arith, inr}
+use Rattle.std.proofs.Math.Nat.{mul-le-mul_right}
 use Rattle.str_indices.proofs.lemmas.passes.Costs.{group_joined}
 use Rattle.str_indices.proofs.chunk_counts.skip_chunks.Goals as goal
 
@@ -6,13 +7,14 @@ pub overflow_add-count : goal.overflow_add-count
 overflow_add-count g c =
     let so_far = c.groups.invariant in
     let lanes = rw (so_far.reads.text_kept, c.len-len.ensures.len) at c.add_chunks-group.ensures.lanes in
-    let here = rw c.SIZE-size.ensures at c.groups-test.true in
+    let fits = mul-le-mul_right {m = g.row.GROUP} {n = g.row.LEAST} g.T.ByteChunk.SIZE c.requires.least.0 in
+    let here = rw c.SIZE.ensures at c.groups-test.true in
     omega (
       arith,
       so_far.counted,
       lanes.added,
       c.sum_bytes.ensures,
-      c.requires.fits (c.groups.at.byte + g.row.GROUP * g.T.ByteChunk.SIZE) (omega (arith, here)),
+      c.requires.fits (c.groups.at.byte + g.row.GROUP * g.T.ByteChunk.SIZE) (omega (arith, here, fits)),
     )
 
 pub groups-preserved : goal.groups-preserved
@@ -20,10 +22,11 @@ groups-preserved g c =
     let so_far = c.groups.invariant in
     let group = c.add_chunks-group.ensures in
     let lanes = rw (so_far.reads.text_kept, c.len-len.ensures.len) at group.lanes in
-    let here = rw c.SIZE-size.ensures at c.groups-test.true in
-    rw c.SIZE-size.ensures (record {
+    let fits = mul-le-mul_right {m = g.row.GROUP} {n = g.row.LEAST} g.T.ByteChunk.SIZE c.requires.least.0 in
+    let here = rw c.SIZE.ensures at c.groups-test.true in
+    rw c.SIZE-in-groups.ensures (record {
       from_low = omega (arith, so_far.from_low);
-      to_high = omega (arith, here);
+      to_high = omega (arith, here, fits);
       counted = omega (arith, so_far.counted, lanes.added, c.sum_bytes.ensures);
       below = inr (omega arith);
       carried = rw so_far.reads.text_kept at group.carried;

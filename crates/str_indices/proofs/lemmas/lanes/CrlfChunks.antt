@@ -110,6 +110,7 @@ last_lane before {size} {zeros} {moved} is_zero b some filled is tested last =
     let here : moved ≡ flag b ∷ replicate (size - 1) 0 =
     rw (is, last, filled) (ap (λ rest. flag b ∷ rest) (take-replicate (size - 1) size 0 (omega arith))) in
     let empty : replicate {A = ℕ} size 0 ≡ 0 ∷ replicate (size - 1) 0 = sym (ap (λ n. replicate n 0) whole) in
-    unlike_flag is_zero b
-    ((λ yes. let same = sym here ∙ tested.0 yes ∙ empty in ap (λ xs. get_or xs 0 0) same),
-     (λ none. tested.1 (here ∙ ap (λ n. n ∷ replicate (size - 1) 0) none ∙ sym empty)))
+    unlike_flag is_zero b (
+      (λ yes. let same = sym here ∙ tested.0 yes ∙ empty in ap (λ xs. get_or xs 0 0) same),
+      (λ none. tested.1 (here ∙ ap (λ n. n ∷ replicate (size - 1) 0) none ∙ sym empty)),
+    )

@@ -76,6 +76,7 @@ module _ (test : ℕ → Bool) (lanes : List ℕ) {size : ℕ} {ones marks : Lis
       other : (b : Bool) → 1 - flag b ≡ flag (not b)
       other true = refl
       other false = refl
+
       each : (xs : List ℕ) → map (λ b. 1 - mark test b) xs ≡ map (mark (λ b. not (test b))) xs
       each [] = refl
       each (x ∷ xs) = cc (other (test x), each xs)

@@ -113,13 +113,23 @@ module _ (bytes : List ℕ) (utf8 : IsUtf8 bytes) where
   units_at_boundary p b =
       let units = units_at (chars bytes) p b in
       let pairs = pairs_at_boundary p b in
-      omega (arith, units_are bytes p, count-units (cut (chars bytes) p), units_of_cut (chars bytes) p,
-          leading_at_boundary bytes utf8 p b)
+      omega (
+        arith,
+        units_are bytes p,
+        count-units (cut (chars bytes) p),
+        units_of_cut (chars bytes) p,
+        leading_at_boundary bytes utf8 p b,
+      )
 
   -- and those of the text that is cut there
   pub units_in_cut : (p : ℕ) → IsBoundary (chars bytes) p → units_before bytes p ≡ count Utf16 (cut (chars bytes) p)
-  units_in_cut p b = omega (arith, units_are bytes p, units_of_cut (chars bytes) p, pairs_at_boundary p b,
-      leading_at_boundary bytes utf8 p b)
+  units_in_cut p b = omega (
+    arith,
+    units_are bytes p,
+    units_of_cut (chars bytes) p,
+    pairs_at_boundary p b,
+    leading_at_boundary bytes utf8 p b,
+  )
 
   -- no place in a text has more units before it than the text has bytes
   pub units_before-le : (i : ℕ) → i ≤ length bytes → units_before bytes i ≤ length bytes
