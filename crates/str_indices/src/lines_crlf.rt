@@ -71,9 +71,8 @@ pub fn count_breaks_impl<T: ByteChunk>(probe: &mut Probe<'_, T>, end: usize, lea
     let returns = T::splat(u8::from(led.carry));
     let chunked = count_chunks::<BreakStarts, T, GROUP>(probe, led.at, end, returns);
     let follows_return = ends_in_return(chunked.carry);
-    count_in_bytes(probe, chunked.at, end, follows_return)
-        .at
-        .count
+    let rest = count_in_bytes(probe, chunked.at, end, follows_return);
+    rest.at.count
 }
 
 /// Converts a byte index to a line index, over chunks of any type, after `lead` bytes that are walked one by one.

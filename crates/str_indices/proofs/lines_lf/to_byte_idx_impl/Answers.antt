@@ -26,7 +26,6 @@ returns-clause-answer g c =
     let chunks = c.skip_chunks-2 in
     let rest = c.walk_to_line in
     let same_grouped = groups.ensures.reads.text_kept ∙ led.ensures.reads.text_kept in
-    let grouped = rw led.ensures.reads.text_kept at groups.ensures.counted in
     let skipped = rw same_grouped at chunks.ensures.counted in
     let same = chunks.ensures.reads.text_kept ∙ same_grouped in
     let counted = rw same at rest.ensures.counted in
@@ -48,7 +47,7 @@ returns-clause-pass g c =
     let groups = c.skip_chunks in
     let chunks = c.skip_chunks-2 in
     let rest = c.walk_to_line in
-    let same_grouped = groups.ensures.reads.text_kept ∙ led.ensures.reads.text_kept in
+    let same_skipped = groups.ensures.reads.text_kept ∙ led.ensures.reads.text_kept in
     let all_led : led.result.byte ≡ c.min-first_chunk.result =
     elim (cases_lt led.result.byte c.min-first_chunk.result) [
       | inl stopped ↦ absurd (c.if-led-idx.false (led.ensures.stopped stopped))
@@ -57,8 +56,8 @@ returns-clause-pass g c =
     let near : rest.result.byte ≤ chunks.result.at.byte + size =
     place_is_near (passing_before is_line_feed text) (length text) chunks.result.at.byte size c.args.idx
     rest.result.byte
-    (rw (same_grouped, one-mul size) at chunks.ensures.stopped) (omega (arith, rest.ensures.reached.1))
-    (rw (chunks.ensures.reads.text_kept ∙ same_grouped) at rest.ensures.first) in
+    (rw (same_skipped, one-mul size) at chunks.ensures.stopped) (omega (arith, rest.ensures.reached.1))
+    (rw (chunks.ensures.reads.text_kept ∙ same_skipped) at rest.ensures.first) in
     let loads = loads_to_place least groups.ensures.reached.0 chunks.ensures.reached.0 groups.ensures.reads
     chunks.ensures.reads (omega arith) (omega arith) in
     placing_pass size c.args.lead _ least rest.result.byte (omega (arith, all_led))
