@@ -12,6 +12,8 @@ import subprocess
 import sys
 import tempfile
 
+from tally import Tally
+
 ROOT = pathlib.Path(__file__).resolve().parent.parent
 EXAMPLE = ROOT / "examples/c/line_and_column.c"
 WORKED_ROWS = ROOT / "tests/c/worked_rows.c"
@@ -22,20 +24,13 @@ COMPILERS = {"C": ["cc", "-std=c99"], "C++": ["c++", "-std=c++11", "-x", "c++"]}
 TEXT = "Zeile eins\r\n🐸 zwei\u2028drei".encode()
 ROWS = {0: "0:0", 10: "0:10", 11: "0:11", 12: "1:0", 14: "1:0", 16: "1:2", 17: "1:3", 28: "1:12", 99: "1:12"}
 
-passed, failed = 0, 0
-
-
-def result(right, line):
-    global passed, failed
-    passed, failed = passed + right, failed + (not right)
-    print(f"{'ok' if right else 'FAILED'}: {line}", flush=True)
-    return right
+tally = Tally()
 
 
 def run(command, what, **options):
     """Whether the command ended well; what it printed is shown where it did not."""
     done = subprocess.run(command, capture_output=True, text=True, **options)
-    if not result(done.returncode == 0, what):
+    if not tally.result(done.returncode == 0, what):
         print(done.stdout + done.stderr)
     return done.returncode == 0
 
@@ -45,9 +40,9 @@ def check_example(program, how):
     for byte, expected in ROWS.items():
         done = subprocess.run([program, str(byte)], input=TEXT, capture_output=True)
         printed = done.stdout.decode().strip()
-        result(printed == expected, f"example {how}, byte {byte}: {printed}")
+        tally.result(printed == expected, f"example {how}, byte {byte}: {printed}")
     done = subprocess.run([program, "0"], input=b"\xe3\x81", capture_output=True)
-    result(done.returncode == 1 and not done.stdout, f"example {how}, bytes that are not UTF-8: status {done.returncode}")
+    tally.result(done.returncode == 1 and not done.stdout, f"example {how}, bytes that are not UTF-8: status {done.returncode}")
 
 
 def compile_and_run(language, command, library, folder):
@@ -81,7 +76,7 @@ def compile_installed(folder):
 
 def main():
     built = subprocess.run([ROOT / "scripts/build_c"], stdout=subprocess.PIPE, text=True)
-    if result(built.returncode == 0, "build_c"):
+    if tally.result(built.returncode == 0, "build_c"):
         example = pathlib.Path(built.stdout.splitlines()[-1])
         check_example(example, "by build_c")
         library = example.parent / "libstr_indices_c.a"
@@ -89,8 +84,7 @@ def main():
             for language, command in COMPILERS.items():
                 compile_and_run(language, command, library, pathlib.Path(folder))
             compile_installed(pathlib.Path(folder))
-    print(f"{passed} passed, {failed} failed")
-    return failed != 0
+    return tally.end()
 
 
 if __name__ == "__main__":

@@ -14,6 +14,7 @@ import subprocess
 import sys
 import tempfile
 
+from tally import Tally
 from test_c import ROWS, TEXT
 
 ROOT = pathlib.Path(__file__).resolve().parent.parent
@@ -23,14 +24,7 @@ EXAMPLE = ROOT / "examples/rust"
 TEST_RESULT = re.compile(r"^test result: \w+\. (\d+) passed; (\d+) failed", re.MULTILINE)
 COMPARED = re.compile(r"^random texts: .*", re.MULTILINE)
 
-passed, failed = 0, 0
-
-
-def result(right, line):
-    global passed, failed
-    passed, failed = passed + right, failed + (not right)
-    print(f"{'ok' if right else 'FAILED'}: {line}", flush=True)
-    return right
+tally = Tally()
 
 
 def cargo(folder, *words, **options):
@@ -43,7 +37,7 @@ def test_bindings():
     counts = [(int(right), int(wrong)) for right, wrong in TEST_RESULT.findall(output)]
     right = sum(count[0] for count in counts)
     compared = COMPARED.search(output)
-    if result(done.returncode == 0 and compared is not None, f"bindings/rust, {right} tests and doc examples"):
+    if tally.result(done.returncode == 0 and compared is not None, f"bindings/rust, {right} tests and doc examples"):
         print(compared.group(0))
     else:
         print(output)
@@ -53,39 +47,38 @@ def test_missing_library(folder):
     named = dict(os.environ, STR_INDICES_LIB_DIR=folder)
     done = cargo(BINDINGS, "build", env=named)
     said = f"STR_INDICES_LIB_DIR names {folder}, which has no libstr_indices_c.a" in done.stderr
-    result(done.returncode != 0 and said, "bindings/rust says what is missing")
+    tally.result(done.returncode != 0 and said, "bindings/rust says what is missing")
 
 
 def test_example(target):
     done = cargo(EXAMPLE, "build")
-    if not result(done.returncode == 0, "examples/rust builds"):
+    if not tally.result(done.returncode == 0, "examples/rust builds"):
         print(done.stderr)
         return
     program = pathlib.Path(target) / "debug/line_and_column"
     for byte, expected in ROWS.items():
         done = subprocess.run([program, str(byte)], input=TEXT, capture_output=True)
         printed = done.stdout.decode().strip()
-        result(printed == expected, f"examples/rust, byte {byte}: {printed}")
+        tally.result(printed == expected, f"examples/rust, byte {byte}: {printed}")
 
 
 def test_benchmark():
     done = subprocess.run([ROOT / "bench/run", "--small", "--rounds", "1"], capture_output=True, text=True)
-    if not result(done.returncode == 0 and "chars::count" in done.stdout, "bench/run, one round over small texts"):
+    if not tally.result(done.returncode == 0 and "chars::count" in done.stdout, "bench/run, one round over small texts"):
         print(done.stdout + done.stderr)
 
 
 def main():
     if not shutil.which("cargo"):
         print("not tried: cargo is not on the path")
-    elif result(subprocess.run([ROOT / "scripts/build_library"], capture_output=True).returncode == 0, "build_library"):
+    elif tally.result(subprocess.run([ROOT / "scripts/build_library"], capture_output=True).returncode == 0, "build_library"):
         with tempfile.TemporaryDirectory() as target, tempfile.TemporaryDirectory() as empty:
             os.environ["CARGO_TARGET_DIR"] = target
             test_bindings()
             test_missing_library(empty)
             test_example(target)
             test_benchmark()
-    print(f"{passed} passed, {failed} failed")
-    return failed != 0
+    return tally.end()
 
 
 if __name__ == "__main__":

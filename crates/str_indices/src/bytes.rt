@@ -146,6 +146,7 @@ fn count_trailing_chunk<T: ByteChunk>(chunk: T) -> T
 }
 
 /// 1 in each lane that begins a char.
+#[tactic(auto, using(crate::proofs::lemmas::lanes::Lanes::leading_lanes))]
 fn count_leading_chunk<T: ByteChunk>(chunk: T) -> T
     requires { length (T.lanes chunk) ≡ T.SIZE }
     ensures { T.lanes result ≡ map (mark is_leading) (T.lanes chunk) }

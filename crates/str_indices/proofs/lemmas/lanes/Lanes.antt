@@ -8,7 +8,7 @@ use Rattle.std.proofs.lemmas.List.{get_or-take, get_or-drop, get_or-map, get_or_
 use Rattle.std.proofs.lemmas.List.Sums.{sum_by-cons}
 use Rattle.std.proofs.lemmas.Simd.{zip2_splat, zip2_splat_left, zip2_of_maps, map-map, Each1-replicate, Each1-from_get_or, Each2-of, get_or-zip2, length-zip2}
 use Rattle.byte_chunk.specs.Lanes.{is_byte}
-use Rattle.str_indices.specs.Bytes.{flag, mark, sum_below}
+use Rattle.str_indices.specs.Bytes.{flag, mark, sum_below, is_trailing, is_leading}
 use Rattle.str_indices.specs.Lanes.{HasLanes}
 use Rattle.str_indices.specs.TraitLaws.{mark-le}
 use Rattle.str_indices.proofs.lemmas.bytes.Sums.{sum_below-add, sum_below-front}
@@ -176,3 +176,12 @@ module _ {size : ℕ} (chunk : List ℕ) (long : length chunk ≡ size) where
 
 -- the sum of a chunk, for the search
 pub ruleset chunk_sums = (sum_below-chunk)
+
+-- 1 less the mark of a trailing byte is the mark of a leading one
+pub leading_marked : (lanes : List ℕ) {size : ℕ} {ones marks others : List ℕ} → length lanes ≡ size
+    → ones ≡ replicate size 1 → marks ≡ map (mark is_trailing) lanes → others ≡ zip2 (λ a b. a - b) ones marks
+    → others ≡ map (mark is_leading) lanes
+leading_marked lanes long filled marked is = others_marked is_trailing lanes long filled marked is
+
+-- the marks of leading bytes, as the search takes them
+pub ruleset leading_lanes = (marks_below_ones, leading_marked)
