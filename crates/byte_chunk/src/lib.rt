@@ -18,10 +18,8 @@ pub mod vectors;
 pub use chunks::plain_array::Plain;
 pub use text_probe::Probe;
 
-use std::simd::u8x16;
-
 /// The chunk type that the public functions of the crates above use.
-pub type Chunk = u8x16;
+pub type Chunk = std::simd::Simd<u8, 16>;
 
 /// A block of `SIZE` bytes, its lanes, in the order of the text.
 pub trait ByteChunk: Copy + Clone {
