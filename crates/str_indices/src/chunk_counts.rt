@@ -7,6 +7,9 @@ use crate::places::Position;
 use byte_chunk::{ByteChunk, Probe};
 
 /// What is counted in the lanes of a chunk.
+///
+/// To a contract `counted_before end text n` is what is counted before place `n`, where of the text the bytes before
+/// `end` are seen, and `carries text at carry` says that the chunk before place `at` hands on that carry.
 pub(crate) trait LaneCounts<T: ByteChunk> {
     /// What a chunk hands on to the chunk behind it.
     type Carry: Copy;

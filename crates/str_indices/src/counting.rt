@@ -10,7 +10,7 @@ use crate::places::Position;
 use byte_chunk::{ByteChunk, Probe};
 use std::marker::PhantomData;
 
-/// How many chunks are added in one step: two groups of four.
+/// How many chunks are added in one step.
 const GROUP: usize = 8;
 
 /// The weights of the first `end` bytes, of which `lead` are walked one by one before the first chunk.
