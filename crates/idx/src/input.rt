@@ -8,7 +8,7 @@ use std::alloc::Global;
 use std::io::Read;
 
 /// How many bytes one read asks for.
-const READ_LEN: usize = 16 * 1024;
+const READ_LEN: usize = 64 * 1024;
 
 /// All bytes that the reader gives until a read gives none. A failed read is `Read` at once, and a
 /// refused growth of the list is `NoMemory`, also over a reader that never ends.
