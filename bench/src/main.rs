@@ -40,9 +40,7 @@ fn tell_ratios(scale: &Scale, rounds: usize) -> Result<(), String> {
         let ratios = Ratios::measure(&ours, &original, scale, rounds)?;
         println!("{}", ratios.table());
     } else {
-        println!(
-            "No ratios: the original is not at hand, as STR_INDICES_ORIGINAL names no folder.\n"
-        );
+        println!("No ratios: the original is not at hand, as STR_INDICES_ORIGINAL names no folder.\n");
     }
     Ok(())
 }
@@ -51,19 +49,13 @@ fn tell_ratios(scale: &Scale, rounds: usize) -> Result<(), String> {
 fn heading(options: &Options) -> String {
     let rounds = options.rounds;
     let small = if options.small { ", small texts" } else { "" };
-    format!(
-        "{}, {}, best of {rounds}{small}",
-        processor(),
-        env!("RUSTC_VERSION")
-    )
+    format!("{}, {}, best of {rounds}{small}", processor(), env!("RUSTC_VERSION"))
 }
 
 /// The name of the processor, where the system tells it.
 fn processor() -> String {
     let told = std::fs::read_to_string("/proc/cpuinfo").unwrap_or_default();
-    let name = told
-        .lines()
-        .find_map(|line| line.strip_prefix("model name"));
+    let name = told.lines().find_map(|line| line.strip_prefix("model name"));
     match name.and_then(|rest| rest.split_once(':')) {
         Some((_, name)) => name.trim().to_string(),
         None => format!("unnamed {} processor", std::env::consts::ARCH),

@@ -22,11 +22,7 @@ impl Options {
             match word.as_str() {
                 "--small" => options.small = true,
                 "--rounds" => options.rounds = rounds(words.next())?,
-                other => {
-                    return Err(format!(
-                        "unknown option '{other}'; there are --rounds N and --small"
-                    ))
-                }
+                other => return Err(format!("unknown option '{other}'; there are --rounds N and --small")),
             }
         }
         Ok(options)
@@ -88,13 +84,7 @@ mod tests {
                 small: false
             })
         );
-        assert_eq!(
-            options("--small --rounds 1"),
-            Ok(Options {
-                rounds: 1,
-                small: true
-            })
-        );
+        assert_eq!(options("--small --rounds 1"), Ok(Options { rounds: 1, small: true }));
     }
 
     #[test]

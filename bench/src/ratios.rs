@@ -52,12 +52,7 @@ impl Cell<'_> {
 
 impl Ratios {
     /// Measures, where both answer the same for every text; else says where they differ.
-    pub fn measure(
-        ours: &[Function],
-        original: &[Function],
-        scale: &Scale,
-        rounds: usize,
-    ) -> Result<Self, String> {
+    pub fn measure(ours: &[Function], original: &[Function], scale: &Scale, rounds: usize) -> Result<Self, String> {
         let samples = samples(scale);
         let mut rows = Vec::new();
         for (ours, function) in ours.iter().zip(original) {
@@ -88,16 +83,14 @@ impl Ratios {
             rows.push(row(name, ratios.iter().copied(), mean));
         }
         for (name, ratios) in [("mean", &self.ours), ("the original, twice", &self.control)] {
-            let by_sample = (0..self.samples.len())
-                .map(|place| geometric_mean(ratios.iter().map(|row| row[place])));
+            let by_sample = (0..self.samples.len()).map(|place| geometric_mean(ratios.iter().map(|row| row[place])));
             let mean = geometric_mean(ratios.iter().flatten().copied());
             rows.push(row(name, by_sample, mean));
         }
         let samples = self.samples.iter().map(String::as_str);
         let headings = ["function"].into_iter().chain(samples).chain(["mean"]);
         Table {
-            title: "Our time / the original's, with geometric means. Below 1, ours is the faster."
-                .to_string(),
+            title: "Our time / the original's, with geometric means. Below 1, ours is the faster.".to_string(),
             headings: headings.map(str::to_string).collect(),
             rows,
         }
@@ -126,15 +119,9 @@ fn inputs<'a>(function: &Function, all: &[Function], sample: &'a Sample) -> Vec<
 }
 
 /// Says where the answers differ, if they do.
-fn check(
-    ours: &Function,
-    original: &Function,
-    sample: &str,
-    inputs: &[Input],
-) -> Result<(), String> {
+fn check(ours: &Function, original: &Function, sample: &str, inputs: &[Input]) -> Result<(), String> {
     for (place, input) in inputs.iter().enumerate() {
-        let [our_answer, answer] =
-            [ours, original].map(|function| function.answer(input.text, input.index));
+        let [our_answer, answer] = [ours, original].map(|function| function.answer(input.text, input.index));
         if our_answer != answer {
             return Err(format!(
                 "{} differs: {sample}, text {place}, index {}: ours {our_answer}, the original's {answer}",

@@ -60,8 +60,7 @@ mod tests {
             headings: cells("what m"),
             rows: vec![cells("bar 1.50"), cells("pole 12.00")],
         };
-        let shown =
-            "Lengths\n\n| what |     m |\n|------|------:|\n| bar  |  1.50 |\n| pole | 12.00 |\n";
+        let shown = "Lengths\n\n| what |     m |\n|------|------:|\n| bar  |  1.50 |\n| pole | 12.00 |\n";
         assert_eq!(table.to_string(), shown);
     }
 }

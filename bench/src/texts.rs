@@ -156,9 +156,7 @@ impl Random {
             text.push(' ');
         }
         if self.below(breaks) == 0 {
-            text.push_str(self.one_of(&[
-                "\n", "\n", "\r\n", "\r\n", "\r", "\u{B}", "\u{C}", "\u{85}", "\u{2028}",
-            ]));
+            text.push_str(self.one_of(&["\n", "\n", "\r\n", "\r\n", "\r", "\u{B}", "\u{C}", "\u{85}", "\u{2028}"]));
         }
     }
 
@@ -206,13 +204,7 @@ mod tests {
         for bytes in 1..=4 {
             assert!(mixed.chars().any(|letter| letter.len_utf8() == bytes));
         }
-        assert!(
-            text(Kind::Cjk)
-                .chars()
-                .filter(|letter| letter.len_utf8() == 3)
-                .count()
-                > 1_500
-        );
+        assert!(text(Kind::Cjk).chars().filter(|letter| letter.len_utf8() == 3).count() > 1_500);
         assert!(text(Kind::Crlf).matches("\r\n").count() > 50);
     }
 

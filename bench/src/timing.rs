@@ -33,9 +33,7 @@ impl<'a> Work<'a> {
     pub fn time(&self, function: Function) -> Duration {
         match black_box(function) {
             Function::Counting(_, count) => self.repeat(|input| count(input.text)),
-            Function::Converting(_, convert) => {
-                self.repeat(|input| convert(input.text, input.index))
-            }
+            Function::Converting(_, convert) => self.repeat(|input| convert(input.text, input.index)),
         }
     }
 

@@ -77,8 +77,7 @@ pub fn as_macro(tests: &[OwnTests]) -> String {
             "lib" => "str_indices".to_string(),
             module => format!("str_indices::{module}"),
         };
-        write!(modules, "mod {module} {{\nuse {subject}::*;\n{text}}}\n")
-            .expect("a String takes all text");
+        write!(modules, "mod {module} {{\nuse {subject}::*;\n{text}}}\n").expect("a String takes all text");
     }
     let head = "/// The original's own tests over a crate `str_indices` in scope; nothing where they are not at hand.";
     format!("{head}\n#[macro_export]\nmacro_rules! own_tests {{\n() => {{\n{modules}}};\n}}\n")
@@ -98,6 +97,5 @@ fn rust_files(folder: &Path) -> Vec<PathBuf> {
 }
 
 fn read(path: &Path) -> String {
-    fs::read_to_string(path)
-        .unwrap_or_else(|error| panic!("cannot read {}: {error}", path.display()))
+    fs::read_to_string(path).unwrap_or_else(|error| panic!("cannot read {}: {error}", path.display()))
 }

@@ -7,8 +7,7 @@ use own_tests::{as_macro, from_folder, part_headed, tests_in, OwnTests};
 use std::fs;
 use std::path::Path;
 
-const SOURCE: &str =
-    "fn one() {\n}\n#[cfg(test)]\nmod tests {\n    fn two() {\n    }\n}\n// the end\n";
+const SOURCE: &str = "fn one() {\n}\n#[cfg(test)]\nmod tests {\n    fn two() {\n    }\n}\n// the end\n";
 const TESTS: &str = "mod tests {\n    fn two() {\n    }\n}\n";
 
 #[test]
@@ -53,9 +52,6 @@ fn tests_are_taken_from_beside_the_source_or_from_the_folder_of_tests() {
     );
     fs::write(folder.join("tests/all.rs"), gathered).unwrap();
     let found = from_folder(&folder);
-    let found: Vec<(&str, &str)> = found
-        .iter()
-        .map(|own| (own.module, own.text.as_str()))
-        .collect();
+    let found: Vec<(&str, &str)> = found.iter().map(|own| (own.module, own.text.as_str())).collect();
     assert_eq!(found, [("chars", TESTS), ("lines", TESTS)]);
 }
