@@ -16,7 +16,7 @@ from tally import Tally
 
 ROOT = pathlib.Path(__file__).resolve().parent.parent
 EXAMPLE = ROOT / "examples/c/line_and_column.c"
-WORKED_ROWS = ROOT / "tests/c/worked_rows.c"
+WORKED_ANSWERS = ROOT / "tests/c/worked_answers.c"
 STRICT = ["-Wall", "-Wextra", "-Werror", "-pedantic", "-O2"]
 COMPILERS = {"C": ["cc", "-std=c99"], "C++": ["c++", "-std=c++11", "-x", "c++"]}
 
@@ -36,7 +36,7 @@ def run(command, what, **options):
 
 
 def check_example(program, how):
-    """The example's answers on the worked rows."""
+    """The example's answers at some bytes of the text."""
     for byte, expected in ROWS.items():
         done = subprocess.run([program, str(byte)], input=TEXT, capture_output=True)
         printed = done.stdout.decode().strip()
@@ -47,7 +47,7 @@ def check_example(program, how):
 
 def compile_and_run(language, command, library, folder):
     """The table and the example, by one compiler."""
-    for source in [WORKED_ROWS, EXAMPLE]:
+    for source in [WORKED_ANSWERS, EXAMPLE]:
         program = folder / f"{source.stem}_{'cpp' if language == 'C++' else 'c'}"
         link = [*command, *STRICT, f"-I{ROOT}/include", source, "-x", "none", library, "-o", program]
         if not run(link, f"{source.stem} as {language} compiles without a warning"):
