@@ -3,9 +3,10 @@
 //! Each function says of the lanes of a vector what the call of [`ByteChunk`](crate::ByteChunk) with its name says of
 //! those of a chunk; `inc_lane` and `dec_lane` are told which lane. `load`, `zero`, `splat` and `bitand` are one call
 //! of `std::simd` each. The two lane shifts are shuffles, and a shuffle takes its positions as literals: a chunk type
-//! writes them for its own width.
-ghost use Rattle.std.specs.Prelude.{◌≡◌, ◌+◌, ◌-◌, ◌/◌, ◌%◌, ◌^◌, ◌<◌, ◌≤◌, ◌↔◌, IsTrue, map, sum, replicate, slice_index, slice_set};
-ghost use Rattle.std.specs.Simd.Lanes.{zip2, Each2};
+//! writes them for its own width, and `shuffled_from` says what they give.
+ghost use Rattle.std.specs.Prelude.{◌≡◌, ◌+◌, ◌-◌, ◌/◌, ◌%◌, ◌^◌, ◌<◌, ◌≤◌, ◌↔◌, ◌++◌, IsTrue, map, sum, drop, take, replicate, slice_index, slice_set};
+ghost use Rattle.std.specs.List.{range_with_len};
+ghost use Rattle.std.specs.Simd.Lanes.{zip2, pick_l, Each2};
 ghost use Rattle.byte_chunk.specs.Lanes.{is_byte, is_between};
 
 use std::simd::prelude::*;
@@ -16,6 +17,17 @@ pub fn is_zero<const N: usize>(lanes: Simd<u8, N>) -> bool
 {
     lanes.reduce_or() == 0
 }
+
+/// Does nothing: its contract is a law. A shuffle of two vectors that takes the `N` lanes from place `k` on, where those
+/// of `next` follow those of `lanes`, gives the lanes from `k` on and then the first `k` of `next`.
+///
+/// A lane shift calls it before its shuffle, and is then proved with no lemma.
+#[tactic(auto, using(crate::proofs::lemmas::VectorLanes::shuffled_from))]
+pub fn shuffled_from<const N: usize>(lanes: Simd<u8, N>, next: Simd<u8, N>, k: usize)
+    requires { k ≤ N }
+    ensures { pick_l 0 (lanes.entry ++ next.entry) (range_with_len k N)
+        ≡ drop k lanes.entry ++ take k next.entry }
+{}
 
 /// Each lane shifted right by `n` bits, at most 4, in its low `8 - n` bits.
 #[tactic(auto, using(std::proofs::lemmas::Simd::shifts_fit_splat))]

@@ -3,7 +3,7 @@ use Rattle.std.proofs.Common.{◌≡◌, ◌≢◌, ℕ, List, [], ◌∷◌, fa
 use Rattle.std.specs.Prelude.{⊤, bytes_eq, find}
 use Rattle.std.specs.Option.{option_map}
 use Rattle.std.proofs.lemmas.Slice.Eq.{bytes_eq-Decides}
-use Rattle.idx.specs.Requests.{entry_named}
+use Rattle.idx.specs.Calls.{entry_named}
 
 -- no row of the table has the name
 abbrev pub NamesNoRow : {A : Type 0} → List ℕ → List (List ℕ × A) → Type 0

@@ -3,16 +3,18 @@ use Rattle.std.specs.Prelude.{◌≡◌, ℕ, List, [], ◌∷◌, ◌++◌, Opt
 use Rattle.std.specs.Fmt.{decimal}
 use Rattle.std.specs.Io.KnownBytes.{Consumes, Appends, IsAtEnd}
 use Rattle.str_indices.specs.Text.{Text, line_feed}
+use Rattle.idx.specs.declared.calls.Call.{Call}
 use Rattle.idx.specs.declared.requests.Request.{Request}
-use Rattle.idx.specs.Requests.{request_of, answer_of}
+use Rattle.idx.specs.Calls.{answer_of}
+use Rattle.idx.specs.Requests.{request_of}
 
 -- a number's decimal digits, and a line feed
 abbrev pub decimal_line : ℕ → List ℕ
 decimal_line n = decimal n ++ line_feed ∷ []
 
--- the bytes that answer the request for the text
-abbrev pub program_text : Request → Text → List ℕ
-program_text request text = decimal_line (answer_of request text)
+-- the bytes that answer the call for the text, whichever kernel is to answer it
+abbrev pub program_text : Call → Text → List ℕ
+program_text call text = decimal_line (answer_of call text)
 
 -- the bytes are all that the reader had left, and it is at its end
 pub record IsWholeInput (old new : Option (List ℕ)) (bytes : List ℕ) : Type 0 where
@@ -30,7 +32,7 @@ pub record Answers (words : List (List ℕ)) (old new : Option (List ℕ)) (Writ
   pub bytes : List ℕ
   pub whole : IsWholeInput old new bytes
   pub utf8 : IsUtf8 bytes
-  pub written : Written (program_text request (chars bytes))
+  pub written : Written (program_text request.call (chars bytes))
 
 -- the words are a request, and the whole input was read and is not UTF-8
 pub record IsRefusedInput (words : List (List ℕ)) (old new : Option (List ℕ)) : Type 0 where

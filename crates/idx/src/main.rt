@@ -1,13 +1,16 @@
 // Answers one call of the index library for the text on standard input.
 #![tactic(auto)]
 
+mod calls;
 mod engine;
 mod faults;
 mod input;
+mod kernels;
 mod output;
 mod requests;
 #[cfg(test)]
 mod tests;
+mod wide;
 
 use engine::run;
 use faults::Fault;

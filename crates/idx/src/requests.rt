@@ -1,101 +1,74 @@
 // What the words ask for.
 ghost use Rattle.std.specs.Prelude.{◌≡◌, chars};
-ghost use Rattle.idx.specs.Requests.{counting_named, conversion_named, index_of, request_of, answer_of, texts};
+ghost use Rattle.idx.specs.Calls.{answer_of};
+ghost use Rattle.idx.specs.Requests.{index_of, call_of, kernel_of, kernel_request, request_of, texts};
 
-use str_indices::{chars, lines, lines_crlf, lines_lf, utf16};
+use crate::calls::Call;
+use crate::kernels::{ChunkType, Kernel};
 
-/// A call of the library, with its index where it takes one.
+/// A call of the library, and how its kernel is to run where the words say so.
 #[derive(Clone, Copy)]
-pub enum Request {
-    CharsCount,
-    CharsFromByteIdx(usize),
-    CharsToByteIdx(usize),
-    Utf16Count,
-    Utf16CountSurrogates,
-    Utf16FromByteIdx(usize),
-    Utf16ToByteIdx(usize),
-    LinesLfCountBreaks,
-    LinesLfFromByteIdx(usize),
-    LinesLfToByteIdx(usize),
-    LinesCrlfCountBreaks,
-    LinesCrlfFromByteIdx(usize),
-    LinesCrlfToByteIdx(usize),
-    LinesCountBreaks,
-    LinesFromByteIdx(usize),
-    LinesToByteIdx(usize),
+pub struct Request {
+    pub call: Call,
+    pub kernel: Option<Kernel>,
 }
 
 impl Request {
     /// What the words ask for, or `None` where they are no request.
-    #[tactic(auto, unfolding(crate::specs::Requests::request_of))]
+    #[tactic(auto, unfolding(crate::specs::Requests::request_of), using(crate::proofs::Words::three_words, crate::proofs::Words::five_words))]
     pub fn from_words(words: &[&str]) -> Option<Request>
         ensures { result ≡ request_of (texts words.now) }
     {
-        match words {
-            [name] => Request::counting(name),
-            [name, word] => Request::conversion(name, parse_index(word)?),
-            _ => None,
-        }
+        let call = match words {
+            [name] => Call::counting(name)?,
+            [name, index] => Call::conversion(name, parse_index(index)?)?,
+            [name, index, chunk, lead] => return Request::by_kernel(name, index, chunk, lead),
+            _ => return None,
+        };
+        Some(Request { call, kernel: None })
     }
 
-    /// The counting call of this name, or `None` where none is built under it.
-    fn counting(name: &str) -> Option<Request>
-        ensures { result ≡ counting_named name.now }
+    /// What four words ask for: a call by its kernel.
+    #[tactic(auto, unfolding(crate::specs::Requests::kernel_request))]
+    fn by_kernel(name: &str, index: &str, chunk: &str, lead: &str) -> Option<Request>
+        ensures { result ≡ kernel_request name.now index.now chunk.now lead.now }
     {
-        match name {
-            "chars.count" => Some(Request::CharsCount),
-            "utf16.count" => Some(Request::Utf16Count),
-            "utf16.count_surrogates" => Some(Request::Utf16CountSurrogates),
-            "lines_lf.count_breaks" => Some(Request::LinesLfCountBreaks),
-            "lines_crlf.count_breaks" => Some(Request::LinesCrlfCountBreaks),
-            "lines.count_breaks" => Some(Request::LinesCountBreaks),
-            _ => None,
-        }
+        Some(Request {
+            call: parse_call(name, index)?,
+            kernel: Some(parse_kernel(chunk, lead)?),
+        })
     }
 
-    /// The conversion of this name for the index, or `None` where none is built under it.
-    fn conversion(name: &str, index: usize) -> Option<Request>
-        ensures { result ≡ conversion_named name.now index }
-    {
-        match name {
-            "chars.from_byte_idx" => Some(Request::CharsFromByteIdx(index)),
-            "chars.to_byte_idx" => Some(Request::CharsToByteIdx(index)),
-            "utf16.from_byte_idx" => Some(Request::Utf16FromByteIdx(index)),
-            "utf16.to_byte_idx" => Some(Request::Utf16ToByteIdx(index)),
-            "lines_lf.from_byte_idx" => Some(Request::LinesLfFromByteIdx(index)),
-            "lines_lf.to_byte_idx" => Some(Request::LinesLfToByteIdx(index)),
-            "lines_crlf.from_byte_idx" => Some(Request::LinesCrlfFromByteIdx(index)),
-            "lines_crlf.to_byte_idx" => Some(Request::LinesCrlfToByteIdx(index)),
-            "lines.from_byte_idx" => Some(Request::LinesFromByteIdx(index)),
-            "lines.to_byte_idx" => Some(Request::LinesToByteIdx(index)),
-            _ => None,
-        }
-    }
-
-    /// The number that the call answers for the text.
-    #[tactic(auto, unfolding(crate::specs::Requests::answer_of))]
+    /// The number that the call answers for the text. That of its kernel is the same over each chunk type and with
+    /// any number of leading bytes.
     pub fn answer(&self, text: &str) -> usize
-        ensures { result ≡ answer_of self.now (chars text.now) }
+        ensures { result ≡ answer_of self.now.call (chars text.now) }
     {
-        match *self {
-            Request::CharsCount => chars::count(text),
-            Request::CharsFromByteIdx(index) => chars::from_byte_idx(text, index),
-            Request::CharsToByteIdx(index) => chars::to_byte_idx(text, index),
-            Request::Utf16Count => utf16::count(text),
-            Request::Utf16CountSurrogates => utf16::count_surrogates(text),
-            Request::Utf16FromByteIdx(index) => utf16::from_byte_idx(text, index),
-            Request::Utf16ToByteIdx(index) => utf16::to_byte_idx(text, index),
-            Request::LinesLfCountBreaks => lines_lf::count_breaks(text),
-            Request::LinesLfFromByteIdx(index) => lines_lf::from_byte_idx(text, index),
-            Request::LinesLfToByteIdx(index) => lines_lf::to_byte_idx(text, index),
-            Request::LinesCrlfCountBreaks => lines_crlf::count_breaks(text),
-            Request::LinesCrlfFromByteIdx(index) => lines_crlf::from_byte_idx(text, index),
-            Request::LinesCrlfToByteIdx(index) => lines_crlf::to_byte_idx(text, index),
-            Request::LinesCountBreaks => lines::count_breaks(text),
-            Request::LinesFromByteIdx(index) => lines::from_byte_idx(text, index),
-            Request::LinesToByteIdx(index) => lines::to_byte_idx(text, index),
+        match self.kernel {
+            None => self.call.answer(text),
+            Some(kernel) => kernel.answer(self.call, text),
         }
     }
+}
+
+/// The call of this name, a conversion for the index, or a counting call, which takes none, for `-`.
+fn parse_call(name: &str, index: &str) -> Option<Call>
+    ensures { result ≡ call_of name.now index.now }
+{
+    if index == "-" {
+        return Call::counting(name);
+    }
+    Call::conversion(name, parse_index(index)?)
+}
+
+/// How the two words want a kernel run, or `None` where the one names no chunk type or the other writes no index.
+fn parse_kernel(chunk: &str, lead: &str) -> Option<Kernel>
+    ensures { result ≡ kernel_of chunk.now lead.now }
+{
+    Some(Kernel {
+        chunk: ChunkType::named(chunk)?,
+        lead: parse_index(lead)?,
+    })
 }
 
 /// The number that the word writes in decimal digits, or `None` where it is empty, has another

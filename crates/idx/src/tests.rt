@@ -5,6 +5,8 @@ use std::alloc::Global;
 use std::io;
 use std::io::{ErrorKind, Read, Write};
 
+mod wide;
+
 const TEXT: &str = "Hello せかい! Hello せかい! Hello せかい! Hello せかい! Hello せかい!";
 
 /// Seven, after a hundred zeros.
@@ -155,8 +157,42 @@ fn answers_calls_of_each_module(rt: HostRuntime) {
 }
 
 #[test]
+fn answers_by_each_kernel(rt: HostRuntime) {
+    let frogs = "Hel🐸lo world! こん🐸にち🐸🐸は!";
+    let late_crlf = "aaaaaaaaaaaaaaaaaaaaaaaaaaaaaaa\r\nb";
+    let answers: [(&str, &str, &str, &[u8]); 16] = [
+        ("chars.count", "-", TEXT, b"54\n"),
+        ("chars.from_byte_idx", "2", "せかい", b"0\n"),
+        ("chars.to_byte_idx", "2", "せかい", b"6\n"),
+        ("utf16.count", "-", frogs, b"27\n"),
+        ("utf16.count_surrogates", "-", frogs, b"4\n"),
+        ("utf16.from_byte_idx", "26", frogs, b"17\n"),
+        ("utf16.to_byte_idx", "18", frogs, b"23\n"),
+        ("lines_lf.count_breaks", "-", late_crlf, b"1\n"),
+        ("lines_lf.from_byte_idx", "2", "a\r\nb", b"0\n"),
+        ("lines_lf.to_byte_idx", "1", "a\r\nb", b"3\n"),
+        ("lines_crlf.count_breaks", "-", late_crlf, b"1\n"),
+        ("lines_crlf.from_byte_idx", "3", "\r\r\n\n", b"2\n"),
+        ("lines_crlf.to_byte_idx", "2", "\r\r\n\n", b"3\n"),
+        ("lines.count_breaks", "-", late_crlf, b"1\n"),
+        ("lines.from_byte_idx", "4", "é\u{85}x", b"1\n"),
+        ("lines.to_byte_idx", "1", "a\u{2028}b", b"4\n"),
+    ];
+    for (call, index, text, written) in answers {
+        for chunk in ["plain", "word", "lanes", "wide"] {
+            for lead in ["0", "3", "007", "18446744073709551615"] {
+                let words = [call, index, chunk, lead];
+                let (result, output) = run_in_memory(rt.alloc(), &words, text.as_bytes());
+                assert_eq!(rt; result, Ok(()), "{call} {chunk} {lead}");
+                assert_eq!(rt; output.as_slice(), written, "{call} {chunk} {lead}");
+            }
+        }
+    }
+}
+
+#[test]
 fn refuses_other_words(rt: HostRuntime) {
-    let lists: [&[&str]; 21] = [
+    let lists: [&[&str]; 32] = [
         &[],
         &["chars"],
         &["Chars.count"],
@@ -178,6 +214,17 @@ fn refuses_other_words(rt: HostRuntime) {
         &["Chars.from_byte_idx", "1"],
         &["chars.from_char_idx", "1"],
         &["1", "chars.from_byte_idx"],
+        &["chars.count", "-"],
+        &["chars.count", "-", "word"],
+        &["chars.count", "word", "0"],
+        &["utf16.count", "0", "word", "7"],
+        &["chars.from_byte_idx", "-", "word", "0"],
+        &["chars.count", "-", "short", "0"],
+        &["chars.count", "-", "WORD", "0"],
+        &["chars.count", "-", "word", "-1"],
+        &["chars.count", "-", "word", "-"],
+        &["chars.count", "-", "word", "18446744073709551616"],
+        &["chars.count", "-", "word", "0", "0"],
     ];
     for words in lists {
         let (result, output) = run_in_memory(rt.alloc(), words, TEXT.as_bytes());

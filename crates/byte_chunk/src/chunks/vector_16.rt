@@ -11,6 +11,7 @@ fn move_to_front(lanes: u8x16, n: usize) -> u8x16
     ensures { result ≡ drop n lanes ++ replicate n 0 }
 {
     let zeros = u8x16::splat(0);
+    vectors::shuffled_from(lanes, zeros, n);
     match n {
         0 => lanes,
         1 => lanes.shuffle(
@@ -36,6 +37,7 @@ fn move_to_front(lanes: u8x16, n: usize) -> u8x16
 fn start_one_before(lanes: u8x16, next: u8x16) -> u8x16
     ensures { result ≡ drop 15 lanes ++ take 15 next }
 {
+    vectors::shuffled_from(lanes, next, 15);
     lanes.shuffle(
         next,
         [

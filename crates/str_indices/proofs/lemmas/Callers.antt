@@ -1,4 +1,6 @@
--- What the proofs of other crates may cite: where std lets a text be sliced.
+-- What the proofs of other crates may cite: where std lets a text be sliced, and what a counting kernel answers for all
+-- of a text.
+--     whole_text                      cut at its end, a boundary, a text is itself (a rule for the search)
 --     IsCharBoundary-from_boundary    std lets a text be sliced at each boundary
 --     IsBoundary-from_char_boundary   and nowhere else
 --     IsCharBoundary-to_byte_idx      each conversion to a byte index answers such a place
@@ -14,6 +16,7 @@ use Rattle.str_indices.proofs.lemmas.bytes.Characters.{is_trailing_later}
 use Rattle.str_indices.proofs.lemmas.bytes.Walks.{size-chars}
 use Rattle.str_indices.proofs.lemmas.bytes.BoundaryBytes.{boundary_begins}
 pub use Rattle.str_indices.proofs.lemmas.bytes.BoundaryBytes.{IsBoundary-from_char_boundary}
+pub use Rattle.str_indices.proofs.lemmas.bytes.Walks.{whole_text}
 
 -- std lets a text be sliced at each boundary
 pub IsCharBoundary-from_boundary : (bytes : List ℕ) → IsUtf8 bytes → (p : ℕ) → IsBoundary (chars bytes) p

@@ -1,8 +1,8 @@
 use Rattle.std.proofs.Common.{sym, ap}
 use Rattle.std.specs.Option.{option_map}
-use Rattle.idx.specs.Requests.{conversions}
+use Rattle.idx.specs.Calls.{conversions}
 use Rattle.idx.proofs.Names.{entry_named-no_row}
-use Rattle.idx.proofs.requests.Request.conversion.Goals as goal
+use Rattle.idx.proofs.calls.Call.conversion.Goals as goal
 
 pub returns-in_default : goal.returns-in_default
 returns-in_default c = sym (ap (option_map (λ conversion. conversion c.args.index))

@@ -1,7 +1,7 @@
 use Rattle.std.proofs.Common.{sym}
-use Rattle.idx.specs.Requests.{counting_calls}
+use Rattle.idx.specs.Calls.{counting_calls}
 use Rattle.idx.proofs.Names.{entry_named-no_row}
-use Rattle.idx.proofs.requests.Request.counting.Goals as goal
+use Rattle.idx.proofs.calls.Call.counting.Goals as goal
 
 pub returns-in_default : goal.returns-in_default
 returns-in_default c = sym (entry_named-no_row c.args.name.now counting_calls (assumption c.in_default))

@@ -1,0 +1,89 @@
+// The kernels of the library, over each chunk type.
+ghost use Rattle.std.specs.Prelude.{◌≡◌, chars};
+ghost use Rattle.idx.specs.Calls.{answer_of};
+ghost use Rattle.idx.specs.Requests.{chunk_type_named};
+
+use crate::calls::Call;
+use crate::wide::Wide;
+use byte_chunk::{ByteChunk, Plain, Probe};
+use std::simd::u8x16;
+use str_indices::{chars, lines, lines_crlf, lines_lf, utf16};
+
+/// A chunk type that a kernel can be asked to run over.
+#[derive(Clone, Copy)]
+pub enum ChunkType {
+    /// An array of eight bytes.
+    Plain,
+    /// The machine word, of eight bytes.
+    Word,
+    /// A vector of sixteen bytes.
+    Lanes,
+    /// This program's own, a vector of thirty-two bytes.
+    Wide,
+}
+
+/// How a kernel is to run: over which chunk type, and with how many leading bytes.
+#[derive(Clone, Copy)]
+pub struct Kernel {
+    pub chunk: ChunkType,
+    pub lead: usize,
+}
+
+impl ChunkType {
+    /// The chunk type of this name, or `None` where there is none.
+    pub fn named(name: &str) -> Option<ChunkType>
+        ensures { result ≡ chunk_type_named name.now }
+    {
+        match name {
+            "plain" => Some(ChunkType::Plain),
+            "word" => Some(ChunkType::Word),
+            "lanes" => Some(ChunkType::Lanes),
+            "wide" => Some(ChunkType::Wide),
+            _ => None,
+        }
+    }
+}
+
+impl Kernel {
+    /// The number that the call's kernel answers for all of the text.
+    // Every chunk type gives the same number. So the contract names none, and a body that runs the kernel over
+    // another one than the words say meets it too: which one runs is read here.
+    pub fn answer(&self, call: Call, text: &str) -> usize
+        ensures { result ≡ answer_of call (chars text.now) }
+    {
+        match self.chunk {
+            ChunkType::Plain => answer_by_chunks::<Plain>(call, text, self.lead),
+            ChunkType::Word => answer_by_chunks::<usize>(call, text, self.lead),
+            ChunkType::Lanes => answer_by_chunks::<u8x16>(call, text, self.lead),
+            ChunkType::Wide => answer_by_chunks::<Wide>(call, text, self.lead),
+        }
+    }
+}
+
+/// The number that the call's kernel answers for all of the text, over chunks of any type, where it walks the first
+/// `lead` bytes one by one.
+#[tactic(auto, unfolding(crate::specs::Calls::answer_of), using(str_indices::proofs::lemmas::Callers::whole_text))]
+fn answer_by_chunks<T: ByteChunk>(call: Call, text: &str, lead: usize) -> usize
+    ensures { result ≡ answer_of call (chars text.now) }
+{
+    let end = text.len();
+    let probe = &mut Probe::<T>::of(text);
+    match call {
+        Call::CharsCount => chars::count_impl(probe, end, lead),
+        Call::CharsFromByteIdx(index) => chars::from_byte_idx_impl(probe, index, lead),
+        Call::CharsToByteIdx(index) => chars::to_byte_idx_impl(probe, index, lead),
+        Call::Utf16Count => utf16::count_impl(probe, end, lead),
+        Call::Utf16CountSurrogates => utf16::count_surrogates_impl(probe, end, lead),
+        Call::Utf16FromByteIdx(index) => utf16::from_byte_idx_impl(probe, index, lead),
+        Call::Utf16ToByteIdx(index) => utf16::to_byte_idx_impl(probe, index, lead),
+        Call::LinesLfCountBreaks => lines_lf::count_breaks_impl(probe, end, lead),
+        Call::LinesLfFromByteIdx(index) => lines_lf::from_byte_idx_impl(probe, index, lead),
+        Call::LinesLfToByteIdx(index) => lines_lf::to_byte_idx_impl(probe, index, lead),
+        Call::LinesCrlfCountBreaks => lines_crlf::count_breaks_impl(probe, end, lead),
+        Call::LinesCrlfFromByteIdx(index) => lines_crlf::from_byte_idx_impl(probe, index, lead),
+        Call::LinesCrlfToByteIdx(index) => lines_crlf::to_byte_idx_impl(probe, index, lead),
+        Call::LinesCountBreaks => lines::count_breaks_impl(probe, end, lead),
+        Call::LinesFromByteIdx(index) => lines::from_byte_idx_impl(probe, index, lead),
+        Call::LinesToByteIdx(index) => lines::to_byte_idx_impl(probe, index, lead),
+    }
+}
