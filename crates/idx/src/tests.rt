@@ -5,6 +5,7 @@ use std::alloc::Global;
 use std::io;
 use std::io::{ErrorKind, Read, Write};
 
+mod kernels;
 mod wide;
 
 const TEXT: &str = "Hello せかい! Hello せかい! Hello せかい! Hello せかい! Hello せかい!";

@@ -13,6 +13,8 @@ pub mod lines;
 pub mod lines_crlf;
 pub mod lines_lf;
 mod places;
+#[cfg(test)]
+mod tests;
 pub mod utf16;
 
 pub use byte_chunk;
