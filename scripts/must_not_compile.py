@@ -1,9 +1,9 @@
 #!/usr/bin/env python3
 """Shows that some programs do not compile.
 
-The folder must-not-compile has a kernel that compiles, and edits of one line of it. The kernel must be proved as it
-stands, and each edited kernel must be refused with the compiler's own error that the edit names. The last line printed
-is 'N passed, M failed'.
+The folder must-not-compile has a kernel that compiles, and edits of one line of it. Beside the kernel lies a copy of
+the program's chunk type. The kernel must be proved as it stands, and each edited kernel must be refused with the
+compiler's own error that the edit names. The last line printed is 'N passed, M failed'.
 """
 import pathlib
 import shutil
@@ -14,6 +14,7 @@ import tempfile
 ROOT = pathlib.Path(__file__).resolve().parent.parent
 CASES = ROOT / "must-not-compile"
 BELOW = "byte_chunk"
+WIDE = ROOT / "crates/idx/src/wide.rt"
 
 
 def read_edit(path):
@@ -35,6 +36,7 @@ def make_repository(folder):
     (folder / "crates.txt").write_text(f"{BELOW}:\nkernel: {BELOW}\n", encoding="utf-8")
     crate = folder / "crates" / "kernel"
     (crate / "src").mkdir(parents=True)
+    shutil.copy(WIDE, crate / "src")
     subprocess.run(["git", "init", "-q", "."], cwd=folder, check=True)
     return crate
 
