@@ -217,7 +217,7 @@ fn an_index_behind_many_chunks_is_reached(rt: HostRuntime) -> Result<(), Fail> {
 }
 
 #[test]
-fn an_index_is_reached_where_a_round_is_shorter_than_a_chunk(rt: HostRuntime) -> Result<(), Fail> {
+fn an_index_is_reached_where_max_acc_is_below_size(rt: HostRuntime) -> Result<(), Fail> {
     let letters = "a".repeat(rt.alloc(), 32)?;
     let table = [
         (0, 15, 15),
@@ -230,7 +230,7 @@ fn an_index_is_reached_where_a_round_is_shorter_than_a_chunk(rt: HostRuntime) ->
         let found = to_byte_idx_impl(&mut Probe::<u128>::of(&letters), unit, lead);
         assert_eq!(rt; found, byte, "at unit {unit} after {lead}");
     }
-    // As many chunks as 120 holds the greatest lane that is summed, 15, are eight, and have 128 letters.
+    // 120 holds the greatest lane that is summed, 15, eight times, and eight chunks have 128 letters.
     let letters = "a".repeat(rt.alloc(), 300)?;
     for unit in [119, 120, 127, 128, 129, 255, 256, 300] {
         let found = to_byte_idx_impl(&mut Probe::<u128>::of(&letters), unit, 0);
