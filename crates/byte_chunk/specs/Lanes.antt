@@ -1,5 +1,5 @@
 -- What a chunk is to a contract: the list of its lanes, of which each call answers one.
-use Rattle.std.specs.Prelude.{ℕ, List, ◌<◌, ◌≤◌, ◌==◌, ◌&&◌, nat_lt, if◌then◌else◌}
+use Rattle.std.specs.Prelude.{ℕ, List, ◌≤◌, ◌==◌, ◌&&◌, nat_lt, if◌then◌else◌}
 use Rattle.std.specs.Simd.Lanes.{digits_l}
 
 -- the n lanes of a word: lane i is its byte i, the lowest first
@@ -18,5 +18,5 @@ is_between a b lane = if nat_lt a lane && nat_lt lane b then 1 else 0
 pub record IsLawful (size max_acc : ℕ) : Type 0 where
   pub least : 4 ≤ size
   pub most : size ≤ 64
-  pub room : size < max_acc
+  pub room : 4 ≤ max_acc
   pub fits : max_acc ≤ 255

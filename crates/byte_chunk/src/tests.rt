@@ -5,6 +5,7 @@ use std::mem::size_of;
 use std::simd::prelude::*;
 use std::test::Fail;
 
+mod double_word;
 mod half_word;
 mod vectors;
 
@@ -341,6 +342,36 @@ fn generic_code_calls_each_method_of_a_word(rt: HostRuntime) -> Result<(), Fail>
     );
     assert_eq!(rt; threes_with_a_step::<usize>(), 0x0204_0303_0303_0303);
     assert_eq!(rt; sum_of_ones::<usize>(31), 248);
+    Ok(())
+}
+
+#[test]
+fn generic_code_calls_each_method_of_a_double_word(rt: HostRuntime) -> Result<(), Fail> {
+    assert_eq!(rt;
+        trailing_bytes::<u128>("a\u{e9}\u{305b}bcdefghijk".as_bytes()),
+        3
+    );
+    assert_eq!(rt; trailing_bytes::<u128>(b"abcdefghijklmnop"), 0);
+    assert_eq!(rt; lane_count::<u128>(), 16);
+    assert_eq!(rt; has_digit::<u128>(b"/a.b:c-d/a.b:c-9"), true);
+    assert_eq!(rt; has_digit::<u128>(b"/a.b:c-d/a.b:c-d"), false);
+    assert_eq!(rt;
+        from_third_byte_on::<u128>(b"abcdefghijklmnop"),
+        0x0000_706F_6E6D_6C6B_6A69_6867_6665_6463
+    );
+    assert_eq!(rt;
+        from_byte_before::<u128>(b'-', b"abcdefghijklmnop"),
+        0x6F6E_6D6C_6B6A_6968_6766_6564_6362_612D
+    );
+    assert_eq!(rt;
+        upper_halves::<u128>(b"\x01\x23\x45\x67\x89\xAB\xCD\xEF\x10\x32\x54\x76\x98\xBA\xDC\xFE"),
+        0x0F0D_0B09_0705_0301_0E0C_0A08_0604_0200
+    );
+    assert_eq!(rt;
+        threes_with_a_step::<u128>(),
+        0x0204_0303_0303_0303_0303_0303_0303_0303
+    );
+    assert_eq!(rt; sum_of_ones::<u128>(15), 240);
     Ok(())
 }
 

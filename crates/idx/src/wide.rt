@@ -1,6 +1,6 @@
 // A chunk type of the program's own: a vector of thirty-two lanes, by the public contract of `byte_chunk` alone.
 ghost use Rattle.std.specs.Prelude.{◌≡◌, ◌≤◌, ◌++◌, drop, take, replicate};
-ghost use Rattle.std.proofs.Common.{lit≤, lit<};
+ghost use Rattle.std.proofs.Common.{lit≤};
 
 use byte_chunk::{ByteChunk, vectors};
 use std::simd::prelude::*;
@@ -134,5 +134,5 @@ impl ByteChunk for Wide {
         vectors::sum_bytes(self.0)
     }
 
-    ghost lawful = { record { least = lit≤ tt; most = lit≤ tt; room = lit< tt; fits = lit≤ tt } };
+    ghost lawful = { record { least = lit≤ tt; most = lit≤ tt; room = lit≤ tt; fits = lit≤ tt } };
 }

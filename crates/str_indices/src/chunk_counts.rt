@@ -114,7 +114,7 @@ fn count_round<C: LaneCounts<T>, T: ByteChunk, const GROUP: usize>(
 }
 
 /// How many chunks are added in a round, where so many bytes are left: so few that what they count in a lane can be
-/// summed, and groups as a whole while there are enough.
+/// summed, and no part of a group unless not even one fits.
 fn chunks_of_round<C: LaneCounts<T>, T: ByteChunk, const GROUP: usize>(left: usize) -> usize
     requires some { 0 < GROUP }
     requires room { T.SIZE ≤ left }
@@ -122,7 +122,12 @@ fn chunks_of_round<C: LaneCounts<T>, T: ByteChunk, const GROUP: usize>(left: usi
     ensures within { result * T.SIZE ≤ left }
     ensures summable { result * C.MOST ≤ T.MAX_ACC }
 {
-    let most = (T::MAX_ACC / C::MOST / GROUP * GROUP).max(1);
+    let fitting = T::MAX_ACC / C::MOST;
+    let most = if fitting < GROUP {
+        fitting
+    } else {
+        fitting / GROUP * GROUP
+    };
     (left / T::SIZE).min(most)
 }
 

@@ -1,6 +1,6 @@
 //! The chunk that is an array.
 ghost use Rattle.std.specs.Prelude.{◌≡◌};
-ghost use Rattle.std.proofs.Common.{lit≤, lit<};
+ghost use Rattle.std.proofs.Common.{lit≤};
 
 use crate::ByteChunk;
 use std::array;
@@ -108,5 +108,5 @@ impl ByteChunk for Plain {
         total
     }
 
-    ghost lawful = { record { least = lit≤ tt; most = lit≤ tt; room = lit< tt; fits = lit≤ tt } };
+    ghost lawful = { record { least = lit≤ tt; most = lit≤ tt; room = lit≤ tt; fits = lit≤ tt } };
 }

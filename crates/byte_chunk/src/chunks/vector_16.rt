@@ -1,6 +1,6 @@
 //! The chunk that is a vector: sixteen bytes, one in each lane.
 ghost use Rattle.std.specs.Prelude.{◌≡◌, ◌≤◌, ◌++◌, drop, take, replicate};
-ghost use Rattle.std.proofs.Common.{lit≤, lit<};
+ghost use Rattle.std.proofs.Common.{lit≤};
 
 use crate::{ByteChunk, vectors};
 use std::simd::prelude::*;
@@ -117,5 +117,5 @@ impl ByteChunk for Simd<u8, 16> {
         vectors::sum_bytes(*self)
     }
 
-    ghost lawful = { record { least = lit≤ tt; most = lit≤ tt; room = lit< tt; fits = lit≤ tt } };
+    ghost lawful = { record { least = lit≤ tt; most = lit≤ tt; room = lit≤ tt; fits = lit≤ tt } };
 }

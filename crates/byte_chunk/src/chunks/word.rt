@@ -1,5 +1,5 @@
 //! The machine word as a chunk: eight lanes in one number.
-ghost use Rattle.std.proofs.Common.{lit≤, lit<};
+ghost use Rattle.std.proofs.Common.{lit≤};
 ghost use Rattle.byte_chunk.specs.Lanes.{word_lanes};
 
 use crate::ByteChunk;
@@ -102,5 +102,5 @@ impl ByteChunk for usize {
         self.wrapping_mul(ONES) >> 56
     }
 
-    ghost lawful = { record { least = lit≤ tt; most = lit≤ tt; room = lit< tt; fits = lit≤ tt } };
+    ghost lawful = { record { least = lit≤ tt; most = lit≤ tt; room = lit≤ tt; fits = lit≤ tt } };
 }

@@ -1,6 +1,6 @@
 //! Four lanes in a number of 32 bits: how a chunk type is added.
 ghost use Rattle.std.specs.Prelude.{◌≡◌};
-ghost use Rattle.std.proofs.Common.{lit≤, lit<};
+ghost use Rattle.std.proofs.Common.{lit≤};
 ghost use Rattle.byte_chunk.specs.Lanes.{word_lanes};
 
 use crate::ByteChunk;
@@ -113,5 +113,5 @@ impl ByteChunk for HalfWord {
         (self.0.wrapping_mul(ONES) >> 24) as usize
     }
 
-    ghost lawful = { record { least = lit≤ tt; most = lit≤ tt; room = lit< tt; fits = lit≤ tt } };
+    ghost lawful = { record { least = lit≤ tt; most = lit≤ tt; room = lit≤ tt; fits = lit≤ tt } };
 }

@@ -60,6 +60,7 @@ fn count_after_each_lead<T: ByteChunk>(rt: &impl Abort) {
 fn counts_before_a_boundary_after_any_lead(rt: HostRuntime) -> Result<(), Fail> {
     count_after_each_lead::<Plain>(&rt);
     count_after_each_lead::<usize>(&rt);
+    count_after_each_lead::<u128>(&rt);
     count_after_each_lead::<u8x16>(&rt);
     Ok(())
 }
@@ -196,6 +197,7 @@ fn convert_after_each_lead<T: ByteChunk>(rt: &impl Abort) {
 fn kernels_convert_after_any_lead(rt: HostRuntime) -> Result<(), Fail> {
     convert_after_each_lead::<Plain>(&rt);
     convert_after_each_lead::<usize>(&rt);
+    convert_after_each_lead::<u128>(&rt);
     convert_after_each_lead::<u8x16>(&rt);
     Ok(())
 }

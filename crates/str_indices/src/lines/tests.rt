@@ -196,6 +196,7 @@ fn see_breaks_at_any_edge<T: ByteChunk>(rt: &impl Abort) {
 fn kernels_see_breaks_at_any_edge_of_a_chunk(rt: HostRuntime) -> Result<(), Fail> {
     see_breaks_at_any_edge::<Plain>(&rt);
     see_breaks_at_any_edge::<usize>(&rt);
+    see_breaks_at_any_edge::<u128>(&rt);
     see_breaks_at_any_edge::<u8x16>(&rt);
     Ok(())
 }
@@ -211,6 +212,7 @@ fn count_every_break_after_each_lead<T: ByteChunk>(rt: &impl Abort) {
 fn each_kind_of_break_counts_at_any_place_of_a_chunk(rt: HostRuntime) -> Result<(), Fail> {
     count_every_break_after_each_lead::<Plain>(&rt);
     count_every_break_after_each_lead::<usize>(&rt);
+    count_every_break_after_each_lead::<u128>(&rt);
     count_every_break_after_each_lead::<u8x16>(&rt);
     Ok(())
 }

@@ -72,6 +72,7 @@ fn count_after_each_lead<T: ByteChunk>(rt: &impl Abort) {
 fn kernel_counts_before_a_byte_after_any_lead(rt: HostRuntime) -> Result<(), Fail> {
     count_after_each_lead::<Plain>(&rt);
     count_after_each_lead::<usize>(&rt);
+    count_after_each_lead::<u128>(&rt);
     count_after_each_lead::<u8x16>(&rt);
     Ok(())
 }
@@ -236,6 +237,7 @@ fn convert_after_each_lead<T: ByteChunk>(rt: &impl Abort) {
 fn kernels_convert_after_any_lead(rt: HostRuntime) -> Result<(), Fail> {
     convert_after_each_lead::<Plain>(&rt);
     convert_after_each_lead::<usize>(&rt);
+    convert_after_each_lead::<u128>(&rt);
     convert_after_each_lead::<u8x16>(&rt);
     Ok(())
 }

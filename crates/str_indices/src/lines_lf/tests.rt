@@ -185,6 +185,7 @@ fn answer_after_each_lead<T: ByteChunk>(rt: &impl Abort) {
 fn any_number_of_leading_bytes_gives_one_answer(rt: HostRuntime) -> Result<(), Fail> {
     answer_after_each_lead::<Plain>(&rt);
     answer_after_each_lead::<usize>(&rt);
+    answer_after_each_lead::<u128>(&rt);
     answer_after_each_lead::<u8x16>(&rt);
     Ok(())
 }
@@ -227,6 +228,7 @@ fn stop_at_the_edge_of_four_chunks<T: ByteChunk>(rt: &impl Abort) {
 fn a_line_may_end_where_four_chunks_do(rt: HostRuntime) -> Result<(), Fail> {
     stop_at_the_edge_of_four_chunks::<Plain>(&rt);
     stop_at_the_edge_of_four_chunks::<usize>(&rt);
+    stop_at_the_edge_of_four_chunks::<u128>(&rt);
     stop_at_the_edge_of_four_chunks::<u8x16>(&rt);
     Ok(())
 }
@@ -248,6 +250,7 @@ fn count_up_to_each_end<T: ByteChunk>(rt: &impl Abort) {
 fn breaks_count_up_to_an_end_inside_a_character(rt: HostRuntime) -> Result<(), Fail> {
     count_up_to_each_end::<Plain>(&rt);
     count_up_to_each_end::<usize>(&rt);
+    count_up_to_each_end::<u128>(&rt);
     count_up_to_each_end::<u8x16>(&rt);
     Ok(())
 }

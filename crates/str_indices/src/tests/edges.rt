@@ -149,6 +149,11 @@ fn words_answer_as_a_plain_walk(rt: HostRuntime) {
 }
 
 #[test]
+fn double_words_answer_as_a_plain_walk(rt: HostRuntime) {
+    texts_answer_as_the_walk::<u128>(&rt);
+}
+
+#[test]
 fn sixteen_lanes_answer_as_a_plain_walk(rt: HostRuntime) {
     texts_answer_as_the_walk::<u8x16>(&rt);
 }
@@ -241,6 +246,14 @@ fn arrays_see_each_break_at_every_edge(rt: HostRuntime) -> Result<(), Fail> {
 fn words_see_each_break_at_every_edge(rt: HostRuntime) -> Result<(), Fail> {
     for letters in 0..41 {
         middles_behind::<usize>(&rt, rt.alloc(), letters)?;
+    }
+    Ok(())
+}
+
+#[test]
+fn double_words_see_each_break_at_every_edge(rt: HostRuntime) -> Result<(), Fail> {
+    for letters in 0..41 {
+        middles_behind::<u128>(&rt, rt.alloc(), letters)?;
     }
     Ok(())
 }

@@ -104,6 +104,7 @@ fn convert_each<T: ByteChunk>(rt: &impl Abort, alloc: Global) -> Result<(), Fail
 fn full_lanes_are_counted_over_every_chunk(rt: HostRuntime) -> Result<(), Fail> {
     count_each::<Plain>(&rt, rt.alloc())?;
     count_each::<usize>(&rt, rt.alloc())?;
+    count_each::<u128>(&rt, rt.alloc())?;
     count_each::<u8x16>(&rt, rt.alloc())
 }
 
@@ -111,5 +112,6 @@ fn full_lanes_are_counted_over_every_chunk(rt: HostRuntime) -> Result<(), Fail> 
 fn full_lanes_are_converted_over_every_chunk(rt: HostRuntime) -> Result<(), Fail> {
     convert_each::<Plain>(&rt, rt.alloc())?;
     convert_each::<usize>(&rt, rt.alloc())?;
+    convert_each::<u128>(&rt, rt.alloc())?;
     convert_each::<u8x16>(&rt, rt.alloc())
 }

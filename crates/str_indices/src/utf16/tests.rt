@@ -73,6 +73,7 @@ fn count_after_each_lead<T: ByteChunk>(rt: &impl Abort) {
 fn kernels_count_before_a_boundary_after_any_lead(rt: HostRuntime) -> Result<(), Fail> {
     count_after_each_lead::<Plain>(&rt);
     count_after_each_lead::<usize>(&rt);
+    count_after_each_lead::<u128>(&rt);
     count_after_each_lead::<u8x16>(&rt);
     Ok(())
 }
@@ -116,6 +117,7 @@ fn convert_after_each_lead<T: ByteChunk>(rt: &impl Abort) {
 fn kernels_convert_after_any_lead(rt: HostRuntime) -> Result<(), Fail> {
     convert_after_each_lead::<Plain>(&rt);
     convert_after_each_lead::<usize>(&rt);
+    convert_after_each_lead::<u128>(&rt);
     convert_after_each_lead::<u8x16>(&rt);
     Ok(())
 }
@@ -210,6 +212,29 @@ fn an_index_behind_many_chunks_is_reached(rt: HostRuntime) -> Result<(), Fail> {
     let frogs = "🐸".repeat(rt.alloc(), 300)?;
     for (unit, byte) in [(598, 1196), (599, 1196), (600, 1200)] {
         assert_eq!(rt; to_byte_idx(&frogs, unit), byte, "at unit {unit}");
+    }
+    Ok(())
+}
+
+#[test]
+fn an_index_is_reached_where_max_acc_is_below_size(rt: HostRuntime) -> Result<(), Fail> {
+    let letters = "a".repeat(rt.alloc(), 32)?;
+    let table = [
+        (0, 15, 15),
+        (0, 16, 16),
+        (0, 17, 17),
+        (0, 33, 32),
+        (1, 16, 16),
+    ];
+    for (lead, unit, byte) in table {
+        let found = to_byte_idx_impl(&mut Probe::<u128>::of(&letters), unit, lead);
+        assert_eq!(rt; found, byte, "at unit {unit} after {lead}");
+    }
+    // 120 holds the greatest lane that is summed, 15, eight times, and eight chunks have 128 letters.
+    let letters = "a".repeat(rt.alloc(), 300)?;
+    for unit in [119, 120, 127, 128, 129, 255, 256, 300] {
+        let found = to_byte_idx_impl(&mut Probe::<u128>::of(&letters), unit, 0);
+        assert_eq!(rt; found, unit, "at unit {unit}");
     }
     Ok(())
 }
