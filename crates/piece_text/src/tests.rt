@@ -1,3 +1,5 @@
+mod caller;
+
 use crate::schemes::{from_byte_idx, to_byte_idx};
 use crate::{PieceText, Refusal, Scheme};
 use std::alloc::Global;
