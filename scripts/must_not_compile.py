@@ -1,9 +1,10 @@
 #!/usr/bin/env python3
 """Shows that some programs do not compile.
 
-The folder must-not-compile has a kernel that compiles, and edits of one line of it. Beside the kernel lies a copy of
-the program's chunk type. The kernel must be proved as it stands, and each edited kernel must be refused with the
-compiler's own error that the edit names. The last line printed is 'N passed, M failed'.
+Each folder must-not-compile/CRATE has a program over that crate that compiles, and edits of one line of it. The program
+must be proved as it stands, and each edited program must be refused with the compiler's own error that the edit names.
+Beside the program over `byte_chunk` lies a copy of the chunk type `Wide` of `idx`. The last line printed is
+'N passed, M failed'.
 """
 import pathlib
 import shutil
@@ -11,10 +12,12 @@ import subprocess
 import sys
 import tempfile
 
-ROOT = pathlib.Path(__file__).resolve().parent.parent
+from crate_copies import ROOT, copy_crate
+
 CASES = ROOT / "must-not-compile"
-BELOW = "byte_chunk"
-WIDE = ROOT / "crates/idx/src/wide.rt"
+
+# files of other crates that a program takes in
+BESIDE = {"byte_chunk": [ROOT / "crates/idx/src/wide.rt"]}
 
 
 def read_edit(path):
@@ -31,34 +34,31 @@ def check(crate, program):
     return run.returncode, run.stdout + run.stderr
 
 
-def make_repository(folder):
-    shutil.copytree(ROOT / "crates" / BELOW, folder / "crates" / BELOW)
-    (folder / "crates.txt").write_text(f"{BELOW}:\nkernel: {BELOW}\n", encoding="utf-8")
-    crate = folder / "crates" / "kernel"
+def try_all(cases, folder):
+    program = (cases / "program.txt").read_text(encoding="utf-8")
+    copy_crate(cases.name, folder, f"program: {cases.name}\n")
+    crate = folder / "crates" / "program"
     (crate / "src").mkdir(parents=True)
-    shutil.copy(WIDE, crate / "src")
-    subprocess.run(["git", "init", "-q", "."], cwd=folder, check=True)
-    return crate
+    for source in BESIDE.get(cases.name, []):
+        shutil.copy(source, crate / "src")
+    status, output = check(crate, program)
+    yield "program", status == 0, output
+    for path in sorted(cases.glob("*.edit")):
+        error, old, new = read_edit(path)
+        once = program.count(old + "\n") == 1
+        status, output = check(crate, program.replace(old + "\n", new + "\n"))
+        yield path.stem, once and status == 1 and f"error[{error}]" in output, output
 
 
 def main():
     passed = failed = 0
-    kernel = (CASES / "kernel.txt").read_text(encoding="utf-8")
-    with tempfile.TemporaryDirectory() as folder:
-        crate = make_repository(pathlib.Path(folder))
-        status, output = check(crate, kernel)
-        outcomes = [("kernel", status == 0, output)]
-        for path in sorted(CASES.glob("*.edit")):
-            error, old, new = read_edit(path)
-            once = kernel.count(old + "\n") == 1
-            status, output = check(crate, kernel.replace(old + "\n", new + "\n"))
-            refused = once and status == 1 and f"error[{error}]" in output
-            outcomes.append((path.stem, refused, output))
-    for name, right, output in outcomes:
-        passed, failed = passed + right, failed + (not right)
-        print(f"must-not-compile {name}: {'as wanted' if right else 'NOT as wanted'}")
-        if not right:
-            print(output)
+    for cases in sorted(CASES.iterdir()):
+        with tempfile.TemporaryDirectory() as folder:
+            for name, right, output in try_all(cases, pathlib.Path(folder)):
+                passed, failed = passed + right, failed + (not right)
+                print(f"must-not-compile {cases.name} {name}: {'as wanted' if right else 'NOT as wanted'}", flush=True)
+                if not right:
+                    print(output)
     print(f"{passed} passed, {failed} failed")
     return 0 if failed == 0 else 1
 

@@ -1,12 +1,13 @@
 #!/usr/bin/env python3
-"""Shows that each public function has its answer from its kernel, and from no walk of its own.
+"""Shows that each public function has its answer from the function that it calls, and from no walk of its own.
 
-Each edit of the folder own-walk takes the answer out of one kernel's contract: the clause keeps its name and says
-nothing. The edit names the public function that calls this kernel too. In a copy of the crates with that edit, the
-function and all that it calls are checked: the function alone must be refused, at the goal of its own answer. A
-function with a walk of its own would still be proved. Before that the copy must be proved as it stands.
+A public function of str_indices calls its kernel, and a query of piece_text the function over a view of the pieces. Each
+edit of a folder own-walk/CRATE takes the answer out of the contract of one function of that crate that is called so: the
+clause keeps its name and says nothing. The edit names the public function too. In a copy of the crate and of those below
+it, with that edit, the public function and all that it calls are checked: it alone must be refused, at the goal of its
+own answer. A function with a walk of its own would still be proved. Before that the copy must be proved as it stands.
 
-An edit has four lines: 'refuses:' the function, 'file:' the kernel's file in the crate, 'old:' a clause that stands
+An edit has four lines: 'refuses:' the public function, 'file:' the file of the called one, 'old:' a clause that stands
 once in it, 'new:' what it becomes. The last line printed is 'N passed, M failed'.
 """
 import concurrent.futures
@@ -19,10 +20,9 @@ import subprocess
 import sys
 import tempfile
 
-ROOT = pathlib.Path(__file__).resolve().parent.parent
+from crate_copies import ROOT, copy_crate
+
 CASES = ROOT / "own-walk"
-CRATE = "str_indices"
-BELOW = "byte_chunk"
 COPIES = 4
 
 # what the checker says where a proof file names what is no longer there, which tells nothing of the contract
@@ -37,7 +37,7 @@ class Edit:
         self.file = fields["file"]
         self.old = fields["old"]
         self.new = fields["new"]
-        # the goal of the function's own clause, which has no name, or the name of the kernel's
+        # the goal of the function's own clause, which has no name, or the name of the one that is struck
         self.wanted = {"returns", "returns-clause-" + self.old.split()[1]}
 
     def fault(self, text):
@@ -56,18 +56,18 @@ def check(crate, functions, *flags):
     return run.returncode, run.stdout + run.stderr
 
 
-def verdicts(output):
-    """What the check says of each function that it names."""
-    return dict(re.findall(rf"^fn {CRATE}::(\S+): (.*)$", output, re.MULTILINE))
+def verdicts(crate, output):
+    """What the check says of each function of the crate that it names."""
+    return dict(re.findall(rf"^fn {crate.name}::(\S+): (.*)$", output, re.MULTILINE))
 
 
 def answers_of(function):
     return f"proofs/{function.replace('::', '/')}/Answers.antt"
 
 
-def open_goals(function, output):
+def open_goals(crate, function, output):
     """The goals of the function that are refused, where it alone is refused, and no proof file fails at a name."""
-    refused = {name: said for name, said in verdicts(output).items() if said not in ("proved", "no holes")}
+    refused = {name: said for name, said in verdicts(crate, output).items() if said not in ("proved", "no holes")}
     errors = re.findall(r"^\./(proofs/\S+?):\d+:\d+: error: (?:`([^`]*)`: )?(.*)$", output, re.MULTILINE)
     own = [goal for file, goal, said in errors if file == answers_of(function) and not re.search(STALE_NAME, said)]
     if set(refused) != {function} or len(own) != len(errors):
@@ -88,21 +88,12 @@ def goals_behind(crate, function, goals):
     file.write_text(holed, encoding="utf-8")
     _, output = check(crate, [function], "--allow-holes")
     file.write_text(text, encoding="utf-8")
-    return open_goals(function, output)
-
-
-def make_copy(folder):
-    for name in (BELOW, CRATE):
-        left_out = shutil.ignore_patterns("must-fail")
-        shutil.copytree(ROOT / "crates" / name, folder / "crates" / name, ignore=left_out)
-    (folder / "crates.txt").write_text(f"{BELOW}:\n{CRATE}: {BELOW}\n", encoding="utf-8")
-    subprocess.run(["git", "init", "-q", "."], cwd=folder, check=True)
-    return folder / "crates" / CRATE
+    return open_goals(crate, function, output)
 
 
 def try_unedited(crate, functions):
     status, output = check(crate, functions)
-    said = verdicts(output)
+    said = verdicts(crate, output)
     proved = status == 0 and all(said.get(function) == "proved" for function in functions)
     return "unedited", proved, "proved" if proved else output
 
@@ -118,7 +109,7 @@ def try_edit(crates, path):
     if not said:
         file.write_text(text.replace(edit.old, edit.new), encoding="utf-8")
         status, said = check(crate, [edit.function])
-        goals = open_goals(edit.function, said)
+        goals = open_goals(crate, edit.function, said)
         if goals and not edit.wanted.intersection(goals):
             goals += goals_behind(crate, edit.function, goals)
         refused = status == 1 and bool(edit.wanted.intersection(goals))
@@ -127,26 +118,28 @@ def try_edit(crates, path):
     return path.stem, refused, f"{edit.function} is refused at {', '.join(goals)}" if refused else said
 
 
-def try_all(folder):
-    paths = sorted(CASES.glob("*.edit"))
-    first = make_copy(folder / "0")
+def try_all(cases, folder):
+    paths = sorted(cases.glob("*.edit"))
+    first = copy_crate(cases.name, folder / "0")
     yield try_unedited(first, [Edit(path).function for path in paths])
     crates = queue.Queue()
     crates.put(first)
-    copies = min(COPIES, os.cpu_count() or 1)
+    copies = min(COPIES, os.cpu_count() or 1, len(paths))
     for number in range(1, copies):
         shutil.copytree(folder / "0", folder / str(number))
-        crates.put(folder / str(number) / "crates" / CRATE)
+        crates.put(folder / str(number) / "crates" / cases.name)
     with concurrent.futures.ThreadPoolExecutor(copies) as pool:
         yield from pool.map(lambda path: try_edit(crates, path), paths)
 
 
 def main():
     passed = failed = 0
-    with tempfile.TemporaryDirectory() as folder:
-        for name, right, said in try_all(pathlib.Path(folder)):
-            passed, failed = passed + right, failed + (not right)
-            print(f"own-walk {name}: {'as wanted' if right else 'NOT as wanted'}: {said}", flush=True)
+    for cases in sorted(CASES.iterdir()):
+        with tempfile.TemporaryDirectory() as folder:
+            for name, right, said in try_all(cases, pathlib.Path(folder)):
+                passed, failed = passed + right, failed + (not right)
+                verdict = "as wanted" if right else "NOT as wanted"
+                print(f"own-walk {cases.name} {name}: {verdict}: {said}", flush=True)
     print(f"{passed} passed, {failed} failed")
     return 0 if failed == 0 else 1
 

@@ -6,7 +6,7 @@ use std::marker::Model;
 
 /// A whole number without a greatest value, of no bytes.
 #[derive(Drop)]
-pub(crate) struct Counter {
+pub struct Counter {
     ghost count: { ℕ },
 }
 
@@ -35,14 +35,14 @@ impl Counter {
     }
 
     /// The counter at 0.
-    pub(crate) fn zero() -> Counter
+    pub fn zero() -> Counter
         ensures { result ≡ 0 }
     {
         Counter::of()
     }
 
     /// Adds one.
-    pub(crate) fn tick(&mut self)
+    pub fn tick(&mut self)
         ensures { self.new ≡ self.old + 1 }
     {
         self.set(0);

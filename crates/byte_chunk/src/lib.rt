@@ -16,6 +16,7 @@ mod text_probe;
 pub mod vectors;
 
 pub use chunks::plain_array::Plain;
+pub use counters::Counter;
 pub use text_probe::Probe;
 
 /// The chunk type that the public functions of the crates above use.

@@ -1,12 +1,12 @@
 //! Laws of the counts and the conversions. Each function does nothing: its contract is the law.
-ghost use Rattle.std.specs.Prelude.{ℕ, ◌≡◌, ◌≢◌, ◌+◌, ◌≤◌, ◌↔◌, ◌⊎◌, ◌++◌, min, chars, length, Contains, IsCharBoundary, if◌then◌else◌};
+ghost use Rattle.std.specs.Prelude.{ℕ, ◌≡◌, ◌≢◌, ◌+◌, ◌-◌, ◌<◌, ◌≤◌, ◌↔◌, ◌⊎◌, ◌++◌, min, chars, length, Contains, IsCharBoundary, if◌then◌else◌};
 ghost use Rattle.std.specs.List.Sorted.{IsStrictlyIncreasing};
 ghost use Rattle.str_indices.specs.Text.{cut};
 ghost use Rattle.str_indices.specs.Schemes.{Scheme, Chars, Utf16, Lf, Crlf, Lines, ends, count, from_byte_idx, to_byte_idx, surrogates};
 ghost use Rattle.str_indices.specs.SchemeGroups.{IsLineScheme, IsCharacterScheme};
 ghost use Rattle.str_indices.specs.Relations.{IsBoundary, IsEnd, IsGreatestWithin, IsLongestCut};
 ghost use Rattle.str_indices.specs.Starts.{IsGreatestBoundary, IsGreatestEnd, IsSecondUnit};
-ghost use Rattle.str_indices.specs.Joins.{joins_crlf};
+ghost use Rattle.str_indices.specs.Joins.{joins_crlf, seam_loss};
 
 /// From an index, in chars or in line breaks, to its byte index and back gives the index, or the count where the index
 /// is past it.
@@ -106,6 +106,24 @@ pub fn joined_breaks(a: &str, b: &str)
     ensures lines { let joined = chars (a.now ++ b.now) in
         count Lines joined + (if joins_crlf (chars a.now) (chars b.now) then 1 else 0)
         ≡ count Lines (chars a.now) + count Lines (chars b.now) }
+{}
+
+/// Two texts, joined, answer before their seam as `a` does, and behind it as `b` does where `a` has gone before; but the
+/// index is one less where the seam makes one CRLF of a CR and an LF.
+///
+/// A rope with summed counts relies on it: it finds the piece by its counts and asks that piece alone.
+pub fn joined_places(a: &str, b: &str, i: usize, k: usize)
+    ensures from_before { (s : Scheme) → i < length a.now →
+        from_byte_idx s (chars (a.now ++ b.now)) i ≡ from_byte_idx s (chars a.now) i }
+    ensures from_behind { (s : Scheme) → length a.now ≤ i →
+        from_byte_idx s (chars (a.now ++ b.now)) i + seam_loss s (chars a.now) (chars b.now)
+        ≡ count s (chars a.now) + from_byte_idx s (chars b.now) (i - length a.now) }
+    ensures to_before { (s : Scheme) → k + seam_loss s (chars a.now) (chars b.now) ≤ count s (chars a.now) →
+        to_byte_idx s (chars (a.now ++ b.now)) k ≡ to_byte_idx s (chars a.now) k }
+    ensures to_behind { (s : Scheme) → let index = k + seam_loss s (chars a.now) (chars b.now) in
+        count s (chars a.now) < index →
+        to_byte_idx s (chars (a.now ++ b.now)) k
+        ≡ length a.now + to_byte_idx s (chars b.now) (index - count s (chars a.now)) }
 {}
 
 /// Each larger set of break characters gives at least as many line breaks.

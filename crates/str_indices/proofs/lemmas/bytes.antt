@@ -3,3 +3,4 @@ pub mod Characters
 pub mod Walks
 pub mod BoundaryBytes
 pub mod EndBytes
+pub mod Edges

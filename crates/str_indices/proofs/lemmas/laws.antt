@@ -3,3 +3,5 @@ pub mod UnitLaws
 pub mod CharacterLaws
 pub mod CountLaws
 pub mod PastEnds
+pub mod JoinedPlaces
+pub mod Bounds

@@ -5,3 +5,5 @@ pub mod Ends
 pub mod Seams
 pub mod EndSets
 pub mod Units
+pub mod JoinedEnds
+pub mod JoinedUnits

@@ -1,14 +1,16 @@
 -- The counts of one text in several schemes, and of two texts that are joined.
-use Rattle.std.proofs.Common.{ℕ, ◌≤◌, List, [], ◌∷◌, arith, cond, ◌≡◌, ◌+◌, ◌++◌}
+use Rattle.std.proofs.Common.{ℕ, ◌≤◌, List, [], ◌∷◌, arith, cond, ◌≡◌, ◌+◌, ◌++◌, sym, ◌∙◌, ap}
+use Rattle.std.proofs.lemmas.List.{append_cancel_left}
 use Rattle.std.specs.Prelude.{◌==◌}
 use Rattle.std.proofs.lemmas.Bool.Decides.{nat_tests}
-use Rattle.str_indices.specs.Schemes.{Scheme, Lf, Crlf, Lines, end_count, count, Chars, Utf16, surrogates}
+use Rattle.str_indices.specs.Schemes.{Scheme, Lf, Crlf, Lines, end_count, ends_up_to, count, Chars, Utf16, surrogates, from_byte_idx}
 use Rattle.str_indices.proofs.lemmas.texts.Sizes.{total}
-use Rattle.str_indices.proofs.lemmas.texts.Seams.{crlf_has_return, lines_has_return, end_count-append}
-use Rattle.str_indices.proofs.lemmas.texts.Ends.{end_weight, end_count_total, count_characters, count_line_feeds}
+use Rattle.str_indices.proofs.lemmas.texts.Seams.{end_count-append, end_count-cut_loss}
+use Rattle.str_indices.proofs.lemmas.texts.Cuts.{cut_is}
+use Rattle.str_indices.proofs.lemmas.texts.Ends.{end_weight, end_count_total}
 use Rattle.std.proofs.lemmas.List.Sums.{sum_by-append}
-use Rattle.str_indices.specs.Text.{weight}
-use Rattle.str_indices.specs.Joins.{joins_crlf}
+use Rattle.str_indices.specs.Text.{cut, weight}
+use Rattle.str_indices.specs.Joins.{joins_crlf, seam_loss}
 use Rattle.std.proofs.lemmas.Str.{chars-append}
 use Rattle.str_indices.proofs.lemmas.texts.Units.{count-units, count-characters-surrogates}
 
@@ -31,30 +33,44 @@ count-Lf-le-count-Crlf cs = end_count-le-end_count Lf Crlf (λ c after. grind (a
 pub count-Crlf-le-count-Lines : (cs : List ℕ) → count Crlf cs ≤ count Lines cs
 count-Crlf-le-count-Lines cs = end_count-le-end_count Crlf Lines (λ c after. grind (arith, nat_tests)) cs
 
--- characters
-pub count-Chars-append : (a b : List ℕ) → count Chars (a ++ b) ≡ count Chars a + count Chars b
-count-Chars-append a b = omega (arith, count_characters, sum_by-append {X = ℕ} (λ _. 1) a b)
+-- in every scheme, the counts of both, but for what the seam takes
+pub count-append : (s : Scheme) (a b : List ℕ) → count s (a ++ b) + seam_loss s a b ≡ count s a + count s b
+count-append Utf16 a b = omega (arith, count-units, sum_by-append weight a b)
+count-append s a b = end_count-append s a b
 
--- UTF-16 code units
-pub count-Utf16-append : (a b : List ℕ) → count Utf16 (a ++ b) ≡ count Utf16 a + count Utf16 b
-count-Utf16-append a b = omega (arith, count-units, sum_by-append weight a b)
+-- in every scheme, a cut text counts what the whole does up to the cut, and what the seam there takes
+pub count-cut : (s : Scheme) (cs : List ℕ) (end : ℕ) (rest : List ℕ) → cs ≡ cut cs end ++ rest
+    → count s (cut cs end) ≡ from_byte_idx s cs end + seam_loss s (cut cs end) rest
+count-cut Utf16 cs end rest split = omega (arith, count-units (cut cs end))
+count-cut s cs end rest split =
+    let same : (cut_is cs end).rest ≡ rest =
+    append_cancel_left (cut cs end) _ _ (sym (cut_is cs end).split ∙ split) in
+    end_count-cut_loss s cs end ∙ ap (λ r. ends_up_to s cs end + seam_loss s (cut cs end) r) same
 
 -- surrogate pairs
 pub surrogates-append : (a b : List ℕ) → surrogates (a ++ b) ≡ surrogates a + surrogates b
 surrogates-append a b = sum_by-append (λ c. cond (weight c == 2) 1 0) a b
 
+-- characters
+pub count-Chars-append : (a b : List ℕ) → count Chars (a ++ b) ≡ count Chars a + count Chars b
+count-Chars-append a b = omega (arith, count-append Chars a b)
+
+-- UTF-16 code units
+pub count-Utf16-append : (a b : List ℕ) → count Utf16 (a ++ b) ≡ count Utf16 a + count Utf16 b
+count-Utf16-append a b = omega (arith, count-append Utf16 a b)
+
 -- line feeds
 pub count-Lf-append : (a b : List ℕ) → count Lf (a ++ b) ≡ count Lf a + count Lf b
-count-Lf-append a b = omega (arith, count_line_feeds, sum_by-append (λ c. cond (c == 10) 1 0) a b)
+count-Lf-append a b = omega (arith, count-append Lf a b)
 
 -- line breaks by LF, CR and CRLF
 pub count-Crlf-append : (a b : List ℕ) → count Crlf (a ++ b) + cond (joins_crlf a b) 1 0 ≡ count Crlf a + count Crlf b
-count-Crlf-append = end_count-append Crlf crlf_has_return
+count-Crlf-append = count-append Crlf
 
 -- line breaks by all seven characters
 pub count-Lines-append : (a b : List ℕ)
     → count Lines (a ++ b) + cond (joins_crlf a b) 1 0 ≡ count Lines a + count Lines b
-count-Lines-append = end_count-append Lines lines_has_return
+count-Lines-append = count-append Lines
 
 -- what the laws of the counts cite
 pub ruleset count_laws = (count-characters-surrogates, count-Lf-le-count-Crlf, count-Crlf-le-count-Lines)

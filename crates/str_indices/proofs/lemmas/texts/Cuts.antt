@@ -28,6 +28,40 @@ cut_from-append start (c ∷ front) back mid end here fits =
     rw (le-leb (start + len_utf8 c) end (omega arith))
     (ap (λ r. c ∷ r) (cut_from-append (start + len_utf8 c) front back mid end (omega arith) fits))
 
+-- cut before the end of a beginning, the whole is cut as the beginning alone
+cut_from-before : (start : ℕ) (front back : List ℕ) (end : ℕ) → end ≤ start + size front
+    → cut_from start (front ++ back) end ≡ cut_from start front end
+cut_from-before start [] back end before = cut_from_none start back end (omega arith)
+cut_from-before start (c ∷ front) back end before =
+    let sizes = size-cons c front in
+    let rest = cut_from-before (start + len_utf8 c) front back end (omega arith) in
+    elim (cases_lt end (start + len_utf8 c)) [
+      | inl beyond ↦ rw (lt-leb (start + len_utf8 c) end beyond) rest
+      | inr fits ↦ rw (le-leb (start + len_utf8 c) end fits) (ap (λ r. c ∷ r) rest)
+    ]
+
+-- a text that begins n bytes later is cut n bytes later
+cut_from-later : (n start later : ℕ) (cs : List ℕ) (end : ℕ) → n + start ≡ later
+    → cut_from later cs (n + end) ≡ cut_from start cs end
+cut_from-later n start later [] end place = refl
+cut_from-later n start later (c ∷ cs) end place =
+    let rest = cut_from-later n (start + len_utf8 c) (later + len_utf8 c) cs end (omega arith) in
+    elim (cases_lt end (start + len_utf8 c)) [
+      | inl beyond ↦
+          rw (lt-leb (later + len_utf8 c) (n + end) (omega arith), lt-leb (start + len_utf8 c) end beyond) rest
+      | inr fits ↦ rw (le-leb (later + len_utf8 c) (n + end) (omega arith), le-leb (start + len_utf8 c) end fits)
+          (ap (λ r. c ∷ r) rest)
+    ]
+
+-- cut before their seam, two joined texts are cut as the first
+pub cut_before : (a b : List ℕ) (end : ℕ) → end ≤ size a → cut (a ++ b) end ≡ cut a end
+cut_before a b end before = cut_from-before 0 a b end (omega arith)
+
+-- cut behind it, they are the first and then the second's cut
+pub cut_behind : (a b : List ℕ) (end : ℕ) → cut (a ++ b) (size a + end) ≡ a ++ cut b end
+cut_behind a b end = cut_from-append 0 a b (size a) (size a + end) (omega arith) (omega arith)
+    ∙ ap (λ r. a ++ r) (cut_from-later (size a) 0 (size a) b end (omega arith))
+
 -- front ends at or before `end`, and with the first character of the rest it would not; the text begins at `start`
 pub record IsCutAt (start : ℕ) (front rest : List ℕ) (end : ℕ) : Type 0 where
   pub fits : start + size front ≤ end

@@ -46,7 +46,7 @@ is_end_anywhere Chars start c cs = refl
 is_end_anywhere s start c cs = refl
 
 -- up to a byte index, the first character counts as it weighs, if it ends at or before the index
-rank_step : (s : Scheme) (start c : ℕ) (cs : List ℕ) (byte : ℕ) → rank (ends_from (is_end s) start (c ∷ cs)) byte
+pub rank_step : (s : Scheme) (start c : ℕ) (cs : List ℕ) (byte : ℕ) → rank (ends_from (is_end s) start (c ∷ cs)) byte
     ≡ cond (nat_le (start + len_utf8 c) byte) (end_weight s c cs) 0
     + rank (ends_from (is_end s) (start + len_utf8 c) cs) byte
 rank_step s start c cs byte =
@@ -54,7 +54,7 @@ rank_step s start c cs byte =
     rw (is_end_anywhere s start c cs) (grind (arith, nat_tests, cases_Bool (is_end s (first_placed 0 c cs))))
 
 -- a beginning that fits has the ends that its characters weigh, and then come those of the rest, which begins at `mid`
-rank-append : (s : Scheme) (start : ℕ) (front rest : List ℕ) (mid byte : ℕ) → start + size front ≡ mid → mid ≤ byte
+pub rank-append : (s : Scheme) (start : ℕ) (front rest : List ℕ) (mid byte : ℕ) → start + size front ≡ mid → mid ≤ byte
     → rank (ends_from (is_end s) start (front ++ rest)) byte
     ≡ total_front (end_weight s) front rest + rank (ends_from (is_end s) mid rest) byte
 rank-append s start [] rest mid byte here fits = let same : start ≡ mid = omega arith in rw same (omega arith)

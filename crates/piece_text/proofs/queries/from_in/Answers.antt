@@ -1,0 +1,45 @@
+use Rattle.std.proofs.Common.{◌≡◌, ◌≤◌, ◌-◌, ◌∙◌, ap, arith, take, rules}
+use Rattle.std.proofs.lemmas.List.{take_all}
+use Rattle.str_indices.specs.Text.{size}
+use Rattle.str_indices.specs.Schemes.{from_byte_idx}
+use Rattle.str_indices.proofs.lemmas.Callers.{count-le-size, from_byte_idx-le-count, from_byte_idx-all}
+use Rattle.piece_text.specs.SchemeNames.{named}
+use Rattle.piece_text.specs.Pieces.{joined, joined_size}
+use Rattle.piece_text.proofs.queries.from_in.Goals as goal
+
+-- nothing is before the first piece
+pub loop-i-init : goal.loop-i-init
+loop-i-init c =
+    let front = c.before_all-front.ensures (named c.args.s) c.args.p.now.texts in
+    record { front = front; state = search rules; past = omega (arith, front.len) }
+
+-- the sum is the answer for the joined text
+pub overflow_add-result : goal.overflow_add-result
+overflow_add-result c =
+    let s = named c.args.s in
+    let texts = c.loop-i.p.texts in
+    let kept = ap (λ p. p.texts) c.look_at-look.ensures.state in
+    let own = c.from_byte_idx.ensures
+    ∙ ap (λ t. from_byte_idx s t (c.args.b - c.loop-i.front.len)) (rw kept at c.text.ensures.text) in
+    let here = c.look_at-look.ensures.from_here c.args.b c.loop-i.invariant.past c.if-b-look.true in
+    let same = ap (λ p. joined_size p.texts) c.loop-i.invariant.state in
+    omega (
+      arith,
+      own,
+      here,
+      from_byte_idx-le-count s (joined texts) c.args.b,
+      count-le-size s (joined texts),
+      c.len-i-end.ensures.short,
+      same,
+    )
+
+-- every piece ends at or before the byte index
+pub returns-clause-answer : goal.returns-clause-answer
+returns-clause-answer c =
+    let s = named c.args.s in
+    let texts = c.args.p.now.texts in
+    let all : take c.loop-i.i texts ≡ texts =
+    take_all c.loop-i.i texts (omega (arith, c.loop-i-test.false, c.len-i-end.ensures.len)) in
+    let past : size (joined texts) ≤ c.args.b =
+    omega (arith, rw all at c.loop-i.invariant.front.len, c.loop-i.invariant.past) in
+    omega (arith, rw all at c.loop-i.invariant.front.total, from_byte_idx-all s (joined texts) c.args.b past)

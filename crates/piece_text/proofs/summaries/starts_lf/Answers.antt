@@ -1,0 +1,9 @@
+use Rattle.std.proofs.Common.{[], ◌∷◌, ◌∙◌}
+use Rattle.std.proofs.lemmas.Str.Pattern.{starts_text}
+use Rattle.str_indices.specs.Text.{line_feed}
+use Rattle.str_indices.proofs.lemmas.Callers.{starts_with_feed-bytes}
+use Rattle.piece_text.proofs.summaries.starts_lf.Goals as goal
+
+pub returns : goal.returns
+returns c = starts_text c.starts_with.result (line_feed ∷ []) c.args.text.now c.starts_with.ensures.cases
+    ∙ starts_with_feed-bytes c.args.text.now c.utf8.text

@@ -1,0 +1,4 @@
+pub mod SchemeNames
+pub mod Summaries
+pub mod Pieces
+pub mod Fronts

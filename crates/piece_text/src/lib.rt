@@ -1,0 +1,23 @@
+//! A text in pieces, with the counts of each piece beside it.
+//!
+//! A rope or an editor's buffer keeps its text in pieces. This is the plain list of them: every question is answered as
+//! for the joined text, from the pieces' summaries and the text of at most one piece. Only putting a piece in takes
+//! memory.
+#![tactic(auto)]
+
+mod list;
+mod piece;
+mod queries;
+mod refusals;
+mod schemes;
+mod summaries;
+#[cfg(test)]
+mod tests;
+mod view;
+
+pub use list::PieceText;
+pub use queries::{count_in, from_in, to_in};
+pub use refusals::Refusal;
+pub use schemes::Scheme;
+pub use summaries::Summary;
+pub use view::Pieces;

@@ -1,0 +1,61 @@
+//! One piece of a text, with its summary.
+ghost use Rattle.std.specs.Prelude.{◌≡◌, ◌≢◌, [], chars, IfOk};
+ghost use Rattle.str_indices.specs.Text.{size};
+ghost use Rattle.piece_text.specs.Summaries.{summary_of};
+
+use crate::Summary;
+use std::alloc::{AllocError, Global};
+use std::marker::Model;
+
+/// A text that is not empty, and its summary. A contract sees the text's characters.
+#[derive(Drop)]
+pub(crate) struct Piece {
+    text: String,
+    summary: Summary,
+}
+
+impl Model for Piece {
+    ghost use Rattle.std.specs.Prelude.{chars, string_bytes};
+    ghost use Rattle.str_indices.specs.Text.{Text};
+    ghost use Rattle.piece_text.specs.Summaries.{IsPiece};
+
+    ghost Value = { Text };
+
+    ghost view = { λ p. chars (string_bytes p.text) };
+
+    ghost invariant = { λ p. IsPiece p.summary (chars (string_bytes p.text)) };
+}
+
+impl Piece {
+    /// The piece of a text that is not empty: a copy of it, and its summary.
+    pub(crate) fn of(alloc: Global, text: &str) -> Result<Piece, AllocError>
+        requires { chars text.now ≢ [] }
+        ensures { IfOk result (λ piece. piece ≡ chars text.now) }
+    {
+        let summary = Summary::of(text);
+        let text = String::from_str(alloc, text)?;
+        Ok(Piece { text, summary })
+    }
+
+    /// The summary of its text.
+    pub(crate) fn summary(&self) -> Summary
+        ensures summary { result ≡ summary_of self.now }
+        ensures some { self.now ≢ [] }
+    {
+        self.summary
+    }
+
+    /// How many bytes it has.
+    pub(crate) fn len(&self) -> usize
+        ensures { result ≡ size self.now }
+    {
+        self.summary.len
+    }
+
+    /// Its text.
+    pub(crate) fn text(&self) -> &str
+        ensures { chars result.now ≡ self.now }
+    {
+        self.text.as_str()
+    }
+}
