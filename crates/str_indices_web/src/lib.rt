@@ -1,0 +1,176 @@
+//! The functions of `str_indices` for a browser, as WebAssembly with 64-bit memory: one export for each of them, and one
+//! that tells whether bytes are UTF-8.
+//!
+//! JavaScript puts a text into the memory behind `__heap_base`, and hands over the address of its first byte and the
+//! number of its bytes. `web/str_indices.mjs`, at the top of the repository, does so.
+#![tactic(auto)]
+
+ghost use Rattle.std.specs.Prelude.{◌≡◌, ◌↔◌, IsCharBoundary, IsTrue, IsUtf8, chars};
+ghost use Rattle.str_indices.specs.Schemes.{count, from_byte_idx, surrogates, to_byte_idx, Chars, Crlf, Lf, Lines, Utf16};
+
+use str_indices::{chars, lines, lines_crlf, lines_lf, utf16};
+
+/// Whether the bytes are UTF-8, which each other export wants of its text.
+#[unsafe(no_mangle)]
+pub extern "C" fn str_indices_is_utf8(text: &[u8]) -> bool
+    ensures { IsTrue result ↔ IsUtf8 text.now }
+{
+    str::from_utf8(text).is_ok()
+}
+
+/// How many chars the text has.
+#[unsafe(no_mangle)]
+pub extern "C" fn str_indices_chars_count(text: &[u8]) -> usize
+    requires { IsUtf8 text.now }
+    ensures { result ≡ count Chars (chars text.now) }
+{
+    chars::count(text_of(text))
+}
+
+/// The char that a byte belongs to; past the end, the number of chars.
+#[unsafe(no_mangle)]
+pub extern "C" fn str_indices_chars_from_byte_idx(text: &[u8], byte_idx: usize) -> usize
+    requires { IsUtf8 text.now }
+    ensures { result ≡ from_byte_idx Chars (chars text.now) byte_idx }
+{
+    chars::from_byte_idx(text_of(text), byte_idx)
+}
+
+/// The byte where a char begins; past the last one, the length of the text.
+#[unsafe(no_mangle)]
+pub extern "C" fn str_indices_chars_to_byte_idx(text: &[u8], char_idx: usize) -> usize
+    requires { IsUtf8 text.now }
+    ensures answer { result ≡ to_byte_idx Chars (chars text.now) char_idx }
+    ensures boundary { IsCharBoundary text.now result }
+{
+    chars::to_byte_idx(text_of(text), char_idx)
+}
+
+/// How many UTF-16 code units the text would take.
+#[unsafe(no_mangle)]
+pub extern "C" fn str_indices_utf16_count(text: &[u8]) -> usize
+    requires { IsUtf8 text.now }
+    ensures { result ≡ count Utf16 (chars text.now) }
+{
+    utf16::count(text_of(text))
+}
+
+/// How many surrogate pairs the text would have in UTF-16.
+#[unsafe(no_mangle)]
+pub extern "C" fn str_indices_utf16_count_surrogates(text: &[u8]) -> usize
+    requires { IsUtf8 text.now }
+    ensures { result ≡ surrogates (chars text.now) }
+{
+    utf16::count_surrogates(text_of(text))
+}
+
+/// The UTF-16 index of the char that a byte belongs to; past the end, the number of code units.
+#[unsafe(no_mangle)]
+pub extern "C" fn str_indices_utf16_from_byte_idx(text: &[u8], byte_idx: usize) -> usize
+    requires { IsUtf8 text.now }
+    ensures { result ≡ from_byte_idx Utf16 (chars text.now) byte_idx }
+{
+    utf16::from_byte_idx(text_of(text), byte_idx)
+}
+
+/// The byte where the char of a UTF-16 code unit begins; past the last one, the length of the text.
+#[unsafe(no_mangle)]
+pub extern "C" fn str_indices_utf16_to_byte_idx(text: &[u8], utf16_idx: usize) -> usize
+    requires { IsUtf8 text.now }
+    ensures answer { result ≡ to_byte_idx Utf16 (chars text.now) utf16_idx }
+    ensures boundary { IsCharBoundary text.now result }
+{
+    utf16::to_byte_idx(text_of(text), utf16_idx)
+}
+
+/// How many line feeds the text has.
+#[unsafe(no_mangle)]
+pub extern "C" fn str_indices_lines_lf_count_breaks(text: &[u8]) -> usize
+    requires { IsUtf8 text.now }
+    ensures { result ≡ count Lf (chars text.now) }
+{
+    lines_lf::count_breaks(text_of(text))
+}
+
+/// The line that a byte is on; past the end, the last line.
+#[unsafe(no_mangle)]
+pub extern "C" fn str_indices_lines_lf_from_byte_idx(text: &[u8], byte_idx: usize) -> usize
+    requires { IsUtf8 text.now }
+    ensures { result ≡ from_byte_idx Lf (chars text.now) byte_idx }
+{
+    lines_lf::from_byte_idx(text_of(text), byte_idx)
+}
+
+/// The byte where a line begins; past the last one, the length of the text.
+#[unsafe(no_mangle)]
+pub extern "C" fn str_indices_lines_lf_to_byte_idx(text: &[u8], line_idx: usize) -> usize
+    requires { IsUtf8 text.now }
+    ensures answer { result ≡ to_byte_idx Lf (chars text.now) line_idx }
+    ensures boundary { IsCharBoundary text.now result }
+{
+    lines_lf::to_byte_idx(text_of(text), line_idx)
+}
+
+/// How many line breaks the text has: LF, CR and CR LF, which is one break.
+#[unsafe(no_mangle)]
+pub extern "C" fn str_indices_lines_crlf_count_breaks(text: &[u8]) -> usize
+    requires { IsUtf8 text.now }
+    ensures { result ≡ count Crlf (chars text.now) }
+{
+    lines_crlf::count_breaks(text_of(text))
+}
+
+/// The line that a byte is on; past the end, the last line.
+#[unsafe(no_mangle)]
+pub extern "C" fn str_indices_lines_crlf_from_byte_idx(text: &[u8], byte_idx: usize) -> usize
+    requires { IsUtf8 text.now }
+    ensures { result ≡ from_byte_idx Crlf (chars text.now) byte_idx }
+{
+    lines_crlf::from_byte_idx(text_of(text), byte_idx)
+}
+
+/// The byte where a line begins; past the last one, the length of the text.
+#[unsafe(no_mangle)]
+pub extern "C" fn str_indices_lines_crlf_to_byte_idx(text: &[u8], line_idx: usize) -> usize
+    requires { IsUtf8 text.now }
+    ensures answer { result ≡ to_byte_idx Crlf (chars text.now) line_idx }
+    ensures boundary { IsCharBoundary text.now result }
+{
+    lines_crlf::to_byte_idx(text_of(text), line_idx)
+}
+
+/// How many line breaks the text has, of all those of Unicode.
+#[unsafe(no_mangle)]
+pub extern "C" fn str_indices_lines_count_breaks(text: &[u8]) -> usize
+    requires { IsUtf8 text.now }
+    ensures { result ≡ count Lines (chars text.now) }
+{
+    lines::count_breaks(text_of(text))
+}
+
+/// The line that a byte is on; past the end, the last line.
+#[unsafe(no_mangle)]
+pub extern "C" fn str_indices_lines_from_byte_idx(text: &[u8], byte_idx: usize) -> usize
+    requires { IsUtf8 text.now }
+    ensures { result ≡ from_byte_idx Lines (chars text.now) byte_idx }
+{
+    lines_crlf::from_byte_idx(text_of(text), byte_idx)
+}
+
+/// The byte where a line begins; past the last one, the length of the text.
+#[unsafe(no_mangle)]
+pub extern "C" fn str_indices_lines_to_byte_idx(text: &[u8], line_idx: usize) -> usize
+    requires { IsUtf8 text.now }
+    ensures answer { result ≡ to_byte_idx Lines (chars text.now) line_idx }
+    ensures boundary { IsCharBoundary text.now result }
+{
+    lines::to_byte_idx(text_of(text), line_idx)
+}
+
+fn text_of(bytes: &[u8]) -> &str
+    requires { IsUtf8 bytes.now }
+    ensures { result.now ≡ bytes.now }
+{
+    // Checking the bytes here would be a second pass over the text.
+    unsafe { str::from_utf8_unchecked(bytes) }
+}
