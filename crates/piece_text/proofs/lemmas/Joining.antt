@@ -45,6 +45,11 @@ pub joined_size-take : (xs : List Text) (i : ℕ) → joined_size (take i xs) �
 joined_size-take xs i =
     omega (arith, ap size (joined-split xs i), size-append (joined (take i xs)) (joined (drop i xs)))
 
+-- a text as pieces, joined, is the text
+pub joined-as_pieces : (text : Text) → joined (as_pieces text) ≡ text
+joined-as_pieces [] = refl
+joined-as_pieces (c ∷ cs) = append-nil (c ∷ cs)
+
 -- a text that is not empty is one piece
 pub as_pieces-some : (text : Text) → text ≢ [] → as_pieces text ≡ text ∷ []
 as_pieces-some [] some = absurd (some refl)
