@@ -1,7 +1,7 @@
-use Rattle.std.proofs.Common.{◌≡◌, ◌<◌, ◌∙◌, ap, sym, arith, length, []}
+use Rattle.std.proofs.Common.{◌<◌, ◌∙◌, ap, sym, length, []}
 use Rattle.std.proofs.lemmas.List.{get_or_default}
 use Rattle.str_indices.specs.Text.{size}
-use Rattle.piece_text.specs.Pieces.{joined, piece_at}
+use Rattle.piece_text.specs.Pieces.{piece_at}
 use Rattle.piece_text.specs.Splits.{IsHalved}
 use Rattle.piece_text.proofs.lemmas.Splitting.{is_cut, joined-cut}
 use Rattle.piece_text.proofs.list.PieceText.cut.Goals as goal

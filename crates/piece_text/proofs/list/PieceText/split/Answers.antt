@@ -1,4 +1,4 @@
-use Rattle.std.proofs.Common.{◌≡◌, ◌<◌, ◌-◌, ◌∙◌, ap, sym, arith, length, inl, inr, refl, take, true, false}
+use Rattle.std.proofs.Common.{◌≡◌, ◌<◌, ◌-◌, ◌∙◌, ap, sym, arith, length, inr, refl, take, true, false}
 use Rattle.std.proofs.lemmas.List.{take_all}
 use Rattle.piece_text.specs.Pieces.{joined}
 use Rattle.piece_text.proofs.lemmas.Splitting.{inside_of, boundary_of_piece, boundary_of_joined, no_edge, edge_of, edge_boundary, no_boundary_past, joined-cut}
