@@ -1,13 +1,16 @@
 //! A text as the list of its pieces.
-ghost use Rattle.std.specs.Prelude.{◌≡◌, ◌≢◌, ◌+◌, ◌^◌, ◌<◌, ◌≤◌, ◌↔◌, [], ◌++◌, length, chars, take, drop, Err, IsErrOf, OnOk, OnErr};
+ghost use Rattle.std.specs.Prelude.{◌≡◌, ◌≢◌, ◌+◌, ◌^◌, ◌<◌, ◌≤◌, ◌↔◌, [], ◌++◌, length, chars, take, drop, remove, Err, IsTrue, IsErrOf, IsOkUnless, OnOk, OnErr};
 ghost use Rattle.str_indices.specs.Schemes.{count, from_byte_idx, to_byte_idx};
-ghost use Rattle.piece_text.specs.Pieces.{joined, joined_size, as_pieces};
+ghost use Rattle.str_indices.specs.Text.{size};
+ghost use Rattle.str_indices.specs.Relations.{IsBoundary};
+ghost use Rattle.piece_text.specs.Pieces.{joined, joined_size, piece_at, as_pieces};
+ghost use Rattle.piece_text.specs.Splits.{IsEdge, IsCut, IsSplit};
 ghost use Rattle.piece_text.specs.SchemeNames.{named};
 ghost use Rattle.piece_text.specs.declared.refusals.Refusal.TheVariants.{NoPiece, NotBoundary, TooLong, NoMemory};
 
 use crate::piece::Piece;
 use crate::{Pieces, Refusal, Scheme, count_in, from_in, to_in};
-use std::alloc::Global;
+use std::alloc::{AllocError, Global};
 use std::marker::Model;
 
 /// The greatest length of a text in bytes.
@@ -93,6 +96,94 @@ impl PieceText {
             }
             Err(_) => Err(Refusal::NoMemory),
         }
+    }
+
+    /// Takes piece `at` out. Takes no memory.
+    ///
+    /// It is `NoPiece`, and all is as it was, where there is no such piece.
+    pub fn remove(&mut self, at: usize) -> Result<(), Refusal>
+        ensures ok { OnOk result (self.new ≡ remove self.old at) }
+        ensures err { OnErr result (self.new ≡ self.old) }
+        ensures no_piece { IsErrOf result NoPiece ↔ (length self.old ≤ at) }
+        ensures no_other { IsOkUnless result NoPiece }
+    {
+        if self.pieces.len() <= at {
+            return Err(Refusal::NoPiece);
+        }
+        let piece = self.pieces.remove(at);
+        self.len -= piece.len();
+        Ok(())
+    }
+
+    /// Cuts the piece round a byte in two, so that the second half starts at the byte. Where a piece starts or ends there
+    /// already, and at the beginning and the end of the text, it changes nothing. The joined text stays as it is, also
+    /// where the cut parts a CR from its LF.
+    ///
+    /// After a refusal all is as it was. It is `NotBoundary` where the byte is inside a character or past the end, and
+    /// else `NoMemory` where memory was refused.
+    pub fn split(&mut self, byte_idx: usize) -> Result<(), Refusal>
+        ensures ok { OnOk result (IsSplit self.old self.new byte_idx) }
+        ensures text { joined self.new ≡ joined self.old }
+        ensures err { OnErr result (self.new ≡ self.old) }
+        ensures not_boundary { IsErrOf result NotBoundary ↔ (¬ (IsBoundary (joined self.old) byte_idx)) }
+        ensures no_memory { IsErrOf result NoMemory → ¬ (IsEdge self.old byte_idx) }
+        ensures no_piece { result ≢ Err NoPiece }
+        ensures too_long { result ≢ Err TooLong }
+    {
+        let (at, start) = self.piece_round(byte_idx);
+        if start == byte_idx {
+            return Ok(());
+        }
+        if at == self.pieces.len() || !self.is_boundary_in(at, byte_idx - start) {
+            return Err(Refusal::NotBoundary);
+        }
+        match self.cut(at, byte_idx - start) {
+            Ok(()) => Ok(()),
+            Err(_) => Err(Refusal::NoMemory),
+        }
+    }
+
+    /// The piece that a byte is in, and where that piece starts; past the end the number of pieces, and the length.
+    fn piece_round(&self, byte_idx: usize) -> (usize, usize)
+        ensures piece { result.0 ≤ length self.now }
+        ensures start { result.1 ≡ joined_size (take result.0 self.now) }
+        ensures past { result.1 ≤ byte_idx }
+        ensures within { result.0 < length self.now → byte_idx < result.1 + size (piece_at self.now result.0) }
+    {
+        let mut start: usize = 0;
+        for i in 0..self.pieces.len() {
+            let piece = &self.pieces[i];
+            let len = piece.len();
+            if byte_idx - start < len {
+                return (i, start);
+            }
+            start += len;
+        }
+        (self.pieces.len(), start)
+    }
+
+    /// Whether a byte index in piece `i` is between its characters.
+    fn is_boundary_in(&self, i: usize, at: usize) -> bool
+        requires { i < length self.now }
+        ensures { IsTrue result ↔ IsBoundary (piece_at self.now i) at }
+    {
+        self.pieces[i].is_boundary(at)
+    }
+
+    /// Cuts piece `i` in two. Both halves, and the room for one piece more, are there before anything changes.
+    fn cut(&mut self, i: usize, at: usize) -> Result<(), AllocError>
+        requires inside { i < length self.old }
+        requires above { 0 < at }
+        requires below { at < size (piece_at self.old i) }
+        requires boundary { IsBoundary (piece_at self.old i) at }
+        ensures ok { OnOk result (IsCut self.old self.new (joined_size (take i self.old) + at)) }
+        ensures err { OnErr result (self.new ≡ self.old) }
+    {
+        let piece = &self.pieces[i];
+        let (left, right) = piece.halves(self.alloc, at)?;
+        self.pieces.insert(i + 1, right)?;
+        self.pieces[i] = left;
+        Ok(())
     }
 
     /// How many bytes the text has.

@@ -1,7 +1,9 @@
 //! One piece of a text, with its summary.
-ghost use Rattle.std.specs.Prelude.{◌≡◌, ◌≢◌, [], chars, IfOk};
+ghost use Rattle.std.specs.Prelude.{◌≡◌, ◌≢◌, ◌<◌, ◌↔◌, [], chars, IfOk, IsTrue};
 ghost use Rattle.str_indices.specs.Text.{size};
+ghost use Rattle.str_indices.specs.Relations.{IsBoundary};
 ghost use Rattle.piece_text.specs.Summaries.{summary_of};
+ghost use Rattle.piece_text.specs.Splits.{IsHalved};
 
 use crate::Summary;
 use std::alloc::{AllocError, Global};
@@ -58,4 +60,29 @@ impl Piece {
     {
         self.text.as_str()
     }
+
+    /// Whether a byte index in it is between characters, or at its beginning or end.
+    pub(crate) fn is_boundary(&self, at: usize) -> bool
+        ensures { IsTrue result ↔ IsBoundary self.now at }
+    {
+        is_boundary(self.text.as_str(), at)
+    }
+
+    /// It in two pieces, cut between characters.
+    pub(crate) fn halves(&self, alloc: Global, at: usize) -> Result<(Piece, Piece), AllocError>
+        requires above { 0 < at }
+        requires below { at < size self.now }
+        requires boundary { IsBoundary self.now at }
+        ensures { IfOk result (λ halves. IsHalved self.now halves.0 halves.1 at) }
+    {
+        let (left, right) = self.text().split_at(at);
+        Ok((Piece::of(alloc, left)?, Piece::of(alloc, right)?))
+    }
+}
+
+/// Whether a byte index of a text is a boundary.
+fn is_boundary(text: &str, at: usize) -> bool
+    ensures { IsTrue result ↔ IsBoundary (chars text.now) at }
+{
+    text.is_char_boundary(at)
 }

@@ -1,4 +1,6 @@
 mod caller;
+mod growths;
+mod random_edits;
 
 use crate::schemes::{from_byte_idx, to_byte_idx};
 use crate::{PieceText, Refusal, Scheme};
@@ -86,53 +88,6 @@ fn pieces_answer_as_the_joined_text(rt: HostRuntime) -> Result<(), Fail> {
     Ok(())
 }
 
-/// Pieces, each with the number that it gets when it is put in.
-const STEPS: [(usize, &str); 6] = [
-    (0, "a\r"),
-    (1, "\nb"),
-    (1, "🐸\n"),
-    (0, "\r"),
-    (4, "せ"),
-    (2, "\u{2028}"),
-];
-
-/// Puts a piece in at its place, by `push` where it is the last one.
-fn put(text: &mut PieceText, at: usize, piece: &str) -> Result<(), Refusal> {
-    if at == text.pieces() {
-        text.push(piece)
-    } else {
-        text.insert(at, piece)
-    }
-}
-
-// Where memory is refused, this test fails and the next one passes, as `scripts/refused_growths.py` wants it.
-#[test]
-fn growths_are_made(rt: HostRuntime) -> Result<(), Fail> {
-    let mut text = PieceText::new(rt.alloc());
-    for (at, piece) in STEPS {
-        put(&mut text, at, piece)?;
-    }
-    assert_eq!(rt; text.pieces(), 6);
-    Ok(())
-}
-
-#[test]
-fn a_refused_growth_changes_nothing(rt: HostRuntime) -> Result<(), Fail> {
-    let mut text = PieceText::new(rt.alloc());
-    for (at, piece) in STEPS {
-        let before = answers(&text);
-        let mut result = put(&mut text, at, piece);
-        if result == Err(Refusal::NoMemory) {
-            assert!(rt; answers(&text) == before, "{piece}");
-            result = put(&mut text, at, piece);
-        }
-        assert_eq!(rt; result, Ok(()), "{piece}");
-    }
-    assert_eq!(rt; text.len(), 16);
-    assert_eq!(rt; text.count(Scheme::Lines), 5);
-    Ok(())
-}
-
 #[test]
 fn breaks_at_seams_count_once(rt: HostRuntime) -> Result<(), Fail> {
     let mut text = of(rt.alloc(), &["a\r", "\n", "\r", "\nb"])?;
@@ -147,24 +102,68 @@ fn breaks_at_seams_count_once(rt: HostRuntime) -> Result<(), Fail> {
         assert_eq!(rt; text.to_byte_idx(Scheme::Crlf, k), b, "{k}");
     }
     assert_eq!(rt; text.insert(1, "x"), Ok(()));
-    for _ in 0..2 {
-        assert_eq!(rt; text.pieces(), 5);
-        assert_eq!(rt; text.count(Scheme::Crlf), 3);
-        assert_eq!(rt; text.count(Scheme::Lf), 2);
-        for (k, b) in [(1, 2), (2, 4), (3, 6)] {
-            assert_eq!(rt; text.to_byte_idx(Scheme::Crlf, k), b, "{k}");
-        }
-        assert_eq!(rt; text.insert(9, "x"), Err(Refusal::NoPiece));
+    assert_eq!(rt; text.count(Scheme::Crlf), 3);
+    assert_eq!(rt; text.count(Scheme::Lf), 2);
+    for (k, b) in [(1, 2), (2, 4), (3, 6)] {
+        assert_eq!(rt; text.to_byte_idx(Scheme::Crlf, k), b, "{k}");
     }
+    let before = answers(&text);
+    assert_eq!(rt; text.insert(9, "x"), Err(Refusal::NoPiece));
+    assert_eq!(rt; text.pieces(), 5);
+    assert!(rt; answers(&text) == before);
     Ok(())
 }
 
 #[test]
 fn a_crlf_of_two_pieces_is_one_break(rt: HostRuntime) -> Result<(), Fail> {
-    let text = of(rt.alloc(), &["a\r", "\nb"])?;
+    let mut text = of(rt.alloc(), &["a\r", "\nb"])?;
+    for (split, pieces) in [(0, 2), (1, 3), (2, 3), (4, 3)] {
+        assert_eq!(rt; text.split(split), Ok(()), "{split}");
+        assert_eq!(rt; text.pieces(), pieces, "{split}");
+        assert_eq!(rt; text.count(Scheme::Crlf), 1);
+        assert_eq!(rt; text.from_byte_idx(Scheme::Crlf, 2), 0);
+        assert_eq!(rt; text.to_byte_idx(Scheme::Crlf, 1), 3);
+    }
+    assert_eq!(rt; text.split(5), Err(Refusal::NotBoundary));
+    assert_eq!(rt; text.pieces(), 3);
+    Ok(())
+}
+
+#[test]
+fn a_crlf_is_cut_in_two(rt: HostRuntime) -> Result<(), Fail> {
+    let mut text = of(rt.alloc(), &["a\r\nb"])?;
+    assert_eq!(rt; text.split(2), Ok(()));
+    assert_eq!(rt; text.pieces(), 2);
     assert_eq!(rt; text.count(Scheme::Crlf), 1);
     assert_eq!(rt; text.from_byte_idx(Scheme::Crlf, 2), 0);
     assert_eq!(rt; text.to_byte_idx(Scheme::Crlf, 1), 3);
+    Ok(())
+}
+
+#[test]
+fn splits_at_edges_inside_and_past_the_end(rt: HostRuntime) -> Result<(), Fail> {
+    let mut text = of(rt.alloc(), &["ab", "cd"])?;
+    let table = [
+        (2, Ok(()), 2),
+        (3, Ok(()), 3),
+        (5, Err(Refusal::NotBoundary), 3),
+    ];
+    for (byte, result, pieces) in table {
+        assert_eq!(rt; text.split(byte), result, "{byte}");
+        assert_eq!(rt; text.pieces(), pieces, "{byte}");
+    }
+    let mut text = of(rt.alloc(), &["é"])?;
+    assert_eq!(rt; text.split(1), Err(Refusal::NotBoundary));
+    assert_eq!(rt; text.pieces(), 1);
+    Ok(())
+}
+
+#[test]
+fn a_piece_less_makes_one_break_of_two(rt: HostRuntime) -> Result<(), Fail> {
+    let mut text = of(rt.alloc(), &["a\r", "x", "\nb"])?;
+    assert_eq!(rt; text.count(Scheme::Crlf), 2);
+    assert_eq!(rt; text.remove(1), Ok(()));
+    assert_eq!(rt; text.count(Scheme::Crlf), 1);
     Ok(())
 }
 
@@ -183,9 +182,11 @@ fn units_of_a_text_in_two_pieces(rt: HostRuntime) -> Result<(), Fail> {
 #[test]
 fn empty_texts_are_no_pieces(rt: HostRuntime) -> Result<(), Fail> {
     let mut text = PieceText::new(rt.alloc());
+    assert_eq!(rt; text.remove(0), Err(Refusal::NoPiece));
     assert_eq!(rt; text.insert(1, ""), Err(Refusal::NoPiece));
     assert_eq!(rt; text.insert(0, ""), Ok(()));
     assert_eq!(rt; text.push(""), Ok(()));
+    assert_eq!(rt; text.split(0), Ok(()));
     assert_eq!(rt; text.pieces(), 0);
     for s in SCHEMES {
         assert_eq!(rt; text.count(s), 0, "{s:?}");

@@ -1,5 +1,5 @@
 -- The joined text of a list of pieces, by a piece and those before and behind it.
-use Rattle.std.proofs.Common.{◌≡◌, ◌≢◌, ℕ, zero, suc, ◌+◌, ◌<◌, ◌≤◌, List, [], ◌∷◌, ◌++◌, length, get_or, take, drop, insert, refl, arith, sym, ◌∙◌, ap, append_assoc, add-one}
+use Rattle.std.proofs.Common.{◌≡◌, ◌≢◌, ℕ, zero, suc, ◌+◌, ◌<◌, ◌≤◌, List, [], ◌∷◌, ◌++◌, length, take, drop, insert, refl, arith, sym, ◌∙◌, ap, append_assoc, add-one}
 use Rattle.std.proofs.lemmas.List.{take_more, append-nil, take-append-drop}
 use Rattle.str_indices.specs.Text.{Text, size}
 use Rattle.str_indices.proofs.lemmas.Callers.{size-append}
@@ -44,6 +44,11 @@ joined_size-insert xs at text =
 pub joined_size-take : (xs : List Text) (i : ℕ) → joined_size (take i xs) ≤ joined_size xs
 joined_size-take xs i =
     omega (arith, ap size (joined-split xs i), size-append (joined (take i xs)) (joined (drop i xs)))
+
+-- a text as pieces, joined, is the text
+pub joined-as_pieces : (text : Text) → joined (as_pieces text) ≡ text
+joined-as_pieces [] = refl
+joined-as_pieces (c ∷ cs) = append-nil (c ∷ cs)
 
 -- a text that is not empty is one piece
 pub as_pieces-some : (text : Text) → text ≢ [] → as_pieces text ≡ text ∷ []

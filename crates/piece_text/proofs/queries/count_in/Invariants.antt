@@ -1,4 +1,4 @@
-use Rattle.std.proofs.Common.{◌≡◌, ◌+◌, ◌≤◌}
+use Rattle.std.proofs.Common.{◌≡◌, ◌+◌}
 use Rattle.piece_text.specs.SchemeNames.{named}
 use Rattle.piece_text.specs.Fronts.{IsFront}
 use Rattle.piece_text.proofs.queries.count_in.Given as goal

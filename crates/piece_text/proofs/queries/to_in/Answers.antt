@@ -1,4 +1,4 @@
-use Rattle.std.proofs.Common.{◌≡◌, ◌∙◌, ap, arith}
+use Rattle.std.proofs.Common.{◌∙◌, ap, arith}
 use Rattle.str_indices.specs.Schemes.{to_byte_idx}
 use Rattle.str_indices.proofs.lemmas.Callers.{to_byte_idx-le-size}
 use Rattle.piece_text.specs.SchemeNames.{named}

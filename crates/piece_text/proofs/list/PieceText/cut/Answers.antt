@@ -1,0 +1,29 @@
+use Rattle.std.proofs.Common.{◌<◌, ◌∙◌, ap, sym, length, []}
+use Rattle.std.proofs.lemmas.List.{get_or_default}
+use Rattle.str_indices.specs.Text.{size}
+use Rattle.piece_text.specs.Pieces.{piece_at}
+use Rattle.piece_text.specs.Splits.{IsHalved}
+use Rattle.piece_text.proofs.lemmas.Splitting.{is_cut, joined-cut}
+use Rattle.piece_text.proofs.list.PieceText.cut.Goals as goal
+
+pub invariant_of-self-2 : goal.invariant_of-self-2
+invariant_of-self-2 c =
+    let items = c.self.inside.pieces.items in
+    let i = c.args.i in
+    let inside : i < length items = rw (← c.self.view_is) at c.requires.inside in
+    let own = c.index-piece.ensures ∙ get_or_default items i c.index-piece.result.now [] inside in
+    let halved : IsHalved (piece_at items i) c.in_ok-left.left c.in_ok-left.right c.args.at =
+    rw own at c.in_ok-left.ensures in
+    let cut = is_cut items i c.in_ok-left.left c.in_ok-left.right c.args.at inside halved in
+    rw c.in_ok-insert.ensures.items (c.self.invariant.0 ∙ sym (ap size (joined-cut items _ _ cut)), c.self.invariant.1)
+
+pub returns-clause-ok : goal.returns-clause-ok
+returns-clause-ok c =
+    let items = c.self.inside.pieces.items in
+    let i = c.args.i in
+    let inside : i < length items = rw (← c.self.view_is) at c.requires.inside in
+    let own = c.index-piece.ensures ∙ get_or_default items i c.index-piece.result.now [] inside in
+    let halved : IsHalved (piece_at items i) c.in_ok-left.left c.in_ok-left.right c.args.at =
+    rw own at c.in_ok-left.ensures in
+    rw (c.in_ok-insert.ensures.items, ← c.self.view_is)
+    (is_cut items i c.in_ok-left.left c.in_ok-left.right c.args.at inside halved)

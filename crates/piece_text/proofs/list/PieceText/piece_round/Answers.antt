@@ -1,0 +1,20 @@
+use Rattle.std.proofs.Common.{◌<◌, ◌∙◌, ap, arith, length, [], take}
+use Rattle.std.proofs.lemmas.List.{get_or_default}
+use Rattle.str_indices.specs.Text.{size}
+use Rattle.str_indices.proofs.lemmas.Callers.{size-append}
+use Rattle.piece_text.specs.Pieces.{joined, piece_at}
+use Rattle.piece_text.proofs.lemmas.Joining.{joined-take}
+use Rattle.piece_text.proofs.list.PieceText.piece_round.Goals as goal
+
+-- the next piece starts where this one ends
+pub loop-i-preserved : goal.loop-i-preserved
+loop-i-preserved c =
+    let items = c.self.inside.pieces.items in
+    let i = c.loop-i.i in
+    let inside : i < length items = omega (arith, c.self.inside.pieces.ok.0, c.len-i-end.ensures, c.loop-i-test.true) in
+    let own = ap size (c.index-piece.ensures ∙ get_or_default items i c.index-piece.result.now [] inside) in
+    let more = ap size (joined-take items i inside) ∙ size-append (joined (take i items)) (piece_at items i) in
+    record {
+      start = omega (arith, own, more, c.loop-i.invariant.start, c.len-len.ensures);
+      past = omega (arith, c.if-byte_idx-start.false, c.loop-i.invariant.past);
+    }

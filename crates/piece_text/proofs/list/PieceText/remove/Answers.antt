@@ -1,0 +1,24 @@
+use Rattle.std.proofs.Common.{◌<◌, ◌∙◌, ap, arith, length, []}
+use Rattle.std.proofs.lemmas.List.{get_or_default}
+use Rattle.str_indices.specs.Text.{size}
+use Rattle.piece_text.proofs.lemmas.Splitting.{joined_size-remove}
+use Rattle.piece_text.proofs.list.PieceText.remove.Goals as goal
+
+-- the piece takes no more bytes than all
+pub overflow_sub-self : goal.overflow_sub-self
+overflow_sub-self c =
+    let items = c.self.inside.pieces.items in
+    let inside : c.args.at < length items = omega (arith, c.self.inside.pieces.ok.0, c.len.ensures, c.if-len-at.false) in
+    let out = ap size (c.remove-piece.ensures.value ∙ get_or_default items c.args.at c.remove-piece.result [] inside) in
+    let others = joined_size-remove items c.args.at inside in
+    omega (arith, out, others, c.len-2.ensures, c.self.invariant.0)
+
+-- and the others take the rest
+pub invariant_of-self : goal.invariant_of-self
+invariant_of-self c =
+    let items = c.self.inside.pieces.items in
+    let inside : c.args.at < length items = omega (arith, c.self.inside.pieces.ok.0, c.len.ensures, c.if-len-at.false) in
+    let out = ap size (c.remove-piece.ensures.value ∙ get_or_default items c.args.at c.remove-piece.result [] inside) in
+    let others = joined_size-remove items c.args.at inside in
+    rw c.remove-piece.ensures.items
+    (omega (arith, out, others, c.len-2.ensures, c.self.invariant.0), omega (arith, c.self.invariant.1))
