@@ -115,9 +115,9 @@ impl PieceText {
         Ok(())
     }
 
-    /// Cuts the piece round a byte in two, so that the second half starts at the byte. Where a piece starts or ends there
-    /// already, and at the beginning and the end of the text, it changes nothing. The joined text stays as it is, also
-    /// where the cut parts a CR from its LF.
+    /// Cuts the piece round a byte in two, so that the second half starts at the byte. Where a piece starts or ends
+    /// there already, and at the beginning and the end of the text, it changes nothing. The joined text stays as it is,
+    /// also where the cut parts a CR from its LF.
     ///
     /// After a refusal all is as it was. It is `NotBoundary` where the byte is inside a character or past the end, and
     /// else `NoMemory` where memory was refused.

@@ -41,6 +41,7 @@ pub fn count_in(p: &mut Pieces, s: Scheme) -> usize
     ensures answer { result ≡ count (named s) (joined p.old.texts) }
     ensures texts { p.new.texts ≡ p.old.texts }
     ensures looks { p.new.looks ≤ p.old.looks + length p.old.texts }
+    ensures looks_kept { p.old.looks ≤ p.new.looks }
     ensures reads { p.new.reads ≡ p.old.reads }
 {
     let mut front = before_all();
@@ -55,7 +56,9 @@ pub fn from_in(p: &mut Pieces, s: Scheme, b: usize) -> usize
     ensures answer { result ≡ from_byte_idx (named s) (joined p.old.texts) b }
     ensures texts { p.new.texts ≡ p.old.texts }
     ensures looks { p.new.looks ≤ p.old.looks + length p.old.texts }
+    ensures looks_kept { p.old.looks ≤ p.new.looks }
     ensures reads { p.new.reads ≤ p.old.reads + 1 }
+    ensures reads_kept { p.old.reads ≤ p.new.reads }
 {
     let mut front = before_all();
     for i in 0..p.len() {
@@ -74,7 +77,9 @@ pub fn to_in(p: &mut Pieces, s: Scheme, k: usize) -> usize
     ensures answer { result ≡ to_byte_idx (named s) (joined p.old.texts) k }
     ensures texts { p.new.texts ≡ p.old.texts }
     ensures looks { p.new.looks ≤ p.old.looks + length p.old.texts }
+    ensures looks_kept { p.old.looks ≤ p.new.looks }
     ensures reads { p.new.reads ≤ p.old.reads + 1 }
+    ensures reads_kept { p.old.reads ≤ p.new.reads }
 {
     if p.len() == 0 {
         return 0;
@@ -92,6 +97,7 @@ fn piece_for(p: &mut Pieces, s: Scheme, k: usize) -> Asked
         ≡ result.start + to_byte_idx (named s) (piece_at p.old.texts result.piece) result.index }
     ensures texts { p.new.texts ≡ p.old.texts }
     ensures looks { p.new.looks ≤ p.old.looks + length p.old.texts }
+    ensures looks_kept { p.old.looks ≤ p.new.looks }
     ensures reads { p.new.reads ≡ p.old.reads }
 {
     let mut front = before_all();

@@ -51,8 +51,8 @@ pub record Tells (s : Scheme) (texts : List Text) (i : ℕ) (front : Front) (rea
   pub to_here : (k : ℕ) → reached < k → to_byte_idx s (joined (take (i + 1) texts)) k
       ≡ front.len + to_byte_idx s (piece_at texts i) (k - reached)
 
-module _ (s : Scheme) (texts : List Text) (i : ℕ) (front : Front) (lost len counted : ℕ)
-    (ends_cr : Bool) (look : IsLook s texts i front lost len counted ends_cr) where
+module _ {s : Scheme} {texts : List Text} {i : ℕ} {front : Front} {lost len counted : ℕ} {ends_cr : Bool}
+    (look : IsLook s texts i front lost len counted ends_cr) where
   pub are_within : AreWithin front.len front.total lost len counted (joined_size texts)
   are_within =
       let before = joined (take i texts) in
@@ -102,12 +102,12 @@ module _ (s : Scheme) (texts : List Text) (i : ℕ) (front : Front) (lost len co
       }
 
 -- a look at a piece's summary
-pub is_look : (s : names.Scheme) (texts : List Text) (i : ℕ) (front : Front) (lost : ℕ) (piece : Summary)
+pub is_look : (s : names.Scheme) {texts : List Text} {i : ℕ} {front : Front} {lost : ℕ} {piece : Summary}
     → i < length texts → IsFront (named s) texts i front → piece ≡ summary_of (piece_at texts i) → piece_at texts i ≢ []
     → ((a b : Text) → front.ends_cr ≡ ends_in_return a → piece.starts_lf ≡ starts_with_feed b
     → lost ≡ seam_loss (named s) a b)
     → IsLook (named s) texts i front lost piece.len (count_of piece s) piece.ends_cr
-is_look s texts i front lost piece inside before piece_is some seam = record {
+is_look s {texts} {i} {front} {lost} {piece} inside before piece_is some seam = record {
   inside = inside;
   before = before;
   some = some;

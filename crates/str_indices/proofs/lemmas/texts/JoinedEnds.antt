@@ -1,5 +1,5 @@
 -- The ends of two texts, one after the other, by those of each: how many are up to a byte index, and which is the k-th.
-use Rattle.std.proofs.Common.{◌≡◌, ℕ, zero, ◌+◌, ◌-◌, ◌<◌, ◌≤◌, inl, inr, List, [], ◌∷◌, ◌++◌, length, refl, arith, cond, sym}
+use Rattle.std.proofs.Common.{◌≡◌, ℕ, ◌+◌, ◌-◌, ◌<◌, ◌≤◌, inl, inr, List, [], ◌∷◌, ◌++◌, refl, arith, sym}
 use Rattle.std.specs.Prelude.{nat_le}
 use Rattle.std.specs.Char.{len_utf8}
 use Rattle.std.proofs.lemmas.Bool.{cases_lt}
@@ -10,9 +10,9 @@ use Rattle.str_indices.specs.Text.{size}
 use Rattle.str_indices.specs.Schemes.{Scheme, Chars, is_end, ends, end_count, ends_up_to, end_at}
 use Rattle.str_indices.specs.Joins.{seam_loss}
 use Rattle.str_indices.proofs.lemmas.texts.Sizes.{size-cons, size-append}
-use Rattle.str_indices.proofs.lemmas.texts.Increasing.{rank, rank_none, rank-le-rank, select, adjunction, select-le-high}
+use Rattle.str_indices.proofs.lemmas.texts.Increasing.{rank, rank_none, rank-le-rank, adjunction, select-le-high}
 use Rattle.str_indices.proofs.lemmas.texts.Ends.{ends_from, ends_from-increases, ends_increase_within, end_weight, rank_step, rank-append, end_count_total}
-use Rattle.str_indices.proofs.lemmas.texts.EndSets.{end_at-select, end_at-past, end_at_reached, ends_up_to-all}
+use Rattle.str_indices.proofs.lemmas.texts.EndSets.{end_at-select, end_at-past, end_at_reached}
 use Rattle.str_indices.proofs.lemmas.texts.Seams.{total_front-loss}
 
 -- a character weighs the same, whatever follows the next

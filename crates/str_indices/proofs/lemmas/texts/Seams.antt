@@ -104,5 +104,6 @@ end_count-cut_loss s cs end =
     omega (arith, end_count_total s, ends_up_to_cut s cs end, total_front-loss s (cut cs end) (cut_is cs end).rest)
 
 -- joined, two texts have the ends of both, but for what the seam takes
-pub end_count-append : (s : Scheme) (a b : List ℕ) → end_count s (a ++ b) + seam_loss s a b ≡ end_count s a + end_count s b
+pub end_count-append : (s : Scheme) (a b : List ℕ)
+    → end_count s (a ++ b) + seam_loss s a b ≡ end_count s a + end_count s b
 end_count-append s a b = omega (arith, end_count_total s, total-append (end_weight s) a b, total_front-loss s a b)

@@ -21,5 +21,7 @@ returns-in_default-clause-no_memory c = λ _. chars-some c.args.text.now c.utf8.
 pub invariant_of-self : goal.invariant_of-self
 invariant_of-self c =
     let sizes = size-chars c.args.text.now c.utf8.text in
-    rw (c.in-Ok-insert.ensures.items, c.in-Ok.ensures)
-    (omega (arith, joined_size-insert c.self.inside.pieces.items, sizes, c.self.invariant.0), omega (arith, c.self.invariant.1, c.if-self-text.false))
+    rw (c.in-Ok-insert.ensures.items, c.in-Ok.ensures) (
+      omega (arith, joined_size-insert c.self.inside.pieces.items, sizes, c.self.invariant.0),
+      omega (arith, c.self.invariant.1, c.if-self-text.false),
+    )
