@@ -24,6 +24,7 @@ use str_indices::{lines_crlf as lines, utf16};
 
 /// A place in a text, as a language server names it.
 #[derive(Clone, Copy, PartialEq, Eq, Debug)]
+#[repr(C)]
 pub struct Position {
     /// The line, counted from 0.
     pub line: usize,
