@@ -2,9 +2,9 @@
 """Builds and runs what Rust has of the library, as a user would.
 
 The tests and the doc examples of bindings/rust, and the message where its library is missing; those of
-bindings/positions; the example of a project that uses the former; and the benchmark, one round over small texts, whose times nobody looks at. The original is compared where
-the environment variable STR_INDICES_ORIGINAL names its folder. Where cargo is not on the path nothing is tried. The
-last line printed is 'N passed, M failed'.
+bindings/positions; the example of a project that uses bindings/rust; and the benchmark, one round over small texts,
+whose times nobody looks at. The original is compared where the environment variable STR_INDICES_ORIGINAL names its
+folder. Where cargo is not on the path nothing is tried. The last line printed is 'N passed, M failed'.
 """
 import os
 import pathlib
