@@ -1,9 +1,9 @@
 #!/usr/bin/env python3
 """Builds and runs what C and C++ have of the library, as a user would.
 
-The table of worked answers and the example, compiled as C and as C++ with every warning an error; the example's output;
-and the example once more from an installed prefix by pkg-config, where that command is there. The last line printed is
-'N passed, M failed'.
+The tables of worked answers and of positions and the example, compiled as C and as C++ with every warning an error; the
+example's output; and the table of positions and the example once more from an installed prefix by pkg-config, where that
+command is there. The last line printed is 'N passed, M failed'.
 """
 import os
 import pathlib
@@ -17,6 +17,7 @@ from tally import Tally
 ROOT = pathlib.Path(__file__).resolve().parent.parent
 EXAMPLE = ROOT / "examples/c/line_and_column.c"
 WORKED_ANSWERS = ROOT / "tests/c/worked_answers.c"
+POSITIONS = ROOT / "tests/c/positions.c"
 STRICT = ["-Wall", "-Wextra", "-Werror", "-pedantic", "-O2"]
 COMPILERS = {"C": ["cc", "-std=c99"], "C++": ["c++", "-std=c++11", "-x", "c++"]}
 
@@ -46,8 +47,8 @@ def check_example(program, how):
 
 
 def compile_and_run(language, command, library, folder):
-    """The table and the example, by one compiler."""
-    for source in [WORKED_ANSWERS, EXAMPLE]:
+    """The tables and the example, by one compiler."""
+    for source in [WORKED_ANSWERS, POSITIONS, EXAMPLE]:
         program = folder / f"{source.stem}_{'cpp' if language == 'C++' else 'c'}"
         link = [*command, *STRICT, f"-I{ROOT}/include", source, "-x", "none", library, "-o", program]
         if not run(link, f"{source.stem} as {language} compiles without a warning"):
@@ -55,11 +56,11 @@ def compile_and_run(language, command, library, folder):
         if source is EXAMPLE:
             check_example(program, f"as {language}")
         else:
-            run([program], f"worked answers as {language}")
+            run([program], f"{source.stem} as {language}")
 
 
 def compile_installed(folder):
-    """The example from an installed prefix, by pkg-config alone."""
+    """The table of positions and the example from an installed prefix, by pkg-config alone."""
     prefix = folder / "prefix"
     if not run([ROOT / "scripts/install_c", prefix], "install_c"):
         return
@@ -67,11 +68,16 @@ def compile_installed(folder):
         print("not tried: pkg-config is not on the path")
         return
     search = dict(os.environ, PKG_CONFIG_PATH=str(prefix / "lib/pkgconfig"))
-    program = folder / "installed"
     flags = "$(pkg-config --cflags --libs str_indices)"
-    command = f"cc -std=c99 {' '.join(STRICT)} {EXAMPLE} {flags} -o {program}"
-    if run(["sh", "-c", command], "the example compiles by pkg-config", env=search):
-        check_example(program, "by pkg-config")
+    for source in [POSITIONS, EXAMPLE]:
+        program = folder / f"installed_{source.stem}"
+        command = f"cc -std=c99 {' '.join(STRICT)} {source} {flags} -o {program}"
+        if not run(["sh", "-c", command], f"{source.stem} compiles by pkg-config", env=search):
+            continue
+        if source is EXAMPLE:
+            check_example(program, "by pkg-config")
+        else:
+            run([program], f"{source.stem} by pkg-config")
 
 
 def main():

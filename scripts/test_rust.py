@@ -1,10 +1,10 @@
 #!/usr/bin/env python3
 """Builds and runs what Rust has of the library, as a user would.
 
-The tests and the doc examples of bindings/rust; the message where its library is missing; the example of a project
-that uses it; and the benchmark, one round over small texts, whose times nobody looks at. The original is compared where
-the environment variable STR_INDICES_ORIGINAL names its folder. Where cargo is not on the path nothing is tried. The
-last line printed is 'N passed, M failed'.
+The tests and the doc examples of bindings/rust, and the message where its library is missing; those of
+bindings/positions; the example of a project that uses bindings/rust; and the benchmark, one round over small texts,
+whose times nobody looks at. The original is compared where the environment variable STR_INDICES_ORIGINAL names its
+folder. Where cargo is not on the path nothing is tried. The last line printed is 'N passed, M failed'.
 """
 import os
 import pathlib
@@ -19,6 +19,7 @@ from test_c import ROWS, TEXT
 
 ROOT = pathlib.Path(__file__).resolve().parent.parent
 BINDINGS = ROOT / "bindings/rust"
+POSITIONS = ROOT / "bindings/positions"
 EXAMPLE = ROOT / "examples/rust"
 
 TEST_RESULT = re.compile(r"^test result: \w+\. (\d+) passed; (\d+) failed", re.MULTILINE)
@@ -31,16 +32,27 @@ def cargo(folder, *words, **options):
     return subprocess.run(["cargo", *words, "--offline"], cwd=folder, capture_output=True, text=True, **options)
 
 
+def right_tests(output):
+    """How many tests and doc examples passed."""
+    return sum(int(right) for right, wrong in TEST_RESULT.findall(output))
+
+
 def test_bindings():
     done = cargo(BINDINGS, "test")
     output = done.stdout + done.stderr
-    counts = [(int(right), int(wrong)) for right, wrong in TEST_RESULT.findall(output)]
-    right = sum(count[0] for count in counts)
+    right = right_tests(output)
     compared = COMPARED.search(output)
     if tally.result(done.returncode == 0 and compared is not None, f"bindings/rust, {right} tests and doc examples"):
         print(compared.group(0))
     else:
         print(output)
+
+
+def test_positions():
+    done = cargo(POSITIONS, "test")
+    right = right_tests(done.stdout)
+    if not tally.result(done.returncode == 0 and right > 0, f"bindings/positions, {right} tests and doc examples"):
+        print(done.stdout + done.stderr)
 
 
 def test_missing_library(folder):
@@ -76,6 +88,7 @@ def main():
             os.environ["CARGO_TARGET_DIR"] = target
             test_bindings()
             test_missing_library(empty)
+            test_positions()
             test_example(target)
             test_benchmark()
     return tally.end()

@@ -1,1 +1,4 @@
-pub mod Breaks
+pub mod Lines
+pub mod Positions
+pub mod Relations
+pub mod Examples

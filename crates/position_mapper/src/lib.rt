@@ -1,21 +1,30 @@
-//! Maps byte indices of a UTF-8 text to the positions of a language server, and back.
+//! Maps byte indices of a UTF-8 text to the positions of the Language Server Protocol 3.17, and back.
+//!
+//! A line ends in LF, CR or CRLF, and a position is a line and an offset on it in UTF-16 code units. No position names
+//! a place inside or behind a break on its line: an offset past the line's end means the line's end, before its break.
 //!
 //! Every text, byte index and position has an answer: nothing panics, nothing allocates.
 #![tactic(auto)]
 
-ghost use Rattle.std.specs.Prelude.{◌≡◌, ◌+◌, IsCharBoundary, chars};
-ghost use Rattle.str_indices.specs.Schemes.{from_byte_idx, to_byte_idx, Utf16};
-ghost use Rattle.str_indices.specs.Relations.{IsBoundary};
-ghost use Rattle.str_indices.specs.Starts.{IsGreatestBoundary};
-ghost use Rattle.position_mapper.specs.Breaks.{line_scheme};
+ghost use Rattle.std.specs.Prelude.{◌≡◌, ◌+◌, ◌<◌, ◌≤◌, ◌⊎◌, IsCharBoundary, chars, drop, length, min};
+ghost use Rattle.std.specs.List.{before_first};
+ghost use Rattle.str_indices.specs.Schemes.{count, from_byte_idx, to_byte_idx, Crlf, Utf16};
+ghost use Rattle.str_indices.specs.Relations.{IsBoundary, IsCrlfMiddle};
+ghost use Rattle.str_indices.specs.Starts.{IsSecondUnit};
+ghost use Rattle.position_mapper.specs.Lines.{is_break, line_content, line_end};
+ghost use Rattle.position_mapper.specs.Positions.{byte_at, position_at};
+ghost use Rattle.position_mapper.specs.Relations.{IsGreatestPlace};
 
+pub mod laws;
 #[cfg(test)]
 mod tests;
 
-use str_indices::{laws, lines_crlf as lines, utf16};
+use str_indices::laws::start_of_line;
+use str_indices::{lines_crlf as lines, utf16};
 
 /// A place in a text, as a language server names it.
 #[derive(Clone, Copy, PartialEq, Eq, Debug)]
+#[repr(C)]
 pub struct Position {
     /// The line, counted from 0.
     pub line: usize,
@@ -23,69 +32,104 @@ pub struct Position {
     pub character: usize,
 }
 
+/// The byte index where the content of a line ends, counted from 0: before its break, or the length of the text in
+/// bytes where it is the last line or past it.
+///
+/// The text may be sliced at the answer.
+pub fn line_end(text: &str, line: usize) -> usize
+    ensures answer { result ≡ line_end (chars text.now) line }
+    ensures boundary { IsCharBoundary text.now result }
+{
+    let line = line_of(text, line);
+    line.start + line.content.len()
+}
+
 /// The position of a byte: its line, and the UTF-16 code units from that line's beginning to the byte.
 ///
-/// A byte inside a char has the position where the char begins, and a byte past the end that of the text's end.
+/// A byte inside a char has the position where the char begins, the byte between CR and LF that of the line's end, and a
+/// byte past the end that of the text's end.
 pub fn position_of(text: &str, byte: usize) -> Position
-    ensures line { result.line ≡ from_byte_idx line_scheme (chars text.now) byte }
-    ensures character { let cs = chars text.now in
-        result.character + from_byte_idx Utf16 cs (to_byte_idx line_scheme cs result.line)
-        ≡ from_byte_idx Utf16 cs byte }
+    ensures { result ≡ position_at (chars text.now) byte }
 {
-    let line = lines::from_byte_idx(text, byte);
-    let line_start = lines::to_byte_idx(text, line);
-    let units_before_line = utf16::from_byte_idx(text, line_start);
-    let units = utf16::from_byte_idx(text, byte);
-    // A line begins at or before each of its bytes, and so no more units stand before its beginning.
-    laws::start_of_line(text, byte);
-    laws::monotone(text, line_start, byte);
-    prove!(units_before_line <= units);
+    let index = lines::from_byte_idx(text, byte);
+    let line = line_of(text, index);
+    // A line begins at or before each of its bytes.
+    start_of_line(text, byte);
     Position {
-        line,
-        character: units - units_before_line,
+        line: index,
+        character: utf16::from_byte_idx(line.content, byte - line.start),
     }
 }
 
 /// The byte index where the char at a position begins.
 ///
-/// The second unit of a surrogate pair belongs to its char. An offset past the end of the line is not cut back to it,
-/// but goes on into the lines behind. A position past the end of the text gives the text's length in bytes.
+/// The second unit of a surrogate pair belongs to its char. An offset past the end of the line gives the line's end,
+/// before its break, and a line past the last one the text's length in bytes.
 ///
 /// The text may be sliced at the answer.
 pub fn byte_of(text: &str, position: Position) -> usize
-    ensures answer { let cs = chars text.now in
-        result ≡ to_byte_idx Utf16 cs
-        (from_byte_idx Utf16 cs (to_byte_idx line_scheme cs position.line) + position.character) }
+    ensures answer { result ≡ byte_at (chars text.now) position }
     ensures boundary { IsCharBoundary text.now result }
 {
-    let line_start = lines::to_byte_idx(text, position.line);
-    let line_units = utf16::from_byte_idx(text, line_start);
-    byte_of_unit(text, line_units, position.character)
+    let line = line_of(text, position.line);
+    line.start + utf16::to_byte_idx(line.content, position.character)
 }
 
-/// The byte index where the char begins that has the unit `more` units behind unit `from`.
-fn byte_of_unit(text: &str, from: usize, more: usize) -> usize
-    ensures answer { result ≡ to_byte_idx Utf16 (chars text.now) (from + more) }
-    ensures boundary { IsCharBoundary text.now result }
+/// From a byte index to its position and back: the greatest place at or before the byte that a position may have, a
+/// boundary that does not stand between CR and LF.
+///
+/// So such a place comes back as itself, a byte index inside a char as the char's beginning, the one between CR and LF as
+/// the place before them, and one past the end as the text's length in bytes.
+pub fn round_trip(text: &str, byte: usize) -> usize
+    ensures greatest { IsGreatestPlace (chars text.now) byte result }
+    ensures place { let cs = chars text.now in IsBoundary cs byte → ¬ (IsCrlfMiddle cs byte) → result ≡ byte }
 {
-    match from.checked_add(more) {
-        Some(unit) => utf16::to_byte_idx(text, unit),
-        // No text has so many units.
-        None => {
-            laws::past_end(text);
-            text.len()
-        }
+    byte_of(text, position_of(text, byte))
+}
+
+/// From a position to its byte index and back: the position, with an offset past the line's length cut to that, the
+/// second unit of a surrogate pair moved to its first, and a line past the last one moved to the end of the text.
+pub fn position_round_trip(text: &str, position: Position) -> Position
+    ensures line { result.line ≡ min position.line (count Crlf (chars text.now)) }
+    ensures cut { let cs = chars text.now in let content = line_content cs position.line in
+        position.line ≤ count Crlf cs → (result.character ≡ min position.character (count Utf16 content))
+        ⊎ IsSecondUnit content position.character }
+    ensures second_unit { let cs = chars text.now in position.line ≤ count Crlf cs
+        → IsSecondUnit (line_content cs position.line) position.character
+        → result.character + 1 ≡ position.character }
+    ensures past { let cs = chars text.now in
+        count Crlf cs < position.line → result.character ≡ count Utf16 (line_content cs (count Crlf cs)) }
+{
+    position_of(text, byte_of(text, position))
+}
+
+/// A line: where it begins, and its text without its break.
+#[derive(Clone, Copy)]
+struct Line<'t> {
+    start: usize,
+    content: &'t str,
+}
+
+fn line_of(text: &str, index: usize) -> Line<'_>
+    ensures start { result.start ≡ to_byte_idx Crlf (chars text.now) index }
+    ensures content { chars result.content.now ≡ line_content (chars text.now) index }
+    ensures end { result.start + length result.content.now ≡ line_end (chars text.now) index }
+    ensures within { result.start + length result.content.now ≤ length text.now }
+{
+    let start = lines::to_byte_idx(text, index);
+    Line {
+        start,
+        content: before_break(&text[start..]),
     }
 }
 
-/// From a byte index to its position and back: the greatest boundary at or before the byte.
-///
-/// So a byte index between characters comes back as itself, one inside a char as the char's beginning, and one past the
-/// end as the text's length in bytes.
-pub fn round_trip(text: &str, byte: usize) -> usize
-    ensures greatest { IsGreatestBoundary (chars text.now) byte result }
-    ensures boundary { IsBoundary (chars text.now) byte → result ≡ byte }
+/// The text before its first LF or CR; all of it where it has none.
+fn before_break(text: &str) -> &str
+    ensures content { chars result.now ≡ before_first is_break (chars text.now) }
+    ensures within { length result.now ≤ length text.now }
 {
-    laws::start_of_char(text, byte);
-    byte_of(text, position_of(text, byte))
+    match text.find(['\n', '\r']) {
+        Some(end) => &text[..end],
+        None => text,
+    }
 }

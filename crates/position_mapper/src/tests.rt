@@ -1,50 +1,116 @@
-use super::{Position, byte_of, position_of, round_trip};
+use super::{Position, byte_of, line_end, position_of, position_round_trip, round_trip};
 use std::test::Fail;
 
-const TEXT: &str = "Hel🐸lo world! こん🐸にち🐸🐸は!";
-
-const LINES: &str = "Here\nare\nsome\nwords";
+/// A line that ends in CRLF, one with a surrogate pair that ends in CR, one of a char of three bytes, an empty one, and
+/// one that no break ends.
+const TEXT: &str = "a\r\n🐸b\rせ\n\nx";
 
 #[test]
-fn positions_count_units_from_their_line(rt: HostRuntime) -> Result<(), Fail> {
+fn a_line_ends_before_its_break(rt: HostRuntime) -> Result<(), Fail> {
     let table = [
-        (TEXT, 7, 0, 5),
-        (TEXT, 27, 0, 19),
-        (TEXT, 41, 0, 25),
-        (LINES, 9, 2, 0),
-        (LINES, 12, 2, 3),
-        ("a\r\n🐸b", 7, 1, 2),
-        ("a\rb", 2, 1, 0),
+        (TEXT, 0, 1),
+        (TEXT, 1, 8),
+        (TEXT, 2, 12),
+        (TEXT, 3, 13),
+        (TEXT, 4, 15),
+        (TEXT, 5, 15),
+        (TEXT, usize::MAX, 15),
+        ("", 0, 0),
+        ("", 1, 0),
+        ("\r", 0, 0),
+        ("\r", 1, 1),
+        ("\r\r\n\n", 0, 0),
+        ("\r\r\n\n", 1, 1),
+        ("\r\r\n\n", 2, 3),
+        ("\r\r\n\n", 3, 4),
+        ("a\u{0B}\u{0C}\u{85}\u{2028}\u{2029}b", 0, 12),
     ];
-    for (text, byte, line, character) in table {
-        let position = Position { line, character };
-        assert_eq!(rt; position_of(text, byte), position, "{byte} of {text}");
-        assert_eq!(rt; byte_of(text, position), byte, "{position:?} of {text}");
-        assert_eq!(rt; round_trip(text, byte), byte, "{byte} of {text}");
+    for (text, line, end) in table {
+        assert_eq!(rt; line_end(text, line), end, "{line} of {text:?}");
     }
     Ok(())
 }
 
 #[test]
-fn a_position_inside_a_pair_or_past_the_end_has_a_byte(rt: HostRuntime) -> Result<(), Fail> {
+fn each_byte_has_a_position(rt: HostRuntime) -> Result<(), Fail> {
     let table = [
-        (0, 4, 3),
-        (0, 18, 23),
-        (0, 99, 45),
-        (0, usize::MAX, 45),
-        (7, usize::MAX, 45),
+        (0, 0, 0, 0),
+        (1, 0, 1, 1),
+        (2, 0, 1, 1), // between CR and LF
+        (3, 1, 0, 3),
+        (4, 1, 0, 3), // inside a char, as the next two
+        (5, 1, 0, 3),
+        (6, 1, 0, 3),
+        (7, 1, 2, 7),
+        (8, 1, 3, 8),
+        (9, 2, 0, 9),
+        (10, 2, 0, 9),
+        (11, 2, 0, 9),
+        (12, 2, 1, 12),
+        (13, 3, 0, 13),
+        (14, 4, 0, 14),
+        (15, 4, 1, 15),
+        (16, 4, 1, 15), // past the end
+        (usize::MAX, 4, 1, 15),
     ];
-    for (line, character, byte) in table {
+    for (byte, line, character, back) in table {
         let position = Position { line, character };
+        assert_eq!(rt; position_of(TEXT, byte), position, "{byte}");
+        assert_eq!(rt; round_trip(TEXT, byte), back, "{byte}");
+    }
+    Ok(())
+}
+
+#[test]
+fn each_position_has_a_byte(rt: HostRuntime) -> Result<(), Fail> {
+    let table = [
+        (0, 0, 0, 0, 0),
+        (0, 1, 1, 0, 1),
+        (0, 2, 1, 0, 1), // past the end of its line
+        (0, usize::MAX, 1, 0, 1),
+        (1, 0, 3, 1, 0),
+        (1, 1, 3, 1, 0), // the second unit of a pair
+        (1, 2, 7, 1, 2),
+        (1, 3, 8, 1, 3),
+        (1, 4, 8, 1, 3),
+        (2, 0, 9, 2, 0),
+        (2, 1, 12, 2, 1),
+        (2, 2, 12, 2, 1),
+        (3, 0, 13, 3, 0),
+        (3, 1, 13, 3, 0),
+        (4, 0, 14, 4, 0),
+        (4, 1, 15, 4, 1),
+        (4, 2, 15, 4, 1),
+        (5, 0, 15, 4, 1), // past the last line
+        (5, 7, 15, 4, 1),
+        (usize::MAX, 0, 15, 4, 1),
+        (usize::MAX, usize::MAX, 15, 4, 1),
+    ];
+    for (line, character, byte, back_line, back_character) in table {
+        let position = Position { line, character };
+        let back = Position {
+            line: back_line,
+            character: back_character,
+        };
         assert_eq!(rt; byte_of(TEXT, position), byte, "{position:?}");
+        assert_eq!(rt; position_round_trip(TEXT, position), back, "{position:?}");
     }
     Ok(())
 }
 
 #[test]
-fn a_byte_inside_a_char_comes_back_as_its_beginning(rt: HostRuntime) -> Result<(), Fail> {
-    for (byte, start) in [(5, 3), (26, 23), (99, 45)] {
-        assert_eq!(rt; round_trip(TEXT, byte), start, "{byte}");
+fn the_empty_text_has_one_position(rt: HostRuntime) -> Result<(), Fail> {
+    let only = Position {
+        line: 0,
+        character: 0,
+    };
+    for index in [0, 1, usize::MAX] {
+        let position = Position {
+            line: index,
+            character: index,
+        };
+        assert_eq!(rt; position_of("", index), only, "{index}");
+        assert_eq!(rt; byte_of("", position), 0, "{index}");
     }
     Ok(())
 }

@@ -1,5 +1,5 @@
 //! The functions of `str_indices` for C, as a static library: one export for each of them, and one that tells whether
-//! bytes are UTF-8.
+//! bytes are UTF-8; and those of `position_mapper`, in `positions`.
 //!
 //! C hands a text over as the address of its first byte and the number of its bytes. `include/str_indices.h`, at the
 //! top of the repository, declares the exports and says what a caller owes.
@@ -7,6 +7,8 @@
 
 ghost use Rattle.std.specs.Prelude.{◌≡◌, ◌↔◌, IsCharBoundary, IsTrue, IsUtf8, chars};
 ghost use Rattle.str_indices.specs.Schemes.{count, from_byte_idx, surrogates, to_byte_idx, Chars, Crlf, Lf, Lines, Utf16};
+
+mod positions;
 
 use str_indices::{chars, lines, lines_crlf, lines_lf, utf16};
 

@@ -1,13 +1,16 @@
-use Rattle.std.proofs.Common.{arith, chars, subst}
-use Rattle.str_indices.specs.Schemes.{Utf16}
-use Rattle.str_indices.specs.Starts.{IsGreatestBoundary}
+use Rattle.std.proofs.Common.{arith, chars, sym, ◌∙◌, ap, subst}
+use Rattle.position_mapper.specs.Positions.{byte_at}
+use Rattle.position_mapper.specs.Relations.{IsGreatestPlace}
+use Rattle.position_mapper.proofs.lemmas.Positions.{byte_at-position_at_is_greatest}
 use Rattle.position_mapper.proofs.round_trip.Goals as goal
 
 pub returns-clause-greatest : goal.returns-clause-greatest
 returns-clause-greatest c =
-    subst (IsGreatestBoundary (chars c.args.text.now) c.args.byte) (grind arith) (c.start_of_char.ensures Utf16 tt)
+    let cs = chars c.args.text.now in
+    let answer = c.byte_of.ensures.answer ∙ ap (byte_at cs) c.position_of.ensures in
+    subst (IsGreatestPlace cs c.args.byte) (sym answer) (byte_at-position_at_is_greatest cs c.args.byte)
 
-pub returns-clause-boundary : goal.returns-clause-boundary
-returns-clause-boundary c at =
-    let start = returns-clause-greatest c in
-    omega (arith, start.at_or_before, start.greatest c.args.byte at (omega arith))
+pub returns-clause-place : goal.returns-clause-place
+returns-clause-place c at not_middle =
+    let place = returns-clause-greatest c in
+    omega (arith, place.at_or_before, place.greatest c.args.byte at not_middle (omega arith))

@@ -26,27 +26,40 @@
 --     from_byte_idx-all               and from its end on, all
 --     to_byte_idx-zero                the index 0 begins at 0
 --     to_byte_idx-le-size             no byte index that is answered is above the number of bytes
+--     size-cons                       a character and the text behind it
+--     boundary_beside                 a boundary is at or before the beginning of each character, or at or behind its end
+--     cut_front, cut_goes_on, cut_all, cut_is_longest
+--                                     a text that is cut: at a boundary, behind one, past its end, anywhere
+--     units_at                        the UTF-16 code units before a boundary
+--     end_at-past                     an index past the last end goes to the end of the text
+--     is_crlf_middle_iff              where a place stands between CR and LF
+--     from-to, from_byte_idx-le, to_byte_idx-le, boundary_adjunction, to-from_is_greatest,
+--     to-from_is_greatest_boundary, units_or_second_unit, units-second_unit, IsBoundary-to_byte_idx
+--                                     what the laws say, of any text
 use Rattle.std.proofs.Common.{◌≡◌, ℕ, ◌≤◌, inl, inr, List, length, get_or, arith, true, false, sym, ◌∙◌, ap, subst, chars, IsUtf8, IsCharBoundary}
 use Rattle.std.proofs.lemmas.Bool.{cases_lt}
 use Rattle.str_indices.specs.Text.{size}
 use Rattle.str_indices.specs.Schemes.{Scheme, to_byte_idx}
 use Rattle.str_indices.specs.Relations.{IsBoundary}
 use Rattle.str_indices.specs.Bytes.{is_trailing}
-use Rattle.str_indices.proofs.lemmas.texts.Sizes.{size-append}
-use Rattle.str_indices.proofs.lemmas.laws.CharacterLaws.{IsBoundary-to_byte_idx}
 use Rattle.str_indices.proofs.lemmas.bytes.Characters.{is_trailing_later}
-use Rattle.str_indices.proofs.lemmas.bytes.Walks.{size-chars}
 use Rattle.str_indices.proofs.lemmas.bytes.BoundaryBytes.{boundary_begins}
 pub use Rattle.std.proofs.lemmas.Str.{chars-append}
 pub use Rattle.str_indices.proofs.lemmas.bytes.BoundaryBytes.{IsBoundary-from_char_boundary}
 pub use Rattle.str_indices.proofs.lemmas.bytes.Walks.{whole_text, size-chars}
 pub use Rattle.str_indices.proofs.lemmas.bytes.Edges.{starts_with_feed-bytes, ends_in_return-bytes, chars-some, chars-none}
-pub use Rattle.str_indices.proofs.lemmas.texts.Sizes.{size-append}
 pub use Rattle.str_indices.proofs.lemmas.texts.Seams.{starts_with_feed-append, ends_in_return-append, seam_loss-same}
 pub use Rattle.str_indices.proofs.lemmas.texts.JoinedUnits.{IsBoundary-before, IsBoundary-behind, IsBoundary-either}
 pub use Rattle.str_indices.proofs.lemmas.laws.CountLaws.{count-cut}
 pub use Rattle.str_indices.proofs.lemmas.laws.JoinedPlaces.{IsJoined, is_joined}
 pub use Rattle.str_indices.proofs.lemmas.laws.Bounds.{count-le-size, count-nil, to_byte_idx-le-size, to_byte_idx-zero, from_byte_idx-all, from_byte_idx-le-count}
+pub use Rattle.str_indices.proofs.lemmas.texts.Sizes.{size-cons, size-append, boundary_beside}
+pub use Rattle.str_indices.proofs.lemmas.texts.Cuts.{cut_front, cut_goes_on, cut_all, cut_is_longest}
+pub use Rattle.str_indices.proofs.lemmas.texts.Units.{units_at}
+pub use Rattle.str_indices.proofs.lemmas.texts.EndSets.{end_at-past, is_crlf_middle_iff}
+pub use Rattle.str_indices.proofs.lemmas.laws.CharacterLaws.{IsBoundary-to_byte_idx, from_byte_idx-le, to_byte_idx-le, boundary_adjunction, to-from_is_greatest_boundary}
+pub use Rattle.str_indices.proofs.lemmas.laws.EndLaws.{from-to, to-from_is_greatest}
+pub use Rattle.str_indices.proofs.lemmas.laws.UnitLaws.{units_or_second_unit, units-second_unit}
 
 -- std lets a text be sliced at each boundary
 pub IsCharBoundary-from_boundary : (bytes : List ℕ) → IsUtf8 bytes → (p : ℕ) → IsBoundary (chars bytes) p

@@ -63,7 +63,7 @@ line_feed_first [] is_feed = cc
 line_feed_first (c ∷ rest) is_feed = (rest, ap (λ x. x ∷ rest) (eqb-true c line_feed is_feed))
 
 -- the test of a CRLF middle says what the relation says
-is_crlf_middle_iff : (cs : List ℕ) (c p : ℕ) (end : IsEndOf cs c p)
+pub is_crlf_middle_iff : (cs : List ℕ) (c p : ℕ) (end : IsEndOf cs c p)
     → (is_crlf_middle (record { character = c; end = p; after = end.back }) ≡ true) ↔ IsCrlfMiddle cs p
 is_crlf_middle_iff cs c p end = (
   λ passes.

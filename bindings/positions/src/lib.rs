@@ -1,0 +1,104 @@
+//! Maps byte indices of a text to the positions of the Language Server Protocol 3.17, and back, for a server whose
+//! position encoding is UTF-16.
+//!
+//! A line ends in LF, CR or CR LF, which is one break. No position names a place inside or behind a break on its line: an
+//! offset past the end of the line means the line's end, before its break.
+//!
+//! The functions are proved to answer by a definition of lines and positions: each call here is one call into the static
+//! library of the crate `str_indices`. Every text, byte index and position has an answer: nothing panics, and nothing
+//! allocates. The text may be sliced at each byte index that is answered.
+//!
+//! A request names a place by a position, as that of the second char behind a surrogate pair; the answer names a range:
+//!
+//! ```
+//! use str_indices_positions::{byte_of, line_end, position_of, Position};
+//!
+//! let text = "let x = 1;\r\n🐸.push(\"世界\");\r\n";
+//!
+//! // A hover at line 1, character 9: behind the quotation mark.
+//! let byte = byte_of(text, Position { line: 1, character: 9 });
+//! assert_eq!(byte, 23);
+//! let word: &str = text[byte..].split('"').next().unwrap();
+//! assert_eq!(word, "世界");
+//! assert_eq!(position_of(text, byte + word.len()), Position { line: 1, character: 11 });
+//!
+//! // An offset past the line's end is its end, before CR LF.
+//! assert_eq!(byte_of(text, Position { line: 0, character: 99 }), line_end(text, 0));
+//! assert_eq!(&text[..line_end(text, 0)], "let x = 1;");
+//! ```
+#![no_std]
+
+// The static library is linked by this crate.
+use str_indices as _;
+
+/// A place in a text, as a language server names it. Positions are ordered by their places: first by the line.
+#[derive(Clone, Copy, Debug, Default, PartialEq, Eq, PartialOrd, Ord, Hash)]
+#[repr(C)]
+pub struct Position {
+    /// The line, counted from 0.
+    pub line: usize,
+    /// The offset on that line, in UTF-16 code units.
+    pub character: usize,
+}
+
+extern "C" {
+    fn str_indices_position_of(text: *const u8, len: usize, byte_idx: usize) -> Position;
+    fn str_indices_byte_of(text: *const u8, len: usize, position: Position) -> usize;
+    fn str_indices_line_end(text: *const u8, len: usize, line_idx: usize) -> usize;
+}
+
+/// The position of a byte: its line, and the UTF-16 code units from that line's beginning to the byte.
+///
+/// A byte inside a char has the position where the char begins, the byte between CR and LF that of the line's end, and a
+/// byte past the end that of the text's end.
+///
+/// ```
+/// use str_indices_positions::{position_of, Position};
+///
+/// let text = "a\r\n🐸b";
+/// assert_eq!(position_of(text, 2), Position { line: 0, character: 1 });
+/// assert_eq!(position_of(text, 7), Position { line: 1, character: 2 });
+/// assert_eq!(position_of(text, 100), Position { line: 1, character: 3 });
+/// ```
+#[inline]
+pub fn position_of(text: &str, byte_idx: usize) -> Position {
+    // SAFETY: a `str` is all that the library wants of a text: UTF-8, at an address that is not null, of at most
+    // `isize::MAX` bytes, which nobody writes to while it is lent; and every index has an answer.
+    unsafe { str_indices_position_of(text.as_ptr(), text.len(), byte_idx) }
+}
+
+/// The byte index where the char at a position begins.
+///
+/// The second unit of a surrogate pair belongs to its char. An offset past the end of the line gives the line's end,
+/// before its break, and a line past the last one the length of the text in bytes.
+///
+/// ```
+/// use str_indices_positions::{byte_of, Position};
+///
+/// let text = "a\r\n🐸b";
+/// assert_eq!(byte_of(text, Position { line: 0, character: 100 }), 1);
+/// assert_eq!(byte_of(text, Position { line: 1, character: 1 }), 3);
+/// assert_eq!(byte_of(text, Position { line: 1, character: 2 }), 7);
+/// assert_eq!(byte_of(text, Position { line: 2, character: 0 }), 8);
+/// ```
+#[inline]
+pub fn byte_of(text: &str, position: Position) -> usize {
+    // SAFETY: as in `position_of`, and every position has an answer.
+    unsafe { str_indices_byte_of(text.as_ptr(), text.len(), position) }
+}
+
+/// The byte index where the content of a line ends: before its break, or the length of the text in bytes where it is the
+/// last line or past it.
+///
+/// ```
+/// use str_indices_positions::line_end;
+///
+/// assert_eq!(line_end("one\r\ntwo\rmore", 0), 3);
+/// assert_eq!(line_end("one\r\ntwo\rmore", 1), 8);
+/// assert_eq!(line_end("one\r\ntwo\rmore", 2), 13);
+/// ```
+#[inline]
+pub fn line_end(text: &str, line_idx: usize) -> usize {
+    // SAFETY: as in `position_of`.
+    unsafe { str_indices_line_end(text.as_ptr(), text.len(), line_idx) }
+}

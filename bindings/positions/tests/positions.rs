@@ -1,0 +1,48 @@
+//! Positions of a text whose lines end in CR LF, in CR, in LF twice and in nothing, worked by the protocol's rules.
+use str_indices_positions::{byte_of, line_end, position_of, Position};
+
+const TEXT: &str = "a\r\n🐸b\rせ\n\nx";
+
+/// The byte indices that have a position, in order, and their positions.
+const PLACES: [(usize, usize, usize); 10] = [
+    (0, 0, 0),
+    (1, 0, 1),
+    (3, 1, 0),
+    (7, 1, 2),
+    (8, 1, 3),
+    (9, 2, 0),
+    (12, 2, 1),
+    (13, 3, 0),
+    (14, 4, 0),
+    (15, 4, 1),
+];
+
+#[test]
+fn each_byte_has_the_position_of_the_place_at_or_before_it() {
+    for byte in (0..=TEXT.len() + 1).chain([usize::MAX]) {
+        let &(place, line, character) = PLACES.iter().rfind(|row| row.0 <= byte).unwrap();
+        let position = Position { line, character };
+        assert_eq!(position_of(TEXT, byte), position, "{byte}");
+        assert_eq!(byte_of(TEXT, position), place, "{byte}");
+    }
+}
+
+#[test]
+fn each_position_has_the_byte_of_the_place_at_or_before_it() {
+    for line in (0..=5).chain([usize::MAX]) {
+        for character in (0..=4).chain([usize::MAX]) {
+            let position = Position { line, character };
+            let at_or_before = |row: &&(usize, usize, usize)| (row.1, row.2) <= (line, character);
+            let place = PLACES.iter().rfind(at_or_before).unwrap().0;
+            assert_eq!(byte_of(TEXT, position), place, "{position:?}");
+        }
+    }
+}
+
+#[test]
+fn lines_end_before_their_breaks() {
+    for (line, end) in [(0, 1), (1, 8), (2, 12), (3, 13), (4, 15), (5, 15), (usize::MAX, 15)] {
+        assert_eq!(line_end(TEXT, line), end, "{line}");
+    }
+    assert_eq!(line_end("", 0), 0);
+}

@@ -1,0 +1,6 @@
+use Rattle.std.proofs.Common.{chars}
+use Rattle.position_mapper.proofs.lemmas.Positions.{byte_at-le}
+use Rattle.position_mapper.proofs.laws.bytes_in_order.Goals as goal
+
+pub returns : goal.returns
+returns c = byte_at-le (chars c.args.text.now) c.args.p c.args.q

@@ -1,0 +1,6 @@
+use Rattle.std.proofs.Common.{chars}
+use Rattle.position_mapper.proofs.lemmas.Positions.{position_at-le}
+use Rattle.position_mapper.proofs.laws.positions_in_order.Goals as goal
+
+pub returns : goal.returns
+returns c = position_at-le (chars c.args.text.now) c.args.i c.args.j

@@ -1,0 +1,5 @@
+pub mod Contents
+pub mod Lines
+pub mod LineBytes
+pub mod Positions
+pub mod WholeText

@@ -1,0 +1,298 @@
+-- A text, split at one of its lines: what stands before it, its content, and what is behind that.
+use Rattle.std.proofs.Common.{◌≡◌, ℕ, ◌+◌, ◌-◌, ◌<◌, ◌≤◌, true, [], ◌∷◌, ◌++◌, ◌⊎◌, inl, inr, length, drop, sym, ◌∙◌, ap, arith, cond, refl, min, append_assoc, append-nil}
+use Rattle.std.specs.Prelude.{◌≢◌, count_by, nat_le}
+use Rattle.std.specs.Char.{len_utf8}
+use Rattle.std.proofs.Math.Seq.{drop-append_seam}
+use Rattle.std.proofs.lemmas.Bool.{cases_Bool, cases_lt}
+use Rattle.std.proofs.lemmas.List.{append_cancel_left}
+use Rattle.std.proofs.lemmas.List.Sums.{sum_by-append, count_by-le-length}
+use Rattle.std.proofs.lemmas.Str.{len_utf8_bounds}
+use Rattle.str_indices.specs.Text.{Text, size, weight, line_feed, carriage_return, is_crlf_middle}
+use Rattle.str_indices.specs.Schemes.{Crlf, Utf16, ends, from_byte_idx, to_byte_idx, count}
+use Rattle.str_indices.specs.Relations.{IsBoundary, IsEnd, IsEndOf, IsCrlfMiddle}
+use Rattle.str_indices.proofs.lemmas.Callers.{size-append, size-cons, boundary_beside, cut_front, cut_goes_on, is_crlf_middle_iff, end_at-past, units_at, IsBoundary-to_byte_idx, from-to, to-from_is_greatest, from_byte_idx-le}
+use Rattle.position_mapper.specs.Lines.{is_break, behind, line_content, line_end}
+use Rattle.position_mapper.specs.Relations.{IsBreakStart, IsLineEnd}
+use Rattle.position_mapper.proofs.lemmas.Contents.{split_at_first}
+
+-- behind a boundary is the rest of the text
+pub behind_boundary : (cs : Text) (p : ℕ) (at : IsBoundary cs p) → behind cs p ≡ at.back
+behind_boundary cs p at = ap (λ f. drop (length f) cs) (cut_front cs p at)
+    ∙ ap (drop (length at.front)) at.split ∙ drop-append_seam at.front at.back
+
+-- the scheme of the lines is not `Utf16`
+pub crlf_is_not_utf16 : Crlf ≢ Utf16
+crlf_is_not_utf16 = λ same. cc
+
+-- a boundary is at or before the end of the text
+pub boundary_within : (cs : Text) (p : ℕ) → IsBoundary cs p → p ≤ size cs
+boundary_within cs p at = omega (arith, ap size at.split, size-append at.front at.back, at.place)
+
+-- behind the character at which a break begins ends a break, or the place is between CR and LF and it ends behind that
+ends_behind : (cs front : Text) (c : ℕ) (back : Text) → cs ≡ front ++ c ∷ back → is_break c ≡ true
+    → IsEnd Crlf cs (size (front ++ c ∷ []))
+    ⊎ (IsCrlfMiddle cs (size (front ++ c ∷ [])) × IsEnd Crlf cs (size (front ++ c ∷ []) + 1))
+ends_behind cs front c back split breaks =
+    let p = size (front ++ c ∷ []) in
+    let end : IsEndOf cs c p =
+    record { front = front; back = back; split = split ∙ sym (append_assoc front (c ∷ []) back); place = refl } in
+    let iff = is_crlf_middle_iff cs c p end in
+    elim (cases_Bool (is_crlf_middle (record { character = c; end = p; after = back }))) [
+      | inr other ↦
+          inl (record { character = c; end_of = end; in_set = breaks; not_middle = λ middle. let yes = iff.1 middle in cc })
+      | inl passes ↦
+          let middle = iff.0 passes in
+          let front' = middle.front ++ carriage_return ∷ [] in
+          let feed : IsEndOf cs line_feed (p + 1) = record {
+            front = front';
+            back = middle.back;
+            split = middle.split ∙ sym (append_assoc front' (line_feed ∷ []) middle.back);
+            place = omega (arith, size-append front' (line_feed ∷ []), middle.place);
+          } in
+          inr (
+            middle,
+            record {
+              character = line_feed;
+              end_of = feed;
+              in_set = refl;
+              not_middle = λ next. let yes = (is_crlf_middle_iff cs line_feed (p + 1) feed).1 next in cc;
+            },
+          )
+    ]
+
+module _ (cs : Text) (line : ℕ) where
+  -- where the line begins
+  abbrev start : ℕ
+  start = to_byte_idx Crlf cs line
+
+  abbrev content : Text
+  content = line_content cs line
+
+  -- the text, split at the line
+  record LineParts : Type 0 where
+    before : Text
+    after : Text
+    split : cs ≡ before ++ (content ++ after)
+    split_behind : cs ≡ (before ++ content) ++ after
+    place : size before ≡ start
+    none : count_by is_break content ≡ 0
+    next : (c : ℕ) (rest : Text) → after ≡ c ∷ rest → is_break c ≡ true
+
+  line_parts : LineParts
+  line_parts =
+      let at = IsBoundary-to_byte_idx Crlf cs line in
+      let parts = split_at_first is_break (behind cs start) in
+      let split = at.split ∙ ap (λ r. at.front ++ r) (sym (behind_boundary cs _ at) ∙ parts.split) in
+      record {
+        before = at.front;
+        after = parts.after;
+        split = split;
+        split_behind = split ∙ sym (append_assoc at.front content parts.after);
+        place = at.place;
+        none = parts.none;
+        next = parts.next;
+      }
+
+  -- the text, split at a boundary of the line's content, which is a boundary of the text
+  split_in_content : (p : ℕ) (at : IsBoundary content p)
+      → cs ≡ (line_parts.before ++ at.front) ++ (at.back ++ line_parts.after)
+  split_in_content p at =
+      let parts = line_parts in
+      parts.split ∙ ap (λ r. parts.before ++ (r ++ parts.after)) at.split
+      ∙ ap (λ r. parts.before ++ r) (append_assoc at.front at.back parts.after)
+      ∙ sym (append_assoc parts.before at.front (at.back ++ parts.after))
+
+  pub IsBoundary-from_content : (p : ℕ) → IsBoundary content p → IsBoundary cs (start + p)
+  IsBoundary-from_content p at = record {
+    front = line_parts.before ++ at.front;
+    back = at.back ++ line_parts.after;
+    split = split_in_content p at;
+    place = let parts = line_parts in omega (arith, size-append parts.before at.front, parts.place, at.place);
+  }
+
+  -- the units before it are those before the line, and those of the content before it
+  pub units-from_content : (p : ℕ) → IsBoundary content p → from_byte_idx Utf16 cs (start + p)
+      ≡ from_byte_idx Utf16 cs start + from_byte_idx Utf16 content p
+  units-from_content p at =
+      let parts = line_parts in
+      let begins : IsBoundary cs start =
+      record { front = parts.before; back = content ++ parts.after; split = parts.split; place = parts.place } in
+      let here : IsBoundary cs (start + p) = record {
+        front = parts.before ++ at.front;
+        back = at.back ++ parts.after;
+        split = split_in_content p at;
+        place = omega (arith, size-append parts.before at.front, parts.place, at.place);
+      } in
+      omega (
+        arith,
+        units_at cs start begins,
+        units_at cs (start + p) here,
+        units_at content p at,
+        sum_by-append weight parts.before at.front,
+      )
+
+  -- its content ends at a boundary
+  pub IsBoundary-line_end : IsBoundary cs (line_end cs line)
+  IsBoundary-line_end = IsBoundary-from_content (size content)
+      (record { front = content; back = []; split = sym (append-nil content); place = refl })
+
+  -- a boundary of the text between the line's beginning and its end is a boundary of its content
+  pub IsBoundary-in_content : (q : ℕ) → IsBoundary cs q → start ≤ q → q ≤ line_end cs line
+      → IsBoundary content (q - start)
+  IsBoundary-in_content q at from to =
+      let parts = line_parts in
+      let (more, begins) = cut_goes_on cs parts.before (content ++ parts.after) q parts.split (omega (arith, parts.place)) in
+      let front = sym (cut_front cs q at) ∙ begins in
+      let rests = append_cancel_left parts.before (more ++ at.back) (content ++ parts.after)
+      (sym (append_assoc parts.before more at.back) ∙ ap (λ f. f ++ at.back) (sym front) ∙ sym at.split ∙ parts.split) in
+      let sizes = ap size front ∙ size-append parts.before more in
+      let (rest, ends) = cut_goes_on (content ++ parts.after) more at.back (size content) (sym rests)
+      (omega (arith, sizes, at.place, parts.place)) in
+      let whole : IsBoundary (content ++ parts.after) (size content) =
+      record { front = content; back = parts.after; split = refl; place = refl } in
+      record {
+        front = more;
+        back = rest;
+        split = sym (cut_front (content ++ parts.after) (size content) whole) ∙ ends;
+        place = omega (arith, sizes, at.place, parts.place);
+      }
+
+  -- the character of a break that ends behind the line's beginning begins at or behind the line's end
+  pub break_from_line_end : (front : Text) (c : ℕ) (back : Text) → cs ≡ front ++ c ∷ back → is_break c ≡ true
+      → start < size front + len_utf8 c → line_end cs line ≤ size front
+  break_from_line_end front c back split breaks behind =
+      let parts = line_parts in
+      let weight : ℕ → ℕ = λ d. cond (is_break d) 1 0 in
+      let begins : IsBoundary cs start =
+      record { front = parts.before; back = content ++ parts.after; split = parts.split; place = parts.place } in
+      let ends : IsBoundary cs (line_end cs line) = record {
+        front = parts.before ++ content;
+        back = parts.after;
+        split = parts.split_behind;
+        place = omega (arith, size-append parts.before content, parts.place);
+      } in
+      let one : ◌≡◌ {A = ℕ} (weight c) 1 = rw breaks refl in
+      let first = boundary_beside weight cs front c back split start begins in
+      let last = boundary_beside weight cs front c back split (line_end cs line) ends in
+      omega (arith, len_utf8_bounds c, sum_by-append weight parts.before content, parts.none)
+
+  -- no break ends between the line's beginning and its end
+  end_behind_line_end : (e : ℕ) → IsEnd Crlf cs e → start < e → line_end cs line < e
+  end_behind_line_end e end above =
+      let of = end.end_of in
+      let c = end.character in
+      let from = break_from_line_end of.front c of.back (of.split ∙ append_assoc of.front (c ∷ []) of.back) end.in_set
+      (omega (arith, of.place, size-append of.front (c ∷ []), size-cons c [])) in
+      omega (arith, from, of.place, size-append of.front (c ∷ []), size-cons c [], len_utf8_bounds c)
+
+  -- so each place from its beginning to its end is on the line
+  pub line_of_place : (p : ℕ) → start ≤ p → p ≤ line_end cs line → from_byte_idx Crlf cs p ≡ min line (count Crlf cs)
+  line_of_place p from to =
+      let last = to-from_is_greatest Crlf crlf_is_not_utf16 cs p in
+      let begins = to_byte_idx Crlf cs (from_byte_idx Crlf cs p) in
+      let early : begins ≤ start = elim last.end_or_zero [
+        | inl end ↦
+            elim (cases_lt start begins) [
+              | inl above ↦ absurd (omega (arith, end_behind_line_end begins end above, last.at_or_before))
+              | inr le ↦ le
+            ]
+        | inr zero ↦ omega arith
+      ] in
+      let here = from-to Crlf crlf_is_not_utf16 cs line in
+      let there = from-to Crlf crlf_is_not_utf16 cs (from_byte_idx Crlf cs p) in
+      let most : from_byte_idx Crlf cs p ≤ count Crlf cs = count_by-le-length (λ e. nat_le e p) (ends Crlf cs) in
+      omega (arith, from_byte_idx-le Crlf cs start p from, from_byte_idx-le Crlf cs begins start early)
+
+  -- a later line begins at or behind the line's end
+  pub line_end_le : (next : ℕ) → line < next → line_end cs line ≤ to_byte_idx Crlf cs next
+  line_end_le next later =
+      let place = to_byte_idx Crlf cs next in
+      let within = boundary_within cs (line_end cs line) IsBoundary-line_end in
+      elim (cases_lt place (line_end cs line)) [
+        | inr le ↦ le
+        | inl before ↦
+            elim (cases_lt (count Crlf cs) next) [
+              | inl past ↦ omega (arith, end_at-past Crlf cs next past)
+              | inr listed ↦ absurd (omega (
+                arith,
+                from-to Crlf crlf_is_not_utf16 cs next,
+                line_of_place (line_end cs line) (omega arith) (omega arith),
+                from_byte_idx-le Crlf cs place (line_end cs line) (omega arith),
+              ))
+            ]
+      ]
+
+  -- no place from the line's beginning to its end stands between CR and LF, where its beginning doesn't
+  pub not_middle_on_line : (p : ℕ) → ¬ (IsCrlfMiddle cs start) → start ≤ p → p ≤ line_end cs line → ¬ (IsCrlfMiddle cs p)
+  not_middle_on_line p none from to = λ middle.
+      let size_of = size-append middle.front (carriage_return ∷ []) in
+      let split = middle.split ∙ append_assoc middle.front (carriage_return ∷ []) (line_feed ∷ middle.back) in
+      elim (cases_lt start p) [
+        | inl above ↦ absurd (omega (
+          arith,
+          middle.place,
+          size_of,
+          break_from_line_end middle.front carriage_return (line_feed ∷ middle.back) split refl (omega (arith, middle.place, size_of)),
+        ))
+        | inr le ↦ let same : p ≡ start = omega arith in none (rw same at middle)
+      ]
+
+  -- before each place behind the line's end that doesn't stand between CR and LF, or at it, ends a break
+  pub end_before : (q : ℕ) → IsBoundary cs q → ¬ (IsCrlfMiddle cs q) → line_end cs line < q
+      → (e : ℕ) × IsEnd Crlf cs e × (start < e) × (e ≤ q)
+  end_before q at not_middle past =
+      let parts = line_parts in
+      let front = parts.before ++ content in
+      let within = boundary_within cs q at in
+      let sizes = ap size parts.split_behind ∙ size-append front parts.after in
+      let place = size-append parts.before content in
+      (elim parts.after as (λ after. parts.after ≡ after → (e : ℕ) × IsEnd Crlf cs e × (start < e) × (e ≤ q)) [
+        | [] ↦ λ none. absurd (omega (arith, ap size none, parts.place))
+        | c ∷ rest ↦ λ is.
+            let split = parts.split_behind ∙ ap (λ r. front ++ r) is in
+            let end = size (front ++ c ∷ []) in
+            let size_of = size-append front (c ∷ []) ∙ ap (λ n. size front + n) (size-cons c []) in
+            let above : start < end = omega (arith, parts.place, len_utf8_bounds c) in
+            let at_or_before : end ≤ q =
+            omega (arith, boundary_beside len_utf8 cs front c rest split q at, parts.place) in
+            elim (ends_behind cs front c rest split (parts.next c rest is)) [
+              | inl is_end ↦ (end, is_end, above, at_or_before)
+              | inr (middle, is_end) ↦ (
+                end + 1,
+                is_end,
+                omega arith,
+                elim (cases_lt end q) [
+                  | inl before ↦ omega arith
+                  | inr le ↦ let same : end ≡ q = omega arith in absurd (not_middle (rw same at middle))
+                ],
+              )
+            ]
+      ]) refl
+
+  -- the line's content ends at the least place from its beginning on where a break begins, or else where the text ends
+  pub line_end_is_least : IsLineEnd cs line (line_end cs line)
+  line_end_is_least =
+      let parts = line_parts in
+      let sizes = ap size parts.split_behind ∙ size-append (parts.before ++ content) parts.after in
+      record {
+        boundary = IsBoundary-line_end;
+        from_start = omega arith;
+        break_or_end = (elim parts.after as (λ after. parts.after ≡ after
+            → IsBreakStart cs (line_end cs line) ⊎ (line_end cs line ≡ size cs)) [
+              | [] ↦ λ none. inr (omega (arith, ap size none, size-append parts.before content, parts.place))
+              | c ∷ rest ↦ λ is. inl (record {
+                front = parts.before ++ content;
+                character = c;
+                back = rest;
+                split = parts.split_behind ∙ ap (λ r. (parts.before ++ content) ++ r) is;
+                place = omega (arith, size-append parts.before content, parts.place);
+                is_break = parts.next c rest is;
+              })
+            ]) refl;
+        least = λ q begins from. omega (
+          arith,
+          begins.place,
+          break_from_line_end begins.front begins.character begins.back
+              begins.split begins.is_break (omega (arith, begins.place, len_utf8_bounds begins.character)),
+        );
+      }

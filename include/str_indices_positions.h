@@ -1,0 +1,52 @@
+/*
+ * Maps byte indices of a UTF-8 text to the positions of the Language Server
+ * Protocol 3.17, and back, for a server whose position encoding is UTF-16.
+ *
+ * A line ends in LF, CR or CR LF, which is one break. A position is a line and
+ * an offset on it in UTF-16 code units, both from 0. No position names a place
+ * inside or behind a break on its line: an offset past the end of the line
+ * means the line's end, before its break.
+ *
+ * The functions are in the library of str_indices.h, and each is proved to
+ * answer by a definition of lines and positions. What is said there of a text
+ * and of what the caller owes holds here too.
+ */
+#ifndef STR_INDICES_POSITIONS_H
+#define STR_INDICES_POSITIONS_H
+
+#include <stddef.h>
+
+#ifdef __cplusplus
+extern "C" {
+#endif
+
+/* A place in a text, as a language server names it: the line, and the offset
+ * on that line in UTF-16 code units. */
+typedef struct str_indices_position {
+    size_t line;
+    size_t character;
+} str_indices_position;
+
+/* From a byte index to its position: the byte's line, and the UTF-16 code
+ * units from that line's beginning to the byte. A byte inside a char has the
+ * position where the char begins, the byte between CR and LF that of the
+ * line's end, and a byte past the end that of the text's end. */
+str_indices_position str_indices_position_of(const char *text, size_t len,
+                                             size_t byte_idx);
+
+/* From a position to the byte index where the char at it begins. The second
+ * unit of a surrogate pair belongs to its char. An offset past the end of the
+ * line gives the line's end, before its break, and a line past the last one
+ * gives `len`. */
+size_t str_indices_byte_of(const char *text, size_t len,
+                           str_indices_position position);
+
+/* The byte index where the content of a line ends: before its break, or `len`
+ * where it is the last line or past it. */
+size_t str_indices_line_end(const char *text, size_t len, size_t line_idx);
+
+#ifdef __cplusplus
+}
+#endif
+
+#endif

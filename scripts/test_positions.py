@@ -1,0 +1,133 @@
+#!/usr/bin/env python3
+"""Compares the positions of the library with a model of the Language Server Protocol, over random texts.
+
+The model is Python's: `str`, split at LF, CR and CR LF, and `encode("utf-16-le")`. The texts come from a fixed seed and
+are of the characters that matter; each is asked at every byte index and at every position, past the end of each line and
+of the text too. The static library is linked as a shared object, in a temporary folder. The last line printed is
+'N passed, M failed'.
+"""
+import ctypes
+import pathlib
+import random
+import re
+import subprocess
+import sys
+import tempfile
+
+from tally import Tally
+
+ROOT = pathlib.Path(__file__).resolve().parent.parent
+SEED = 317
+TEXTS = 4000
+MOST_CHARACTERS = 24
+GREATEST = 2**64 - 1
+
+# the three breaks of the protocol, the CR and the LF more often; characters of one to four bytes, and what is no break
+CHARACTERS = "\n\n\r\r\r\nab\0é\u0085\u00a0せ\u2028\u2029\ufeff🐸\U0010ffff\x0b\x0c"
+BREAK = re.compile("\r\n|\r|\n")
+
+tally = Tally()
+
+
+class Position(ctypes.Structure):
+    _fields_ = [("line", ctypes.c_size_t), ("character", ctypes.c_size_t)]
+
+
+def units(text):
+    return len(text.encode("utf-16-le")) // 2
+
+
+def position_of(data, byte):
+    """The position of a byte by the model: what stands before it, split into lines."""
+    before = data[:byte].decode("utf-8", "ignore")
+    if data[byte - 1 : byte + 1] == b"\r\n" and byte > 0:
+        before = before[:-1]
+    lines = BREAK.split(before)
+    return len(lines) - 1, units(lines[-1])
+
+
+def lines_of(text):
+    """Each line's beginning and content, and behind the last one the text's end."""
+    start = 0
+    for content, end in zip(BREAK.split(text), BREAK.findall(text) + [""]):
+        yield start, content
+        start += len((content + end).encode())
+    yield start, ""
+
+
+def byte_of(start, content, character):
+    """The byte of an offset on a line by the model: half a surrogate pair is left out."""
+    before = content.encode("utf-16-le")[: 2 * character].decode("utf-16-le", "ignore")
+    return start + len(before.encode())
+
+
+def link(library, folder):
+    """The static library, as one that Python can load."""
+    shared = folder / "libpositions.so"
+    whole = ["-Wl,--whole-archive", library, "-Wl,--no-whole-archive"]
+    done = subprocess.run(["cc", "-shared", *whole, "-o", shared], capture_output=True, text=True)
+    if not tally.result(done.returncode == 0, "the library links as a shared object"):
+        print(done.stderr)
+        return None
+    loaded = ctypes.CDLL(str(shared))
+    text = [ctypes.c_char_p, ctypes.c_size_t]
+    loaded.str_indices_position_of.argtypes = [*text, ctypes.c_size_t]
+    loaded.str_indices_position_of.restype = Position
+    loaded.str_indices_byte_of.argtypes = [*text, Position]
+    loaded.str_indices_byte_of.restype = ctypes.c_size_t
+    loaded.str_indices_line_end.argtypes = [*text, ctypes.c_size_t]
+    loaded.str_indices_line_end.restype = ctypes.c_size_t
+    return loaded
+
+
+def differences(library, text):
+    """The calls for the text whose answer is not the model's, and how many calls there were."""
+    data = text.encode()
+    wrong = []
+    calls = 0
+
+    def compare(call, answer, expected):
+        nonlocal calls
+        calls += 1
+        if answer != expected:
+            wrong.append(f"{call} of {text!r}: {answer}, not {expected}")
+
+    for byte in [*range(len(data) + 2), GREATEST]:
+        answer = library.str_indices_position_of(data, len(data), byte)
+        compare(f"position_of {byte}", (answer.line, answer.character), position_of(data, byte))
+    lines = list(lines_of(text))
+    for index, (start, content) in [*enumerate(lines), (GREATEST, lines[-1])]:
+        answer = library.str_indices_line_end(data, len(data), index)
+        compare(f"line_end {index}", answer, start + len(content.encode()))
+        for character in [*range(units(content) + 3), GREATEST]:
+            answer = library.str_indices_byte_of(data, len(data), Position(index, character))
+            compare(f"byte_of {index}:{character}", answer, byte_of(start, content, character))
+    return wrong, calls
+
+
+def compare(library):
+    source = random.Random(SEED)
+    wrong = []
+    calls = 0
+    for _ in range(TEXTS):
+        text = "".join(source.choices(CHARACTERS, k=source.randint(0, MOST_CHARACTERS)))
+        found, asked = differences(library, text)
+        wrong += found
+        calls += asked
+    tally.result(not wrong, f"{calls} answers for {TEXTS} random texts, of which {len(wrong)} are not the model's")
+    for line in wrong[:10]:
+        print(line)
+
+
+def main():
+    built = subprocess.run([ROOT / "scripts/build_library"], stdout=subprocess.PIPE, stderr=subprocess.PIPE, text=True)
+    if tally.result(built.returncode == 0, "build_library"):
+        with tempfile.TemporaryDirectory() as folder:
+            library = link(built.stdout.splitlines()[-1], pathlib.Path(folder))
+            if library is not None:
+                compare(library)
+    return tally.end()
+
+
+if __name__ == "__main__":
+    sys.exit(main())

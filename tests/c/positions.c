@@ -1,0 +1,77 @@
+/*
+ * Positions of the Language Server Protocol and their bytes, with each function
+ * of the header called. It is compiled as C and as C++. The last line printed
+ * is 'N passed, M failed'.
+ */
+#include <stdint.h>
+#include <stdio.h>
+
+#include <str_indices_positions.h>
+
+/* A line that ends in CR LF, one with a surrogate pair that ends in CR, one of
+ * a char of three bytes, an empty one, and one that no break ends. */
+static const char text[] = "a\r\n\360\237\220\270b\r\343\201\233\n\nx";
+static const size_t len = sizeof text - 1;
+
+static int passed, failed;
+
+static void same(int right, const char *call, size_t first, size_t second)
+{
+    if (right) {
+        passed++;
+        return;
+    }
+    failed++;
+    printf("%s at %zu:%zu\n", call, first, second);
+}
+
+static void positions_of_bytes(void)
+{
+    static const struct {
+        size_t byte, line, character;
+    } rows[] = {
+        {0, 0, 0}, {1, 0, 1}, {2, 0, 1}, {3, 1, 0}, {5, 1, 0}, {7, 1, 2},
+        {8, 1, 3}, {9, 2, 0}, {11, 2, 0}, {12, 2, 1}, {13, 3, 0}, {14, 4, 0},
+        {15, 4, 1}, {16, 4, 1}, {SIZE_MAX, 4, 1},
+    };
+    for (size_t i = 0; i < sizeof rows / sizeof rows[0]; i++) {
+        str_indices_position position = str_indices_position_of(text, len, rows[i].byte);
+        same(position.line == rows[i].line && position.character == rows[i].character,
+             "position_of", rows[i].byte, 0);
+    }
+}
+
+static void bytes_of_positions(void)
+{
+    static const struct {
+        str_indices_position position;
+        size_t byte;
+    } rows[] = {
+        {{0, 0}, 0}, {{0, 1}, 1}, {{0, 2}, 1}, {{0, SIZE_MAX}, 1}, {{1, 0}, 3},
+        {{1, 1}, 3}, {{1, 2}, 7}, {{1, 3}, 8}, {{1, 4}, 8}, {{2, 1}, 12},
+        {{2, 2}, 12}, {{3, 1}, 13}, {{4, 1}, 15}, {{4, 2}, 15}, {{5, 0}, 15},
+        {{SIZE_MAX, SIZE_MAX}, 15},
+    };
+    for (size_t i = 0; i < sizeof rows / sizeof rows[0]; i++) {
+        str_indices_position position = rows[i].position;
+        same(str_indices_byte_of(text, len, position) == rows[i].byte, "byte_of",
+             position.line, position.character);
+    }
+}
+
+static void ends_of_lines(void)
+{
+    static const size_t ends[] = {1, 8, 12, 13, 15, 15};
+    for (size_t line = 0; line < sizeof ends / sizeof ends[0]; line++)
+        same(str_indices_line_end(text, len, line) == ends[line], "line_end", line, 0);
+    same(str_indices_line_end(text, len, SIZE_MAX) == len, "line_end", SIZE_MAX, 0);
+}
+
+int main(void)
+{
+    positions_of_bytes();
+    bytes_of_positions();
+    ends_of_lines();
+    printf("%d passed, %d failed\n", passed, failed);
+    return failed != 0;
+}
