@@ -5,6 +5,7 @@ The toolchain runs the tests of piece_text with the first allocation refused, th
 a growth is refused, the test `growths_are_made` must fail with `NoMemory`, and the test `a_refused_growth_changes_nothing`
 must pass: it compares every answer and tries again. The last line printed is 'N passed, M failed'.
 """
+import concurrent.futures
 import re
 import subprocess
 import sys
@@ -16,6 +17,7 @@ CRATE = ROOT / "crates" / "piece_text"
 # each of the six pieces that are put in takes its copy, each of the three splits two, and the list is longer at times
 LEAST = 12
 MOST = 100
+SIDE_BY_SIDE = 4
 
 
 def run_tests(number):
@@ -27,10 +29,16 @@ def run_tests(number):
     return {name: (verdict == "ok", reason) for name, verdict, reason in said}
 
 
+def runs():
+    """What the tests say with each allocation refused in turn, and its number."""
+    with concurrent.futures.ThreadPoolExecutor(SIDE_BY_SIDE) as pool:
+        for first in range(1, MOST, SIDE_BY_SIDE):
+            yield from enumerate(pool.map(run_tests, range(first, first + SIDE_BY_SIDE)), first)
+
+
 def main():
     tally = Tally()
-    for number in range(1, MOST):
-        tests = run_tests(number)
+    for number, tests in runs():
         made, reason = tests.get("growths_are_made", (False, "not run"))
         if made:
             break
