@@ -3,3 +3,4 @@ pub mod Lines
 pub mod LineBytes
 pub mod Positions
 pub mod WholeText
+pub mod FirstLines

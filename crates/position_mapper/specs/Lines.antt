@@ -4,7 +4,8 @@
 --     behind text byte          the characters that end behind a byte index
 --     line_content text line    the characters of a line, without its break
 --     line_end text line        the byte index where they end
-use Rattle.std.specs.Prelude.{ℕ, ◌+◌, Bool, length, drop}
+--     IsWithoutLast c text rest    rest is the text without c at its end, where it ends in c
+use Rattle.std.specs.Prelude.{ℕ, ◌≡◌, ◌≢◌, ◌+◌, ◌⊎◌, Bool, [], ◌∷◌, ◌++◌, length, drop}
 use Rattle.std.specs.Char.{char_set_contains}
 use Rattle.std.specs.List.{before_first}
 use Rattle.str_indices.specs.Text.{Text, size, cut}
@@ -25,3 +26,8 @@ line_content text line = before_first is_break (behind text (to_byte_idx Crlf te
 -- the byte index where the content of a line ends: before its break, or at the text's size where it has none
 abbrev pub line_end : Text → ℕ → ℕ
 line_end text line = to_byte_idx Crlf text line + size (line_content text line)
+
+-- the text ends in the character, and rest is what stands before that; or it doesn't, and rest is all of it
+abbrev pub IsWithoutLast : ℕ → Text → Text → Type 0
+IsWithoutLast c text rest =
+    (text ≡ rest ++ c ∷ []) ⊎ ((rest ≡ text) × ((front : Text) → text ≢ front ++ c ∷ []))

@@ -11,7 +11,7 @@ ghost use Rattle.std.specs.List.{before_first};
 ghost use Rattle.str_indices.specs.Schemes.{count, from_byte_idx, to_byte_idx, Crlf, Utf16};
 ghost use Rattle.str_indices.specs.Relations.{IsBoundary, IsCrlfMiddle};
 ghost use Rattle.str_indices.specs.Starts.{IsSecondUnit};
-ghost use Rattle.position_mapper.specs.Lines.{is_break, line_content, line_end};
+ghost use Rattle.position_mapper.specs.Lines.{is_break, line_content, line_end, IsWithoutLast};
 ghost use Rattle.position_mapper.specs.Positions.{byte_at, position_at};
 ghost use Rattle.position_mapper.specs.Relations.{IsGreatestPlace};
 
@@ -128,8 +128,17 @@ fn before_break(text: &str) -> &str
     ensures content { chars result.now ≡ before_first is_break (chars text.now) }
     ensures within { length result.now ≤ length text.now }
 {
-    match text.find(['\n', '\r']) {
-        Some(end) => &text[..end],
+    let with_break = &text[..lines::to_byte_idx(text, 1)];
+    without_last(without_last(with_break, '\n'), '\r')
+}
+
+/// The text without this char at its end, and all of it where it doesn't end in the char.
+fn without_last(text: &str, last: char) -> &str
+    ensures without { IsWithoutLast last (chars text.now) (chars result.now) }
+    ensures within { length result.now ≤ length text.now }
+{
+    match text.strip_suffix(last) {
+        Some(rest) => rest,
         None => text,
     }
 }

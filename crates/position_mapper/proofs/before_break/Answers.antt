@@ -1,16 +1,23 @@
-use Rattle.position_mapper.specs.Lines.{is_break}
-use Rattle.position_mapper.proofs.lemmas.Contents.{content_of_whole, content_of_beginning}
-use Rattle.std.proofs.Common.{◌≡◌, ◌-◌, refl, ap, ◌∙◌, arith, take, chars}
+use Rattle.std.proofs.Common.{◌≡◌, ◌-◌, ◌++◌, arith, chars, ◌∙◌, ap, subst, take}
+use Rattle.std.specs.List.{before_first}
+use Rattle.str_indices.specs.Text.{line_feed, cut}
+use Rattle.position_mapper.specs.Lines.{is_break, IsWithoutLast}
+use Rattle.position_mapper.proofs.lemmas.Contents.{split_at_first}
+use Rattle.position_mapper.proofs.lemmas.FirstLines.{first_line, without_break}
+use Rattle.position_mapper.proofs.lemmas.LineBytes.{chars-take}
 use Rattle.position_mapper.proofs.before_break.Goals as goal
 
-pub returns-in-Some-clause-content : goal.returns-in-Some-clause-content
-returns-in-Some-clause-content c =
-    let (j, finds, le, at, behind) = c.in-Some.ensures.cases in
-    let found = finds is_break (λ d. refl) in
-    let up_to_end : c.in-Some.end - 0 ≡ c.in-Some.end = omega arith in
-    ap chars (c.range.ensures.value ∙ ap (λ n. take n c.args.text.now) up_to_end)
-    ∙ content_of_beginning is_break c.args.text.now c.utf8.text c.in-Some.end j at found.0 found.1
-
-pub returns-in-None-clause-content : goal.returns-in-None-clause-content
-returns-in-None-clause-content c =
-    content_of_whole is_break c.args.text.now c.utf8.text (c.in-None.ensures.cases is_break (λ d. refl))
+pub returns-clause-content : goal.returns-clause-content
+returns-clause-content c =
+    let text = c.args.text.now in
+    let cs = chars text in
+    let next = c.to_byte_idx.ensures in
+    let (brk, split, is_line_break) = first_line cs in
+    let up_to : c.to_byte_idx.result - 0 ≡ c.to_byte_idx.result = omega arith in
+    let line : chars c.range-with_break.result.now ≡ before_first is_break cs ++ brk =
+    ap chars (c.range-with_break.ensures.value ∙ ap (λ n. take n text) up_to)
+    ∙ chars-take text c.utf8.text c.to_byte_idx.result next.boundary ∙ ap (cut cs) next.answer ∙ split in
+    without_break (before_first is_break cs) brk (chars c.without_last.result.now) (chars c.without_last-2.result.now)
+    (split_at_first is_break cs).none is_line_break
+    (subst (λ t. IsWithoutLast line_feed t (chars c.without_last.result.now)) line c.without_last.ensures.without)
+    c.without_last-2.ensures.without

@@ -1,24 +1,59 @@
 -- The lines of a text in bytes, and where std lets it be sliced on them.
-use Rattle.std.proofs.Common.{◌≡◌, ℕ, List, take, drop, sym, ◌∙◌, subst, chars, IsUtf8, IsCharBoundary}
+use Rattle.std.proofs.Common.{◌≡◌, ℕ, List, [], ◌∷◌, ◌++◌, inl, inr, length, refl, append-nil, take, drop, sym, ◌∙◌, subst, chars, IsUtf8, IsCharBoundary, ap}
 use Rattle.std.proofs.lemmas.List.{take-append-drop, length-take-le}
-use Rattle.std.proofs.lemmas.Str.{chars-append, IsUtf8-take}
+use Rattle.std.specs.Prelude.{◌≢◌}
+use Rattle.std.proofs.Math.Utf8.{encode, encodes}
+use Rattle.std.proofs.Math.Seq.{drop-length}
+use Rattle.std.proofs.lemmas.Str.{chars-append, chars-nil, chars_past_char, encodes-chars, encodes-append, IsUtf8-take, IsUtf8-drop}
+use Rattle.str_indices.specs.Text.{size, cut}
 use Rattle.str_indices.specs.Schemes.{Utf16}
 use Rattle.str_indices.specs.Relations.{IsBoundary}
-use Rattle.str_indices.proofs.lemmas.Callers.{size-chars, IsBoundary-to_byte_idx, IsCharBoundary-from_boundary}
+use Rattle.str_indices.proofs.lemmas.Callers.{size-chars, cut_front, IsBoundary-to_byte_idx, IsCharBoundary-from_boundary}
 use Rattle.position_mapper.specs.declared.Position.{Position}
-use Rattle.position_mapper.specs.Lines.{behind, line_content, line_end}
+use Rattle.position_mapper.specs.Lines.{behind, line_content, line_end, IsWithoutLast}
 use Rattle.position_mapper.specs.Positions.{byte_at}
 use Rattle.position_mapper.proofs.lemmas.Lines.{behind_boundary, IsBoundary-from_content, IsBoundary-line_end}
 
 module _ (bytes : List ℕ) (utf8 : IsUtf8 bytes) where
-  -- behind a place where std lets a text be sliced stand the characters of the bytes from there on
+  -- the characters on both sides of a place where std lets a text be sliced
+  parted : (p : ℕ) → IsCharBoundary bytes p → chars bytes ≡ chars (take p bytes) ++ chars (drop p bytes)
+  parted p at = rw take-append-drop at (chars-append (take p bytes) (drop p bytes) (IsUtf8-take bytes p utf8 at))
+
+  part_ends : (p : ℕ) → IsCharBoundary bytes p → size (chars (take p bytes)) ≡ p
+  part_ends p at = size-chars (take p bytes) (IsUtf8-take bytes p utf8 at) ∙ length-take-le p bytes at.0
+
+  pub chars-take : (p : ℕ) → IsCharBoundary bytes p → chars (take p bytes) ≡ cut (chars bytes) p
+  chars-take p at = sym (cut_front (chars bytes) p (record {
+    front = chars (take p bytes);
+    back = chars (drop p bytes);
+    split = parted p at;
+    place = part_ends p at;
+  }))
+
   pub chars-drop : (p : ℕ) → IsCharBoundary bytes p → chars (drop p bytes) ≡ behind (chars bytes) p
-  chars-drop p at =
-      let before = IsUtf8-take bytes p utf8 at in
-      let split = rw take-append-drop at (chars-append (take p bytes) (drop p bytes) before) in
-      let place = size-chars (take p bytes) before ∙ length-take-le p bytes at.0 in
-      sym (behind_boundary (chars bytes) p
-      (record { front = chars (take p bytes); back = chars (drop p bytes); split = split; place = place }))
+  chars-drop p at = sym (behind_boundary (chars bytes) p (record {
+    front = chars (take p bytes);
+    back = chars (drop p bytes);
+    split = parted p at;
+    place = part_ends p at;
+  }))
+
+  -- a character that stands at the end was taken off, or the text doesn't end in it
+  pub without_taken : (c p : ℕ) → IsCharBoundary bytes p → drop p bytes ≡ encode c ++ drop (length bytes) bytes
+      → IsWithoutLast c (chars bytes) (chars (take p bytes))
+  without_taken c p at last =
+      let past = chars_past_char (drop p bytes) (drop (length bytes) bytes) c (IsUtf8-drop bytes p utf8 at) last in
+      inl (parted p at ∙ ap (λ r. chars (take p bytes) ++ r)
+      (past ∙ ap (λ r. c ∷ r) (ap chars (drop-length bytes) ∙ chars-nil)))
+
+  pub without_none : (c : ℕ) → ((front : List ℕ) → bytes ≢ front ++ encode c)
+      → IsWithoutLast c (chars bytes) (chars bytes)
+  without_none c none =
+      inr (
+        refl,
+        λ front split. none (encodes front) (sym (encodes-chars bytes utf8) ∙ ap encodes split
+            ∙ encodes-append front (c ∷ []) ∙ ap (λ r. encodes front ++ r) (append-nil (encode c))),
+      )
 
   -- std lets a text be sliced at the end of a line's content
   pub IsCharBoundary-line_end : (line p : ℕ) → p ≡ line_end (chars bytes) line → IsCharBoundary bytes p

@@ -28,8 +28,14 @@ crlf_is_not_utf16 = λ same. cc
 pub boundary_within : (cs : Text) (p : ℕ) → IsBoundary cs p → p ≤ size cs
 boundary_within cs p at = omega (arith, ap size at.split, size-append at.front at.back, at.place)
 
+-- no end stands between CR and LF, and neither does the text's beginning
+pub not_middle_at_end : (cs : Text) (p : ℕ) → IsEnd Crlf cs p ⊎ (p ≡ 0) → ¬ (IsCrlfMiddle cs p)
+not_middle_at_end cs p (inl end) = end.not_middle
+not_middle_at_end cs p (inr zero) = λ middle.
+    omega (arith, middle.place, size-append middle.front (carriage_return ∷ []), size-cons carriage_return [], len_utf8_bounds carriage_return)
+
 -- behind the character at which a break begins ends a break, or the place is between CR and LF and it ends behind that
-ends_behind : (cs front : Text) (c : ℕ) (back : Text) → cs ≡ front ++ c ∷ back → is_break c ≡ true
+pub ends_behind : (cs front : Text) (c : ℕ) (back : Text) → cs ≡ front ++ c ∷ back → is_break c ≡ true
     → IsEnd Crlf cs (size (front ++ c ∷ []))
     ⊎ (IsCrlfMiddle cs (size (front ++ c ∷ [])) × IsEnd Crlf cs (size (front ++ c ∷ []) + 1))
 ends_behind cs front c back split breaks =
@@ -177,7 +183,7 @@ module _ (cs : Text) (line : ℕ) where
       omega (arith, len_utf8_bounds c, sum_by-append weight parts.before content, parts.none)
 
   -- no break ends between the line's beginning and its end
-  end_behind_line_end : (e : ℕ) → IsEnd Crlf cs e → start < e → line_end cs line < e
+  pub end_behind_line_end : (e : ℕ) → IsEnd Crlf cs e → start < e → line_end cs line < e
   end_behind_line_end e end above =
       let of = end.end_of in
       let c = end.character in
