@@ -154,7 +154,7 @@ pub extern "C" fn str_indices_lines_from_byte_idx(text: &[u8], byte_idx: usize) 
     requires { IsUtf8 text.now }
     ensures { result ≡ from_byte_idx Lines (chars text.now) byte_idx }
 {
-    lines_crlf::from_byte_idx(text_of(text), byte_idx)
+    lines::from_byte_idx(text_of(text), byte_idx)
 }
 
 /// The byte where a line begins; past the last one, the length of the text.
