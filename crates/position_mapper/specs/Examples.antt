@@ -1,4 +1,5 @@
--- Worked examples: what the definitions give for a text whose lines end in CRLF, in CR and in LF, and the last in nothing.
+-- Worked examples: what the definitions give for a text whose lines end in CRLF, in CR and in LF, and the last in
+-- nothing.
 use Rattle.std.specs.Prelude.{ℕ, ◌≡◌, refl, [], ◌∷◌, ◌++◌, map, codes}
 use Rattle.str_indices.specs.Text.{Text, line_feed, carriage_return}
 use Rattle.position_mapper.specs.declared.Position.{Position}

@@ -1,9 +1,9 @@
--- The lines of a text by the Language Server Protocol 3.17: a line ends in LF, CR or CRLF, and its content is what stands
--- before that. Which line a byte index is on, and where a line begins, the scheme `Crlf` says.
---     is_break c                whether a character is LF or CR
---     behind text byte          the characters that end behind a byte index
---     line_content text line    the characters of a line, without its break
---     line_end text line        the byte index where they end
+-- The lines of a text by the Language Server Protocol 3.17: a line ends in LF, CR or CRLF, and its content is what
+-- stands before that. Which line a byte index is on, and where a line begins, the scheme `Crlf` says.
+--     is_break c                   whether a character is LF or CR
+--     behind text byte             the characters that end behind a byte index
+--     line_content text line       the characters of a line, without its break
+--     line_end text line           the byte index where they end
 --     IsWithoutLast c text rest    rest is the text without c at its end, where it ends in c
 use Rattle.std.specs.Prelude.{ℕ, ◌≡◌, ◌≢◌, ◌+◌, ◌⊎◌, Bool, [], ◌∷◌, ◌++◌, length, drop}
 use Rattle.std.specs.Char.{char_set_contains}

@@ -7,8 +7,8 @@ ghost use Rattle.position_mapper.specs.Relations.{IsAtOrBefore, IsLineEnd};
 
 use crate::Position;
 
-/// A line's content ends at the least place, from the line's beginning on, where an LF or a CR begins, or where there is
-/// none at the end of the text. That place is on the line, and no later line begins before it.
+/// A line's content ends at the least place, from the line's beginning on, where an LF or a CR begins, or where there
+/// is none at the end of the text. That place is on the line, and no later line begins before it.
 pub fn ends_of_lines(text: &str, line: usize, next: usize)
     ensures least { IsLineEnd (chars text.now) line (line_end (chars text.now) line) }
     ensures on_line { let cs = chars text.now in
@@ -27,8 +27,8 @@ pub fn bytes_in_order(text: &str, p: Position, q: Position)
 {}
 
 /// By the units of the whole text: a position's offset and the units before its line are the units before its byte, or
-/// before the line's end where the byte is behind it; and the byte of a position is that of the sum of its offset and the
-/// units before its line, or the line's end where that is less.
+/// before the line's end where the byte is behind it; and the byte of a position is that of the sum of its offset and
+/// the units before its line, or the line's end where that is less.
 pub fn units_of_the_text(text: &str, byte: usize, position: Position)
     ensures offset { let cs = chars text.now in let p = position_at cs byte in
         p.character + from_byte_idx Utf16 cs (to_byte_idx Crlf cs p.line)

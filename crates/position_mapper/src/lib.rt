@@ -46,8 +46,8 @@ pub fn line_end(text: &str, line: usize) -> usize
 
 /// The position of a byte: its line, and the UTF-16 code units from that line's beginning to the byte.
 ///
-/// A byte inside a char has the position where the char begins, the byte between CR and LF that of the line's end, and a
-/// byte past the end that of the text's end.
+/// A byte inside a char has the position where the char begins, the byte between CR and LF that of the line's end, and
+/// a byte past the end that of the text's end.
 pub fn position_of(text: &str, byte: usize) -> Position
     ensures { result ≡ position_at (chars text.now) byte }
 {
@@ -78,8 +78,8 @@ pub fn byte_of(text: &str, position: Position) -> usize
 /// From a byte index to its position and back: the greatest place at or before the byte that a position may have, a
 /// boundary that does not stand between CR and LF.
 ///
-/// So such a place comes back as itself, a byte index inside a char as the char's beginning, the one between CR and LF as
-/// the place before them, and one past the end as the text's length in bytes.
+/// So such a place comes back as itself, a byte index inside a char as the char's beginning, the one between CR and LF
+/// as the place before them, and one past the end as the text's length in bytes.
 pub fn round_trip(text: &str, byte: usize) -> usize
     ensures greatest { IsGreatestPlace (chars text.now) byte result }
     ensures place { let cs = chars text.now in IsBoundary cs byte → ¬ (IsCrlfMiddle cs byte) → result ≡ byte }

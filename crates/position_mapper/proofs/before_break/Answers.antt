@@ -17,7 +17,7 @@ returns-clause-content c =
     let line : chars c.range-with_break.result.now ≡ before_first is_break cs ++ brk =
     ap chars (c.range-with_break.ensures.value ∙ ap (λ n. take n text) up_to)
     ∙ chars-take text c.utf8.text c.to_byte_idx.result next.boundary ∙ ap (cut cs) next.answer ∙ split in
-    without_break (before_first is_break cs) brk (chars c.without_last.result.now) (chars c.without_last-2.result.now)
-    (split_at_first is_break cs).none is_line_break
-    (subst (λ t. IsWithoutLast line_feed t (chars c.without_last.result.now)) line c.without_last.ensures.without)
-    c.without_last-2.ensures.without
+    let feed = subst (λ t. IsWithoutLast line_feed t (chars c.without_last.result.now)) line
+    c.without_last.ensures.without in
+    without_break (before_first is_break cs) (split_at_first is_break cs).none brk (chars c.without_last.result.now)
+    (chars c.without_last-2.result.now) is_line_break feed c.without_last-2.ensures.without

@@ -38,7 +38,8 @@ module _ (p : ℕ → Bool) where
             record {
               after = rest.after;
               split = ap (λ r. c ∷ r) rest.split ∙ ap (λ r. r ++ rest.after) (sym content);
-              none = ap (count_by p) content ∙ omega (arith, sum_by-cons (λ d. cond (p d) 1 0) c (before_first p cs), rest.none);
+              none = ap (count_by p) content
+                  ∙ omega (arith, sum_by-cons (λ d. cond (p d) 1 0) c (before_first p cs), rest.none);
               next = rest.next;
             }
       ]

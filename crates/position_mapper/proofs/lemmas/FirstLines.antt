@@ -18,7 +18,8 @@ use Rattle.position_mapper.proofs.lemmas.Lines.{behind_boundary, crlf_is_not_utf
 
 -- LF, CR or CRLF, or none
 abbrev IsLineBreak : Text → Type 0
-IsLineBreak brk = (brk ≡ []) ⊎ ((brk ≡ line_feed ∷ []) ⊎ ((brk ≡ carriage_return ∷ []) ⊎ (brk ≡ carriage_return ∷ line_feed ∷ [])))
+IsLineBreak brk =
+    (brk ≡ []) ⊎ ((brk ≡ line_feed ∷ []) ⊎ ((brk ≡ carriage_return ∷ []) ⊎ (brk ≡ carriage_return ∷ line_feed ∷ [])))
 
 -- texts that end in one character are the same before it
 same_last : (f g : List ℕ) (a b : ℕ) → f ++ a ∷ [] ≡ g ++ b ∷ [] → (f ≡ g) × (a ≡ b)
@@ -26,41 +27,49 @@ same_last f g a b same =
     let last : a ≡ b = simp reverse-append at (ap (λ l. get_or (reverse l) 0 0) same) in
     (append_cancel_right f g (b ∷ []) (rw last at same), last)
 
--- a character that was taken off a text, and one that the text does not end in
+-- what is left of a text that ends in the character
 takes_last : (c : ℕ) (text rest front : Text) → IsWithoutLast c text rest → text ≡ front ++ c ∷ [] → rest ≡ front
 takes_last c text rest front (inl is) split = (same_last rest front c c (sym is ∙ split)).0
 takes_last c text rest front (inr (same, none)) split = absurd (none front split)
 
-leaves_last : (c : ℕ) (text rest : Text) → IsWithoutLast c text rest → ((front : Text) → text ≢ front ++ c ∷ []) → rest ≡ text
+-- and of one that doesn't
+leaves_last : (c : ℕ) (text rest : Text) → IsWithoutLast c text rest
+    → ((front : Text) → text ≢ front ++ c ∷ []) → rest ≡ text
 leaves_last c text rest (inl is) none = absurd (none rest is)
 leaves_last c text rest (inr (same, _)) none = same
 
--- a text without breaks ends in none
-no_break_last : (content : Text) (c : ℕ) → is_break c ≡ true → count_by is_break content ≡ 0 → (front : Text)
-    → content ≢ front ++ c ∷ []
-no_break_last content c breaks none front = λ split.
-    let weight : ℕ → ℕ = λ d. cond (is_break d) 1 0 in
-    let one : ◌≡◌ {A = ℕ} (weight c) 1 = rw breaks refl in
-    omega (arith, none, ap (count_by is_break) split, sum_by-append weight front (c ∷ []), sum_by-cons weight c [])
+module _ (content : Text) (none : count_by is_break content ≡ 0) where
+  -- of a text without breaks, however it is written, all is left
+  leaves_content : (c : ℕ) → is_break c ≡ true → (text rest : Text) → IsWithoutLast c text rest → text ≡ content
+      → rest ≡ content
+  leaves_content c breaks text rest without same =
+      let weight : ℕ → ℕ = λ d. cond (is_break d) 1 0 in
+      let one : ◌≡◌ {A = ℕ} (weight c) 1 = rw breaks refl in
+      leaves_last c text rest without (λ front split. omega (
+        arith,
+        ap (count_by is_break) (sym same ∙ split),
+        sum_by-append weight front (c ∷ []),
+        sum_by-cons weight c [],
+      )) ∙ same
 
--- without the LF and then the CR at its end, a text without breaks and then one break is without the break
-pub without_break : (content brk fed rest : Text) → count_by is_break content ≡ 0 → IsLineBreak brk
-    → IsWithoutLast line_feed (content ++ brk) fed → IsWithoutLast carriage_return fed rest → rest ≡ content
-without_break content brk fed rest none (inl is) feed return =
-    let whole = ap (λ b. content ++ b) is ∙ append-nil content in
-    let same = leaves_last line_feed _ fed feed (λ front split. no_break_last content line_feed refl none front (sym whole ∙ split)) ∙ whole in
-    leaves_last carriage_return fed rest return (λ front split. no_break_last content carriage_return refl none front (sym same ∙ split)) ∙ same
-without_break content brk fed rest none (inr (inl is)) feed return =
-    let same = takes_last line_feed _ fed content feed (ap (λ b. content ++ b) is) in
-    leaves_last carriage_return fed rest return (λ front split. no_break_last content carriage_return refl none front (sym same ∙ split)) ∙ same
-without_break content brk fed rest none (inr (inr (inl is))) feed return =
-    let whole = ap (λ b. content ++ b) is in
-    let same = leaves_last line_feed _ fed feed (λ front split.
-    let last = (same_last content front carriage_return line_feed (sym whole ∙ split)).1 in cc) ∙ whole in
-    takes_last carriage_return fed rest content return same
-without_break content brk fed rest none (inr (inr (inr is))) feed return =
-    let whole = ap (λ b. content ++ b) is ∙ sym (append_assoc content (carriage_return ∷ []) (line_feed ∷ [])) in
-    takes_last carriage_return fed rest content return (takes_last line_feed _ fed (content ++ carriage_return ∷ []) feed whole)
+  -- without the LF and then the CR at its end, a text without breaks and then one break is without the break
+  pub without_break : (brk fed rest : Text) → IsLineBreak brk → IsWithoutLast line_feed (content ++ brk) fed
+      → IsWithoutLast carriage_return fed rest → rest ≡ content
+  without_break brk fed rest (inl is) feed return =
+      let whole = ap (λ b. content ++ b) is ∙ append-nil content in
+      leaves_content carriage_return refl fed rest return (leaves_content line_feed refl _ fed feed whole)
+  without_break brk fed rest (inr (inl is)) feed return =
+      let whole = ap (λ b. content ++ b) is in
+      leaves_content carriage_return refl fed rest return (takes_last line_feed _ fed content feed whole)
+  without_break brk fed rest (inr (inr (inl is))) feed return =
+      let whole = ap (λ b. content ++ b) is in
+      let other : (front : Text) → content ++ brk ≢ front ++ line_feed ∷ [] = λ front split.
+      let last = (same_last content front carriage_return line_feed (sym whole ∙ split)).1 in cc in
+      takes_last carriage_return fed rest content return (leaves_last line_feed _ fed feed other ∙ whole)
+  without_break brk fed rest (inr (inr (inr is))) feed return =
+      let whole = ap (λ b. content ++ b) is ∙ sym (append_assoc content (carriage_return ∷ []) (line_feed ∷ [])) in
+      let return_last = takes_last line_feed _ fed (content ++ carriage_return ∷ []) feed whole in
+      takes_last carriage_return fed rest content return return_last
 
 -- a character of a break is LF or CR
 break_is : (c : ℕ) → is_break c ≡ true → (c ≡ line_feed) ⊎ (c ≡ carriage_return)
@@ -135,7 +144,8 @@ first_line cs =
                 let front = ap (cut cs) here ∙ cut_front cs _ next in
                 elim (break_is c breaks) [
                   | inl feed ↦ (line_feed ∷ [], front ∙ ap (λ d. content ++ d ∷ []) feed, inr (inl refl))
-                  | inr return ↦ (carriage_return ∷ [], front ∙ ap (λ d. content ++ d ∷ []) return, inr (inr (inl refl)))
+                  | inr return ↦
+                      (carriage_return ∷ [], front ∙ ap (λ d. content ++ d ∷ []) return, inr (inr (inl refl)))
                 ]
             | inr (middle, end) ↦
                 let (most, has) = second_line_le cs _ end (omega arith) in
@@ -153,11 +163,12 @@ first_line cs =
                   place = middle.place;
                 } in
                 let same = sym (cut_front cs _ return) ∙ cut_front cs _ next in
+                let returned = middle.front ++ carriage_return ∷ [] in
                 let feed : IsBoundary cs (size (content ++ c ∷ []) + 1) = record {
-                  front = (middle.front ++ carriage_return ∷ []) ++ line_feed ∷ [];
+                  front = returned ++ line_feed ∷ [];
                   back = middle.back;
-                  split = middle.split ∙ sym (append_assoc (middle.front ++ carriage_return ∷ []) (line_feed ∷ []) middle.back);
-                  place = omega (arith, size-append (middle.front ++ carriage_return ∷ []) (line_feed ∷ []), middle.place);
+                  split = middle.split ∙ sym (append_assoc returned (line_feed ∷ []) middle.back);
+                  place = omega (arith, size-append returned (line_feed ∷ []), middle.place);
                 } in
                 let here : p ≡ size (content ++ c ∷ []) + 1 = omega arith in
                 let front = (same_last middle.front content carriage_return c same).0 in (

@@ -32,7 +32,8 @@ boundary_within cs p at = omega (arith, ap size at.split, size-append at.front a
 pub not_middle_at_end : (cs : Text) (p : ℕ) → IsEnd Crlf cs p ⊎ (p ≡ 0) → ¬ (IsCrlfMiddle cs p)
 not_middle_at_end cs p (inl end) = end.not_middle
 not_middle_at_end cs p (inr zero) = λ middle.
-    omega (arith, middle.place, size-append middle.front (carriage_return ∷ []), size-cons carriage_return [], len_utf8_bounds carriage_return)
+    let size_of = size-append middle.front (carriage_return ∷ []) in
+    omega (arith, middle.place, size-cons carriage_return [], len_utf8_bounds carriage_return)
 
 -- behind the character at which a break begins ends a break, or the place is between CR and LF and it ends behind that
 pub ends_behind : (cs front : Text) (c : ℕ) (back : Text) → cs ≡ front ++ c ∷ back → is_break c ≡ true
@@ -45,7 +46,8 @@ ends_behind cs front c back split breaks =
     let iff = is_crlf_middle_iff cs c p end in
     elim (cases_Bool (is_crlf_middle (record { character = c; end = p; after = back }))) [
       | inr other ↦
-          inl (record { character = c; end_of = end; in_set = breaks; not_middle = λ middle. let yes = iff.1 middle in cc })
+          let not_middle = λ (middle : IsCrlfMiddle cs p). let yes = iff.1 middle in let clash : ⊥ = cc in clash in
+          inl (record { character = c; end_of = end; in_set = breaks; not_middle = not_middle })
       | inl passes ↦
           let middle = iff.0 passes in
           let front' = middle.front ++ carriage_return ∷ [] in
@@ -147,10 +149,12 @@ module _ (cs : Text) (line : ℕ) where
       → IsBoundary content (q - start)
   IsBoundary-in_content q at from to =
       let parts = line_parts in
-      let (more, begins) = cut_goes_on cs parts.before (content ++ parts.after) q parts.split (omega (arith, parts.place)) in
+      let behind = content ++ parts.after in
+      let (more, begins) = cut_goes_on cs parts.before behind q parts.split (omega (arith, parts.place)) in
       let front = sym (cut_front cs q at) ∙ begins in
       let rests = append_cancel_left parts.before (more ++ at.back) (content ++ parts.after)
-      (sym (append_assoc parts.before more at.back) ∙ ap (λ f. f ++ at.back) (sym front) ∙ sym at.split ∙ parts.split) in
+      (sym (append_assoc parts.before more at.back) ∙ ap (λ f. f ++ at.back) (sym front) ∙ sym at.split
+      ∙ parts.split) in
       let sizes = ap size front ∙ size-append parts.before more in
       let (rest, ends) = cut_goes_on (content ++ parts.after) more at.back (size content) (sym rests)
       (omega (arith, sizes, at.place, parts.place)) in
@@ -229,17 +233,20 @@ module _ (cs : Text) (line : ℕ) where
       ]
 
   -- no place from the line's beginning to its end stands between CR and LF, where its beginning doesn't
-  pub not_middle_on_line : (p : ℕ) → ¬ (IsCrlfMiddle cs start) → start ≤ p → p ≤ line_end cs line → ¬ (IsCrlfMiddle cs p)
+  pub not_middle_on_line : (p : ℕ) → ¬ (IsCrlfMiddle cs start) → start ≤ p → p ≤ line_end cs line
+      → ¬ (IsCrlfMiddle cs p)
   not_middle_on_line p none from to = λ middle.
       let size_of = size-append middle.front (carriage_return ∷ []) in
       let split = middle.split ∙ append_assoc middle.front (carriage_return ∷ []) (line_feed ∷ middle.back) in
       elim (cases_lt start p) [
-        | inl above ↦ absurd (omega (
-          arith,
-          middle.place,
-          size_of,
-          break_from_line_end middle.front carriage_return (line_feed ∷ middle.back) split refl (omega (arith, middle.place, size_of)),
-        ))
+        | inl above ↦
+            absurd (omega (
+              arith,
+              middle.place,
+              size_of,
+              break_from_line_end middle.front carriage_return
+                  (line_feed ∷ middle.back) split refl (omega (arith, middle.place, size_of)),
+            ))
         | inr le ↦ let same : p ≡ start = omega arith in none (rw same at middle)
       ]
 

@@ -14,14 +14,17 @@ use Rattle.position_mapper.specs.Relations.{IsGreatestPlace, IsAtOrBefore}
 use Rattle.position_mapper.proofs.lemmas.Lines.{crlf_is_not_utf16, not_middle_at_end, boundary_within, line_of_place, line_end_le, not_middle_on_line, end_before, IsBoundary-from_content, IsBoundary-in_content, IsBoundary-line_end}
 
 -- the byte index of a position is a boundary, from the line's beginning to its end
-on_content : (cs : Text) (line k : ℕ) → IsBoundary cs (to_byte_idx Crlf cs line + to_byte_idx Utf16 (line_content cs line) k)
+on_content : (cs : Text) (line k : ℕ)
+    → IsBoundary cs (to_byte_idx Crlf cs line + to_byte_idx Utf16 (line_content cs line) k)
 on_content cs line k = IsBoundary-from_content cs line _ (IsBoundary-to_byte_idx Utf16 (line_content cs line) k)
 
 within_content : (cs : Text) (line k : ℕ) → to_byte_idx Utf16 (line_content cs line) k ≤ size (line_content cs line)
-within_content cs line k = boundary_within (line_content cs line) _ (IsBoundary-to_byte_idx Utf16 (line_content cs line) k)
+within_content cs line k =
+    boundary_within (line_content cs line) _ (IsBoundary-to_byte_idx Utf16 (line_content cs line) k)
 
 -- from a byte index to its position and back is the greatest place at or before it that a position may have
-pub byte_at-position_at_is_greatest : (cs : Text) (byte : ℕ) → IsGreatestPlace cs byte (byte_at cs (position_at cs byte))
+pub byte_at-position_at_is_greatest : (cs : Text) (byte : ℕ)
+    → IsGreatestPlace cs byte (byte_at cs (position_at cs byte))
 byte_at-position_at_is_greatest cs byte =
     let line = from_byte_idx Crlf cs byte in
     let start = to_byte_idx Crlf cs line in
@@ -32,7 +35,8 @@ byte_at-position_at_is_greatest cs byte =
     let within = within_content cs line units in
     record {
       boundary = on_content cs line units;
-      not_middle = not_middle_on_line cs line _ (not_middle_at_end cs start begins.end_or_zero) (omega arith) (omega arith);
+      not_middle = let begins_whole = not_middle_at_end cs start begins.end_or_zero in
+          not_middle_on_line cs line _ begins_whole (omega arith) (omega arith);
       at_or_before = omega (arith, begins.at_or_before, place.at_or_before);
       greatest = λ q at not_middle le.
           elim (cases_lt q start) [
@@ -43,7 +47,8 @@ byte_at-position_at_is_greatest cs byte =
                       let (e, end, above, at_or_before) = end_before cs line q at not_middle past in
                       absurd (omega (arith, begins.greatest e end (omega arith)))
                   | inr to ↦
-                      omega (arith, place.greatest (q - start) (IsBoundary-in_content cs line q at from to) (omega arith))
+                      let on_line = IsBoundary-in_content cs line q at from to in
+                      omega (arith, place.greatest (q - start) on_line (omega arith))
                 ]
           ];
     }
@@ -106,7 +111,8 @@ last_line_end cs p past =
     let content = line_content cs last in
     let same : from_byte_idx Crlf cs (byte_at cs p) ≡ last = omega (arith, line-position_at-byte_at cs p) in
     let within = boundary_within cs (line_end cs last) (IsBoundary-line_end cs last) in
-    let behind : size content ≤ byte_at cs p - to_byte_idx Crlf cs last = omega (arith, end_at-past Crlf cs p.line past) in
+    let behind : size content ≤ byte_at cs p - to_byte_idx Crlf cs last =
+    omega (arith, end_at-past Crlf cs p.line past) in
     ap (λ line. units_on_line cs line (byte_at cs p)) same
     ∙ ap (sum_by weight) (cut_all content (byte_at cs p - to_byte_idx Crlf cs last) behind
     ∙ sym (cut_all content (size content) (omega arith)))

@@ -42,7 +42,8 @@ units_before cs line byte from =
       greatest = λ q at le. elim (cases_lt q start) [
         | inl before ↦ omega arith
         | inr behind ↦
-            omega (arith, on_line.greatest (q - start) (IsBoundary-in_content cs line q at behind (omega arith)) (omega arith))
+            let here = IsBoundary-in_content cs line q at behind (omega arith) in
+            omega (arith, on_line.greatest (q - start) here (omega arith))
       ];
     } in
     omega (
@@ -60,7 +61,8 @@ units_of_position cs byte = units_before cs (from_byte_idx Crlf cs byte) byte
     ((to-from_is_greatest Crlf crlf_is_not_utf16 cs byte).at_or_before)
 
 -- a boundary on a line before which the text has no more units than before a position on it is at or before that
-at_or_before_position : (cs : Text) (line k q : ℕ) → IsBoundary cs q → to_byte_idx Crlf cs line ≤ q → q ≤ line_end cs line
+at_or_before_position : (cs : Text) (line k q : ℕ) → IsBoundary cs q → to_byte_idx Crlf cs line ≤ q
+    → q ≤ line_end cs line
     → from_byte_idx Utf16 cs q ≤ from_byte_idx Utf16 cs (to_byte_idx Crlf cs line) + k
     → q ≤ to_byte_idx Crlf cs line + to_byte_idx Utf16 (line_content cs line) k
 at_or_before_position cs line k q at from to few =
@@ -91,5 +93,6 @@ byte_of_units cs p =
           omega (arith, most (to_byte_idx Utf16 cs units) in_text (omega arith) (omega arith) (omega arith))
       | inr past ↦
           let fewer = from_byte_idx-le Utf16 cs (line_end cs p.line) (to_byte_idx Utf16 cs units) past in
-          omega (arith, most (line_end cs p.line) (IsBoundary-line_end cs p.line) (omega arith) (omega arith) (omega arith))
+          let ends = IsBoundary-line_end cs p.line in
+          omega (arith, most (line_end cs p.line) ends (omega arith) (omega arith) (omega arith))
     ]
