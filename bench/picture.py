@@ -1,14 +1,17 @@
-"""Draws the table of ratios that the benchmark printed, from a file or from standard input, as an SVG on standard
-output: a bar for each function's mean of our time over the original's, and a line at 1.
+"""Draws the tables of ratios to the original that the benchmark printed, from a file or from standard input, as an SVG on
+standard output: for each function a bar for the mean of our time over the original's, by each half of the library that
+was measured, and a line at 1.
 """
 
 import fileinput
 import html
 import sys
 
-WIDTH, ROW, TOP, LEFT, RIGHT = 800, 24, 64, 220, 70
+WIDTH, BAR, GAP, TOP, LEFT, RIGHT = 800, 13, 8, 84, 220, 70
 PLOT = WIDTH - LEFT - RIGHT
-FASTER, SLOWER, MEAN = "#2a7f62", "#b5562b", "#44475a"
+TITLE = "Our time / that of the original, "
+# of the half that was measured first, and of the last: in the row of a function, and in that of the mean
+COLOURS = [("#8fb8a8", "#9a9cab"), ("#2a7f62", "#44475a")]
 
 
 def cells(line):
@@ -17,25 +20,24 @@ def cells(line):
 
 
 def read(lines):
-    """The heading line, and the names and means of the table of ratios, the mean over all functions last."""
-    heading, means, inside = None, [], False
+    """The heading line, and of each table of ratios to the original how the library answered, and the names and means,
+    that of all functions last."""
+    heading, tables, inside = None, [], False
     for line in lines:
         heading = heading or line.strip()
-        if line.startswith("| function "):
+        if line.startswith(TITLE):
+            tables.append((line[len(TITLE):].split(",")[0], []))
             inside = True
-        elif inside and not line.startswith("|"):
-            break
-        elif inside and not line.startswith("|-"):
+        elif inside and line.startswith("| ") and not line.startswith("| function "):
             row = cells(line)
-            means.append((row[0], float(row[-1])))
-            if row[0] == "mean":
-                break
-    return heading, means
+            tables[-1][1].append((row[0], float(row[-1])))
+            inside = row[0] != "mean"
+    return heading, tables
 
 
-def scale(means):
+def scale(tables):
     """The number at the right end of the plot: the next quarter past the longest bar and past 1."""
-    longest = max([1.0] + [mean for _, mean in means])
+    longest = max([1.0] + [mean for _, means in tables for _, mean in means])
     return (int(longest * 4) + 1) / 4
 
 
@@ -45,23 +47,40 @@ def text(x, y, words, **attributes):
     return f'<text x="{x:.1f}" y="{y:.1f}"{extra}>{html.escape(words)}</text>'
 
 
-def bar(place, name, mean, end):
-    """The name of a function, its bar, and its number behind the bar."""
-    y = TOP + place * ROW
-    colour = MEAN if name == "mean" else FASTER if mean <= 1 else SLOWER
+def bars(place, name, means, halves, end):
+    """The name of a function, its bars, and a number behind each."""
+    y = TOP + place * (BAR * len(means) + GAP)
     weight = "bold" if name == "mean" else "normal"
-    length = PLOT * mean / end
-    return [
-        text(LEFT - 10, y + 16, name, text_anchor="end", font_weight=weight),
-        f'<rect x="{LEFT}" y="{y + 4}" width="{length:.1f}" height="{ROW - 8}" fill="{colour}"/>',
-        text(LEFT + length + 6, y + 16, f"{mean:.2f}", font_weight=weight),
-    ]
+    parts = [text(LEFT - 10, y + BAR * len(means) / 2 + 5, name, text_anchor="end", font_weight=weight)]
+    for mean, half in zip(means, halves):
+        length = PLOT * mean / end
+        fill = half[name == "mean"]
+        parts += [
+            f'<rect x="{LEFT}" y="{y}" width="{length:.1f}" height="{BAR - 1}" fill="{fill}"/>',
+            text(LEFT + length + 6, y + BAR - 3, f"{mean:.2f}", font_size=11, font_weight=weight),
+        ]
+        y += BAR
+    return parts
 
 
-def draw(heading, means):
+def key(tables, halves):
+    """Which colour is which half."""
+    parts, x = [], LEFT
+    for (how, _), half in zip(tables, halves):
+        parts += [
+            f'<rect x="{x}" y="{TOP - 24}" width="{BAR}" height="{BAR - 1}" fill="{half[0]}"/>',
+            text(x + BAR + 6, TOP - 14, how, font_size=11),
+        ]
+        x += 150
+    return parts
+
+
+def draw(heading, tables):
     """The whole picture."""
-    end = scale(means)
-    bottom = TOP + len(means) * ROW
+    end = scale(tables)
+    halves = COLOURS[-len(tables):]
+    rows = list(zip(*(means for _, means in tables)))
+    bottom = TOP + len(rows) * (BAR * len(tables) + GAP)
     one = LEFT + PLOT / end
     parts = [
         f'<svg xmlns="http://www.w3.org/2000/svg" role="img" viewBox="0 0 {WIDTH} {bottom + 34}" '
@@ -70,9 +89,10 @@ def draw(heading, means):
         f'<rect width="{WIDTH}" height="{bottom + 34}" fill="#fafafa"/>',
         text(16, 26, "Our time / the original's, geometric means", font_size=16, font_weight="bold"),
         text(16, 46, heading, font_size=11, fill="#555555"),
+        *key(tables, halves),
     ]
-    for place, (name, mean) in enumerate(means):
-        parts += bar(place, name, mean, end)
+    for place, row in enumerate(rows):
+        parts += bars(place, row[0][0], [mean for _, mean in row], halves, end)
     parts += [
         f'<line x1="{one:.1f}" x2="{one:.1f}" y1="{TOP - 4}" y2="{bottom + 6}" stroke="#222222" '
         'stroke-dasharray="4 3"/>',
@@ -83,10 +103,10 @@ def draw(heading, means):
 
 
 def main():
-    heading, means = read(fileinput.input(encoding="utf-8"))
-    if not means:
-        sys.exit("picture.py: no table of ratios")
-    print(draw(heading, means))
+    heading, tables = read(fileinput.input(encoding="utf-8"))
+    if not tables:
+        sys.exit("picture.py: no table of ratios to the original")
+    print(draw(heading, tables))
 
 
 if __name__ == "__main__":

@@ -7,6 +7,14 @@
  * else: they write no memory, allocate none, keep nothing, and answer for
  * every text and every index.
  *
+ * The library has each function twice, proved twice: over vectors of sixteen
+ * bytes, its narrow half, and over vectors of thirty-two, its wide half. Which
+ * one answers is chosen once, before main runs: for texts from 256 bytes on the
+ * wide half, where the processor has what x86-64-v3 asks for (AVX2 and more),
+ * and else the narrow half. The environment variable STR_INDICES_HALF, set to
+ * "narrow", leaves all texts to the narrow half, and set to "wide" gives all of
+ * them to the wide half where the processor has it. The answers are the same.
+ *
  * A text is handed over as the address of its first byte and its length in
  * bytes. What the caller owes, in every call, and what nothing checks:
  *
@@ -20,7 +28,7 @@
  *
  * Where one of these is broken, the answer of a call, and what it does, are
  * undefined. The library is built for Linux on x86-64 processors from the
- * level x86-64-v2 on (with SSE4.2), and asks no processor whether it is one.
+ * level x86-64-v2 on (with SSE4.2), and does not ask whether it runs on one.
  *
  * All indices begin at 0. A char is a Unicode scalar value.
  */
@@ -37,6 +45,10 @@ extern "C" {
 /* Whether the bytes are UTF-8. Of what the caller owes, all but that holds
  * here too. */
 bool str_indices_is_utf8(const char *text, size_t len);
+
+/* Whether the functions below answer for a text of `len` bytes by the wide
+ * half. A library that was built without it answers false. */
+bool str_indices_is_wide(size_t len);
 
 /*
  * Chars: Unicode scalar values.

@@ -2,8 +2,9 @@
 """Builds and runs what C and C++ have of the library, as a user would.
 
 The tables of worked answers and of positions and the example, compiled as C and as C++ with every warning an error; the
-example's output; and the table of positions and the example once more from an installed prefix by pkg-config, where that
-command is there. The last line printed is 'N passed, M failed'.
+worked answers by each half of the library, and by the library without its wide half; the example's output; and the table
+of positions and the example once more from an installed prefix by pkg-config, where that command is there. The last line
+printed is 'N passed, M failed'.
 """
 import os
 import pathlib
@@ -12,6 +13,7 @@ import subprocess
 import sys
 import tempfile
 
+from halves import halves
 from tally import Tally
 
 ROOT = pathlib.Path(__file__).resolve().parent.parent
@@ -46,17 +48,42 @@ def check_example(program, how):
     tally.result(done.returncode == 1 and not done.stdout, f"example {how}, bytes that are not UTF-8: status {done.returncode}")
 
 
+def check_worked_answers(program, how, environment, texts):
+    """The worked answers, where the wide half is to answer for those texts."""
+    done = subprocess.run([program], env=environment, capture_output=True, text=True)
+    told = f"the wide half answers for {texts}\n" in done.stdout
+    what = f"worked answers {how}, where the wide half answers for {texts}"
+    if not tally.result(done.returncode == 0 and told, what):
+        print(done.stdout + done.stderr)
+
+
+def compile_with(command, source, library, program):
+    link = [*command, *STRICT, f"-I{ROOT}/include", source, "-x", "none", library, "-o", program]
+    return run(link, f"{program.name} compiles without a warning")
+
+
 def compile_and_run(language, command, library, folder):
-    """The tables and the example, by one compiler."""
-    for source in [WORKED_ANSWERS, POSITIONS, EXAMPLE]:
-        program = folder / f"{source.stem}_{'cpp' if language == 'C++' else 'c'}"
-        link = [*command, *STRICT, f"-I{ROOT}/include", source, "-x", "none", library, "-o", program]
-        if not run(link, f"{source.stem} as {language} compiles without a warning"):
-            continue
-        if source is EXAMPLE:
-            check_example(program, f"as {language}")
-        else:
-            run([program], f"{source.stem} as {language}")
+    """The tables, that of worked answers by each half of the library, and the example, by one compiler."""
+    ending = "cpp" if language == "C++" else "c"
+    program = folder / f"worked_answers_{ending}"
+    if compile_with(command, WORKED_ANSWERS, library, program):
+        for environment, texts in halves(library):
+            check_worked_answers(program, f"as {language}", environment, texts)
+    program = folder / f"positions_{ending}"
+    if compile_with(command, POSITIONS, library, program):
+        run([program], f"positions as {language}")
+    program = folder / f"line_and_column_{ending}"
+    if compile_with(command, EXAMPLE, library, program):
+        check_example(program, f"as {language}")
+
+
+def compile_narrow(folder):
+    """The table by the library without its wide half."""
+    built = build("build_library", "--narrow")
+    program = folder / "worked_answers_narrow"
+    if built and compile_with(COMPILERS["C"], WORKED_ANSWERS, built, program):
+        for environment, texts in halves(built):
+            check_worked_answers(program, "by --narrow", environment, texts)
 
 
 def compile_installed(folder):
@@ -80,15 +107,22 @@ def compile_installed(folder):
             run([program], f"{source.stem} by pkg-config")
 
 
+def build(script, *words):
+    """What a script builds, by the last line that it prints; None where it fails."""
+    done = subprocess.run([ROOT / "scripts" / script, *words], stdout=subprocess.PIPE, text=True)
+    if tally.result(done.returncode == 0, " ".join([script, *words])):
+        return pathlib.Path(done.stdout.splitlines()[-1])
+    return None
+
+
 def main():
-    built = subprocess.run([ROOT / "scripts/build_c"], stdout=subprocess.PIPE, text=True)
-    if tally.result(built.returncode == 0, "build_c"):
-        example = pathlib.Path(built.stdout.splitlines()[-1])
+    example, library = build("build_c"), build("build_library")
+    if example and library:
         check_example(example, "by build_c")
-        library = example.parent / "libstr_indices_c.a"
         with tempfile.TemporaryDirectory() as folder:
             for language, command in COMPILERS.items():
                 compile_and_run(language, command, library, pathlib.Path(folder))
+            compile_narrow(pathlib.Path(folder))
             compile_installed(pathlib.Path(folder))
     return tally.end()
 

@@ -11,6 +11,8 @@ mod timing;
 extern crate bytecount;
 
 use options::{Options, Scale};
+#[cfg(bytecount_at_hand)]
+use original::Function;
 use ratios::Ratios;
 use std::process::ExitCode;
 
@@ -24,7 +26,8 @@ fn main() -> ExitCode {
     };
     let scale = Scale::of(options.small);
     println!("{}\n", heading(&options));
-    if let Err(difference) = tell_ratios(&scale, options.rounds) {
+    let told = tell_ratios(&scale, options.rounds).and_then(|()| tell_counting_ratios(&scale, options.rounds));
+    if let Err(difference) = told {
         eprintln!("bench: {difference}");
         return ExitCode::FAILURE;
     }
@@ -37,12 +40,51 @@ fn main() -> ExitCode {
 fn tell_ratios(scale: &Scale, rounds: usize) -> Result<(), String> {
     if let Some(original) = original::functions() {
         let ours = original::functions!(str_indices);
-        let ratios = Ratios::measure(&ours, &original, scale, rounds)?;
-        println!("{}", ratios.table());
+        let ratios = Ratios::measure(&ours, ("the original", &original), scale, rounds)?;
+        println!("{}", ratios.table(library()));
     } else {
         println!("No ratios: the original is not at hand, as STR_INDICES_ORIGINAL names no folder.\n");
     }
     Ok(())
+}
+
+/// Does the same for what `bytecount` counts too.
+#[cfg(bytecount_at_hand)]
+fn tell_counting_ratios(scale: &Scale, rounds: usize) -> Result<(), String> {
+    let ours = [
+        Function::Counting("chars::count", str_indices::chars::count),
+        Function::Counting("lines_lf::count_breaks", str_indices::lines_lf::count_breaks),
+    ];
+    let theirs = [
+        Function::Counting("chars::count", |text| bytecount::num_chars(text.as_bytes())),
+        Function::Counting("lines_lf::count_breaks", |text| bytecount::count(text.as_bytes(), b'\n')),
+    ];
+    let ratios = Ratios::measure(&ours, ("bytecount", &theirs), scale, rounds)?;
+    println!("{}", ratios.table(library()));
+    Ok(())
+}
+
+/// Says that there is nothing to compare with.
+#[cfg(not(bytecount_at_hand))]
+fn tell_counting_ratios(_scale: &Scale, _rounds: usize) -> Result<(), String> {
+    println!("No ratios to bytecount: it is not installed.\n");
+    Ok(())
+}
+
+extern "C" {
+    /// Whether the wide half of the library answers for a text of so many bytes.
+    fn str_indices_is_wide(len: usize) -> bool;
+}
+
+/// How the library answers here.
+fn library() -> &'static str {
+    // SAFETY: it takes any number, and reads one of its own.
+    let is_wide = |len| unsafe { str_indices_is_wide(len) };
+    match [0, 256].map(is_wide) {
+        [true, _] => "by the wide half",
+        [_, true] => "by the wide half from 256 bytes on",
+        _ => "by the narrow half",
+    }
 }
 
 /// The line that says on what was measured, and how often.

@@ -1,4 +1,4 @@
-//! The table of ratios: our time over the original's, for each function and sample of texts.
+//! The tables of ratios: our time over another crate's, for each function and sample of texts.
 
 use crate::options::Scale;
 use crate::table::Table;
@@ -8,11 +8,13 @@ use original::Function;
 
 /// What was measured: a row for each function, in it a ratio for each sample.
 pub struct Ratios {
+    /// The other crate, as `the original`.
+    other: &'static str,
     functions: Vec<&'static str>,
     samples: Vec<String>,
-    /// Ours over the original's.
+    /// Ours over the other's.
     ours: Vec<Vec<f64>>,
-    /// The original's second timings over its first ones, which a quiet machine makes 1.
+    /// The other's second timings over its first ones, which a quiet machine makes 1.
     control: Vec<Vec<f64>>,
 }
 
@@ -20,7 +22,7 @@ pub struct Ratios {
 struct Cell<'a> {
     work: Work<'a>,
     ours: Timed,
-    original: Timed,
+    other: Timed,
     again: Timed,
 }
 
@@ -42,23 +44,29 @@ impl Timed {
 }
 
 impl Cell<'_> {
-    /// Times ours, the original, and the original again.
+    /// Times ours, the other, and the other again.
     fn round(&mut self) {
-        for timed in [&mut self.ours, &mut self.original, &mut self.again] {
+        for timed in [&mut self.ours, &mut self.other, &mut self.again] {
             timed.best.take(self.work.time(timed.function));
         }
     }
 }
 
 impl Ratios {
-    /// Measures, where both answer the same for every text; else says where they differ.
-    pub fn measure(ours: &[Function], original: &[Function], scale: &Scale, rounds: usize) -> Result<Self, String> {
+    /// Measures functions beside those in the same places of another crate's, where both answer the same for every text;
+    /// else says where they differ.
+    pub fn measure(
+        ours: &[Function],
+        (other, others): (&'static str, &[Function]),
+        scale: &Scale,
+        rounds: usize,
+    ) -> Result<Self, String> {
         let samples = samples(scale);
         let mut rows = Vec::new();
-        for (ours, function) in ours.iter().zip(original) {
+        for (ours, function) in ours.iter().zip(others) {
             let row = samples.iter().map(|sample| {
-                let inputs = inputs(function, original, sample);
-                check(ours, function, &sample.name, &inputs)?;
+                let inputs = inputs(function, others, sample);
+                check(ours, (other, function), &sample.name, &inputs)?;
                 Ok(cell(*ours, *function, inputs, scale))
             });
             rows.push(row.collect::<Result<Vec<Cell>, String>>()?);
@@ -68,21 +76,22 @@ impl Ratios {
             rows.iter_mut().flatten().for_each(Cell::round);
         }
         Ok(Self {
-            functions: original.iter().map(Function::name).collect(),
+            other,
+            functions: others.iter().map(Function::name).collect(),
             samples: samples.iter().map(|sample| sample.name.clone()).collect(),
-            ours: by_cell(&rows, |cell| cell.ours.over(&cell.original)),
-            control: by_cell(&rows, |cell| cell.again.over(&cell.original)),
+            ours: by_cell(&rows, |cell| cell.ours.over(&cell.other)),
+            control: by_cell(&rows, |cell| cell.again.over(&cell.other)),
         })
     }
 
-    /// The table that is printed.
-    pub fn table(&self) -> Table {
+    /// The table that is printed, of the library as it answers now.
+    pub fn table(&self, library: &str) -> Table {
         let mut rows = Vec::new();
         for (name, ratios) in self.functions.iter().zip(&self.ours) {
             let mean = geometric_mean(ratios.iter().copied());
             rows.push(row(name, ratios.iter().copied(), mean));
         }
-        for (name, ratios) in [("mean", &self.ours), ("the original, twice", &self.control)] {
+        for (name, ratios) in [("mean", &self.ours), (&format!("{}, twice", self.other), &self.control)] {
             let by_sample = (0..self.samples.len()).map(|place| geometric_mean(ratios.iter().map(|row| row[place])));
             let mean = geometric_mean(ratios.iter().flatten().copied());
             rows.push(row(name, by_sample, mean));
@@ -90,7 +99,10 @@ impl Ratios {
         let samples = self.samples.iter().map(String::as_str);
         let headings = ["function"].into_iter().chain(samples).chain(["mean"]);
         Table {
-            title: "Our time / the original's, with geometric means. Below 1, ours is the faster.".to_string(),
+            title: format!(
+                "Our time / that of {}, {library}, with geometric means. Below 1, ours is the faster.",
+                self.other
+            ),
             headings: headings.map(str::to_string).collect(),
             rows,
         }
@@ -119,13 +131,18 @@ fn inputs<'a>(function: &Function, all: &[Function], sample: &'a Sample) -> Vec<
 }
 
 /// Says where the answers differ, if they do.
-fn check(ours: &Function, original: &Function, sample: &str, inputs: &[Input]) -> Result<(), String> {
+fn check(
+    ours: &Function,
+    (other, function): (&str, &Function),
+    sample: &str,
+    inputs: &[Input],
+) -> Result<(), String> {
     for (place, input) in inputs.iter().enumerate() {
-        let [our_answer, answer] = [ours, original].map(|function| function.answer(input.text, input.index));
+        let [our_answer, answer] = [ours, function].map(|function| function.answer(input.text, input.index));
         if our_answer != answer {
             return Err(format!(
-                "{} differs: {sample}, text {place}, index {}: ours {our_answer}, the original's {answer}",
-                original.name(),
+                "{} differs: {sample}, text {place}, index {}: ours {our_answer}, that of {other} {answer}",
+                function.name(),
                 input.index
             ));
         }
@@ -133,12 +150,12 @@ fn check(ours: &Function, original: &Function, sample: &str, inputs: &[Input]) -
     Ok(())
 }
 
-fn cell<'a>(ours: Function, original: Function, inputs: Vec<Input<'a>>, scale: &Scale) -> Cell<'a> {
+fn cell<'a>(ours: Function, other: Function, inputs: Vec<Input<'a>>, scale: &Scale) -> Cell<'a> {
     Cell {
-        work: Work::lasting(scale.timing, original, inputs),
+        work: Work::lasting(scale.timing, other, inputs),
         ours: Timed::new(ours),
-        original: Timed::new(original),
-        again: Timed::new(original),
+        other: Timed::new(other),
+        again: Timed::new(other),
     }
 }
 
@@ -153,12 +170,12 @@ mod tests {
 
     fn measure(ours: &[Function]) -> Result<Ratios, String> {
         let functions = original::functions!(str_indices);
-        Ratios::measure(ours, &functions, &Scale::of(true), 1)
+        Ratios::measure(ours, ("the other", &functions), &Scale::of(true), 1)
     }
 
     #[test]
     fn the_table_has_a_row_for_each_function_and_two_for_all() {
-        let table = measure(&original::functions!(str_indices)).unwrap().table();
+        let table = measure(&original::functions!(str_indices)).unwrap().table("here");
         assert_eq!(table.rows.len(), 16 + 2);
         let columns = table.headings.len();
         assert!(table.rows.iter().all(|row| row.len() == columns));
@@ -171,7 +188,7 @@ mod tests {
         let difference = measure(&wrong).err().unwrap();
         assert_eq!(
             difference,
-            "utf16::from_byte_idx differs: 2 KiB ASCII, text 0, index 1536: ours 1537, the original's 1536"
+            "utf16::from_byte_idx differs: 2 KiB ASCII, text 0, index 1536: ours 1537, that of the other 1536"
         );
     }
 

@@ -53,6 +53,9 @@ pub fn samples(scale: &Scale) -> Vec<Sample> {
     let texts: Vec<String> = (0..scale.short_texts).map(short).collect();
     let name = format!("{} of 10 to 100 B", texts.len());
     samples.push(Sample { name, texts });
+    let texts: Vec<String> = (0..scale.short_texts).map(|_| random.text(Kind::Broken, 40)).collect();
+    let name = format!("{} of 40 B", texts.len());
+    samples.push(Sample { name, texts });
     samples
 }
 

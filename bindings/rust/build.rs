@@ -3,7 +3,7 @@ use std::env;
 use std::path::{Path, PathBuf};
 use std::process::{exit, Command};
 
-const LIBRARY: &str = "libstr_indices_c.a";
+const LIBRARY: &str = "libstr_indices.a";
 
 /// The environment variable that names the folder of the library.
 const LIBRARY_FOLDER: &str = "STR_INDICES_LIB_DIR";
@@ -14,7 +14,7 @@ fn main() {
         Ok(folder) => {
             println!("cargo:rerun-if-changed={}", folder.join(LIBRARY).display());
             println!("cargo:rustc-link-search=native={}", folder.display());
-            println!("cargo:rustc-link-lib=static=str_indices_c");
+            println!("cargo:rustc-link-lib=static=str_indices");
         }
         Err(missing) => {
             eprintln!("str_indices: {missing}");
@@ -50,7 +50,7 @@ fn library_folder() -> Result<PathBuf, String> {
         };
     }
     let repository = Path::new(env!("CARGO_MANIFEST_DIR")).join("../..");
-    let built = repository.join("crates/str_indices_c/out");
+    let built = repository.join("out");
     if has_library(&built) {
         return Ok(built);
     }

@@ -1,7 +1,9 @@
 /*
  * Worked answers, from the documentation and the tests of the Rust crate
- * str_indices, with each function of the header called. It is compiled as C
- * and as C++. The last line printed is 'N passed, M failed'.
+ * str_indices, with each function of the header called, and of texts long
+ * enough for the wide half of the library. It is compiled as C and as C++. It
+ * tells for which texts the wide half answers, and the last line printed is
+ * 'N passed, M failed'.
  */
 #include <stdio.h>
 #include <string.h>
@@ -20,6 +22,10 @@ static const char all_breaks[] =
 
 static const char crlf[] = "Here\r\nare\r\nsome\r\nwords";
 static const char crs[] = "\r\r\n\n";
+
+/* Ten and twelve times those texts, 450 and 264 bytes. */
+static char ten_frogs[10 * (sizeof frogs - 1) + 1];
+static char twelve_crlf[12 * (sizeof crlf - 1) + 1];
 
 static int passed, failed;
 
@@ -91,12 +97,51 @@ static void the_empty_text(void)
     SAME_AT(0, lines_to_byte_idx, "", (size_t)-1);
 }
 
+static void repeat(char *text, size_t size, const char *part, size_t len)
+{
+    for (size_t at = 0; at + len < size; at += len)
+        memcpy(text + at, part, len);
+}
+
+static void long_texts(void)
+{
+    repeat(ten_frogs, sizeof ten_frogs, frogs, sizeof frogs - 1);
+    SAME(1, is_utf8, ten_frogs);
+    SAME(230, chars_count, ten_frogs);
+    SAME_AT(230, chars_from_byte_idx, ten_frogs, 450);
+    SAME_AT(449, chars_to_byte_idx, ten_frogs, 229);
+    SAME(270, utf16_count, ten_frogs);
+    SAME(40, utf16_count_surrogates, ten_frogs);
+    SAME_AT(262, utf16_from_byte_idx, ten_frogs, 432);
+    SAME_AT(428, utf16_to_byte_idx, ten_frogs, 261);
+
+    repeat(twelve_crlf, sizeof twelve_crlf, crlf, sizeof crlf - 1);
+    SAME(36, lines_lf_count_breaks, twelve_crlf);
+    SAME_AT(35, lines_lf_from_byte_idx, twelve_crlf, 258);
+    SAME_AT(259, lines_lf_to_byte_idx, twelve_crlf, 36);
+    SAME(36, lines_crlf_count_breaks, twelve_crlf);
+    SAME_AT(35, lines_crlf_from_byte_idx, twelve_crlf, 258);
+    SAME_AT(259, lines_crlf_to_byte_idx, twelve_crlf, 36);
+    SAME(36, lines_count_breaks, twelve_crlf);
+    SAME_AT(36, lines_from_byte_idx, twelve_crlf, 259);
+    SAME_AT(264, lines_to_byte_idx, twelve_crlf, 37);
+}
+
+static const char *answered_by_the_wide_half(void)
+{
+    if (str_indices_is_wide(0))
+        return "every text";
+    return str_indices_is_wide(256) ? "texts from 256 bytes on" : "no text";
+}
+
 int main(void)
 {
     is_utf8();
     chars_and_utf16();
     line_breaks();
     the_empty_text();
+    long_texts();
+    printf("the wide half answers for %s\n", answered_by_the_wide_half());
     printf("%d passed, %d failed\n", passed, failed);
     return failed != 0;
 }

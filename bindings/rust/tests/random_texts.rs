@@ -1,8 +1,10 @@
 //! Random texts: the functions of this crate beside the original's, at every index up to past the end.
 //!
 //! The original is that of the folder which the environment variable `STR_INDICES_ORIGINAL` names. Without it nothing
-//! is compared, and nothing judged.
+//! is compared, and nothing judged. It is told for which texts the wide half of the library answers.
 use original::Function;
+// For the library that it brings along, also where nothing is compared.
+use str_indices as _;
 use std::process::exit;
 
 const TEXTS: u64 = 20_000;
@@ -72,7 +74,24 @@ fn alike(name: &str, text: &str, index: Option<usize>, ours: usize, originals: u
     ))
 }
 
+extern "C" {
+    /// Whether the wide half of the library answers for a text of so many bytes.
+    fn str_indices_is_wide(len: usize) -> bool;
+}
+
+/// The texts that the wide half of the library answers for.
+fn answered_by_the_wide_half() -> &'static str {
+    // SAFETY: it takes any number, and reads one of its own.
+    let is_wide = |len| unsafe { str_indices_is_wide(len) };
+    match [0, 256].map(is_wide) {
+        [true, _] => "every text",
+        [_, true] => "texts from 256 bytes on",
+        _ => "no text",
+    }
+}
+
 fn main() {
+    println!("random texts: the wide half answers for {}", answered_by_the_wide_half());
     let Some(originals) = original::functions() else {
         println!("random texts: STR_INDICES_ORIGINAL names no folder, so nothing was compared");
         return;

@@ -8,6 +8,7 @@ use std::test::Fail;
 mod double_word;
 mod half_word;
 mod vectors;
+mod wide_vectors;
 
 use half_word::HalfWord;
 
@@ -423,6 +424,51 @@ fn generic_code_calls_each_method_of_a_vector(rt: HostRuntime) -> Result<(), Fai
         [3, 3, 3, 3, 3, 3, 3, 3, 3, 3, 3, 3, 3, 3, 4, 2]
     );
     assert_eq!(rt; sum_of_ones::<u8x16>(255), 4080);
+    Ok(())
+}
+
+#[test]
+fn generic_code_calls_each_method_of_a_wide_vector(rt: HostRuntime) -> Result<(), Fail> {
+    assert_eq!(rt;
+        trailing_bytes::<u8x32>("a\u{e9}\u{305b}bcdefghijklmnopqrstuvwxy\u{e9}".as_bytes()),
+        4
+    );
+    assert_eq!(rt;
+        trailing_bytes::<u8x32>(b"abcdefghijklmnopqrstuvwxyz012345"),
+        0
+    );
+    assert_eq!(rt; lane_count::<u8x32>(), 32);
+    assert_eq!(rt;
+        has_digit::<u8x32>(b"/a.b:c-d/a.b:c-d/a.b:c-d/a.b:c-9"),
+        true
+    );
+    assert_eq!(rt;
+        has_digit::<u8x32>(b"/a.b:c-d/a.b:c-d/a.b:c-d/a.b:c-d"),
+        false
+    );
+    assert_eq!(rt;
+        from_third_byte_on::<u8x32>(b"abcdefghijklmnopqrstuvwxyz012345").to_array(),
+        *b"cdefghijklmnopqrstuvwxyz012345\0\0"
+    );
+    assert_eq!(rt;
+        from_byte_before::<u8x32>(b'-', b"abcdefghijklmnopqrstuvwxyz012345").to_array(),
+        *b"-abcdefghijklmnopqrstuvwxyz01234"
+    );
+    assert_eq!(rt;
+        upper_halves::<u8x32>(b"abcdefghijklmnopqrstuvwxyz012345").to_array(),
+        [
+            6, 6, 6, 6, 6, 6, 6, 6, 6, 6, 6, 6, 6, 6, 6, 7, 7, 7, 7, 7, 7, 7, 7, 7, 7, 7, 3, 3, 3,
+            3, 3, 3,
+        ]
+    );
+    assert_eq!(rt;
+        threes_with_a_step::<u8x32>().to_array(),
+        [
+            3, 3, 3, 3, 3, 3, 3, 3, 3, 3, 3, 3, 3, 3, 3, 3, 3, 3, 3, 3, 3, 3, 3, 3, 3, 3, 3, 3, 3,
+            3, 4, 2,
+        ]
+    );
+    assert_eq!(rt; sum_of_ones::<u8x32>(255), 8160);
     Ok(())
 }
 

@@ -1,4 +1,6 @@
 //! Counts over the whole chunks of a text, whatever is counted in their lanes.
+//!
+//! What hands lanes back is inlined, also where a function is long: else a chunk would go through memory each time.
 ghost use Rattle.std.specs.Prelude.{◌≡◌, ℕ, ◌+◌, ◌-◌, ◌*◌, ◌/◌, ◌<◌, ◌≤◌, ◌⊎◌, List, length};
 ghost use Rattle.str_indices.specs.Lanes.{AddsUp, FitsIn};
 ghost use Rattle.str_indices.specs.Reads.{Reads};
@@ -172,6 +174,7 @@ pub(crate) fn skip_chunks<C: LaneCounts<T>, T: ByteChunk, const GROUP: usize, co
 }
 
 /// Adds what is counted in the lanes of so many chunks: of groups of `GROUP`, and then of what is left one at a time.
+#[inline(always)]
 fn add_in_groups<C: LaneCounts<T>, T: ByteChunk, const GROUP: usize>(
     probe: &mut Probe<'_, T>,
     from: usize,
@@ -200,6 +203,7 @@ fn add_in_groups<C: LaneCounts<T>, T: ByteChunk, const GROUP: usize>(
 }
 
 /// Adds what is counted in the lanes of so many groups of `GROUP` chunks.
+#[inline(always)]
 fn add_groups<C: LaneCounts<T>, T: ByteChunk, const GROUP: usize>(
     probe: &mut Probe<'_, T>,
     from: usize,
@@ -228,6 +232,7 @@ fn add_groups<C: LaneCounts<T>, T: ByteChunk, const GROUP: usize>(
 }
 
 /// Adds what is counted in the lanes of so many chunks.
+#[inline(always)]
 fn add_chunks<C: LaneCounts<T>, T: ByteChunk>(
     probe: &mut Probe<'_, T>,
     from: usize,

@@ -244,6 +244,7 @@ impl<T: ByteChunk> LaneCounts<T> for LineBreaks {
 
     const MOST: usize = 1;
 
+    #[inline(always)]
     fn count_lanes(
         probe: &mut Probe<'_, T>,
         at: usize,
@@ -263,6 +264,7 @@ impl<T: ByteChunk> LaneCounts<T> for LineBreaks {
 ///
 /// It loads the chunk, and peeks only where some lane is CR, C2 or E2: at the last two bytes of the chunk and the two
 /// behind it, at most four times.
+#[inline(always)]
 fn count_breaks_in_chunk<T: ByteChunk>(probe: &mut Probe<'_, T>, at: usize, end: usize) -> T
     requires seen { at + T.SIZE ≤ end }
     requires within { end ≤ length probe.old.text }

@@ -2,7 +2,8 @@
 //! bytes are UTF-8; and those of `position_mapper`, in `positions`.
 //!
 //! C hands a text over as the address of its first byte and the number of its bytes. `include/str_indices.h`, at the
-//! top of the repository, declares the exports and says what a caller owes.
+//! top of the repository, says what a caller owes. It declares the exports without the word `narrow`: by that name each
+//! function is in `c/choose_half.c`, which hands a call on to the one here, or to that of `str_indices_c_wide`.
 #![tactic(auto)]
 
 ghost use Rattle.std.specs.Prelude.{◌≡◌, ◌↔◌, IsCharBoundary, IsTrue, IsUtf8, chars};
@@ -22,7 +23,7 @@ pub extern "C" fn str_indices_is_utf8(text: &[u8]) -> bool
 
 /// How many chars the text has.
 #[unsafe(no_mangle)]
-pub extern "C" fn str_indices_chars_count(text: &[u8]) -> usize
+pub extern "C" fn str_indices_narrow_chars_count(text: &[u8]) -> usize
     requires { IsUtf8 text.now }
     ensures { result ≡ count Chars (chars text.now) }
 {
@@ -31,7 +32,7 @@ pub extern "C" fn str_indices_chars_count(text: &[u8]) -> usize
 
 /// The char that a byte belongs to; past the end, the number of chars.
 #[unsafe(no_mangle)]
-pub extern "C" fn str_indices_chars_from_byte_idx(text: &[u8], byte_idx: usize) -> usize
+pub extern "C" fn str_indices_narrow_chars_from_byte_idx(text: &[u8], byte_idx: usize) -> usize
     requires { IsUtf8 text.now }
     ensures { result ≡ from_byte_idx Chars (chars text.now) byte_idx }
 {
@@ -40,7 +41,7 @@ pub extern "C" fn str_indices_chars_from_byte_idx(text: &[u8], byte_idx: usize) 
 
 /// The byte where a char begins; past the last one, the length of the text.
 #[unsafe(no_mangle)]
-pub extern "C" fn str_indices_chars_to_byte_idx(text: &[u8], char_idx: usize) -> usize
+pub extern "C" fn str_indices_narrow_chars_to_byte_idx(text: &[u8], char_idx: usize) -> usize
     requires { IsUtf8 text.now }
     ensures answer { result ≡ to_byte_idx Chars (chars text.now) char_idx }
     ensures boundary { IsCharBoundary text.now result }
@@ -50,7 +51,7 @@ pub extern "C" fn str_indices_chars_to_byte_idx(text: &[u8], char_idx: usize) ->
 
 /// How many UTF-16 code units the text would take.
 #[unsafe(no_mangle)]
-pub extern "C" fn str_indices_utf16_count(text: &[u8]) -> usize
+pub extern "C" fn str_indices_narrow_utf16_count(text: &[u8]) -> usize
     requires { IsUtf8 text.now }
     ensures { result ≡ count Utf16 (chars text.now) }
 {
@@ -59,7 +60,7 @@ pub extern "C" fn str_indices_utf16_count(text: &[u8]) -> usize
 
 /// How many surrogate pairs the text would have in UTF-16.
 #[unsafe(no_mangle)]
-pub extern "C" fn str_indices_utf16_count_surrogates(text: &[u8]) -> usize
+pub extern "C" fn str_indices_narrow_utf16_count_surrogates(text: &[u8]) -> usize
     requires { IsUtf8 text.now }
     ensures { result ≡ surrogates (chars text.now) }
 {
@@ -68,7 +69,7 @@ pub extern "C" fn str_indices_utf16_count_surrogates(text: &[u8]) -> usize
 
 /// The UTF-16 index of the char that a byte belongs to; past the end, the number of code units.
 #[unsafe(no_mangle)]
-pub extern "C" fn str_indices_utf16_from_byte_idx(text: &[u8], byte_idx: usize) -> usize
+pub extern "C" fn str_indices_narrow_utf16_from_byte_idx(text: &[u8], byte_idx: usize) -> usize
     requires { IsUtf8 text.now }
     ensures { result ≡ from_byte_idx Utf16 (chars text.now) byte_idx }
 {
@@ -77,7 +78,7 @@ pub extern "C" fn str_indices_utf16_from_byte_idx(text: &[u8], byte_idx: usize) 
 
 /// The byte where the char of a UTF-16 code unit begins; past the last one, the length of the text.
 #[unsafe(no_mangle)]
-pub extern "C" fn str_indices_utf16_to_byte_idx(text: &[u8], utf16_idx: usize) -> usize
+pub extern "C" fn str_indices_narrow_utf16_to_byte_idx(text: &[u8], utf16_idx: usize) -> usize
     requires { IsUtf8 text.now }
     ensures answer { result ≡ to_byte_idx Utf16 (chars text.now) utf16_idx }
     ensures boundary { IsCharBoundary text.now result }
@@ -87,7 +88,7 @@ pub extern "C" fn str_indices_utf16_to_byte_idx(text: &[u8], utf16_idx: usize) -
 
 /// How many line feeds the text has.
 #[unsafe(no_mangle)]
-pub extern "C" fn str_indices_lines_lf_count_breaks(text: &[u8]) -> usize
+pub extern "C" fn str_indices_narrow_lines_lf_count_breaks(text: &[u8]) -> usize
     requires { IsUtf8 text.now }
     ensures { result ≡ count Lf (chars text.now) }
 {
@@ -96,7 +97,7 @@ pub extern "C" fn str_indices_lines_lf_count_breaks(text: &[u8]) -> usize
 
 /// The line that a byte is on; past the end, the last line.
 #[unsafe(no_mangle)]
-pub extern "C" fn str_indices_lines_lf_from_byte_idx(text: &[u8], byte_idx: usize) -> usize
+pub extern "C" fn str_indices_narrow_lines_lf_from_byte_idx(text: &[u8], byte_idx: usize) -> usize
     requires { IsUtf8 text.now }
     ensures { result ≡ from_byte_idx Lf (chars text.now) byte_idx }
 {
@@ -105,7 +106,7 @@ pub extern "C" fn str_indices_lines_lf_from_byte_idx(text: &[u8], byte_idx: usiz
 
 /// The byte where a line begins; past the last one, the length of the text.
 #[unsafe(no_mangle)]
-pub extern "C" fn str_indices_lines_lf_to_byte_idx(text: &[u8], line_idx: usize) -> usize
+pub extern "C" fn str_indices_narrow_lines_lf_to_byte_idx(text: &[u8], line_idx: usize) -> usize
     requires { IsUtf8 text.now }
     ensures answer { result ≡ to_byte_idx Lf (chars text.now) line_idx }
     ensures boundary { IsCharBoundary text.now result }
@@ -115,7 +116,7 @@ pub extern "C" fn str_indices_lines_lf_to_byte_idx(text: &[u8], line_idx: usize)
 
 /// How many line breaks the text has: LF, CR and CR LF, which is one break.
 #[unsafe(no_mangle)]
-pub extern "C" fn str_indices_lines_crlf_count_breaks(text: &[u8]) -> usize
+pub extern "C" fn str_indices_narrow_lines_crlf_count_breaks(text: &[u8]) -> usize
     requires { IsUtf8 text.now }
     ensures { result ≡ count Crlf (chars text.now) }
 {
@@ -124,7 +125,7 @@ pub extern "C" fn str_indices_lines_crlf_count_breaks(text: &[u8]) -> usize
 
 /// The line that a byte is on; past the end, the last line.
 #[unsafe(no_mangle)]
-pub extern "C" fn str_indices_lines_crlf_from_byte_idx(text: &[u8], byte_idx: usize) -> usize
+pub extern "C" fn str_indices_narrow_lines_crlf_from_byte_idx(text: &[u8], byte_idx: usize) -> usize
     requires { IsUtf8 text.now }
     ensures { result ≡ from_byte_idx Crlf (chars text.now) byte_idx }
 {
@@ -133,7 +134,7 @@ pub extern "C" fn str_indices_lines_crlf_from_byte_idx(text: &[u8], byte_idx: us
 
 /// The byte where a line begins; past the last one, the length of the text.
 #[unsafe(no_mangle)]
-pub extern "C" fn str_indices_lines_crlf_to_byte_idx(text: &[u8], line_idx: usize) -> usize
+pub extern "C" fn str_indices_narrow_lines_crlf_to_byte_idx(text: &[u8], line_idx: usize) -> usize
     requires { IsUtf8 text.now }
     ensures answer { result ≡ to_byte_idx Crlf (chars text.now) line_idx }
     ensures boundary { IsCharBoundary text.now result }
@@ -143,7 +144,7 @@ pub extern "C" fn str_indices_lines_crlf_to_byte_idx(text: &[u8], line_idx: usiz
 
 /// How many line breaks the text has, of all those of Unicode.
 #[unsafe(no_mangle)]
-pub extern "C" fn str_indices_lines_count_breaks(text: &[u8]) -> usize
+pub extern "C" fn str_indices_narrow_lines_count_breaks(text: &[u8]) -> usize
     requires { IsUtf8 text.now }
     ensures { result ≡ count Lines (chars text.now) }
 {
@@ -152,7 +153,7 @@ pub extern "C" fn str_indices_lines_count_breaks(text: &[u8]) -> usize
 
 /// The line that a byte is on; past the end, the last line.
 #[unsafe(no_mangle)]
-pub extern "C" fn str_indices_lines_from_byte_idx(text: &[u8], byte_idx: usize) -> usize
+pub extern "C" fn str_indices_narrow_lines_from_byte_idx(text: &[u8], byte_idx: usize) -> usize
     requires { IsUtf8 text.now }
     ensures { result ≡ from_byte_idx Lines (chars text.now) byte_idx }
 {
@@ -161,7 +162,7 @@ pub extern "C" fn str_indices_lines_from_byte_idx(text: &[u8], byte_idx: usize) 
 
 /// The byte where a line begins; past the last one, the length of the text.
 #[unsafe(no_mangle)]
-pub extern "C" fn str_indices_lines_to_byte_idx(text: &[u8], line_idx: usize) -> usize
+pub extern "C" fn str_indices_narrow_lines_to_byte_idx(text: &[u8], line_idx: usize) -> usize
     requires { IsUtf8 text.now }
     ensures answer { result ≡ to_byte_idx Lines (chars text.now) line_idx }
     ensures boundary { IsCharBoundary text.now result }

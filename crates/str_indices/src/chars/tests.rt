@@ -1,7 +1,7 @@
 use super::{count, count_impl, from_byte_idx, from_byte_idx_impl, to_byte_idx, to_byte_idx_impl};
 use byte_chunk::{ByteChunk, Plain, Probe};
 use std::process::Abort;
-use std::simd::u8x16;
+use std::simd::{u8x16, u8x32};
 use std::test::Fail;
 
 const ENGLISH_AND_JAPANESE: &str =
@@ -62,6 +62,7 @@ fn counts_before_a_boundary_after_any_lead(rt: HostRuntime) -> Result<(), Fail> 
     count_after_each_lead::<usize>(&rt);
     count_after_each_lead::<u128>(&rt);
     count_after_each_lead::<u8x16>(&rt);
+    count_after_each_lead::<u8x32>(&rt);
     Ok(())
 }
 
@@ -199,5 +200,6 @@ fn kernels_convert_after_any_lead(rt: HostRuntime) -> Result<(), Fail> {
     convert_after_each_lead::<usize>(&rt);
     convert_after_each_lead::<u128>(&rt);
     convert_after_each_lead::<u8x16>(&rt);
+    convert_after_each_lead::<u8x32>(&rt);
     Ok(())
 }

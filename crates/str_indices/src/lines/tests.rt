@@ -5,7 +5,7 @@ use super::{
 use crate::chars;
 use byte_chunk::{ByteChunk, Plain, Probe};
 use std::process::Abort;
-use std::simd::u8x16;
+use std::simd::{u8x16, u8x32};
 use std::test::Fail;
 
 const ENGLISH_AND_JAPANESE: &str =
@@ -198,6 +198,7 @@ fn kernels_see_breaks_at_any_edge_of_a_chunk(rt: HostRuntime) -> Result<(), Fail
     see_breaks_at_any_edge::<usize>(&rt);
     see_breaks_at_any_edge::<u128>(&rt);
     see_breaks_at_any_edge::<u8x16>(&rt);
+    see_breaks_at_any_edge::<u8x32>(&rt);
     Ok(())
 }
 
@@ -214,6 +215,7 @@ fn each_kind_of_break_counts_at_any_place_of_a_chunk(rt: HostRuntime) -> Result<
     count_every_break_after_each_lead::<usize>(&rt);
     count_every_break_after_each_lead::<u128>(&rt);
     count_every_break_after_each_lead::<u8x16>(&rt);
+    count_every_break_after_each_lead::<u8x32>(&rt);
     Ok(())
 }
 

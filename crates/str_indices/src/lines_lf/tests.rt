@@ -1,7 +1,7 @@
 use super::*;
 use byte_chunk::Plain;
 use std::process::Abort;
-use std::simd::u8x16;
+use std::simd::{u8x16, u8x32};
 use std::test::Fail;
 
 const WORDS: &str = "Here\nare\nsome\nwords";
@@ -187,11 +187,12 @@ fn any_number_of_leading_bytes_gives_one_answer(rt: HostRuntime) -> Result<(), F
     answer_after_each_lead::<usize>(&rt);
     answer_after_each_lead::<u128>(&rt);
     answer_after_each_lead::<u8x16>(&rt);
+    answer_after_each_lead::<u8x32>(&rt);
     Ok(())
 }
 
 fn stop_at_the_edge_of_four_chunks<T: ByteChunk>(rt: &impl Abort) {
-    // The line is 64 bytes with its break, and 65: four chunks of sixteen, and one byte more.
+    // The line has as many bytes, with its break, as four chunks of sixteen or of thirty-two, or one byte more.
     let table = [
         (
             "aaaaaaaaaaaaaaaaaaaaaaaaaaaaaaaaaaaaaaaaaaaaaaaaaaaaaaaaaaaaaaa\nb",
@@ -201,8 +202,16 @@ fn stop_at_the_edge_of_four_chunks<T: ByteChunk>(rt: &impl Abort) {
             "aaaaaaaaaaaaaaaaaaaaaaaaaaaaaaaaaaaaaaaaaaaaaaaaaaaaaaaaaaaaaaaa\n",
             65,
         ),
+        (
+            "aaaaaaaaaaaaaaaaaaaaaaaaaaaaaaaaaaaaaaaaaaaaaaaaaaaaaaaaaaaaaaaaaaaaaaaaaaaaaaaaaaaaaaaaaaaaaaaaaaaaaaaaaaaaaaaaaaaaaaaaaaaaaaa\nb",
+            128,
+        ),
+        (
+            "aaaaaaaaaaaaaaaaaaaaaaaaaaaaaaaaaaaaaaaaaaaaaaaaaaaaaaaaaaaaaaaaaaaaaaaaaaaaaaaaaaaaaaaaaaaaaaaaaaaaaaaaaaaaaaaaaaaaaaaaaaaaaaaa\n",
+            129,
+        ),
     ];
-    for lead in 0..67 {
+    for lead in 0..131 {
         for (text, byte) in table {
             let mut probe = Probe::<T>::of(text);
             assert_eq!(rt;
@@ -230,6 +239,7 @@ fn a_line_may_end_where_four_chunks_do(rt: HostRuntime) -> Result<(), Fail> {
     stop_at_the_edge_of_four_chunks::<usize>(&rt);
     stop_at_the_edge_of_four_chunks::<u128>(&rt);
     stop_at_the_edge_of_four_chunks::<u8x16>(&rt);
+    stop_at_the_edge_of_four_chunks::<u8x32>(&rt);
     Ok(())
 }
 
@@ -252,5 +262,6 @@ fn breaks_count_up_to_an_end_inside_a_character(rt: HostRuntime) -> Result<(), F
     count_up_to_each_end::<usize>(&rt);
     count_up_to_each_end::<u128>(&rt);
     count_up_to_each_end::<u8x16>(&rt);
+    count_up_to_each_end::<u8x32>(&rt);
     Ok(())
 }

@@ -4,7 +4,7 @@ use super::walk::{SCHEMES, Scheme, cut, surrogate_pairs};
 use byte_chunk::{ByteChunk, Plain};
 use std::alloc::Global;
 use std::process::Abort;
-use std::simd::u8x16;
+use std::simd::{u8x16, u8x32};
 use std::test::Fail;
 
 /// Numbers of leading bytes, up to more than a chunk and the longest character have.
@@ -158,6 +158,11 @@ fn sixteen_lanes_answer_as_a_plain_walk(rt: HostRuntime) {
     texts_answer_as_the_walk::<u8x16>(&rt);
 }
 
+#[test]
+fn thirty_two_lanes_answer_as_a_plain_walk(rt: HostRuntime) {
+    texts_answer_as_the_walk::<u8x32>(&rt);
+}
+
 /// `letters` times `a`, the middle, and `b`.
 fn surround(alloc: Global, letters: usize, middle: &str) -> Result<String, Fail> {
     let mut text = "a".repeat(alloc, letters)?;
@@ -262,6 +267,14 @@ fn double_words_see_each_break_at_every_edge(rt: HostRuntime) -> Result<(), Fail
 fn sixteen_lanes_see_each_break_at_every_edge(rt: HostRuntime) -> Result<(), Fail> {
     for letters in 0..41 {
         middles_behind::<u8x16>(&rt, rt.alloc(), letters)?;
+    }
+    Ok(())
+}
+
+#[test]
+fn thirty_two_lanes_see_each_break_at_every_edge(rt: HostRuntime) -> Result<(), Fail> {
+    for letters in 0..41 {
+        middles_behind::<u8x32>(&rt, rt.alloc(), letters)?;
     }
     Ok(())
 }

@@ -4,7 +4,7 @@ use super::walk::{SCHEMES, Scheme};
 use byte_chunk::{ByteChunk, Plain};
 use std::alloc::Global;
 use std::process::Abort;
-use std::simd::u8x16;
+use std::simd::{u8x16, u8x32};
 use std::test::Fail;
 
 /// A character repeated, and its count in each scheme, in the order of `SCHEMES`.
@@ -105,7 +105,8 @@ fn full_lanes_are_counted_over_every_chunk(rt: HostRuntime) -> Result<(), Fail> 
     count_each::<Plain>(&rt, rt.alloc())?;
     count_each::<usize>(&rt, rt.alloc())?;
     count_each::<u128>(&rt, rt.alloc())?;
-    count_each::<u8x16>(&rt, rt.alloc())
+    count_each::<u8x16>(&rt, rt.alloc())?;
+    count_each::<u8x32>(&rt, rt.alloc())
 }
 
 #[test]
@@ -113,5 +114,6 @@ fn full_lanes_are_converted_over_every_chunk(rt: HostRuntime) -> Result<(), Fail
     convert_each::<Plain>(&rt, rt.alloc())?;
     convert_each::<usize>(&rt, rt.alloc())?;
     convert_each::<u128>(&rt, rt.alloc())?;
-    convert_each::<u8x16>(&rt, rt.alloc())
+    convert_each::<u8x16>(&rt, rt.alloc())?;
+    convert_each::<u8x32>(&rt, rt.alloc())
 }

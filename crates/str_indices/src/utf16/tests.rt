@@ -4,7 +4,7 @@ use super::{
 };
 use byte_chunk::{ByteChunk, Plain, Probe};
 use std::process::Abort;
-use std::simd::u8x16;
+use std::simd::{u8x16, u8x32};
 use std::test::Fail;
 
 const TEXT: &str = "Hel🐸lo world! こん🐸にち🐸🐸は!";
@@ -75,6 +75,7 @@ fn kernels_count_before_a_boundary_after_any_lead(rt: HostRuntime) -> Result<(),
     count_after_each_lead::<usize>(&rt);
     count_after_each_lead::<u128>(&rt);
     count_after_each_lead::<u8x16>(&rt);
+    count_after_each_lead::<u8x32>(&rt);
     Ok(())
 }
 
@@ -119,6 +120,7 @@ fn kernels_convert_after_any_lead(rt: HostRuntime) -> Result<(), Fail> {
     convert_after_each_lead::<usize>(&rt);
     convert_after_each_lead::<u128>(&rt);
     convert_after_each_lead::<u8x16>(&rt);
+    convert_after_each_lead::<u8x32>(&rt);
     Ok(())
 }
 

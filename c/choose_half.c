@@ -1,0 +1,80 @@
+/*
+ * The functions of str_indices.h, each handed on to one of two that answer the
+ * same: to one over vectors of sixteen bytes, for any processor of the level
+ * x86-64-v2, or to one over vectors of thirty-two, for the level x86-64-v3.
+ * The first are the narrow half of the library, and the second the wide half.
+ *
+ * Where STR_INDICES_WIDE is not defined, the library has no wide half.
+ */
+#include <stdint.h>
+#include <stdlib.h>
+#include <string.h>
+
+#include <str_indices.h>
+
+/* The least length of a text that goes to the wide half. No text is as long as
+ * SIZE_MAX, since one has at most PTRDIFF_MAX bytes. */
+static size_t wide_from = SIZE_MAX;
+
+bool str_indices_is_wide(size_t len)
+{
+    return len >= wide_from;
+}
+
+#ifdef STR_INDICES_WIDE
+
+/* Behind the last whole vector both halves go on byte by byte, and that is much
+ * of a short text, so it takes the wide half longer. */
+enum { WORTH_WIDE = 256 };
+
+/* Asks the processor, once, before main runs. */
+__attribute__((constructor)) static void choose_half(void)
+{
+    const char *half = getenv("STR_INDICES_HALF");
+
+    __builtin_cpu_init();
+    if (!__builtin_cpu_supports("x86-64-v3"))
+        return;
+    if (half != NULL && strcmp(half, "narrow") == 0)
+        return;
+    wide_from = half != NULL && strcmp(half, "wide") == 0 ? 0 : WORTH_WIDE;
+}
+
+#define WHERE_WIDE(answer) if (len >= wide_from) return answer;
+#else
+#define WHERE_WIDE(answer)
+#endif
+
+#define HAND_ON(name, parameters, arguments)            \
+    size_t str_indices_narrow_##name parameters;        \
+    size_t str_indices_wide_##name parameters;          \
+    size_t str_indices_##name parameters                \
+    {                                                   \
+        WHERE_WIDE(str_indices_wide_##name arguments)   \
+        return str_indices_narrow_##name arguments;     \
+    }
+
+#define COUNT(name) HAND_ON(name, (const char *text, size_t len), (text, len))
+#define CONVERT(name) \
+    HAND_ON(name, (const char *text, size_t len, size_t index), (text, len, index))
+
+COUNT(chars_count)
+CONVERT(chars_from_byte_idx)
+CONVERT(chars_to_byte_idx)
+
+COUNT(utf16_count)
+COUNT(utf16_count_surrogates)
+CONVERT(utf16_from_byte_idx)
+CONVERT(utf16_to_byte_idx)
+
+COUNT(lines_lf_count_breaks)
+CONVERT(lines_lf_from_byte_idx)
+CONVERT(lines_lf_to_byte_idx)
+
+COUNT(lines_crlf_count_breaks)
+CONVERT(lines_crlf_from_byte_idx)
+CONVERT(lines_crlf_to_byte_idx)
+
+COUNT(lines_count_breaks)
+CONVERT(lines_from_byte_idx)
+CONVERT(lines_to_byte_idx)

@@ -1,0 +1,176 @@
+//! The functions of `str_indices` for C once more, over chunks of thirty-two lanes: one export for each of them.
+//!
+//! They promise what those of `str_indices_c` do, for a processor of the level x86-64-v3, where such a chunk is one
+//! vector. So this crate is checked and built for that level, by `scripts/build_library` at the top of the repository.
+//! `c/choose_half.c` there hands calls on to these functions where the processor is of that level.
+#![tactic(auto)]
+
+ghost use Rattle.std.specs.Prelude.{◌≡◌, IsCharBoundary, IsUtf8, chars};
+ghost use Rattle.str_indices.specs.Schemes.{count, from_byte_idx, surrogates, to_byte_idx, Chars, Crlf, Lf, Lines, Utf16};
+
+use byte_chunk::Probe;
+use std::simd::u8x32;
+use str_indices::{chars, lines, lines_crlf, lines_lf, utf16};
+
+/// How many chars the text has.
+#[unsafe(no_mangle)]
+#[tactic(auto, using(str_indices::proofs::lemmas::Callers::whole_text))]
+pub extern "C" fn str_indices_wide_chars_count(text: &[u8]) -> usize
+    requires { IsUtf8 text.now }
+    ensures { result ≡ count Chars (chars text.now) }
+{
+    chars::count_impl(&mut probe_of(text), text.len(), 0)
+}
+
+/// The char that a byte belongs to; past the end, the number of chars.
+#[unsafe(no_mangle)]
+pub extern "C" fn str_indices_wide_chars_from_byte_idx(text: &[u8], byte_idx: usize) -> usize
+    requires { IsUtf8 text.now }
+    ensures { result ≡ from_byte_idx Chars (chars text.now) byte_idx }
+{
+    chars::from_byte_idx_impl(&mut probe_of(text), byte_idx, 0)
+}
+
+/// The byte where a char begins; past the last one, the length of the text.
+#[unsafe(no_mangle)]
+pub extern "C" fn str_indices_wide_chars_to_byte_idx(text: &[u8], char_idx: usize) -> usize
+    requires { IsUtf8 text.now }
+    ensures answer { result ≡ to_byte_idx Chars (chars text.now) char_idx }
+    ensures boundary { IsCharBoundary text.now result }
+{
+    chars::to_byte_idx_impl(&mut probe_of(text), char_idx, 0)
+}
+
+/// How many UTF-16 code units the text would take.
+#[unsafe(no_mangle)]
+#[tactic(auto, using(str_indices::proofs::lemmas::Callers::whole_text))]
+pub extern "C" fn str_indices_wide_utf16_count(text: &[u8]) -> usize
+    requires { IsUtf8 text.now }
+    ensures { result ≡ count Utf16 (chars text.now) }
+{
+    utf16::count_impl(&mut probe_of(text), text.len(), 0)
+}
+
+/// How many surrogate pairs the text would have in UTF-16.
+#[unsafe(no_mangle)]
+#[tactic(auto, using(str_indices::proofs::lemmas::Callers::whole_text))]
+pub extern "C" fn str_indices_wide_utf16_count_surrogates(text: &[u8]) -> usize
+    requires { IsUtf8 text.now }
+    ensures { result ≡ surrogates (chars text.now) }
+{
+    utf16::count_surrogates_impl(&mut probe_of(text), text.len(), 0)
+}
+
+/// The UTF-16 index of the char that a byte belongs to; past the end, the number of code units.
+#[unsafe(no_mangle)]
+pub extern "C" fn str_indices_wide_utf16_from_byte_idx(text: &[u8], byte_idx: usize) -> usize
+    requires { IsUtf8 text.now }
+    ensures { result ≡ from_byte_idx Utf16 (chars text.now) byte_idx }
+{
+    utf16::from_byte_idx_impl(&mut probe_of(text), byte_idx, 0)
+}
+
+/// The byte where the char of a UTF-16 code unit begins; past the last one, the length of the text.
+#[unsafe(no_mangle)]
+pub extern "C" fn str_indices_wide_utf16_to_byte_idx(text: &[u8], utf16_idx: usize) -> usize
+    requires { IsUtf8 text.now }
+    ensures answer { result ≡ to_byte_idx Utf16 (chars text.now) utf16_idx }
+    ensures boundary { IsCharBoundary text.now result }
+{
+    utf16::to_byte_idx_impl(&mut probe_of(text), utf16_idx, 0)
+}
+
+/// How many line feeds the text has.
+#[unsafe(no_mangle)]
+#[tactic(auto, using(str_indices::proofs::lemmas::Callers::whole_text))]
+pub extern "C" fn str_indices_wide_lines_lf_count_breaks(text: &[u8]) -> usize
+    requires { IsUtf8 text.now }
+    ensures { result ≡ count Lf (chars text.now) }
+{
+    lines_lf::count_breaks_impl(&mut probe_of(text), text.len(), 0)
+}
+
+/// The line that a byte is on; past the end, the last line.
+#[unsafe(no_mangle)]
+pub extern "C" fn str_indices_wide_lines_lf_from_byte_idx(text: &[u8], byte_idx: usize) -> usize
+    requires { IsUtf8 text.now }
+    ensures { result ≡ from_byte_idx Lf (chars text.now) byte_idx }
+{
+    lines_lf::from_byte_idx_impl(&mut probe_of(text), byte_idx, 0)
+}
+
+/// The byte where a line begins; past the last one, the length of the text.
+#[unsafe(no_mangle)]
+pub extern "C" fn str_indices_wide_lines_lf_to_byte_idx(text: &[u8], line_idx: usize) -> usize
+    requires { IsUtf8 text.now }
+    ensures answer { result ≡ to_byte_idx Lf (chars text.now) line_idx }
+    ensures boundary { IsCharBoundary text.now result }
+{
+    lines_lf::to_byte_idx_impl(&mut probe_of(text), line_idx, 0)
+}
+
+/// How many line breaks the text has: LF, CR and CR LF, which is one break.
+#[unsafe(no_mangle)]
+#[tactic(auto, using(str_indices::proofs::lemmas::Callers::whole_text))]
+pub extern "C" fn str_indices_wide_lines_crlf_count_breaks(text: &[u8]) -> usize
+    requires { IsUtf8 text.now }
+    ensures { result ≡ count Crlf (chars text.now) }
+{
+    lines_crlf::count_breaks_impl(&mut probe_of(text), text.len(), 0)
+}
+
+/// The line that a byte is on; past the end, the last line.
+#[unsafe(no_mangle)]
+pub extern "C" fn str_indices_wide_lines_crlf_from_byte_idx(text: &[u8], byte_idx: usize) -> usize
+    requires { IsUtf8 text.now }
+    ensures { result ≡ from_byte_idx Crlf (chars text.now) byte_idx }
+{
+    lines_crlf::from_byte_idx_impl(&mut probe_of(text), byte_idx, 0)
+}
+
+/// The byte where a line begins; past the last one, the length of the text.
+#[unsafe(no_mangle)]
+pub extern "C" fn str_indices_wide_lines_crlf_to_byte_idx(text: &[u8], line_idx: usize) -> usize
+    requires { IsUtf8 text.now }
+    ensures answer { result ≡ to_byte_idx Crlf (chars text.now) line_idx }
+    ensures boundary { IsCharBoundary text.now result }
+{
+    lines_crlf::to_byte_idx_impl(&mut probe_of(text), line_idx, 0)
+}
+
+/// How many line breaks the text has, of all those of Unicode.
+#[unsafe(no_mangle)]
+#[tactic(auto, using(str_indices::proofs::lemmas::Callers::whole_text))]
+pub extern "C" fn str_indices_wide_lines_count_breaks(text: &[u8]) -> usize
+    requires { IsUtf8 text.now }
+    ensures { result ≡ count Lines (chars text.now) }
+{
+    lines::count_breaks_impl(&mut probe_of(text), text.len(), 0)
+}
+
+/// The line that a byte is on; past the end, the last line.
+#[unsafe(no_mangle)]
+pub extern "C" fn str_indices_wide_lines_from_byte_idx(text: &[u8], byte_idx: usize) -> usize
+    requires { IsUtf8 text.now }
+    ensures { result ≡ from_byte_idx Lines (chars text.now) byte_idx }
+{
+    lines::from_byte_idx_impl(&mut probe_of(text), byte_idx, 0)
+}
+
+/// The byte where a line begins; past the last one, the length of the text.
+#[unsafe(no_mangle)]
+pub extern "C" fn str_indices_wide_lines_to_byte_idx(text: &[u8], line_idx: usize) -> usize
+    requires { IsUtf8 text.now }
+    ensures answer { result ≡ to_byte_idx Lines (chars text.now) line_idx }
+    ensures boundary { IsCharBoundary text.now result }
+{
+    lines::to_byte_idx_impl(&mut probe_of(text), line_idx, 0)
+}
+
+fn probe_of(bytes: &[u8]) -> Probe<'_, u8x32>
+    requires { IsUtf8 bytes.now }
+    ensures { result.text ≡ bytes.now }
+{
+    // Checking the bytes here would be a second pass over the text.
+    Probe::of(unsafe { str::from_utf8_unchecked(bytes) })
+}
