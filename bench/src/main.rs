@@ -57,7 +57,9 @@ fn tell_counting_ratios(scale: &Scale, rounds: usize) -> Result<(), String> {
     ];
     let theirs = [
         Function::Counting("chars::count", |text| bytecount::num_chars(text.as_bytes())),
-        Function::Counting("lines_lf::count_breaks", |text| bytecount::count(text.as_bytes(), b'\n')),
+        Function::Counting("lines_lf::count_breaks", |text| {
+            bytecount::count(text.as_bytes(), b'\n')
+        }),
     ];
     let ratios = Ratios::measure(&ours, ("bytecount", &theirs), scale, rounds)?;
     println!("{}", ratios.table(library()));

@@ -131,12 +131,7 @@ fn inputs<'a>(function: &Function, all: &[Function], sample: &'a Sample) -> Vec<
 }
 
 /// Says where the answers differ, if they do.
-fn check(
-    ours: &Function,
-    (other, function): (&str, &Function),
-    sample: &str,
-    inputs: &[Input],
-) -> Result<(), String> {
+fn check(ours: &Function, (other, function): (&str, &Function), sample: &str, inputs: &[Input]) -> Result<(), String> {
     for (place, input) in inputs.iter().enumerate() {
         let [our_answer, answer] = [ours, function].map(|function| function.answer(input.text, input.index));
         if our_answer != answer {

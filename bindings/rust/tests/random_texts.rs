@@ -3,8 +3,6 @@
 //! The original is that of the folder which the environment variable `STR_INDICES_ORIGINAL` names. Without it nothing
 //! is compared, and nothing judged. It is told for which texts the wide half of the library answers.
 use original::Function;
-// For the library that it brings along, also where nothing is compared.
-use str_indices as _;
 use std::process::exit;
 
 const TEXTS: u64 = 20_000;
@@ -91,7 +89,10 @@ fn answered_by_the_wide_half() -> &'static str {
 }
 
 fn main() {
-    println!("random texts: the wide half answers for {}", answered_by_the_wide_half());
+    println!(
+        "random texts: the wide half answers for {}",
+        answered_by_the_wide_half()
+    );
     let Some(originals) = original::functions() else {
         println!("random texts: STR_INDICES_ORIGINAL names no folder, so nothing was compared");
         return;
