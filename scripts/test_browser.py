@@ -1,8 +1,9 @@
 #!/usr/bin/env python3
-"""Runs the functions for a browser in Chromium, and the page.
+"""Proves and builds the functions for a browser, and runs them and the page in Chromium.
 
 Every function on worked answers and on random texts beside the browser's own strings; then what the page shows at some
-cursors. Where no Chromium is on the path, it says so and counts nothing. The last line printed is 'N passed, M failed'.
+cursors. Where no Chromium is on the path, it says so and only proves and builds. The last line printed is
+'N passed, M failed'.
 """
 import html
 import importlib.machinery
@@ -101,11 +102,11 @@ def check_page(browser, page):
 
 def main():
     browser = next(filter(None, map(shutil.which, NAMES)), None)
+    built = subprocess.run([ROOT / "scripts/build_web"], stdout=subprocess.PIPE, text=True)
+    right = tally.result(built.returncode == 0, "build_web, which proves the exports")
     if browser is None:
         print("not tried: no Chromium is on the path (Debian's package chromium)")
-        return tally.end()
-    built = subprocess.run([ROOT / "scripts/build_web"], stdout=subprocess.PIPE, text=True)
-    if tally.result(built.returncode == 0, "build_web"):
+    elif right:
         builder = build_web()
         with tempfile.TemporaryDirectory() as folder:
             compare(browser, builder, pathlib.Path(folder))
