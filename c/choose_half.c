@@ -23,8 +23,7 @@ bool str_indices_is_wide(size_t len)
 
 #ifdef STR_INDICES_WIDE
 
-/* Behind the last whole vector both halves go on byte by byte, and that is much
- * of a short text, so it takes the wide half longer. */
+/* The length from which on most functions take the wide half less time. */
 enum { WORTH_WIDE = 256 };
 
 /* Asks the processor, once, before main runs. */
@@ -40,40 +39,47 @@ __attribute__((constructor)) static void choose_half(void)
     wide_from = half != NULL && strcmp(half, "wide") == 0 ? 0 : WORTH_WIDE;
 }
 
-#define WHERE_WIDE(answer) if (len >= wide_from) return answer;
+#define WHERE_WIDE(times, answer) if (len / (times) >= wide_from) return answer;
 #else
-#define WHERE_WIDE(answer)
+#define WHERE_WIDE(times, answer)
 #endif
 
-#define HAND_ON(name, parameters, arguments)            \
-    size_t str_indices_narrow_##name parameters;        \
-    size_t str_indices_wide_##name parameters;          \
-    size_t str_indices_##name parameters                \
-    {                                                   \
-        WHERE_WIDE(str_indices_wide_##name arguments)   \
-        return str_indices_narrow_##name arguments;     \
+#define HAND_ON(times, name, parameters, arguments)             \
+    size_t str_indices_narrow_##name parameters;                \
+    size_t str_indices_wide_##name parameters;                  \
+    size_t str_indices_##name parameters                        \
+    {                                                           \
+        WHERE_WIDE(times, str_indices_wide_##name arguments)    \
+        return str_indices_narrow_##name arguments;             \
     }
 
-#define COUNT(name) HAND_ON(name, (const char *text, size_t len), (text, len))
+/* A function that looks for a place walks byte by byte through the vector where
+ * that is, which takes the wide half longer. So its texts are as many times as
+ * long, but in `lines`, which does more for each vector. */
+enum { LONGER_TO_FIND = 6 };
+
+#define COUNT(name) HAND_ON(1, name, (const char *text, size_t len), (text, len))
 #define CONVERT(name) \
-    HAND_ON(name, (const char *text, size_t len, size_t index), (text, len, index))
+    HAND_ON(1, name, (const char *text, size_t len, size_t index), (text, len, index))
+#define FIND(name) \
+    HAND_ON(LONGER_TO_FIND, name, (const char *text, size_t len, size_t index), (text, len, index))
 
 COUNT(chars_count)
 CONVERT(chars_from_byte_idx)
-CONVERT(chars_to_byte_idx)
+FIND(chars_to_byte_idx)
 
 COUNT(utf16_count)
 COUNT(utf16_count_surrogates)
 CONVERT(utf16_from_byte_idx)
-CONVERT(utf16_to_byte_idx)
+FIND(utf16_to_byte_idx)
 
 COUNT(lines_lf_count_breaks)
 CONVERT(lines_lf_from_byte_idx)
-CONVERT(lines_lf_to_byte_idx)
+FIND(lines_lf_to_byte_idx)
 
 COUNT(lines_crlf_count_breaks)
 CONVERT(lines_crlf_from_byte_idx)
-CONVERT(lines_crlf_to_byte_idx)
+FIND(lines_crlf_to_byte_idx)
 
 COUNT(lines_count_breaks)
 CONVERT(lines_from_byte_idx)

@@ -11,7 +11,8 @@
  * bytes, its narrow half, and over vectors of thirty-two, its wide half. Which
  * one answers is chosen once, before main runs: for texts from 256 bytes on the
  * wide half, where the processor has what x86-64-v3 asks for (AVX2 and more),
- * and else the narrow half. The environment variable STR_INDICES_HALF, set to
+ * and else the narrow half. Four of the functions that look for a byte index go
+ * to the wide half from 1,536 bytes on. The environment variable STR_INDICES_HALF, set to
  * "narrow", leaves all texts to the narrow half, and set to "wide" gives all of
  * them to the wide half where the processor has it. The answers are the same.
  *
@@ -46,8 +47,8 @@ extern "C" {
  * here too. */
 bool str_indices_is_utf8(const char *text, size_t len);
 
-/* Whether the functions below answer for a text of `len` bytes by the wide
- * half. A library that was built without it answers false. */
+/* Whether the functions below, but for the four, answer for a text of `len`
+ * bytes by the wide half. A library that was built without it answers false. */
 bool str_indices_is_wide(size_t len);
 
 /*

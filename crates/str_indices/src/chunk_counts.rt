@@ -1,8 +1,9 @@
 //! Counts over the whole chunks of a text, whatever is counted in their lanes.
 //!
 //! What hands lanes back is inlined, also where a function is long: else a chunk would go through memory each time.
-ghost use Rattle.std.specs.Prelude.{◌≡◌, ℕ, ◌+◌, ◌-◌, ◌*◌, ◌/◌, ◌<◌, ◌≤◌, ◌⊎◌, List, length};
-ghost use Rattle.str_indices.specs.Lanes.{AddsUp, FitsIn};
+ghost use Rattle.std.specs.Prelude.{◌≡◌, ℕ, ◌+◌, ◌-◌, ◌*◌, ◌/◌, ◌<◌, ◌≤◌, ◌⊎◌, List, length, take, drop};
+ghost use Rattle.str_indices.specs.Bytes.{sum_below};
+ghost use Rattle.str_indices.specs.Lanes.{AddsUp, FitsIn, HasLanes};
 ghost use Rattle.str_indices.specs.Reads.{Reads};
 
 use crate::places::Position;
@@ -10,36 +11,46 @@ use byte_chunk::{ByteChunk, Probe};
 
 /// What is counted in the lanes of a chunk.
 ///
-/// To a contract `counted_before end text n` is what is counted before place `n`, where of the text the bytes before
-/// `end` are seen, and `carries text at carry` says that the chunk before place `at` hands on that carry.
+/// To a contract `counted_at end text n` is what is counted at place `n`, where of the text the bytes before `end` are
+/// seen, and `carries text at carry` says that the chunk before place `at` hands on that carry.
 pub(crate) trait LaneCounts<T: ByteChunk> {
     /// What a chunk hands on to the chunk behind it.
     type Carry: Copy;
 
     ghost MOST: { ℕ };
 
-    ghost counted_before: { ℕ → List ℕ → ℕ → ℕ };
+    ghost counted_at: { ℕ → List ℕ → ℕ → ℕ };
 
     ghost carries: { List ℕ → ℕ → Self.Carry → Type 0 };
 
     /// The most that is counted in one lane.
     const MOST: usize;
 
-    /// Counts in each lane of the chunk at `at`, for one load and the peeks that it pays.
+    /// Counts in each lane of a chunk, which is the one at `at`, by at most four peeks.
     ///
     /// Of the text the bytes before `end` are seen. `carry` is what the chunk before hands on.
     fn count_lanes(
         probe: &mut Probe<'_, T>,
+        chunk: T,
         at: usize,
         end: usize,
         carry: Self::Carry,
     ) -> CountedLanes<T, Self::Carry>
         requires seen { at + T.SIZE ≤ end }
         requires within { end ≤ length probe.old.text }
+        requires chunk { T.lanes chunk ≡ take T.SIZE (drop at probe.old.text) }
         requires carried { carries probe.old.text at carry }
-        ensures lanes { AddsUp (counted_before end probe.old.text) MOST T.SIZE at (at + T.SIZE) 1 (T.lanes result.lanes) }
+        ensures lanes { HasLanes T.SIZE (λ j. counted_at end probe.old.text (at + j)) (T.lanes result.lanes) }
         ensures carried { carries probe.old.text (at + T.SIZE) result.carry }
-        ensures reads { Reads probe.old probe.new at 0 1 0 };
+        ensures reads { Reads probe.old probe.new 0 0 0 4 };
+
+    /// What a chunk before place `at` would hand on, by at most one peek.
+    fn carry_at(probe: &mut Probe<'_, T>, at: usize) -> Self::Carry
+        requires { at ≤ length probe.old.text }
+        ensures carried { carries probe.old.text at result }
+        ensures reads { Reads probe.old probe.new 0 0 0 1 };
+
+    ghost at_most: { (end : ℕ) (text : List ℕ) (n : ℕ) → counted_at end text n ≤ MOST };
 
     ghost few: { (0 < MOST) × (MOST ≤ 2) };
 }
@@ -68,11 +79,11 @@ pub(crate) fn count_chunks<C: LaneCounts<T>, T: ByteChunk, const GROUP: usize>(
     requires some { 0 < GROUP }
     requires ordered { from.byte ≤ end }
     requires within { end ≤ length probe.old.text }
-    requires fits { FitsIn (C.counted_before end probe.old.text) (length probe.old.text) }
-    requires counted { from.count ≡ C.counted_before end probe.old.text from.byte }
+    requires fits { FitsIn (sum_below (C.counted_at end probe.old.text)) (length probe.old.text) }
+    requires counted { from.count ≡ sum_below (C.counted_at end probe.old.text) from.byte }
     requires carried { C.carries probe.old.text from.byte carry }
     ensures reached { (from.byte ≤ result.at.byte) × (result.at.byte ≤ end) × (end < result.at.byte + T.SIZE) }
-    ensures counted { result.at.count ≡ C.counted_before end probe.old.text result.at.byte }
+    ensures counted { result.at.count ≡ sum_below (C.counted_at end probe.old.text) result.at.byte }
     ensures carried { C.carries probe.old.text result.at.byte result.carry }
     ensures reads { Reads probe.old probe.new from.byte 0 ((result.at.byte - from.byte) / T.SIZE) 0 }
 {
@@ -95,11 +106,11 @@ fn count_round<C: LaneCounts<T>, T: ByteChunk, const GROUP: usize>(
     requires some { 0 < GROUP }
     requires room { from.byte + T.SIZE ≤ end }
     requires within { end ≤ length probe.old.text }
-    requires fits { FitsIn (C.counted_before end probe.old.text) (length probe.old.text) }
-    requires counted { from.count ≡ C.counted_before end probe.old.text from.byte }
+    requires fits { FitsIn (sum_below (C.counted_at end probe.old.text)) (length probe.old.text) }
+    requires counted { from.count ≡ sum_below (C.counted_at end probe.old.text) from.byte }
     requires carried { C.carries probe.old.text from.byte carry }
     ensures reached { (from.byte < result.at.byte) × (result.at.byte ≤ end) }
-    ensures counted { result.at.count ≡ C.counted_before end probe.old.text result.at.byte }
+    ensures counted { result.at.count ≡ sum_below (C.counted_at end probe.old.text) result.at.byte }
     ensures carried { C.carries probe.old.text result.at.byte result.carry }
     ensures reads { Reads probe.old probe.new from.byte 0 ((result.at.byte - from.byte) / T.SIZE) 0 }
 {
@@ -145,15 +156,15 @@ pub(crate) fn skip_chunks<C: LaneCounts<T>, T: ByteChunk, const GROUP: usize, co
     requires room { GROUP * C.MOST ≤ 4 }
     requires least { (GROUP ≤ LEAST) × (LEAST ≤ 16) }
     requires within { from.byte ≤ length probe.old.text }
-    requires fits { let n = length probe.old.text in FitsIn (C.counted_before n probe.old.text) n }
-    requires counted { from.count ≡ C.counted_before (length probe.old.text) probe.old.text from.byte }
+    requires fits { let n = length probe.old.text in FitsIn (sum_below (C.counted_at n probe.old.text)) n }
+    requires counted { from.count ≡ sum_below (C.counted_at (length probe.old.text) probe.old.text) from.byte }
     requires carried { C.carries probe.old.text from.byte carry }
     ensures reached { (from.byte ≤ result.at.byte) × (result.at.byte ≤ length probe.old.text) }
-    ensures counted { result.at.count ≡ C.counted_before (length probe.old.text) probe.old.text result.at.byte }
+    ensures counted { result.at.count ≡ sum_below (C.counted_at (length probe.old.text) probe.old.text) result.at.byte }
     ensures below { (result.at.count ≡ from.count) ⊎ (result.at.count < idx) }
     ensures carried { C.carries probe.old.text result.at.byte result.carry }
     ensures stopped { (length probe.old.text < result.at.byte + LEAST * T.SIZE)
-        ⊎ (idx ≤ C.counted_before (length probe.old.text) probe.old.text (result.at.byte + GROUP * T.SIZE)) }
+        ⊎ (idx ≤ sum_below (C.counted_at (length probe.old.text) probe.old.text) (result.at.byte + GROUP * T.SIZE)) }
     ensures reads { Reads probe.old probe.new from.byte 0 ((result.at.byte - from.byte) / T.SIZE + GROUP) 0 }
 {
     let len = probe.len();
@@ -187,7 +198,7 @@ fn add_in_groups<C: LaneCounts<T>, T: ByteChunk, const GROUP: usize>(
     requires seen { from + chunks * T.SIZE ≤ end }
     requires within { end ≤ length probe.old.text }
     requires carried { C.carries probe.old.text from carry }
-    ensures lanes { AddsUp (C.counted_before end probe.old.text) C.MOST T.SIZE from (from + chunks * T.SIZE) chunks
+    ensures lanes { AddsUp (sum_below (C.counted_at end probe.old.text)) C.MOST T.SIZE from (from + chunks * T.SIZE) chunks
         (T.lanes result.lanes) }
     ensures carried { C.carries probe.old.text (from + chunks * T.SIZE) result.carry }
     ensures reads { Reads probe.old probe.new from 0 chunks 0 }
@@ -215,7 +226,7 @@ fn add_groups<C: LaneCounts<T>, T: ByteChunk, const GROUP: usize>(
     requires seen { from + groups * GROUP * T.SIZE ≤ end }
     requires within { end ≤ length probe.old.text }
     requires carried { C.carries probe.old.text from carry }
-    ensures lanes { AddsUp (C.counted_before end probe.old.text) C.MOST T.SIZE from (from + groups * GROUP * T.SIZE)
+    ensures lanes { AddsUp (sum_below (C.counted_at end probe.old.text)) C.MOST T.SIZE from (from + groups * GROUP * T.SIZE)
         (groups * GROUP) (T.lanes result.lanes) }
     ensures carried { C.carries probe.old.text (from + groups * GROUP * T.SIZE) result.carry }
     ensures reads { Reads probe.old probe.new from 0 (groups * GROUP) 0 }
@@ -244,7 +255,7 @@ fn add_chunks<C: LaneCounts<T>, T: ByteChunk>(
     requires seen { from + chunks * T.SIZE ≤ end }
     requires within { end ≤ length probe.old.text }
     requires carried { C.carries probe.old.text from carry }
-    ensures lanes { AddsUp (C.counted_before end probe.old.text) C.MOST T.SIZE from (from + chunks * T.SIZE) chunks
+    ensures lanes { AddsUp (sum_below (C.counted_at end probe.old.text)) C.MOST T.SIZE from (from + chunks * T.SIZE) chunks
         (T.lanes result.lanes) }
     ensures carried { C.carries probe.old.text (from + chunks * T.SIZE) result.carry }
     ensures reads { Reads probe.old probe.new from 0 chunks 0 }
@@ -252,9 +263,10 @@ fn add_chunks<C: LaneCounts<T>, T: ByteChunk>(
     let mut lanes = T::zero();
     let mut at = from;
     'chunks: for _ in 0..chunks {
-        let chunk = C::count_lanes(probe, at, end, carry);
-        lanes = lanes.add(chunk.lanes);
-        carry = chunk.carry;
+        let chunk = probe.load(at);
+        let counted = C::count_lanes(probe, chunk, at, end, carry);
+        lanes = lanes.add(counted.lanes);
+        carry = counted.carry;
         at += T::SIZE;
     }
     CountedLanes { lanes, carry }

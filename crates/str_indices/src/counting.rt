@@ -1,5 +1,5 @@
-//! Counts by a weight of each byte: leading bytes one by one, then whole chunks, then the rest one by one.
-ghost use Rattle.std.specs.Prelude.{◌≡◌, ℕ, ◌+◌, ◌-◌, ◌*◌, ◌/◌, ◌<◌, ◌≤◌, length};
+//! Counts by a weight of each byte: leading bytes one by one, then whole chunks, then the rest at once.
+ghost use Rattle.std.specs.Prelude.{◌≡◌, ℕ, ◌+◌, ◌-◌, ◌*◌, ◌/◌, ◌<◌, ◌≤◌, length, slice_index};
 ghost use Rattle.str_indices.specs.Lanes.{FitsIn};
 ghost use Rattle.str_indices.specs.Bytes.{weight_before};
 ghost use Rattle.str_indices.specs.Reads.{Reads, leading_bytes, pass_turns, pass_loads};
@@ -7,6 +7,7 @@ ghost use Rattle.str_indices.specs.Reads.{Reads, leading_bytes, pass_turns, pass
 use crate::bytes::ByteWeight;
 use crate::chunk_counts::{CountedLanes, LaneCounts, count_chunks};
 use crate::places::Position;
+use crate::rest::count_rest;
 use byte_chunk::{ByteChunk, Probe};
 use std::marker::PhantomData;
 
@@ -28,8 +29,11 @@ pub(crate) fn count_weights<B: ByteWeight, T: ByteChunk>(
 {
     let start = Position { byte: 0, count: 0 };
     let led = count_in_bytes::<B, T>(probe, start, lead.min(end));
+    if end < T::SIZE {
+        return count_in_bytes::<B, T>(probe, led, end).count;
+    }
     let chunked = count_chunks::<Weights<B>, T, GROUP>(probe, led, end, ()).at;
-    count_in_bytes::<B, T>(probe, chunked, end).count
+    count_rest::<Weights<B>, T>(probe, chunked, end)
 }
 
 /// The weights of bytes in the lanes of a chunk, each by itself.
@@ -40,23 +44,28 @@ impl<B: ByteWeight, T: ByteChunk> LaneCounts<T> for Weights<B> {
 
     ghost MOST = { B.MOST };
 
-    ghost counted_before = { λ _. weight_before B.weight };
+    ghost counted_at = { λ _ text n. B.weight (slice_index text n) };
 
     ghost carries = { λ _ _ _. Unit {0} };
 
     const MOST: usize = B::MOST;
 
     fn count_lanes(
-        probe: &mut Probe<'_, T>,
-        at: usize,
+        _probe: &mut Probe<'_, T>,
+        chunk: T,
+        _at: usize,
         _end: usize,
         _carry: (),
     ) -> CountedLanes<T, ()> {
         CountedLanes {
-            lanes: B::in_lanes(probe.load(at)),
+            lanes: B::in_lanes(chunk),
             carry: (),
         }
     }
+
+    fn carry_at(_probe: &mut Probe<'_, T>, _at: usize) {}
+
+    ghost at_most = { λ _ text n. B.bounded (slice_index text n) };
 
     ghost few = { B.few };
 }

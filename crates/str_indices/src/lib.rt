@@ -13,6 +13,7 @@ pub mod lines;
 pub mod lines_crlf;
 pub mod lines_lf;
 mod places;
+mod rest;
 #[cfg(test)]
 mod tests;
 pub mod utf16;

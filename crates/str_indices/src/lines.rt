@@ -2,7 +2,7 @@
 //!
 //! A line break is LF (U+000A), VT (U+000B), FF (U+000C), CR (U+000D), CR LF as one, U+0085, U+2028 or U+2029: the
 //! characters of the Unicode Standard's Annex 14 that the Rust crate `str_indices` lists.
-ghost use Rattle.std.specs.Prelude.{◌≡◌, ◌+◌, ◌-◌, ◌*◌, ◌/◌, ◌<◌, ◌≤◌, ◌==◌, ◌&&◌, ◌⊎◌, ℕ, IsCharBoundary, chars, length, map, min, slice_index, take};
+ghost use Rattle.std.specs.Prelude.{◌≡◌, ◌+◌, ◌-◌, ◌*◌, ◌/◌, ◌<◌, ◌≤◌, ◌==◌, ◌&&◌, ◌⊎◌, ℕ, IsCharBoundary, chars, length, map, min, slice_index, take, drop};
 ghost use Rattle.std.specs.Simd.Lanes.{Each1};
 ghost use Rattle.std.proofs.Common.{lit≤, lit<};
 ghost use Rattle.byte_chunk.specs.Lanes.{is_between, is_byte};
@@ -10,6 +10,7 @@ ghost use Rattle.str_indices.specs.Text.{cut, size};
 ghost use Rattle.str_indices.specs.Schemes.{count, from_byte_idx, to_byte_idx, Lines};
 ghost use Rattle.str_indices.specs.Relations.{IsBoundary};
 ghost use Rattle.str_indices.specs.Bytes.{flag, is_carriage_return, is_middle};
+ghost use Rattle.str_indices.specs.TraitLaws.{break_at-le};
 ghost use Rattle.str_indices.specs.Breaks.{is_crlf, is_separator, narrow_break_at, next_line_at, separator_at, break_at, breaks_counted_before, ends_separator};
 ghost use Rattle.str_indices.specs.Lanes.{HasLanes, IsChunk};
 ghost use Rattle.str_indices.specs.Reads.{Reads, leading_bytes, pass_turns, pass_loads};
@@ -17,6 +18,7 @@ ghost use Rattle.str_indices.specs.Reads.{Reads, leading_bytes, pass_turns, pass
 use crate::bytes::{CR, LF};
 use crate::chunk_counts::{CountedLanes, LaneCounts, count_chunks, skip_chunks};
 use crate::places::{Position, boundary_at_or_after, boundary_at_or_before, is_not_crlf_middle};
+use crate::rest::count_rest;
 use byte_chunk::{ByteChunk, Chunk, Probe};
 
 #[cfg(test)]
@@ -72,8 +74,11 @@ pub fn count_breaks_impl<T: ByteChunk>(probe: &mut Probe<'_, T>, end: usize, lea
     let first_chunk = lead.min(end);
     let start = Position { byte: 0, count: 0 };
     let led = count_breaks_up_to(probe, start, first_chunk, end, usize::MAX);
+    if end < T::SIZE {
+        return count_breaks_up_to(probe, led, end, end, usize::MAX).count;
+    }
     let chunked = count_chunks::<LineBreaks, T, GROUP>(probe, led, end, ()).at;
-    count_breaks_up_to(probe, chunked, end, end, usize::MAX).count
+    count_rest::<LineBreaks, T>(probe, chunked, end)
 }
 
 /// Converts a byte index to a line index, over chunks of any type, after `lead` bytes that are walked one by one.
@@ -238,7 +243,7 @@ impl<T: ByteChunk> LaneCounts<T> for LineBreaks {
 
     ghost MOST = { 1 };
 
-    ghost counted_before = { λ end text. breaks_counted_before (take end text) };
+    ghost counted_at = { λ end text. break_at (take end text) };
 
     ghost carries = { λ _ _ _. Unit {0} };
 
@@ -247,32 +252,42 @@ impl<T: ByteChunk> LaneCounts<T> for LineBreaks {
     #[inline(always)]
     fn count_lanes(
         probe: &mut Probe<'_, T>,
+        chunk: T,
         at: usize,
         end: usize,
         _carry: (),
     ) -> CountedLanes<T, ()> {
         CountedLanes {
-            lanes: count_breaks_in_chunk(probe, at, end),
+            lanes: count_breaks_in_chunk(probe, chunk, at, end),
             carry: (),
         }
     }
+
+    fn carry_at(_probe: &mut Probe<'_, T>, _at: usize) {}
+
+    ghost at_most = { λ end text. break_at-le (take end text) };
 
     ghost few = { (lit< tt, lit≤ tt) };
 }
 
 /// 1 in each lane of the chunk at `at` where a break is counted, and 0 in the others.
 ///
-/// It loads the chunk, and peeks only where some lane is CR, C2 or E2: at the last two bytes of the chunk and the two
-/// behind it, at most four times.
+/// It peeks only where some lane is CR, C2 or E2: at the last two bytes of the chunk and the two behind it, at most four
+/// times.
 #[inline(always)]
-fn count_breaks_in_chunk<T: ByteChunk>(probe: &mut Probe<'_, T>, at: usize, end: usize) -> T
+fn count_breaks_in_chunk<T: ByteChunk>(
+    probe: &mut Probe<'_, T>,
+    chunk: T,
+    at: usize,
+    end: usize,
+) -> T
     requires seen { at + T.SIZE ≤ end }
     requires within { end ≤ length probe.old.text }
+    requires chunk { T.lanes chunk ≡ take T.SIZE (drop at probe.old.text) }
     ensures lanes { HasLanes T.SIZE (λ j. break_at (take end probe.old.text) (at + j)) (T.lanes result) }
-    ensures reads { Reads probe.old probe.new at 0 1 0 }
+    ensures reads { Reads probe.old probe.new 0 0 0 4 }
 {
     prove!(end <= probe.len());
-    let chunk = probe.load(at);
     let narrow_breaks = count_narrow_breaks(probe, chunk, at, end);
     add_wide_breaks(probe, chunk, narrow_breaks, at, end)
 }

@@ -6,12 +6,14 @@ ghost use Rattle.std.specs.Prelude.{◌≡◌, ◌+◌, ◌-◌, ◌/◌, ◌<�
 ghost use Rattle.std.proofs.Common.{lit≤, lit<};
 ghost use Rattle.str_indices.specs.Text.{cut};
 ghost use Rattle.str_indices.specs.Schemes.{count, from_byte_idx, to_byte_idx, Crlf};
-ghost use Rattle.str_indices.specs.Bytes.{flag, mark, is_carriage_return, byte_before, starts_break, breaks_before, is_middle};
+ghost use Rattle.str_indices.specs.Bytes.{flag, mark, is_carriage_return, byte_before, starts_break, break_start, breaks_before, is_middle};
+ghost use Rattle.str_indices.specs.TraitLaws.{break_start-le};
 ghost use Rattle.str_indices.specs.Reads.{Reads, leading_bytes, pass_turns, pass_loads};
 
 use crate::bytes::{CR, LF};
 use crate::chunk_counts::{CountedLanes, LaneCounts, Reached, count_chunks, skip_chunks};
-use crate::places::{Position, is_not_crlf_middle};
+use crate::places::{Position, follows_carriage_return, is_not_crlf_middle};
+use crate::rest::count_rest;
 use byte_chunk::{ByteChunk, Chunk, Probe};
 
 #[cfg(test)]
@@ -68,11 +70,12 @@ pub fn count_breaks_impl<T: ByteChunk>(probe: &mut Probe<'_, T>, end: usize, lea
     prove!(end <= probe.len());
     let start = Position { byte: 0, count: 0 };
     let led = count_in_bytes(probe, start, lead.min(end), false);
+    if end < T::SIZE {
+        return count_in_bytes(probe, led.at, end, led.carry).at.count;
+    }
     let returns = T::splat(u8::from(led.carry));
-    let chunked = count_chunks::<BreakStarts, T, GROUP>(probe, led.at, end, returns);
-    let follows_return = ends_in_return(chunked.carry);
-    let rest = count_in_bytes(probe, chunked.at, end, follows_return);
-    rest.at.count
+    let chunked = count_chunks::<BreakStarts, T, GROUP>(probe, led.at, end, returns).at;
+    count_rest::<BreakStarts, T>(probe, chunked, end)
 }
 
 /// Converts a byte index to a line index, over chunks of any type, after `lead` bytes that are walked one by one.
@@ -176,7 +179,7 @@ impl<T: ByteChunk> LaneCounts<T> for BreakStarts {
 
     ghost MOST = { 1 };
 
-    ghost counted_before = { λ _. breaks_before };
+    ghost counted_at = { λ _. break_start };
 
     ghost carries = { λ text at returns.
         drop (T.SIZE - 1) (T.lanes returns) ≡ mark is_carriage_return (byte_before text at) ∷ [] };
@@ -184,12 +187,12 @@ impl<T: ByteChunk> LaneCounts<T> for BreakStarts {
     const MOST: usize = 1;
 
     fn count_lanes(
-        probe: &mut Probe<'_, T>,
-        at: usize,
+        _probe: &mut Probe<'_, T>,
+        chunk: T,
+        _at: usize,
         _end: usize,
         before: T,
     ) -> CountedLanes<T, T> {
-        let chunk = probe.load(at);
         let feeds = chunk.cmp_eq_byte(LF);
         let returns = chunk.cmp_eq_byte(CR);
         let pairs = before.shift_across(returns).bitand(feeds);
@@ -198,6 +201,12 @@ impl<T: ByteChunk> LaneCounts<T> for BreakStarts {
             carry: returns,
         }
     }
+
+    fn carry_at(probe: &mut Probe<'_, T>, at: usize) -> T {
+        T::splat(u8::from(follows_carriage_return(probe, at)))
+    }
+
+    ghost at_most = { λ _. break_start-le };
 
     ghost few = { (lit< tt, lit≤ tt) };
 }

@@ -2,9 +2,13 @@ use Rattle.std.proofs.Common.{◌<◌, ◌+◌, arith, ◌∙◌}
 use Rattle.str_indices.specs.Bytes.{passing_before, is_leading}
 use Rattle.str_indices.proofs.lemmas.schemes.CharBytes.{char_found, char_reached, end_is_near}
 use Rattle.std.proofs.Math.Nat.{one-mul}
+use Rattle.str_indices.proofs.lemmas.bytes.Sums.{passing_fits}
 use Rattle.str_indices.proofs.lemmas.passes.Costs.{loads_to_place}
 use Rattle.str_indices.proofs.lemmas.passes.Passes.{placing_pass}
 use Rattle.str_indices.proofs.chars.to_byte_idx_impl.Goals as goal
+
+pub skip_chunks-requires-clause-fits : goal.skip_chunks-requires-clause-fits
+skip_chunks-requires-clause-fits g c = passing_fits is_leading c.skip_surely-surely.new.probe.text
 
 pub returns-then-led-first_chunk-clause-answer : goal.returns-then-led-first_chunk-clause-answer
 returns-then-led-first_chunk-clause-answer g c =

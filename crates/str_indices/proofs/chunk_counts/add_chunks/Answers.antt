@@ -1,7 +1,7 @@
-use Rattle.std.proofs.Common.{◌+◌, arith, add-mul}
+use Rattle.std.proofs.Common.{◌+◌, ◌∙◌, ap, arith, add-mul}
 use Rattle.std.proofs.Math.Nat.{mul-le-mul_right}
-use Rattle.str_indices.proofs.lemmas.lanes.Rounds.{nothing_added, lanes_addable, lanes_added}
-use Rattle.str_indices.proofs.lemmas.passes.Costs.{nothing, chunk_read}
+use Rattle.str_indices.proofs.lemmas.lanes.Rounds.{nothing_added, lanes_addable, lanes_added, lanes_of_places}
+use Rattle.str_indices.proofs.lemmas.passes.Costs.{nothing, chunk_made, chunk_read}
 use Rattle.str_indices.proofs.chunk_counts.add_chunks.Goals as goal
 
 pub chunks-init : goal.chunks-init
@@ -15,17 +15,25 @@ chunks-init g c = record {
 pub add-lanes-requires : goal.add-lanes-requires
 add-lanes-requires g c =
     let so_far = c.chunks.invariant in
-    let more = rw so_far.reads.text_kept at c.count_lanes-chunk.ensures.lanes in
+    let same = ap (λ p. p.text) c.load-chunk.ensures.state ∙ so_far.reads.text_kept in
+    let counted = g.C.LaneCounts.counted_at c.args.end c.args.probe.now.text in
+    let more = lanes_of_places counted (g.met.C.LaneCounts.at_most c.args.end c.args.probe.now.text)
+    (rw same at c.count_lanes-counted.ensures.lanes) in
     let few = mul-le-mul_right {m = c.chunks.counter + 1} {n = c.args.chunks} g.C.LaneCounts.MOST (omega arith) in
     lanes_addable so_far.lanes more 255 (omega (arith, few, c.requires.room))
 
 pub chunks-preserved : goal.chunks-preserved
 chunks-preserved g c =
     let so_far = c.chunks.invariant in
-    let chunk = c.count_lanes-chunk.ensures in
+    let same = ap (λ p. p.text) c.load-chunk.ensures.state ∙ so_far.reads.text_kept in
+    let counted = g.C.LaneCounts.counted_at c.args.end c.args.probe.now.text in
+    let more = lanes_of_places counted (g.met.C.LaneCounts.at_most c.args.end c.args.probe.now.text)
+    (rw same at c.count_lanes-counted.ensures.lanes) in
+    let chunk = c.count_lanes-counted.ensures in
+    let reads = chunk_made c.chunks.at c.chunks.at (omega arith) c.load-chunk.ensures.state chunk.reads in
     rw c.SIZE-at.ensures (record {
       place = omega (arith, so_far.place, add-mul c.chunks.counter 1 g.T.ByteChunk.SIZE);
-      lanes = lanes_added so_far.lanes (rw so_far.reads.text_kept at chunk.lanes) c.add-lanes.ensures;
-      carried = rw so_far.reads.text_kept at chunk.carried;
-      reads = chunk_read (omega (arith, so_far.place)) so_far.reads chunk.reads;
+      lanes = lanes_added so_far.lanes more c.add-lanes.ensures;
+      carried = rw same at chunk.carried;
+      reads = chunk_read (omega (arith, so_far.place)) so_far.reads reads;
     })

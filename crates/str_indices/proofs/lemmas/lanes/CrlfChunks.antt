@@ -8,10 +8,8 @@ use Rattle.std.proofs.lemmas.Bool.Decides.{nat_tests}
 use Rattle.std.proofs.lemmas.List.{get_or-take, length-take-le, take-replicate}
 use Rattle.byte_chunk.specs.Lanes.{is_byte}
 use Rattle.str_indices.specs.Text.{line_feed, carriage_return}
-use Rattle.str_indices.specs.Bytes.{flag, mark, is_line_feed, is_carriage_return, byte_before, break_start, breaks_before}
-use Rattle.str_indices.specs.Lanes.{AddsUp, HasLanes}
-use Rattle.str_indices.proofs.lemmas.lanes.Rounds.{lanes_of_places}
-use Rattle.str_indices.proofs.lemmas.schemes.CrlfBytes.{break_start-le}
+use Rattle.str_indices.specs.Bytes.{flag, mark, is_line_feed, is_carriage_return, byte_before, break_start}
+use Rattle.str_indices.specs.Lanes.{HasLanes}
 use Rattle.str_indices.proofs.lemmas.lanes.Lanes.{Each2-lanes, lanes_and, lanes_loaded, lanes_same, lanes_zip2}
 
 -- the chunk of `text` at `at`, and the chunk before it, whose last lane says whether the byte before `at` is CR
@@ -86,16 +84,12 @@ module _ {text : List ℕ} {at size : ℕ} {chunk before returns : List ℕ}
 
       module _ {starts : List ℕ} (is_starts : starts ≡ zip2 (λ a b. a - b) both pairs) where
         -- the lanes where a break starts
-        starts_are : HasLanes size (λ j. break_start text (at + j)) starts
+        pub starts_are : HasLanes size (λ j. break_start text (at + j)) starts
         starts_are = lanes_same (lanes_zip2 (λ a b. a - b) both_are pairs_are is_starts)
             (λ j l. grind (arith, nat_tests))
 
-        -- they add up to the breaks that start in the chunk
-        pub starts_added : AddsUp (breaks_before text) 1 size at (at + size) 1 starts
-        starts_added = lanes_of_places (break_start text) (break_start-le text) starts_are
-
 -- what the lanes of a chunk say, as the search takes it
-pub ruleset starts_in_chunk = (loaded_by, sums_fit, pairs_fit, starts_added, last_is_return)
+pub ruleset starts_in_chunk = (loaded_by, sums_fit, pairs_fit, starts_are, last_is_return)
 
 -- what is 0 exactly where a flag is, is not where the flag is 1
 unlike_flag : (is_zero b : Bool) → IsTrue is_zero ↔ (flag b ≡ 0) → not is_zero ≡ b

@@ -20,6 +20,12 @@ pub load_made : (old new : ProbeState) (first at : ℕ) → first ≤ at
     → new ≡ record old { loads = old.loads + 1; low = min old.low at } → Reads old new first 0 1 0
 load_made old new first at behind is = rw is (search arith)
 
+-- one load, and the peeks that it pays
+pub chunk_made : {old loaded new : ProbeState} (first at : ℕ) → first ≤ at
+    → loaded ≡ record old { loads = old.loads + 1; low = min old.low at } → Reads loaded new 0 0 0 4
+    → Reads old new first 0 1 0
+chunk_made {old} first at behind is peeks = let paid = rw is at peeks in grind arith
+
 -- one part after another
 pub then_ : {old seen new : ProbeState} {first t l s t' l' s' : ℕ} → Reads old seen first t l s
     → Reads seen new first t' l' s' → Reads old new first (t + t') (l + l') (s + s')

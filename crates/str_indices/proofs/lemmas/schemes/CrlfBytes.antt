@@ -15,7 +15,7 @@ use Rattle.str_indices.proofs.lemmas.texts.Ends.{end_weight}
 use Rattle.str_indices.proofs.lemmas.texts.Seams.{crlf_has_return}
 use Rattle.str_indices.proofs.lemmas.texts.EndSets.{end_at_reached}
 use Rattle.str_indices.proofs.lemmas.bytes.Sums.{sum_below-le}
-use Rattle.str_indices.specs.TraitLaws.{mark-le}
+use Rattle.str_indices.specs.TraitLaws.{break_start-le}
 use Rattle.str_indices.proofs.lemmas.bytes.Characters.{by_width}
 use Rattle.str_indices.proofs.lemmas.bytes.Walks.{AddsAtFirst, counted_at, size-chars}
 use Rattle.str_indices.proofs.lemmas.bytes.BoundaryBytes.{still_behind_cut}
@@ -93,10 +93,6 @@ module _ (bytes : List ℕ) (utf8 : IsUtf8 bytes) where
             (λ _. omega (arith, stopped inside, breaks_up_to (suc at) (omega arith), behind))
             (λ d before. omega (arith, stopped inside, rank-le-rank (ends Crlf (chars bytes)) d at (omega arith))))
       ]
-
--- at each place one break starts at most
-pub break_start-le : (bytes : List ℕ) (n : ℕ) → break_start bytes n ≤ 1
-break_start-le bytes n = mark-le (starts_break (byte_before bytes n)) (get_or bytes n 0)
 
 -- before each place no more breaks start than bytes stand there, as the search takes it
 pub starts_bound : (bytes : List ℕ) (n : ℕ) → breaks_before bytes n ≤ n

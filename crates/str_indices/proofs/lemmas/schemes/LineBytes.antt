@@ -15,16 +15,12 @@ use Rattle.str_indices.proofs.lemmas.texts.Ends.{end_weight, end_count_total, cu
 use Rattle.str_indices.proofs.lemmas.texts.Seams.{lines_has_return}
 use Rattle.str_indices.proofs.lemmas.texts.EndSets.{end_at_reached}
 use Rattle.str_indices.proofs.lemmas.bytes.Sums.{sum_below-le, sum_below-le-sum_below}
-use Rattle.str_indices.specs.TraitLaws.{flag-le}
+use Rattle.str_indices.specs.TraitLaws.{break_at-le}
 use Rattle.str_indices.proofs.lemmas.bytes.Characters.{by_size}
 use Rattle.str_indices.proofs.lemmas.bytes.Walks.{AddsAtFirst, size-chars, size-cut, walk_to_boundary}
 use Rattle.str_indices.proofs.lemmas.bytes.BoundaryBytes.{boundary_of_cut, cut_boundary, wide_behind_cut}
 use Rattle.str_indices.proofs.lemmas.bytes.EndBytes.{adds_breaks, ends_by_walk, breaks_of_cut_text, feed_at_middle}
 use Rattle.str_indices.proofs.lemmas.passes.Passes.{counting_pass}
-
--- a break at most at each byte
-pub break_at-le : (bytes : List ℕ) (j : ℕ) → break_at bytes j ≤ 1
-break_at-le bytes j = flag-le (is_break (get_or bytes j 0) (get_or bytes (1 + j) 0) (get_or bytes (2 + j) 0))
 
 -- no more breaks than bytes are counted
 pub breaks_counted_before-le : (bytes : List ℕ) (n : ℕ) → breaks_counted_before bytes n ≤ n

@@ -1,7 +1,7 @@
 use Rattle.std.proofs.Common.{◌≡◌, take, inl, inr, add-one, arith, ap}
 use Rattle.std.proofs.lemmas.Bool.{cases_Bool, cases_lt}
 use Rattle.str_indices.specs.Breaks.{breaks_counted_before, break_at}
-use Rattle.str_indices.proofs.lemmas.schemes.LineBytes.{break_at-le}
+use Rattle.str_indices.specs.TraitLaws.{break_at-le}
 use Rattle.str_indices.proofs.lemmas.passes.Costs.{then_, weaken}
 use Rattle.str_indices.proofs.lines.count_breaks_up_to.Goals as goal
 

@@ -2,11 +2,15 @@ use Rattle.std.proofs.Common.{◌≡◌, ◌≤◌, ◌+◌, length, inl, inr, a
 use Rattle.std.proofs.lemmas.Bool.{cases_lt}
 use Rattle.std.proofs.Math.Nat.{one-mul}
 use Rattle.str_indices.specs.Bytes.{passing_before, is_line_feed}
+use Rattle.str_indices.proofs.lemmas.bytes.Sums.{passing_fits}
 use Rattle.str_indices.proofs.lemmas.schemes.LineFeedBytes.{line_begins}
 use Rattle.str_indices.proofs.lemmas.passes.Costs.{loads_to_place}
 use Rattle.str_indices.proofs.lemmas.passes.Passes.{placing_pass}
 use Rattle.str_indices.proofs.lemmas.passes.Places.{first_of_all, place_is_near}
 use Rattle.str_indices.proofs.lines_lf.to_byte_idx_impl.Goals as goal
+
+pub skip_chunks-requires-2-clause-fits : goal.skip_chunks-requires-2-clause-fits
+skip_chunks-requires-2-clause-fits g c = passing_fits is_line_feed c.skip_chunks.new.probe.text
 
 pub returns-then-led-idx-clause-answer : goal.returns-then-led-idx-clause-answer
 returns-then-led-idx-clause-answer g c =

@@ -2,10 +2,15 @@ use Rattle.std.proofs.Common.{◌<◌, ◌+◌, arith, ◌∙◌}
 use Rattle.std.proofs.Math.Nat.{one-mul}
 use Rattle.str_indices.specs.Bytes.{units_before}
 use Rattle.str_indices.proofs.lemmas.schemes.CharBytes.{end_is_near}
-use Rattle.str_indices.proofs.lemmas.schemes.UnitBytes.{unit_reached, units_count_leading}
+use Rattle.str_indices.proofs.lemmas.schemes.UnitBytes.{unit_reached, units_count_leading, units_fit}
 use Rattle.str_indices.proofs.lemmas.passes.Costs.{loads_to_place}
 use Rattle.str_indices.proofs.lemmas.passes.Passes.{placing_pass}
 use Rattle.str_indices.proofs.utf16.to_byte_idx_impl.Goals as goal
+
+pub skip_chunks-requires-clause-fits : goal.skip_chunks-requires-clause-fits
+skip_chunks-requires-clause-fits g c =
+    let before = c.skip_surely-surely.ensures.reads.text_kept ∙ c.walk_to_unit-led.ensures.reads.text_kept in
+    rw before (units_fit c.args.probe.now.text c.len-len.ensures.utf8)
 
 pub returns-then-led-first_chunk-clause-answer : goal.returns-then-led-first_chunk-clause-answer
 returns-then-led-first_chunk-clause-answer g c =

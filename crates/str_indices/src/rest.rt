@@ -1,0 +1,71 @@
+//! Counts over the bytes behind the last whole chunk, all at once.
+//!
+//! One by one they would take a branch each, and where they end no processor foresees: of a short text that is most of
+//! the time. So the last bytes of a text are put into a chunk, whose first lanes are then left out.
+ghost use Rattle.std.specs.Prelude.{◌≡◌, ◌+◌, ◌-◌, ◌≤◌, ◌++◌, length, take, drop, replicate};
+ghost use Rattle.std.specs.Simd.Lanes.{Each1};
+ghost use Rattle.str_indices.specs.Bytes.{sum_below};
+ghost use Rattle.str_indices.specs.Lanes.{FitsIn};
+ghost use Rattle.str_indices.specs.Reads.{Reads};
+
+use crate::chunk_counts::LaneCounts;
+use crate::places::Position;
+use byte_chunk::{ByteChunk, Probe};
+
+/// No chunk has more lanes.
+const MOST_LANES: usize = 64;
+
+/// For each lane that is left out 0, and then for each that is kept a byte with all bits set.
+static LEFT_OUT_AND_KEPT: [[u8; MOST_LANES]; 2] = [[0; MOST_LANES], [0xFF; MOST_LANES]];
+
+/// Counts on from a position to `end`, over no more bytes than a chunk has, for one turn a lane.
+///
+/// Of the text the bytes before `end` are seen, and they are no fewer than a chunk has. Those before the position are
+/// counted already: their lanes are left out.
+pub(crate) fn count_rest<C: LaneCounts<T>, T: ByteChunk>(
+    probe: &mut Probe<'_, T>,
+    from: Position,
+    end: usize,
+) -> usize
+    requires long { T.SIZE ≤ end }
+    requires near { (from.byte ≤ end) × (end ≤ from.byte + T.SIZE) }
+    requires within { end ≤ length probe.old.text }
+    requires fits { FitsIn (sum_below (C.counted_at end probe.old.text)) (length probe.old.text) }
+    requires counted { from.count ≡ sum_below (C.counted_at end probe.old.text) from.byte }
+    ensures counted { result ≡ sum_below (C.counted_at end probe.old.text) end }
+    ensures reads { Reads probe.old probe.new 0 T.SIZE 0 0 }
+{
+    prove!(end <= probe.len());
+    let first = end - T::SIZE;
+    let carry = C::carry_at(probe, first);
+    let chunk = chunk_by_turns(probe, first);
+    let lanes = C::count_lanes(probe, chunk, first, end, carry).lanes;
+    from.count + last_lanes(lanes, end - from.byte).sum_bytes()
+}
+
+/// The chunk at `at`, for one turn a byte.
+#[tactic(auto, using(crate::proofs::lemmas::lanes::Rest::byte_more))]
+fn chunk_by_turns<T: ByteChunk>(probe: &mut Probe<'_, T>, at: usize) -> T
+    requires { at + T.SIZE ≤ length probe.old.text }
+    ensures lanes { T.lanes result ≡ take T.SIZE (drop at probe.old.text) }
+    ensures turns { probe.new ≡ record probe.old { turns = probe.old.turns + T.SIZE } }
+{
+    prove!(T::SIZE <= probe.len() - at);
+    let mut bytes = [0; MOST_LANES];
+    for i in 0..T::SIZE {
+        bytes[i] = probe.turn(at + i);
+    }
+    T::load(&bytes)
+}
+
+/// The last `n` lanes of a chunk of small numbers, and 0 in the lanes before them.
+fn last_lanes<T: ByteChunk>(lanes: T, n: usize) -> T
+    requires some { n ≤ T.SIZE }
+    requires long { length (T.lanes lanes) ≡ T.SIZE }
+    requires small { Each1 (λ lane. lane ≤ 2) (T.lanes lanes) }
+    ensures { T.lanes result ≡ replicate (T.SIZE - n) 0 ++ drop (T.SIZE - n) (T.lanes lanes) }
+{
+    let left_out = T::SIZE - n;
+    let kept = T::load(&LEFT_OUT_AND_KEPT.as_flattened()[MOST_LANES - left_out..]);
+    lanes.bitand(kept)
+}
