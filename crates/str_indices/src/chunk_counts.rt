@@ -69,14 +69,16 @@ pub(crate) struct Reached<C> {
     pub(crate) carry: C,
 }
 
-/// Counts in the whole chunks from a position on that end at or before `end`.
-pub(crate) fn count_chunks<C: LaneCounts<T>, T: ByteChunk, const GROUP: usize>(
-    probe: &mut Probe<'_, T>,
-    from: Position,
-    end: usize,
-    mut carry: C::Carry,
-) -> Reached<C::Carry>
-    requires some { 0 < GROUP }
+/// Counts in the whole chunks from a position on that end at or before `end`: in rounds, and in a last one of what is left.
+///
+/// A round adds groups of `GROUP` chunks, and the last one, which is all of a short text, groups of `LAST_GROUP`.
+pub(crate) fn count_chunks<
+    C: LaneCounts<T>,
+    T: ByteChunk,
+    const GROUP: usize,
+    const LAST_GROUP: usize,
+>(probe: &mut Probe<'_, T>, from: Position, end: usize, mut carry: C::Carry) -> Reached<C::Carry>
+    requires some { (0 < GROUP) × (0 < LAST_GROUP) }
     requires ordered { from.byte ≤ end }
     requires within { end ≤ length probe.old.text }
     requires fits { FitsIn (sum_below (C.counted_at end probe.old.text)) (length probe.old.text) }
@@ -87,35 +89,38 @@ pub(crate) fn count_chunks<C: LaneCounts<T>, T: ByteChunk, const GROUP: usize>(
     ensures carried { C.carries probe.old.text result.at.byte result.carry }
     ensures reads { Reads probe.old probe.new from.byte 0 ((result.at.byte - from.byte) / T.SIZE) 0 }
 {
+    let most = chunks_of_round::<C, T, GROUP>();
     let mut at = from;
-    'rounds: while T::SIZE <= end - at.byte {
-        let round = count_round::<C, T, GROUP>(probe, at, end, carry);
+    'rounds: while most * T::SIZE <= end - at.byte {
+        let round = count_round::<C, T, GROUP>(probe, at, most, end, carry);
         at = round.at;
         carry = round.carry;
     }
-    Reached { at, carry }
+    let left = (end - at.byte) / T::SIZE;
+    count_round::<C, T, LAST_GROUP>(probe, at, left, end, carry)
 }
 
-/// Counts in at most so many of these chunks that their lanes can be added and summed once.
+/// Counts in so many of these chunks, of which a round may have as many.
 fn count_round<C: LaneCounts<T>, T: ByteChunk, const GROUP: usize>(
     probe: &mut Probe<'_, T>,
     from: Position,
+    chunks: usize,
     end: usize,
     carry: C::Carry,
 ) -> Reached<C::Carry>
     requires some { 0 < GROUP }
-    requires room { from.byte + T.SIZE ≤ end }
+    requires summable { chunks * C.MOST ≤ T.MAX_ACC }
+    requires room { from.byte + chunks * T.SIZE ≤ end }
     requires within { end ≤ length probe.old.text }
     requires fits { FitsIn (sum_below (C.counted_at end probe.old.text)) (length probe.old.text) }
     requires counted { from.count ≡ sum_below (C.counted_at end probe.old.text) from.byte }
     requires carried { C.carries probe.old.text from.byte carry }
-    ensures reached { (from.byte < result.at.byte) × (result.at.byte ≤ end) }
+    ensures reached { result.at.byte ≡ from.byte + chunks * T.SIZE }
     ensures counted { result.at.count ≡ sum_below (C.counted_at end probe.old.text) result.at.byte }
     ensures carried { C.carries probe.old.text result.at.byte result.carry }
     ensures reads { Reads probe.old probe.new from.byte 0 ((result.at.byte - from.byte) / T.SIZE) 0 }
 {
     prove!(end <= probe.len());
-    let chunks = chunks_of_round::<C, T, GROUP>(end - from.byte);
     let added = add_in_groups::<C, T, GROUP>(probe, from.byte, chunks, end, carry);
     Reached {
         at: Position {
@@ -126,22 +131,20 @@ fn count_round<C: LaneCounts<T>, T: ByteChunk, const GROUP: usize>(
     }
 }
 
-/// How many chunks are added in a round, where so many bytes are left: so few that what they count in a lane can be
-/// summed, and no part of a group unless not even one fits.
-fn chunks_of_round<C: LaneCounts<T>, T: ByteChunk, const GROUP: usize>(left: usize) -> usize
-    requires some { 0 < GROUP }
-    requires room { T.SIZE ≤ left }
+/// The most chunks that a round has: so few that what they count in a lane can be summed, and no part of a group unless
+/// not even one fits.
+fn chunks_of_round<C: LaneCounts<T>, T: ByteChunk, const GROUP: usize>() -> usize
+    requires { 0 < GROUP }
     ensures some { 0 < result }
-    ensures within { result * T.SIZE ≤ left }
+    ensures few { result ≤ 255 }
     ensures summable { result * C.MOST ≤ T.MAX_ACC }
 {
     let fitting = T::MAX_ACC / C::MOST;
-    let most = if fitting < GROUP {
+    if fitting < GROUP {
         fitting
     } else {
         fitting / GROUP * GROUP
-    };
-    (left / T::SIZE).min(most)
+    }
 }
 
 /// Skips groups of `GROUP` chunks from a position on, while fewer than the index are counted before their end and at least

@@ -11,8 +11,10 @@ use crate::rest::count_rest;
 use byte_chunk::{ByteChunk, Probe};
 use std::marker::PhantomData;
 
-/// How many chunks are added in one step.
-const GROUP: usize = 8;
+/// How many chunks are added in one step of a round, and of the last one.
+const GROUP: usize = 16;
+
+const LAST_GROUP: usize = 8;
 
 /// The weights of the first `end` bytes, of which `lead` are walked one by one before the first chunk.
 #[tactic(auto, using(crate::proofs::lemmas::passes::Passes::counting_pass))]
@@ -32,7 +34,7 @@ pub(crate) fn count_weights<B: ByteWeight, T: ByteChunk>(
     if end < T::SIZE {
         return count_in_bytes::<B, T>(probe, led, end).count;
     }
-    let chunked = count_chunks::<Weights<B>, T, GROUP>(probe, led, end, ()).at;
+    let chunked = count_chunks::<Weights<B>, T, GROUP, LAST_GROUP>(probe, led, end, ()).at;
     count_rest::<Weights<B>, T>(probe, chunked, end)
 }
 
@@ -93,11 +95,11 @@ pub(crate) fn skip_surely<B: ByteWeight, T: ByteChunk>(
     let mut at = from;
     'rounds: loop {
         let chunks = sure_chunks::<T>(idx - at.count, len - at.byte);
-        if chunks < GROUP {
+        if chunks < LAST_GROUP {
             break;
         }
         let end = at.byte + chunks * T::SIZE;
-        at = count_chunks::<Weights<B>, T, GROUP>(probe, at, end, ()).at;
+        at = count_chunks::<Weights<B>, T, GROUP, LAST_GROUP>(probe, at, end, ()).at;
     }
     at
 }
