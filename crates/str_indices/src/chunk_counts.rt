@@ -69,9 +69,10 @@ pub(crate) struct Reached<C> {
     pub(crate) carry: C,
 }
 
-/// Counts in the whole chunks from a position on that end at or before `end`: in rounds, and in a last one of what is left.
+/// Counts in the whole chunks from a position on that end at or before `end`, in rounds of as many chunks as fit and in a
+/// last round of what is left.
 ///
-/// A round adds groups of `GROUP` chunks, and the last one, which is all of a short text, groups of `LAST_GROUP`.
+/// The last one, in which a short text has all its chunks, adds them in groups of `LAST_GROUP`, and the others of `GROUP`.
 pub(crate) fn count_chunks<
     C: LaneCounts<T>,
     T: ByteChunk,

@@ -11,9 +11,10 @@ use crate::rest::count_rest;
 use byte_chunk::{ByteChunk, Probe};
 use std::marker::PhantomData;
 
-/// How many chunks are added in one step of a round, and of the last one.
+/// How many chunks are added in one step.
 const GROUP: usize = 16;
 
+/// How many are in the last round, in which a short text has all its chunks.
 const LAST_GROUP: usize = 8;
 
 /// The weights of the first `end` bytes, of which `lead` are walked one by one before the first chunk.
