@@ -1,7 +1,7 @@
 -- What the laws of the traits of this crate rest on.
---     flag-le b            a flag is at most 1
---     mark-le test b       a byte marks 1 at most
---     units_begun-le b     a byte begins 2 UTF-16 code units at most
+--     flag-le b                a flag is at most 1
+--     mark-le test b           a byte marks 1 at most
+--     units_begun-le b         a byte begins 2 UTF-16 code units at most
 --     break_start-le bytes n   at each place one break of `Crlf` starts at most
 --     break_at-le bytes n      at each byte one break of `Lines` is counted at most
 use Rattle.std.specs.Prelude.{ℕ, ◌+◌, ◌≤◌, Bool, true, false, List, slice_index}

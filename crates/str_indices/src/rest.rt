@@ -44,7 +44,6 @@ pub(crate) fn count_rest<C: LaneCounts<T>, T: ByteChunk>(
 }
 
 /// The chunk at `at`, for one turn a byte.
-#[tactic(auto, using(crate::proofs::lemmas::lanes::Rest::byte_more))]
 fn chunk_by_turns<T: ByteChunk>(probe: &mut Probe<'_, T>, at: usize) -> T
     requires { at + T.SIZE ≤ length probe.old.text }
     ensures lanes { T.lanes result ≡ take T.SIZE (drop at probe.old.text) }

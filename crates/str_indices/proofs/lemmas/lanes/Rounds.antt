@@ -1,14 +1,14 @@
 -- Lanes that hold what is counted in chunks are added, chunk after chunk, and summed once.
-use Rattle.std.proofs.Common.{◌≡◌, ℕ, ◌+◌, ◌*◌, ◌≤◌, List, [], ◌∷◌, map, take, drop, length, get_or, refl, arith, replicate}
+use Rattle.std.proofs.Common.{◌≡◌, ℕ, ◌+◌, ◌*◌, ◌≤◌, List, [], ◌∷◌, length, refl, arith, replicate}
 use Rattle.std.specs.Prelude.{sum}
 use Rattle.std.specs.Simd.Lanes.{zip2, Each1, Each2}
 use Rattle.std.proofs.lemmas.List.{length-replicate}
 use Rattle.std.proofs.lemmas.List.Folds.{sum_by-replicate}
 use Rattle.std.proofs.lemmas.List.Sums.{sum_by-cons}
 use Rattle.std.proofs.lemmas.Simd.{Each1-replicate, Each1-weaker, Each1-zip2, Each2-of, length-zip2}
-use Rattle.str_indices.specs.Bytes.{sum_below, weight_before}
+use Rattle.str_indices.specs.Bytes.{sum_below}
 use Rattle.str_indices.specs.Lanes.{AddsUp, HasLanes}
-use Rattle.str_indices.proofs.lemmas.lanes.Lanes.{Each1-lanes, lanes_loaded, sum_below-chunk}
+use Rattle.str_indices.proofs.lemmas.lanes.Lanes.{Each1-lanes, sum_below-chunk}
 
 -- the sum of lanes that were added two by two
 sum-zip2 : (xs ys : List ℕ) → length xs ≡ length ys → sum (zip2 (λ a b. a + b) xs ys) ≡ sum xs + sum ys
@@ -59,11 +59,3 @@ lanes_of_places f {most} {size} {at} few h = record {
   small = Each1-lanes (λ lane. lane ≤ 1 * most) h (λ j l. omega (arith, few (at + j)));
   added = sum_below-chunk f at h;
 }
-
--- the lanes of one chunk that was loaded from a text, each with its byte's weight
-pub lanes_of_weights : (weight : ℕ → ℕ) (text : List ℕ) {most size at : ℕ} {loaded lanes : List ℕ} → ((b : ℕ) → weight b ≤ most)
-    → at + size ≤ length text → loaded ≡ take size (drop at text) → lanes ≡ map weight loaded
-    → AddsUp (weight_before weight text) most size at (at + size) 1 lanes
-lanes_of_weights weight text {size = size} {at = at} few within taken mapped =
-    lanes_of_places (λ j. weight (get_or text j 0)) (λ j. few (get_or text j 0))
-    (lanes_loaded weight text at size within taken mapped)
