@@ -13,6 +13,7 @@ import sys
 import tempfile
 
 from crate_copies import ROOT, copy_crate
+from tally import Tally
 
 CASES = ROOT / "must-not-compile"
 
@@ -51,16 +52,13 @@ def try_all(cases, folder):
 
 
 def main():
-    passed = failed = 0
+    tally = Tally()
     for cases in sorted(CASES.iterdir()):
         with tempfile.TemporaryDirectory() as folder:
             for name, right, output in try_all(cases, pathlib.Path(folder)):
-                passed, failed = passed + right, failed + (not right)
-                print(f"must-not-compile {cases.name} {name}: {'as wanted' if right else 'NOT as wanted'}", flush=True)
-                if not right:
+                if not tally.result(right, f"must-not-compile {cases.name} {name}"):
                     print(output)
-    print(f"{passed} passed, {failed} failed")
-    return 0 if failed == 0 else 1
+    return tally.end()
 
 
 if __name__ == "__main__":

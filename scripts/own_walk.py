@@ -21,6 +21,7 @@ import sys
 import tempfile
 
 from crate_copies import ROOT, copy_crate
+from tally import Tally
 
 CASES = ROOT / "own-walk"
 COPIES = 4
@@ -133,15 +134,12 @@ def try_all(cases, folder):
 
 
 def main():
-    passed = failed = 0
+    tally = Tally()
     for cases in sorted(CASES.iterdir()):
         with tempfile.TemporaryDirectory() as folder:
             for name, right, said in try_all(cases, pathlib.Path(folder)):
-                passed, failed = passed + right, failed + (not right)
-                verdict = "as wanted" if right else "NOT as wanted"
-                print(f"own-walk {cases.name} {name}: {verdict}: {said}", flush=True)
-    print(f"{passed} passed, {failed} failed")
-    return 0 if failed == 0 else 1
+                tally.result(right, f"own-walk {cases.name} {name}: {said}")
+    return tally.end()
 
 
 if __name__ == "__main__":

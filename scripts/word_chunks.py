@@ -10,6 +10,8 @@ import pathlib
 import re
 import sys
 
+from tally import Tally
+
 ROOT = pathlib.Path(__file__).resolve().parent.parent
 
 # the chunk types that are numbers, each in a file of its own
@@ -51,27 +53,20 @@ def faults(text):
 
 
 def main():
-    passed, failed = 0, 0
-
-    def result(right, line):
-        nonlocal passed, failed
-        passed, failed = passed + right, failed + (not right)
-        print(f"{'ok' if right else 'FAILED'}: {line}")
-
+    tally = Tally()
     texts = {path: path.read_text(encoding="utf-8") for path in sorted(ROOT.glob("crates/*/src/**/*.rt"))}
     files = [path for path, text in texts.items() if IMPL.search(text)]
     types = [IMPL.findall(texts[path]) for path in files]
-    result(sorted(types) == [[number] for number in NUMBERS], f"a file each has the chunks that are numbers: {types}")
+    tally.result(sorted(types) == [[number] for number in NUMBERS], f"a file each has the chunks that are numbers: {types}")
     for path in files:
         name = path.relative_to(ROOT)
         text = texts[path]
         found = faults(text)
-        result(not found, f"{name} works on all lanes at once" + "".join(f", but has {fault}" for fault in found))
+        tally.result(not found, f"{name} works on all lanes at once" + "".join(f", but has {fault}" for fault in found))
         for what, line in FAULTS:
             edited = text.replace(FIRST_LINE, FIRST_LINE + line)
-            result(edited != text and bool(faults(edited)), f"{name} with {what} is refused")
-    print(f"{passed} passed, {failed} failed")
-    return 1 if failed else 0
+            tally.result(edited != text and bool(faults(edited)), f"{name} with {what} is refused")
+    return tally.end()
 
 
 if __name__ == "__main__":

@@ -38,8 +38,8 @@ fn check_target() -> Result<(), String> {
 /// Where the library is: in the folder that was named, else where this repository builds it, else where it is
 /// installed; and where it is nowhere, it is built.
 fn library_folder() -> Result<PathBuf, String> {
-    if let Some(named) = env::var_os(LIBRARY_FOLDER) {
-        let folder = PathBuf::from(named);
+    let named = env::var_os(LIBRARY_FOLDER).filter(|folder| !folder.is_empty());
+    if let Some(folder) = named.map(PathBuf::from) {
         return if has_library(&folder) {
             Ok(folder)
         } else {

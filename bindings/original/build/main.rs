@@ -14,7 +14,8 @@ fn main() {
     println!("cargo::rerun-if-env-changed={VARIABLE}");
     println!("cargo::rustc-check-cfg=cfg(original_at_hand)");
     let out = PathBuf::from(env::var_os("OUT_DIR").expect("cargo sets OUT_DIR"));
-    let original = env::var_os(VARIABLE).map(PathBuf::from);
+    let named = env::var_os(VARIABLE).filter(|folder| !folder.is_empty());
+    let original = named.map(PathBuf::from);
     let tests = match &original {
         Some(folder) => {
             check(folder);
