@@ -78,17 +78,16 @@ pub(crate) fn count_chunks<
     T: ByteChunk,
     const GROUP: usize,
     const LAST_GROUP: usize,
->(probe: &mut Probe<'_, T>, from: Position, end: usize, mut carry: C::Carry) -> Reached<C::Carry>
+>(probe: &mut Probe<'_, T>, from: Position, end: usize, mut carry: C::Carry) -> Position
     requires some { (0 < GROUP) × (0 < LAST_GROUP) }
     requires ordered { from.byte ≤ end }
     requires within { end ≤ length probe.old.text }
     requires fits { FitsIn (sum_below (C.counted_at end probe.old.text)) (length probe.old.text) }
     requires counted { from.count ≡ sum_below (C.counted_at end probe.old.text) from.byte }
     requires carried { C.carries probe.old.text from.byte carry }
-    ensures reached { (from.byte ≤ result.at.byte) × (result.at.byte ≤ end) × (end < result.at.byte + T.SIZE) }
-    ensures counted { result.at.count ≡ sum_below (C.counted_at end probe.old.text) result.at.byte }
-    ensures carried { C.carries probe.old.text result.at.byte result.carry }
-    ensures reads { Reads probe.old probe.new from.byte 0 ((result.at.byte - from.byte) / T.SIZE) 0 }
+    ensures reached { (from.byte ≤ result.byte) × (result.byte ≤ end) × (end < result.byte + T.SIZE) }
+    ensures counted { result.count ≡ sum_below (C.counted_at end probe.old.text) result.byte }
+    ensures reads { Reads probe.old probe.new from.byte 0 ((result.byte - from.byte) / T.SIZE) 0 }
 {
     let most = chunks_of_round::<C, T, GROUP>();
     let mut at = from;
@@ -98,7 +97,7 @@ pub(crate) fn count_chunks<
         carry = round.carry;
     }
     let left = (end - at.byte) / T::SIZE;
-    count_round::<C, T, LAST_GROUP>(probe, at, left, end, carry)
+    count_round::<C, T, LAST_GROUP>(probe, at, left, end, carry).at
 }
 
 /// Counts in so many of these chunks, of which a round may have as many.

@@ -35,7 +35,7 @@ pub(crate) fn count_weights<B: ByteWeight, T: ByteChunk>(
     if end < T::SIZE {
         return count_in_bytes::<B, T>(probe, led, end).count;
     }
-    let chunked = count_chunks::<Weights<B>, T, GROUP, LAST_GROUP>(probe, led, end, ()).at;
+    let chunked = count_chunks::<Weights<B>, T, GROUP, LAST_GROUP>(probe, led, end, ());
     count_rest::<Weights<B>, T>(probe, chunked, end)
 }
 
@@ -100,7 +100,7 @@ pub(crate) fn skip_surely<B: ByteWeight, T: ByteChunk>(
             break;
         }
         let end = at.byte + chunks * T::SIZE;
-        at = count_chunks::<Weights<B>, T, GROUP, LAST_GROUP>(probe, at, end, ()).at;
+        at = count_chunks::<Weights<B>, T, GROUP, LAST_GROUP>(probe, at, end, ());
     }
     at
 }

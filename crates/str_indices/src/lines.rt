@@ -77,7 +77,7 @@ pub fn count_breaks_impl<T: ByteChunk>(probe: &mut Probe<'_, T>, end: usize, lea
     if end < T::SIZE {
         return count_breaks_up_to(probe, led, end, end, usize::MAX).count;
     }
-    let chunked = count_chunks::<LineBreaks, T, GROUP, GROUP>(probe, led, end, ()).at;
+    let chunked = count_chunks::<LineBreaks, T, GROUP, GROUP>(probe, led, end, ());
     count_rest::<LineBreaks, T>(probe, chunked, end)
 }
 

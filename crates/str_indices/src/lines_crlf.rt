@@ -74,7 +74,7 @@ pub fn count_breaks_impl<T: ByteChunk>(probe: &mut Probe<'_, T>, end: usize, lea
         return count_in_bytes(probe, led.at, end, led.carry).at.count;
     }
     let returns = T::splat(u8::from(led.carry));
-    let chunked = count_chunks::<BreakStarts, T, GROUP, GROUP>(probe, led.at, end, returns).at;
+    let chunked = count_chunks::<BreakStarts, T, GROUP, GROUP>(probe, led.at, end, returns);
     count_rest::<BreakStarts, T>(probe, chunked, end)
 }
 

@@ -20,8 +20,7 @@ static LEFT_OUT_AND_KEPT: [[u8; MOST_LANES]; 2] = [[0; MOST_LANES], [0xFF; MOST_
 
 /// Counts on from a position to `end`, over no more bytes than a chunk has, for one turn a lane.
 ///
-/// Of the text the bytes before `end` are seen, and they are no fewer than a chunk has. Those before the position are
-/// counted already: their lanes are left out.
+/// Of the text the bytes before `end` are seen, and they are no fewer than a chunk has.
 pub(crate) fn count_rest<C: LaneCounts<T>, T: ByteChunk>(
     probe: &mut Probe<'_, T>,
     from: Position,
@@ -36,11 +35,27 @@ pub(crate) fn count_rest<C: LaneCounts<T>, T: ByteChunk>(
     ensures reads { Reads probe.old probe.new 0 T.SIZE 0 0 }
 {
     prove!(end <= probe.len());
+    from.count + sum_rest::<C, T>(probe, from.byte, end)
+}
+
+/// What is counted from a place on to `end`, by the last chunk before `end`: its lanes before that place, which are
+/// counted already, are left out.
+fn sum_rest<C: LaneCounts<T>, T: ByteChunk>(
+    probe: &mut Probe<'_, T>,
+    from: usize,
+    end: usize,
+) -> usize
+    requires long { T.SIZE ≤ end }
+    requires near { (from ≤ end) × (end ≤ from + T.SIZE) }
+    requires within { end ≤ length probe.old.text }
+    ensures sum { let before = sum_below (C.counted_at end probe.old.text) in before end ≡ before from + result }
+    ensures reads { Reads probe.old probe.new 0 T.SIZE 0 0 }
+{
     let first = end - T::SIZE;
     let carry = C::carry_at(probe, first);
     let chunk = chunk_by_turns(probe, first);
     let lanes = C::count_lanes(probe, chunk, first, end, carry).lanes;
-    from.count + last_lanes(lanes, end - from.byte).sum_bytes()
+    last_lanes(lanes, end - from).sum_bytes()
 }
 
 /// The chunk at `at`, for one turn a byte.

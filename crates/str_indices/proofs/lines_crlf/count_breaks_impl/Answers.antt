@@ -9,6 +9,6 @@ returns-then-end-SIZE-clause-count g c =
 
 pub returns-clause-count : goal.returns-clause-count
 returns-clause-count g c =
-    let same = c.count_chunks.ensures.reads.text_kept ∙ c.count_in_bytes-led.ensures.reads.text_kept in
+    let same = c.count_chunks-chunked.ensures.reads.text_kept ∙ c.count_in_bytes-led.ensures.reads.text_kept in
     let counted = rw same at c.count_rest.ensures.counted in
     omega (arith, counted, breaks_of_cut c.args.probe.now.text c.len.ensures.utf8 c.args.end c.requires.within)
