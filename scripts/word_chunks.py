@@ -57,7 +57,8 @@ def main():
     texts = {path: path.read_text(encoding="utf-8") for path in sorted(ROOT.glob("crates/*/src/**/*.rt"))}
     files = [path for path, text in texts.items() if IMPL.search(text)]
     types = [IMPL.findall(texts[path]) for path in files]
-    tally.result(sorted(types) == [[number] for number in NUMBERS], f"a file each has the chunks that are numbers: {types}")
+    right = sorted(types) == [[number] for number in NUMBERS]
+    tally.result(right, f"a file each has the chunks that are numbers: {types}")
     for path in files:
         name = path.relative_to(ROOT)
         text = texts[path]
