@@ -1,4 +1,4 @@
-"""Copies of a crate and of all that it stands on, in a repository of their own, for a script that changes them."""
+"""Copies of crates and of all that they stand on, in a repository of their own, for a script that changes them."""
 import pathlib
 import shutil
 import subprocess
@@ -6,11 +6,15 @@ import subprocess
 ROOT = pathlib.Path(__file__).resolve().parent.parent
 
 
+def crate_lines():
+    """The line of each crate in crates.txt, by the crate's name."""
+    lines = (ROOT / "crates.txt").read_text(encoding="utf-8").splitlines()
+    return {line.split()[0].rstrip(":"): line for line in lines if ":" in line and not line.startswith("#")}
+
+
 def stands_on():
     """Each crate of crates.txt, with the crates that its line names."""
-    lines = (ROOT / "crates.txt").read_text(encoding="utf-8").splitlines()
-    pairs = (line.split(":", 1) for line in lines if ":" in line and not line.startswith("#"))
-    return {names.split()[0]: below.split() for names, below in pairs}
+    return {name: line.partition(":")[2].split() for name, line in crate_lines().items()}
 
 
 def with_all_below(name, below):
@@ -19,14 +23,20 @@ def with_all_below(name, below):
     return list(dict.fromkeys([*crates, name]))
 
 
-def copy_crate(name, folder, *more_lines):
-    """Copies the crate and all below it into the folder, with their lines of crates.txt and more; answers where it is."""
+def copy_crates(names, folder, *more_lines, root=ROOT, left_out=("must-fail",)):
+    """Copies the crates and all below them into the folder, with their lines of crates.txt and more."""
     below = stands_on()
-    crates = with_all_below(name, below)
+    crates = dict.fromkeys(crate for name in names for crate in with_all_below(name, below))
     for crate in crates:
-        left_out = shutil.ignore_patterns("must-fail")
-        shutil.copytree(ROOT / "crates" / crate, folder / "crates" / crate, ignore=left_out)
-    lines = [f"{crate}: {' '.join(below[crate])}\n" for crate in crates]
+        ignored = shutil.ignore_patterns(*left_out)
+        shutil.copytree(root / "crates" / crate, folder / "crates" / crate, ignore=ignored)
+    lines = [f"{crate_lines()[crate]}\n" for crate in crates]
     (folder / "crates.txt").write_text("".join([*lines, *more_lines]), encoding="utf-8")
+    shutil.copy(ROOT / "HANDLES", folder)
     subprocess.run(["git", "init", "-q", "."], cwd=folder, check=True)
+
+
+def copy_crate(name, folder, *more_lines, **how):
+    """Copies the crate and all below it, with their lines of crates.txt and more; answers where it is."""
+    copy_crates([name], folder, *more_lines, **how)
     return folder / "crates" / name

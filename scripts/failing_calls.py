@@ -1,15 +1,15 @@
 #!/usr/bin/env python3
 """Makes each allocation, read and write of the program fail, each in a run of its own.
 
-The built program runs over tests/c/failing_calls.c: each allocation is refused, alone and with all behind it; each read
-fails, is interrupted, or moves one byte; each write fails, is interrupted, or moves one byte or none. Then
-`rt try --fail-alloc`, which stops at an index out of bounds and at a bad access, refuses each allocation once more.
+The built program runs over tests/c/failing_calls.c: each allocation is refused, alone and with all after it; each read
+fails, is interrupted, or moves one byte; each write fails, is interrupted, or moves one byte or none. Then `rt try`
+builds the program once more, so that it stops at an index out of bounds and at a bad access, and refuses the last
+allocation of the longest text: a growth of what is read.
 
 A run must end in the fault's status and line, and nothing is written but a beginning of the answer where a write
-failed. It may end in the right answer where a call moved less, or where less memory was enough. It never ends in
-another number. The last line printed is 'N passed, M failed'.
+failed. It may end in the right answer where a call moved less, or where less memory was enough, but not where the last
+allocation is refused. It never ends in another number. The last line printed is 'N passed, M failed'.
 """
-import concurrent.futures
 import os
 import pathlib
 import re
@@ -24,7 +24,6 @@ from test_program import CRATE, NO_MEMORY, NOT_UTF8, PROGRAM, READ, USAGE, WRITE
 ROOT = pathlib.Path(__file__).resolve().parent.parent
 SOURCE = ROOT / "tests/c/failing_calls.c"
 COMPILER = ["cc", "-std=c99", "-Wall", "-Wextra", "-Werror", "-pedantic", "-O2", "-shared", "-fPIC"]
-RUNNERS = 2
 
 
 class Kind(typing.NamedTuple):
@@ -98,16 +97,16 @@ def allowed(case, one_byte, kind, at):
 
 
 def try_kind(library, case, one_byte, kind):
-    """How many calls there are, how many runs ended in the fault, and what was wrong."""
-    faults = 0
+    """How many calls there are, whether the run in which the last one fails ends in the fault, and what was wrong."""
+    at_last = False
     at = 1
     while True:
         came, ending = run_failing(library, case, one_byte, kind, at)
         if not came:
-            return at - 1, faults, "" if ending == case.right else f"with no fault {told(ending)}"
+            return at - 1, at_last, "" if ending == case.right else f"with no fault {told(ending)}"
         if ending not in allowed(case, one_byte, kind, at):
-            return at, faults, f"at call {at} {told(ending)}"
-        faults += ending != case.right
+            return at, at_last, f"at call {at} {told(ending)}"
+        at_last = ending != case.right
         at += 1
 
 
@@ -116,11 +115,11 @@ def try_case(tally, library, case, one_byte):
     counts = {}
     wrongs = []
     for kind in KINDS:
-        calls, faults, wrong = try_kind(library, case, one_byte, kind)
+        calls, at_last, wrong = try_kind(library, case, one_byte, kind)
         if (calls > 0) != (kind.functions in case.functions):
             wrong = wrong or "not as many calls as there should be"
-        if (faults > 0) != (calls > 0 and kind.fault is not None):
-            wrong = wrong or f"{faults} runs ended in the fault"
+        if at_last != (calls > 0 and kind.fault is not None):
+            wrong = wrong or f"at the last call {'the fault' if at_last else 'no fault'}"
         counts[kind.name] = calls
         wrongs += [f"{kind.name}: {wrong}"] if wrong else []
     how = "one byte a call" if one_byte else "each of these calls"
@@ -142,27 +141,18 @@ def endings_of(done):
     return endings
 
 
-def refuse(folder, at):
-    """How each case ends where `rt try` refuses the allocation of this number, and all that it prints."""
-    command = ["rt", "try", "--fail-alloc", str(at), "--cases", folder, "--", *COUNT]
-    done = subprocess.run(command, cwd=CRATE, capture_output=True, text=True)
-    return endings_of(done), done.stdout + done.stderr
-
-
-def try_allocations(tally, allocations):
-    """Each allocation that the longest run makes, of which the last is refused, and one more, which no run makes."""
-    right = {case.text_name: case.right for case in CASES if case.words == COUNT}
-    numbers = range(1, allocations + 2)
-    with tempfile.TemporaryDirectory() as folder, concurrent.futures.ThreadPoolExecutor(RUNNERS) as pool:
+def try_last_allocation(tally, at):
+    """The last allocation of the longest text is refused, in a run with checks, and so none of the other texts."""
+    wanted = {SHORT[1]: number(2), LONG[1]: NO_MEMORY, UNFINISHED[1]: NOT_UTF8}
+    with tempfile.TemporaryDirectory() as folder:
         for text, name in [SHORT, LONG, UNFINISHED]:
             (pathlib.Path(folder) / name).write_bytes(text)
-        for at, (endings, printed) in zip(numbers, pool.map(lambda at: refuse(folder, at), numbers)):
-            refused = [name for name, ending in endings.items() if ending == NO_MEMORY]
-            good = all(endings.get(name) in (NO_MEMORY, right[name]) for name in right)
-            good = good and (at != allocations or "long" in refused) and (at <= allocations or not refused)
-            line = f"rt try --fail-alloc {at}, out of memory: {', '.join(refused) or 'none'}"
-            if not tally.result(good, line):
-                print(printed)
+        command = ["rt", "try", "--fail-alloc", str(at), "--cases", folder, "--", *COUNT]
+        done = subprocess.run(command, cwd=CRATE, capture_output=True, text=True)
+    endings = endings_of(done)
+    line = "; ".join(f"{name} {told(ending)}" for name, ending in endings.items())
+    if not tally.result(endings == wanted, f"rt try --fail-alloc {at}: {line}"):
+        print(done.stdout + done.stderr)
 
 
 def main():
@@ -177,7 +167,7 @@ def main():
                 allocations = max(allocations, count if case.words == COUNT else 0)
                 if case.text != LONG[0]:
                     try_case(tally, library, case, one_byte=True)
-            try_allocations(tally, allocations)
+            try_last_allocation(tally, allocations)
     return tally.end()
 
 

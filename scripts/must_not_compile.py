@@ -1,9 +1,9 @@
 #!/usr/bin/env python3
 """Shows that some programs do not compile.
 
-Each folder must-not-compile/CRATE has a program over that crate that compiles, and edits of one line of it. The program
-must be proved as it stands, and each edited program must be refused with the compiler's own error that the edit names.
-Beside the program over `byte_chunk` lies a copy of the chunk type `Wide` of `idx`. The last line printed is
+Each folder refusals/must-not-compile/CRATE has a program over that crate that compiles, and edits of one line of it. The
+program must be proved as it stands, and each edited program must be refused with the compiler's own error that the edit
+names. Beside the program over `byte_chunk` lies a copy of the chunk type `Wide` of `idx`. The last line printed is
 'N passed, M failed'.
 """
 import pathlib
@@ -15,7 +15,7 @@ import tempfile
 from crate_copies import ROOT, copy_crate
 from tally import Tally
 
-CASES = ROOT / "must-not-compile"
+CASES = ROOT / "refusals/must-not-compile"
 
 # files of other crates that a program takes in
 BESIDE = {"byte_chunk": [ROOT / "crates/idx/src/wide.rt"]}

@@ -19,7 +19,8 @@ from tally import Tally
 
 ROOT = pathlib.Path(__file__).resolve().parent.parent
 NAMES = ["chromium", "chromium-browser", "google-chrome"]
-SECONDS = 120
+# no time is judged: a browser that hangs ends the script, also on a slow machine
+SECONDS = 600
 
 # where the page is opened: an example and the units that are selected, and what the rows of its table then say
 PAGES = {

@@ -16,7 +16,8 @@ from tally import Tally
 ROOT = pathlib.Path(__file__).resolve().parent.parent
 CRATE = ROOT / "crates/idx"
 PROGRAM = CRATE / "out/idx"
-SECONDS = 60
+# no time is judged: a program that hangs ends the script, also on a slow machine
+SECONDS = 600
 
 # four bytes, three characters and one break, so often in 64 MiB
 LINE = "é\r\n".encode()

@@ -1,5 +1,6 @@
 -- What stands in the lanes of a chunk, by their places.
 --     HasLanes size f lanes            there are `size` lanes, and f of its place in each
+--     HasLaterLanes size f lanes       there are `size` lanes, and f of its place in each but the first
 --     IsChunk bytes at size lanes      the lanes are the `size` bytes from `at` on
 --     AddsUp counted most size from to chunks lanes
 --                                      the lanes of so many chunks were added, and hold what is counted there
@@ -10,6 +11,10 @@ use Rattle.std.specs.Simd.Lanes.{Each1}
 pub record HasLanes (size : ℕ) (f : ℕ → ℕ) (lanes : List ℕ) : Type 0 where
   pub long : length lanes ≡ size
   pub each : (j : ℕ) → j < size → slice_index lanes j ≡ f j
+
+pub record HasLaterLanes (size : ℕ) (f : ℕ → ℕ) (lanes : List ℕ) : Type 0 where
+  pub long : length lanes ≡ size
+  pub each : (j : ℕ) → 0 < j → j < size → slice_index lanes j ≡ f j
 
 pub record IsChunk (bytes : List ℕ) (at size : ℕ) (lanes : List ℕ) : Type 0 where
   pub long : length lanes ≡ size

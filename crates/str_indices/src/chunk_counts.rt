@@ -3,7 +3,7 @@
 //! What hands lanes back is inlined, also where a function is long: else a chunk would go through memory each time.
 ghost use Rattle.std.specs.Prelude.{◌≡◌, ℕ, ◌+◌, ◌-◌, ◌*◌, ◌/◌, ◌<◌, ◌≤◌, ◌⊎◌, List, length, take, drop};
 ghost use Rattle.str_indices.specs.Bytes.{sum_below};
-ghost use Rattle.str_indices.specs.Lanes.{AddsUp, FitsIn, HasLanes};
+ghost use Rattle.str_indices.specs.Lanes.{AddsUp, FitsIn, HasLanes, HasLaterLanes};
 ghost use Rattle.str_indices.specs.Reads.{Reads};
 
 use crate::places::Position;
@@ -44,11 +44,16 @@ pub(crate) trait LaneCounts<T: ByteChunk> {
         ensures carried { carries probe.old.text (at + T.SIZE) result.carry }
         ensures reads { Reads probe.old probe.new 0 0 0 4 };
 
-    /// What a chunk before place `at` would hand on, by at most one peek.
-    fn carry_at(probe: &mut Probe<'_, T>, at: usize) -> Self::Carry
-        requires { at ≤ length probe.old.text }
-        ensures carried { carries probe.old.text at result }
-        ensures reads { Reads probe.old probe.new 0 0 0 1 };
+    /// Counts in each lane but the first of a chunk, which is the one at `at`, by at most four peeks.
+    ///
+    /// Of the text the bytes before `end` are seen. No chunk before hands anything on, and what the first lane holds is
+    /// open.
+    fn count_later_lanes(probe: &mut Probe<'_, T>, chunk: T, at: usize, end: usize) -> T
+        requires seen { at + T.SIZE ≤ end }
+        requires within { end ≤ length probe.old.text }
+        requires chunk { T.lanes chunk ≡ take T.SIZE (drop at probe.old.text) }
+        ensures lanes { HasLaterLanes T.SIZE (λ j. counted_at end probe.old.text (at + j)) (T.lanes result) }
+        ensures reads { Reads probe.old probe.new 0 0 0 4 };
 
     ghost at_most: { (end : ℕ) (text : List ℕ) (n : ℕ) → counted_at end text n ≤ MOST };
 

@@ -66,7 +66,9 @@ impl<B: ByteWeight, T: ByteChunk> LaneCounts<T> for Weights<B> {
         }
     }
 
-    fn carry_at(_probe: &mut Probe<'_, T>, _at: usize) {}
+    fn count_later_lanes(_probe: &mut Probe<'_, T>, chunk: T, _at: usize, _end: usize) -> T {
+        B::in_lanes(chunk)
+    }
 
     ghost at_most = { λ _ text n. B.bounded (slice_index text n) };
 

@@ -263,7 +263,10 @@ impl<T: ByteChunk> LaneCounts<T> for LineBreaks {
         }
     }
 
-    fn carry_at(_probe: &mut Probe<'_, T>, _at: usize) {}
+    #[inline(always)]
+    fn count_later_lanes(probe: &mut Probe<'_, T>, chunk: T, at: usize, end: usize) -> T {
+        count_breaks_in_chunk(probe, chunk, at, end)
+    }
 
     ghost at_most = { λ end text. break_at-le (take end text) };
 

@@ -12,7 +12,7 @@ ghost use Rattle.str_indices.specs.Reads.{Reads, leading_bytes, pass_turns, pass
 
 use crate::bytes::{CR, LF};
 use crate::chunk_counts::{CountedLanes, LaneCounts, Reached, count_chunks, skip_chunks};
-use crate::places::{Position, follows_carriage_return, is_not_crlf_middle};
+use crate::places::{Position, is_not_crlf_middle};
 use crate::rest::count_rest;
 use byte_chunk::{ByteChunk, Chunk, Probe};
 
@@ -202,8 +202,11 @@ impl<T: ByteChunk> LaneCounts<T> for BreakStarts {
         }
     }
 
-    fn carry_at(probe: &mut Probe<'_, T>, at: usize) -> T {
-        T::splat(u8::from(follows_carriage_return(probe, at)))
+    fn count_later_lanes(_probe: &mut Probe<'_, T>, chunk: T, _at: usize, _end: usize) -> T {
+        let feeds = chunk.cmp_eq_byte(LF);
+        let returns = chunk.cmp_eq_byte(CR);
+        let pairs = T::zero().shift_across(returns).bitand(feeds);
+        feeds.add(returns).sub(pairs)
     }
 
     ghost at_most = { λ _. break_start-le };

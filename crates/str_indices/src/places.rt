@@ -44,7 +44,7 @@ pub(crate) fn boundary_at_or_before<T: ByteChunk>(
 }
 
 /// Whether the byte before a place is CR, by one peek where there is such a byte.
-pub(crate) fn follows_carriage_return<T: ByteChunk>(probe: &mut Probe<'_, T>, at: usize) -> bool
+fn follows_carriage_return<T: ByteChunk>(probe: &mut Probe<'_, T>, at: usize) -> bool
     requires { at ≤ length probe.old.text }
     ensures follows { result ≡ is_carriage_return (byte_before probe.old.text at) }
     ensures reads { Reads probe.old probe.new 0 0 0 (min at 1) }

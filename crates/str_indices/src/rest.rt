@@ -2,7 +2,7 @@
 //!
 //! One by one they would take a branch each, and where they end no processor foresees: of a short text that is most of
 //! the time. So the last bytes of a text are put into a chunk, whose first lanes are then left out.
-ghost use Rattle.std.specs.Prelude.{◌≡◌, ◌+◌, ◌-◌, ◌≤◌, ◌++◌, length, take, drop, replicate};
+ghost use Rattle.std.specs.Prelude.{◌≡◌, ◌+◌, ◌-◌, ◌<◌, ◌≤◌, ◌++◌, length, take, drop, replicate};
 ghost use Rattle.std.specs.Simd.Lanes.{Each1};
 ghost use Rattle.str_indices.specs.Bytes.{sum_below};
 ghost use Rattle.str_indices.specs.Lanes.{FitsIn};
@@ -18,7 +18,7 @@ const MOST_LANES: usize = 64;
 /// For each lane that is left out 0, and then for each that is kept a byte with all bits set.
 static LEFT_OUT_AND_KEPT: [[u8; MOST_LANES]; 2] = [[0; MOST_LANES], [0xFF; MOST_LANES]];
 
-/// Counts on from a position to `end`, over no more bytes than a chunk has, for one turn a lane.
+/// Counts on from a position to `end`, over fewer bytes than a chunk has, for one turn a lane.
 ///
 /// Of the text the bytes before `end` are seen, and they are no fewer than a chunk has.
 pub(crate) fn count_rest<C: LaneCounts<T>, T: ByteChunk>(
@@ -27,7 +27,7 @@ pub(crate) fn count_rest<C: LaneCounts<T>, T: ByteChunk>(
     end: usize,
 ) -> usize
     requires long { T.SIZE ≤ end }
-    requires near { (from.byte ≤ end) × (end ≤ from.byte + T.SIZE) }
+    requires near { (from.byte ≤ end) × (end < from.byte + T.SIZE) }
     requires within { end ≤ length probe.old.text }
     requires fits { FitsIn (sum_below (C.counted_at end probe.old.text)) (length probe.old.text) }
     requires counted { from.count ≡ sum_below (C.counted_at end probe.old.text) from.byte }
@@ -39,22 +39,21 @@ pub(crate) fn count_rest<C: LaneCounts<T>, T: ByteChunk>(
 }
 
 /// What is counted from a place on to `end`, by the last chunk before `end`: its lanes before that place, which are
-/// counted already, are left out.
+/// counted already, are left out. The first lane always is, so that nothing need be handed on to it.
 fn sum_rest<C: LaneCounts<T>, T: ByteChunk>(
     probe: &mut Probe<'_, T>,
     from: usize,
     end: usize,
 ) -> usize
     requires long { T.SIZE ≤ end }
-    requires near { (from ≤ end) × (end ≤ from + T.SIZE) }
+    requires near { (from ≤ end) × (end < from + T.SIZE) }
     requires within { end ≤ length probe.old.text }
     ensures sum { let before = sum_below (C.counted_at end probe.old.text) in before end ≡ before from + result }
     ensures reads { Reads probe.old probe.new 0 T.SIZE 0 0 }
 {
     let first = end - T::SIZE;
-    let carry = C::carry_at(probe, first);
     let chunk = chunk_by_turns(probe, first);
-    let lanes = C::count_lanes(probe, chunk, first, end, carry).lanes;
+    let lanes = C::count_later_lanes(probe, chunk, first, end);
     last_lanes(lanes, end - from).sum_bytes()
 }
 
@@ -72,11 +71,11 @@ fn chunk_by_turns<T: ByteChunk>(probe: &mut Probe<'_, T>, at: usize) -> T
     T::load(&bytes)
 }
 
-/// The last `n` lanes of a chunk of small numbers, and 0 in the lanes before them.
+/// The last `n` lanes of a chunk, which are small numbers, and 0 in the lanes before them.
 fn last_lanes<T: ByteChunk>(lanes: T, n: usize) -> T
     requires some { n ≤ T.SIZE }
     requires long { length (T.lanes lanes) ≡ T.SIZE }
-    requires small { Each1 (λ lane. lane ≤ 2) (T.lanes lanes) }
+    requires small { Each1 (λ lane. lane ≤ 2) (drop (T.SIZE - n) (T.lanes lanes)) }
     ensures { T.lanes result ≡ replicate (T.SIZE - n) 0 ++ drop (T.SIZE - n) (T.lanes lanes) }
 {
     let left_out = T::SIZE - n;

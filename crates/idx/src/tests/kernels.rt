@@ -1,8 +1,13 @@
 //! The kernels over `Wide` beside the public functions, wherever chunks and leading bytes may end.
+ghost use Rattle.std.specs.Prelude.{◌≤◌, chars, length, IsTrue};
+ghost use Rattle.str_indices.specs.Relations.{IsBoundary};
+
+use super::assert_same;
 use crate::calls::Call;
 use crate::kernels::{ChunkType, Kernel};
 use crate::wide::Wide;
 use byte_chunk::Probe;
+use std::alloc::Global;
 use std::process::Abort;
 use std::test::Fail;
 use str_indices::{chars, laws, lines, lines_crlf, lines_lf, utf16};
@@ -61,13 +66,11 @@ fn calls(index: usize) -> [Call; 16] {
     ]
 }
 
-/// What the counting kernel of the call answers for the text before `end`, or `None` where the call is a conversion or
-/// `end` is inside a character.
-fn count_before(call: Call, text: &str, end: usize, lead: usize) -> Option<usize> {
-    if !text.is_char_boundary(end) {
-        return None;
-    }
-    laws::boundaries(text, end);
+/// What the counting kernel of the call answers for the text before `end`, or `None` where the call is a conversion.
+fn count_before(call: Call, text: &str, end: usize, lead: usize) -> Option<usize>
+    requires within { end ≤ length text.now }
+    requires boundary { IsBoundary (chars text.now) end }
+{
     let probe = &mut Probe::<Wide>::of(text);
     match call {
         Call::CharsCount => Some(chars::count_impl(probe, end, lead)),
@@ -80,34 +83,56 @@ fn count_before(call: Call, text: &str, end: usize, lead: usize) -> Option<usize
     }
 }
 
-/// Compares the kernel of the call with its public function: for all of the text, and, where it counts, for the text
-/// before `end` too.
-fn compare(rt: &impl Abort, call: Call, text: &str, end: usize) {
-    let whole = call.answer(text);
-    let front = text.get(..end).map(|front| call.answer(front));
+/// Whether a byte index of a text is between its characters, or at its beginning or end.
+fn is_boundary(text: &str, at: usize) -> bool
+    ensures within { IsTrue result → at ≤ length text.now }
+    ensures boundary { IsTrue result → IsBoundary (chars text.now) at }
+{
+    laws::boundaries(text, at);
+    text.is_char_boundary(at)
+}
+
+/// Compares the kernel of the call with its public function for all of the text.
+fn compare_whole(rt: &impl Abort, call: Call, text: &str, index: usize) {
+    let wanted = call.answer(text);
     for lead in LEADS {
-        let kernel = Kernel {
-            chunk: ChunkType::Wide,
-            lead,
-        };
-        assert_eq!(rt;
-            kernel.answer(call, text),
-            whole,
-            "{end} of {text:?} after {lead}"
-        );
-        let before = count_before(call, text, end, lead);
-        if before.is_some() {
-            assert_eq!(rt; before, front, "before {end} of {text:?} after {lead}");
+        let chunk = ChunkType::Wide;
+        let found = Kernel { chunk, lead }.answer(call, text);
+        assert_same(rt, found, wanted, &(text, index, lead));
+    }
+}
+
+/// Compares the kernel of the call, where it counts, with its public function for the text before `end`, where that is
+/// not inside a character.
+fn compare_front(rt: &impl Abort, call: Call, text: &str, end: usize) {
+    let Some(front) = text.get(..end) else {
+        return;
+    };
+    if !is_boundary(text, end) {
+        return;
+    }
+    let wanted = call.answer(front);
+    for lead in LEADS {
+        if let Some(found) = count_before(call, text, end, lead) {
+            assert_same(rt, found, wanted, &(front, end, lead));
         }
+    }
+}
+
+fn compare(rt: &impl Abort, text: &str, index: usize) {
+    for call in calls(index) {
+        compare_whole(rt, call, text, index);
+        compare_front(rt, call, text, index);
     }
 }
 
 /// Compares the kernels with the public functions at the least indices, and from `first` to past the text's end.
 fn compare_from(rt: &impl Abort, text: &str, first: usize) {
-    for index in (0..4).chain(first..text.len() + 2) {
-        for call in calls(index) {
-            compare(rt, call, text, index);
-        }
+    for index in 0..4 {
+        compare(rt, text, index);
+    }
+    for index in first..text.len() + 2 {
+        compare(rt, text, index);
     }
 }
 
@@ -118,14 +143,25 @@ fn thirty_two_lanes_answer_as_the_public_functions(rt: HostRuntime) {
     }
 }
 
+/// Compares them for a text that has this between letters.
+fn compare_around(
+    rt: &impl Abort,
+    alloc: Global,
+    letters: usize,
+    middle: &str,
+) -> Result<(), Fail> {
+    let mut text = "a".repeat(alloc, letters)?;
+    text.push_str(middle)?;
+    text.push('b')?;
+    compare_from(rt, &text, letters.saturating_sub(2));
+    Ok(())
+}
+
 #[test]
 fn thirty_two_lanes_see_each_break_at_every_edge(rt: HostRuntime) -> Result<(), Fail> {
     for letters in 0..41 {
         for middle in MIDDLES {
-            let mut text = "a".repeat(rt.alloc(), letters)?;
-            text.push_str(middle)?;
-            text.push('b')?;
-            compare_from(&rt, &text, letters.saturating_sub(2));
+            compare_around(&rt, rt.alloc(), letters, middle)?;
         }
     }
     Ok(())

@@ -1,8 +1,10 @@
 // The lane calls of `Wide`, as tables. Lane 0 is the first.
-ghost use Rattle.std.specs.Prelude.{◌≡◌, ◌++◌};
+ghost use Rattle.std.specs.Prelude.{◌≡◌, ◌++◌, ◌<◌};
 
+use super::assert_same;
 use crate::wide::Wide;
 use byte_chunk::ByteChunk;
+use std::process::Abort;
 use std::simd::prelude::*;
 
 const LETTERS: &[u8] = b"abcdefghijklmnopqrstuvwxyz0123456789";
@@ -18,129 +20,132 @@ fn four_times(eight: [u8; 8]) -> Wide
     ]))
 }
 
+fn assert_lanes(rt: &impl Abort, found: Wide, wanted: &[u8; 32]) {
+    assert_eq!(rt; found.0.to_array(), *wanted);
+}
+
+/// Compares all lanes with four times eight.
+fn assert_eights(rt: &impl Abort, found: Wide, eight: [u8; 8]) {
+    assert_lanes(rt, found, &four_times(eight).0.to_array());
+}
+
 #[test]
 fn takes_the_first_thirty_two_bytes(rt: HostRuntime) {
-    assert_eq!(rt;
-        Wide::load(LETTERS).0.to_array(),
-        *b"abcdefghijklmnopqrstuvwxyz012345"
-    );
-    assert_eq!(rt; Wide::zero().0.to_array(), [0; 32]);
-    assert_eq!(rt; Wide::splat(0xC0).0.to_array(), [0xC0; 32]);
+    let first = b"abcdefghijklmnopqrstuvwxyz012345";
+    assert_lanes(&rt, Wide::load(LETTERS), first);
+    assert_lanes(&rt, Wide::zero(), &[0; 32]);
+    assert_lanes(&rt, Wide::splat(0xC0), &[0xC0; 32]);
+}
+
+/// A chunk that has this byte in one lane and zeros in the others.
+fn one_lane(i: usize, byte: u8) -> Wide
+    requires { i < 32 }
+{
+    let mut lanes = [0; 32];
+    lanes[i] = byte;
+    Wide(Simd::from_array(lanes))
+}
+
+fn assert_not_zero(rt: &impl Abort, byte: u8) {
+    for i in 0..32 {
+        assert!(rt; !one_lane(i, byte).is_zero(), "{byte} at {i}");
+    }
 }
 
 #[test]
 fn is_zero_where_each_lane_is(rt: HostRuntime) {
-    assert_eq!(rt; Wide::zero().is_zero(), true);
-    for i in 0..32 {
-        for byte in [0x01, 0x80, 0xFF] {
-            let mut lanes = [0; 32];
-            lanes[i] = byte;
-            assert_eq!(rt;
-                Wide(Simd::from_array(lanes)).is_zero(),
-                false,
-                "{byte} at {i}"
-            );
-        }
-    }
+    assert!(rt; Wide::zero().is_zero());
+    assert_not_zero(&rt, 0x01);
+    assert_not_zero(&rt, 0x80);
+    assert_not_zero(&rt, 0xFF);
 }
 
 #[test]
 fn shifts_whole_lanes(rt: HostRuntime) {
-    let chunk = Wide::load(LETTERS);
-    let table = [
-        (0, *b"abcdefghijklmnopqrstuvwxyz012345"),
-        (1, *b"bcdefghijklmnopqrstuvwxyz012345\0"),
-        (2, *b"cdefghijklmnopqrstuvwxyz012345\0\0"),
-        (3, *b"defghijklmnopqrstuvwxyz012345\0\0\0"),
-        (4, *b"efghijklmnopqrstuvwxyz012345\0\0\0\0"),
+    const ROWS: [(usize, &[u8; 32]); 5] = [
+        (0, b"abcdefghijklmnopqrstuvwxyz012345"),
+        (1, b"bcdefghijklmnopqrstuvwxyz012345\0"),
+        (2, b"cdefghijklmnopqrstuvwxyz012345\0\0"),
+        (3, b"defghijklmnopqrstuvwxyz012345\0\0\0"),
+        (4, b"efghijklmnopqrstuvwxyz012345\0\0\0\0"),
     ];
-    for (n, lanes) in table {
-        assert_eq!(rt; chunk.shift_back_lex(n).0.to_array(), lanes, "by {n}");
+    let chunk = Wide::load(LETTERS);
+    for (n, lanes) in ROWS {
+        assert_lanes(&rt, chunk.shift_back_lex(n), lanes);
     }
+}
+
+#[test]
+fn shifts_across_two_chunks(rt: HostRuntime) {
+    let chunk = Wide::load(LETTERS);
     let next = Wide::load(&LETTERS[4..]);
-    assert_eq!(rt;
-        chunk.shift_across(next).0.to_array(),
-        *b"5efghijklmnopqrstuvwxyz012345678"
+    assert_lanes(
+        &rt,
+        chunk.shift_across(next),
+        b"5efghijklmnopqrstuvwxyz012345678",
     );
-    assert_eq!(rt;
-        next.shift_across(chunk).0.to_array(),
-        *b"9abcdefghijklmnopqrstuvwxyz01234"
+    assert_lanes(
+        &rt,
+        next.shift_across(chunk),
+        b"9abcdefghijklmnopqrstuvwxyz01234",
     );
+}
+
+const EIGHT: [u8; 8] = [0x80, 0x07, 0x08, 0x7E, 0x7F, 0xFF, 0xA6, 0x00];
+
+#[test]
+fn compares_each_lane(rt: HostRuntime) {
+    let chunk = four_times(EIGHT);
+    assert_eights(&rt, chunk.cmp_eq_byte(0x80), [1, 0, 0, 0, 0, 0, 0, 0]);
+    assert_eights(&rt, chunk.cmp_eq_byte(0x00), [0, 0, 0, 0, 0, 0, 0, 1]);
+    let inside = chunk.bytes_between_127(0x07, 0x7E);
+    assert_eights(&rt, inside, [0, 0, 1, 0, 0, 0, 0, 0]);
+    let ascii = chunk.bytes_between_127(0x00, 0x7F);
+    assert_eights(&rt, ascii, [0, 1, 1, 1, 0, 0, 0, 0]);
 }
 
 #[test]
 fn acts_on_each_lane(rt: HostRuntime) {
-    let chunk = four_times([0x80, 0x07, 0x08, 0x7E, 0x7F, 0xFF, 0xA6, 0x00]);
-    let table = [
-        (chunk.cmp_eq_byte(0x80), [1, 0, 0, 0, 0, 0, 0, 0]),
-        (chunk.cmp_eq_byte(0x00), [0, 0, 0, 0, 0, 0, 0, 1]),
-        (
-            chunk.bytes_between_127(0x07, 0x7E),
-            [0, 0, 1, 0, 0, 0, 0, 0],
-        ),
-        (
-            chunk.bytes_between_127(0x00, 0x7F),
-            [0, 1, 1, 1, 0, 0, 0, 0],
-        ),
-        (
-            chunk.bitand(Wide::splat(0xF0)),
-            [0x80, 0x00, 0x00, 0x70, 0x70, 0xF0, 0xA0, 0x00],
-        ),
-        (
-            chunk.shr(1).bitand(Wide::splat(0x7F)),
-            [0x40, 0x03, 0x04, 0x3F, 0x3F, 0x7F, 0x53, 0x00],
-        ),
-        (
-            chunk.shr(4).bitand(Wide::splat(0x0F)),
-            [0x08, 0x00, 0x00, 0x07, 0x07, 0x0F, 0x0A, 0x00],
-        ),
-        (
-            chunk.add(four_times([0x7F, 1, 2, 3, 4, 0, 5, 0xFF])),
-            [0xFF, 0x08, 0x0A, 0x81, 0x83, 0xFF, 0xAB, 0xFF],
-        ),
-        (
-            chunk.sub(four_times([0x80, 1, 2, 3, 4, 0xFE, 6, 0])),
-            [0x00, 0x06, 0x06, 0x7B, 0x7B, 0x01, 0xA0, 0x00],
-        ),
-    ];
-    for (found, eight) in table {
-        assert_eq!(rt;
-            found.0.to_array(),
-            four_times(eight).0.to_array(),
-            "{eight:?}"
-        );
-    }
+    let chunk = four_times(EIGHT);
+    let high = chunk.bitand(Wide::splat(0xF0));
+    assert_eights(&rt, high, [0x80, 0x00, 0x00, 0x70, 0x70, 0xF0, 0xA0, 0x00]);
+    let half = chunk.shr(1).bitand(Wide::splat(0x7F));
+    assert_eights(&rt, half, [0x40, 0x03, 0x04, 0x3F, 0x3F, 0x7F, 0x53, 0x00]);
+    let sixteenth = chunk.shr(4).bitand(Wide::splat(0x0F));
+    assert_eights(
+        &rt,
+        sixteenth,
+        [0x08, 0x00, 0x00, 0x07, 0x07, 0x0F, 0x0A, 0x00],
+    );
+    let sum = chunk.add(four_times([0x7F, 1, 2, 3, 4, 0, 5, 0xFF]));
+    assert_eights(&rt, sum, [0xFF, 0x08, 0x0A, 0x81, 0x83, 0xFF, 0xAB, 0xFF]);
+    let difference = chunk.sub(four_times([0x80, 1, 2, 3, 4, 0xFE, 6, 0]));
+    assert_eights(
+        &rt,
+        difference,
+        [0x00, 0x06, 0x06, 0x7B, 0x7B, 0x01, 0xA0, 0x00],
+    );
 }
 
 #[test]
 fn changes_one_lane(rt: HostRuntime) {
-    let chunk = Wide::load(LETTERS);
-    let table = [
-        (
-            chunk.inc_nth_from_end_lex_byte(0),
-            *b"abcdefghijklmnopqrstuvwxyz012346",
-        ),
-        (
-            chunk.inc_nth_from_end_lex_byte(1),
-            *b"abcdefghijklmnopqrstuvwxyz012355",
-        ),
-        (
-            chunk.inc_nth_from_end_lex_byte(31),
-            *b"bbcdefghijklmnopqrstuvwxyz012345",
-        ),
-        (
-            chunk.dec_last_lex_byte(),
-            *b"abcdefghijklmnopqrstuvwxyz012344",
-        ),
+    const ROWS: [(usize, &[u8; 32]); 3] = [
+        (0, b"abcdefghijklmnopqrstuvwxyz012346"),
+        (1, b"abcdefghijklmnopqrstuvwxyz012355"),
+        (31, b"bbcdefghijklmnopqrstuvwxyz012345"),
     ];
-    for (found, lanes) in table {
-        assert_eq!(rt; found.0.to_array(), lanes);
+    let chunk = Wide::load(LETTERS);
+    for (n, lanes) in ROWS {
+        assert_lanes(&rt, chunk.inc_nth_from_end_lex_byte(n), lanes);
     }
+    let less = b"abcdefghijklmnopqrstuvwxyz012344";
+    assert_lanes(&rt, chunk.dec_last_lex_byte(), less);
 }
 
 #[test]
 fn sums_past_a_byte(rt: HostRuntime) {
-    assert_eq!(rt; Wide::splat(255).sum_bytes(), 8160);
-    assert_eq!(rt; Wide::zero().sum_bytes(), 0);
-    assert_eq!(rt; four_times([1, 2, 4, 8, 16, 32, 64, 128]).sum_bytes(), 1020);
+    assert_same(&rt, Wide::splat(255).sum_bytes(), 8160, &"255 in each");
+    assert_same(&rt, Wide::zero().sum_bytes(), 0, &"zeros");
+    let bits = four_times([1, 2, 4, 8, 16, 32, 64, 128]);
+    assert_same(&rt, bits.sum_bytes(), 1020, &"each bit");
 }

@@ -1,8 +1,8 @@
 //! A long list of changes, chosen from a seed, beside a model that keeps the pieces as plain texts.
-use super::SCHEMES;
-use crate::schemes::{from_byte_idx, to_byte_idx};
+use super::{Change, assert_as_joined, make};
 use crate::{PieceText, Refusal};
 use std::alloc::{AllocError, Global};
+use std::process::Abort;
 use std::test::Fail;
 
 /// How many changes there are.
@@ -35,12 +35,27 @@ impl Random {
     }
 }
 
+/// The next change, of a text that has this many pieces and this many bytes.
+fn next_change(random: &mut Random, pieces: usize, len: usize) -> Change {
+    let piece = TEXTS[random.next() % TEXTS.len()];
+    let at = random.next() % pieces.saturating_add(2);
+    match random.next() % 6 {
+        0 => Change::Push(piece),
+        1 | 2 => Change::Insert(at, piece),
+        3 => Change::Remove(at),
+        _ => Change::Split(random.next() % len.saturating_add(2)),
+    }
+}
+
 /// The pieces as plain texts.
 #[derive(Drop)]
 struct Model {
     pieces: Vec<String>,
     alloc: Global,
 }
+
+/// What a change of the model says, where there was memory for it.
+type Said = Result<Result<(), Refusal>, AllocError>;
 
 impl Model {
     fn joined(&self) -> Result<String, AllocError> {
@@ -51,7 +66,19 @@ impl Model {
         Ok(joined)
     }
 
-    fn insert(&mut self, at: usize, text: &str) -> Result<Result<(), Refusal>, AllocError> {
+    fn make(&mut self, change: Change) -> Said {
+        match change {
+            Change::Push(text) => {
+                let end = self.pieces.len();
+                self.insert(end, text)
+            }
+            Change::Insert(at, text) => self.insert(at, text),
+            Change::Remove(at) => Ok(self.remove(at)),
+            Change::Split(byte_idx) => self.split(byte_idx),
+        }
+    }
+
+    fn insert(&mut self, at: usize, text: &str) -> Said {
         if self.pieces.len() < at {
             return Ok(Err(Refusal::NoPiece));
         }
@@ -70,50 +97,60 @@ impl Model {
         Ok(())
     }
 
-    /// Starts a new piece at the byte, going over all characters.
-    fn split(&mut self, byte_idx: usize) -> Result<Result<(), Refusal>, AllocError> {
+    /// Starts a new piece at the byte.
+    fn split(&mut self, byte_idx: usize) -> Said {
         if !self.joined()?.is_char_boundary(byte_idx) {
             return Ok(Err(Refusal::NotBoundary));
         }
         let mut pieces = Vec::new(self.alloc);
-        let mut before = 0;
+        let mut before: usize = 0;
         for piece in &self.pieces {
-            let mut part = String::new(self.alloc);
-            for c in piece.chars() {
-                if before == byte_idx && !part.is_empty() {
-                    pieces.push(part)?;
-                    part = String::new(self.alloc);
-                }
-                part.push(c)?;
-                before = c.len_utf8().saturating_add(before);
-            }
-            pieces.push(part)?;
+            push_halves(
+                self.alloc,
+                &mut pieces,
+                piece,
+                byte_idx.saturating_sub(before),
+            )?;
+            before = before.saturating_add(piece.len());
         }
         self.pieces = pieces;
         Ok(Ok(()))
     }
 }
 
-/// Makes one change of both, and answers what each said.
-fn change(
-    text: &mut PieceText,
-    model: &mut Model,
-    random: &mut Random,
-) -> Result<[Result<(), Refusal>; 2], AllocError> {
-    let piece = TEXTS[random.next() % TEXTS.len()];
-    let at = random.next() % (model.pieces.len() + 2);
-    match random.next() % 6 {
-        0 => {
-            let end = model.pieces.len();
-            Ok([text.push(piece), model.insert(end, piece)?])
-        }
-        1 | 2 => Ok([text.insert(at, piece), model.insert(at, piece)?]),
-        3 => Ok([text.remove(at), model.remove(at)]),
-        _ => {
-            let byte_idx = random.next() % (model.joined()?.len() + 2);
-            Ok([text.split(byte_idx), model.split(byte_idx)?])
+/// Puts a piece behind others, cut at a byte where that is inside, going over all characters.
+fn push_halves(
+    alloc: Global,
+    pieces: &mut Vec<String>,
+    piece: &str,
+    at: usize,
+) -> Result<(), AllocError> {
+    let mut left = String::new(alloc);
+    let mut right = String::new(alloc);
+    for c in piece.chars() {
+        if left.len() < at {
+            left.push(c)?;
+        } else {
+            right.push(c)?;
         }
     }
+    push_some(pieces, left)?;
+    push_some(pieces, right)
+}
+
+/// Puts a text behind others where it is not empty.
+fn push_some(pieces: &mut Vec<String>, text: String) -> Result<(), AllocError> {
+    if !text.is_empty() {
+        pieces.push(text)?;
+    }
+    Ok(())
+}
+
+/// Compares a text with the model's joined text.
+fn assert_as_model(rt: &impl Abort, text: &PieceText, model: &Model, joined: &str) {
+    let found = (text.pieces(), text.len());
+    assert_eq!(rt; found, (model.pieces.len(), joined.len()), "{joined:?}");
+    assert_as_joined(rt, text, joined);
 }
 
 #[test]
@@ -125,30 +162,10 @@ fn answers_stay_those_of_the_joined_text(rt: HostRuntime) -> Result<(), Fail> {
     };
     let mut random = Random(0x7069_6563);
     for i in 0..CHANGES {
-        let [found, wanted] = change(&mut text, &mut model, &mut random)?;
-        assert_eq!(rt; found, wanted, "{i}");
-        let joined = model.joined()?;
-        assert_eq!(rt; text.pieces(), model.pieces.len(), "{i}");
-        assert_eq!(rt; text.len(), joined.len(), "{i}");
-        for s in SCHEMES {
-            assert_eq!(rt;
-                text.count(s),
-                from_byte_idx(&joined, s, usize::MAX),
-                "{i} {s:?}"
-            );
-            for k in 0..joined.len() + 2 {
-                assert_eq!(rt;
-                    text.from_byte_idx(s, k),
-                    from_byte_idx(&joined, s, k),
-                    "{i} {s:?} {k}"
-                );
-                assert_eq!(rt;
-                    text.to_byte_idx(s, k),
-                    to_byte_idx(&joined, s, k),
-                    "{i} {s:?} {k}"
-                );
-            }
-        }
+        let change = next_change(&mut random, text.pieces(), text.len());
+        let wanted = model.make(change)?;
+        assert_eq!(rt; make(&mut text, change), wanted, "{i}");
+        assert_as_model(&rt, &text, &model, &model.joined()?);
     }
     Ok(())
 }

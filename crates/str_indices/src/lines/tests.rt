@@ -1,11 +1,8 @@
-use super::{
-    count_breaks, count_breaks_impl, from_byte_idx, from_byte_idx_impl, to_byte_idx,
-    to_byte_idx_impl,
-};
+use super::{from_byte_idx, to_byte_idx};
 use crate::chars;
-use byte_chunk::{ByteChunk, Plain, Probe};
+use crate::tests::rows::{self, Asked, KernelRows, RangeRow, RepeatedRow, Row};
+use crate::tests::walk::Scheme;
 use std::process::Abort;
-use std::simd::{u8x16, u8x32};
 use std::test::Fail;
 
 const ENGLISH_AND_JAPANESE: &str =
@@ -33,117 +30,109 @@ const CRLF_BEHIND_SEVEN: &str = "aaaaaaa\r\nbbbbbbb";
 
 const CRLF_BEHIND_THIRTY_ONE: &str = "aaaaaaaaaaaaaaaaaaaaaaaaaaaaaaa\r\nb";
 
-/// The count of the breaks before a boundary, over one type of chunk.
-fn count_before<T: ByteChunk>(text: &str, end: usize, lead: usize) -> Option<usize> {
-    if !text.is_char_boundary(end) {
-        return None;
-    }
-    Some(count_breaks_impl(&mut Probe::<T>::of(text), end, lead))
+const TEXTS: &[(&str, usize)] = &[
+    (EVERY_BREAK, 8),
+    (SEVEN_BREAKS, 7),
+    ("", 0),
+    (ENGLISH_AND_JAPANESE, 3),
+    (FOUR_WORDS, 3),
+    (FOUR_WORDS_BETWEEN_BREAKS, 5),
+    (FOUR_WORDS_BY_CRLF, 3),
+    ("a\r\nb", 1),
+    ("a\u{2028}b", 1),
+    ("é\u{85}x", 1),
+];
+
+#[test]
+fn counts_whole_texts(rt: HostRuntime) {
+    rows::count_texts(&rt, Scheme::Lines, TEXTS);
+}
+
+const BYTES: &[RangeRow] = &[
+    (FOUR_WORDS, 0, 5, 0),
+    (FOUR_WORDS, 5, 9, 1),
+    (FOUR_WORDS, 9, 14, 2),
+    (FOUR_WORDS, 14, 20, 3),
+    (FOUR_WORDS_BETWEEN_BREAKS, 0, 1, 0),
+    (FOUR_WORDS_BETWEEN_BREAKS, 1, 6, 1),
+    (FOUR_WORDS_BETWEEN_BREAKS, 6, 10, 2),
+    (FOUR_WORDS_BETWEEN_BREAKS, 10, 15, 3),
+    (FOUR_WORDS_BETWEEN_BREAKS, 15, 21, 4),
+    (FOUR_WORDS_BETWEEN_BREAKS, 21, 23, 5),
+    (FOUR_WORDS_BY_CRLF, 0, 6, 0),
+    (FOUR_WORDS_BY_CRLF, 6, 11, 1),
+    (FOUR_WORDS_BY_CRLF, 11, 17, 2),
+    (FOUR_WORDS_BY_CRLF, 17, 23, 3),
+    (ENGLISH_AND_JAPANESE, 0, 32, 0),
+    (ENGLISH_AND_JAPANESE, 32, 59, 1),
+    (ENGLISH_AND_JAPANESE, 59, 88, 2),
+    (ENGLISH_AND_JAPANESE, 88, 130, 3),
+    ("a\r\nb", 2, 3, 0),
+    ("a\r\nb", 3, 4, 1),
+    ("é\u{85}x", 2, 4, 0),
+    ("é\u{85}x", 4, 5, 1),
+    ("", 0, 1, 0),
+];
+
+#[test]
+fn line_of_each_byte(rt: HostRuntime) {
+    rows::from_bytes(&rt, Scheme::Lines, BYTES);
+}
+
+const BEGINS: &[Row] = &[
+    (FOUR_WORDS_BY_CRLF, 0, 0),
+    (FOUR_WORDS_BY_CRLF, 1, 6),
+    (FOUR_WORDS_BY_CRLF, 2, 11),
+    (FOUR_WORDS_BY_CRLF, 3, 17),
+    (FOUR_WORDS_BETWEEN_BREAKS, 0, 0),
+    (FOUR_WORDS_BETWEEN_BREAKS, 1, 1),
+    (FOUR_WORDS_BETWEEN_BREAKS, 2, 6),
+    (FOUR_WORDS_BETWEEN_BREAKS, 3, 10),
+    (FOUR_WORDS_BETWEEN_BREAKS, 4, 15),
+    (FOUR_WORDS_BETWEEN_BREAKS, 5, 21),
+    (ENGLISH_AND_JAPANESE, 0, 0),
+    (ENGLISH_AND_JAPANESE, 1, 32),
+    (ENGLISH_AND_JAPANESE, 2, 59),
+    (ENGLISH_AND_JAPANESE, 3, 88),
+    (ENGLISH_AND_JAPANESE, 4, 124),
+    (ENGLISH_AND_JAPANESE, 5, 124),
+    (ENGLISH_AND_JAPANESE, 6, 124),
+    ("a\r\nb", 1, 3),
+    ("a\u{2028}b", 1, 4),
+    ("é\u{85}x", 1, 4),
+    ("é\u{85}x", 2, 5),
+    ("", 0, 0),
+];
+
+#[test]
+fn line_begins_at_its_byte(rt: HostRuntime) {
+    rows::to_bytes(&rt, Scheme::Lines, BEGINS);
 }
 
 #[test]
-fn counts_whole_texts(rt: HostRuntime) -> Result<(), Fail> {
-    let table = [
-        (EVERY_BREAK, 8),
-        (SEVEN_BREAKS, 7),
-        ("", 0),
-        (ENGLISH_AND_JAPANESE, 3),
-        (FOUR_WORDS_BETWEEN_BREAKS, 5),
-        (FOUR_WORDS_BY_CRLF, 3),
-    ];
-    for (text, breaks) in table {
-        assert_eq!(rt; count_breaks(text), breaks, "in {text}");
-    }
-    Ok(())
-}
-
-#[test]
-fn line_of_each_byte(rt: HostRuntime) -> Result<(), Fail> {
-    let table = [
-        (FOUR_WORDS, 0..5, 0),
-        (FOUR_WORDS, 5..9, 1),
-        (FOUR_WORDS, 9..14, 2),
-        (FOUR_WORDS, 14..20, 3),
-        (FOUR_WORDS_BETWEEN_BREAKS, 0..1, 0),
-        (FOUR_WORDS_BETWEEN_BREAKS, 1..6, 1),
-        (FOUR_WORDS_BETWEEN_BREAKS, 6..10, 2),
-        (FOUR_WORDS_BETWEEN_BREAKS, 10..15, 3),
-        (FOUR_WORDS_BETWEEN_BREAKS, 15..21, 4),
-        (FOUR_WORDS_BETWEEN_BREAKS, 21..23, 5),
-        (FOUR_WORDS_BY_CRLF, 0..6, 0),
-        (FOUR_WORDS_BY_CRLF, 6..11, 1),
-        (FOUR_WORDS_BY_CRLF, 11..17, 2),
-        (FOUR_WORDS_BY_CRLF, 17..23, 3),
-        (ENGLISH_AND_JAPANESE, 0..32, 0),
-        (ENGLISH_AND_JAPANESE, 32..59, 1),
-        (ENGLISH_AND_JAPANESE, 59..88, 2),
-        (ENGLISH_AND_JAPANESE, 88..130, 3),
-        ("a\r\nb", 2..3, 0),
-        ("a\r\nb", 3..4, 1),
-        ("é\u{85}x", 2..4, 0),
-        ("é\u{85}x", 4..5, 1),
-        ("", 0..1, 0),
-    ];
-    for (text, bytes, line) in table {
-        for byte in bytes {
-            assert_eq!(rt; from_byte_idx(text, byte), line, "at {byte} in {text}");
-        }
-        assert_eq!(rt;
-            from_byte_idx(text, usize::MAX),
-            count_breaks(text),
-            "past {text}"
-        );
-    }
-    Ok(())
-}
-
-#[test]
-fn line_begins_at_its_byte(rt: HostRuntime) -> Result<(), Fail> {
-    let table = [
-        (FOUR_WORDS_BY_CRLF, 0, 0),
-        (FOUR_WORDS_BY_CRLF, 1, 6),
-        (FOUR_WORDS_BY_CRLF, 2, 11),
-        (FOUR_WORDS_BY_CRLF, 3, 17),
-        (FOUR_WORDS_BETWEEN_BREAKS, 0, 0),
-        (FOUR_WORDS_BETWEEN_BREAKS, 1, 1),
-        (FOUR_WORDS_BETWEEN_BREAKS, 2, 6),
-        (FOUR_WORDS_BETWEEN_BREAKS, 3, 10),
-        (FOUR_WORDS_BETWEEN_BREAKS, 4, 15),
-        (FOUR_WORDS_BETWEEN_BREAKS, 5, 21),
-        (ENGLISH_AND_JAPANESE, 0, 0),
-        (ENGLISH_AND_JAPANESE, 1, 32),
-        (ENGLISH_AND_JAPANESE, 2, 59),
-        (ENGLISH_AND_JAPANESE, 3, 88),
-        (ENGLISH_AND_JAPANESE, 4, 124),
-        (ENGLISH_AND_JAPANESE, 5, 124),
-        (ENGLISH_AND_JAPANESE, 6, 124),
-        ("a\r\nb", 1, 3),
-        ("a\u{2028}b", 1, 4),
-        ("é\u{85}x", 1, 4),
-        ("é\u{85}x", 2, 5),
-        ("", 0, 0),
-    ];
-    for (text, line, byte) in table {
-        assert_eq!(rt; to_byte_idx(text, line), byte, "at {line} in {text}");
-        assert_eq!(rt; to_byte_idx(text, usize::MAX), text.len(), "past {text}");
-    }
-    Ok(())
-}
-
-#[test]
-fn round_trips_keep_where_a_line_begins(rt: HostRuntime) -> Result<(), Fail> {
+fn round_trips_keep_where_a_line_begins(rt: HostRuntime) {
     let text = FOUR_WORDS_BETWEEN_BREAKS;
-    for byte in [0, 6, 21] {
-        assert_eq!(rt; to_byte_idx(text, from_byte_idx(text, byte)), byte);
-    }
-    for line in [0, 2, 5] {
-        assert_eq!(rt; from_byte_idx(text, to_byte_idx(text, line)), line);
-    }
-    Ok(())
+    rows::round_trips(
+        &rt,
+        Scheme::Lines,
+        &[(text, 0, 0), (text, 6, 2), (text, 21, 5)],
+    );
 }
 
-fn see_breaks_at_any_edge<T: ByteChunk>(rt: &impl Abort) {
-    let counts = [
+const REPEATED_TEXTS: &[RepeatedRow] = &[
+    ("\n", 4097, 4097, 4096, 4096),
+    ("\n", 4097, 4097, 4098, 4097),
+];
+
+#[test]
+fn each_of_many_line_feeds_counts(rt: HostRuntime) -> Result<(), Fail> {
+    rows::repeated_texts(&rt, rt.alloc(), Scheme::Lines, REPEATED_TEXTS)
+}
+
+const AFTER_ANY_LEAD: KernelRows = KernelRows {
+    scheme: Scheme::Lines,
+    leads: 50,
+    counts: &[
         (BEFORE_SEPARATOR, 10, 1),
         (BEFORE_SEPARATOR, 6, 0),
         (SEPARATOR_BEHIND_THIRTY, 34, 1),
@@ -155,18 +144,9 @@ fn see_breaks_at_any_edge<T: ByteChunk>(rt: &impl Abort) {
         (CRLF_BEHIND_THIRTY_ONE, 34, 1),
         (CRLF_BEHIND_THIRTY_ONE, 32, 1),
         (CRLF_BEHIND_THIRTY_ONE, 31, 0),
-    ];
-    let begins = [
-        (BEFORE_SEPARATOR, 0, 0),
-        (BEFORE_SEPARATOR, 1, 9),
-        (BEFORE_SEPARATOR, 2, 10),
-        (SEPARATOR_BEHIND_THIRTY, 1, 33),
-        (SEPARATOR_BEHIND_THIRTY, 2, 34),
-        (CRLF_BEHIND_SEVEN, 1, 9),
-        (CRLF_BEHIND_THIRTY_ONE, 1, 33),
-        (CRLF_BEHIND_THIRTY_ONE, 2, 34),
-    ];
-    let inside = [
+        (EVERY_BREAK, 48, 8),
+    ],
+    from: &[
         (BEFORE_SEPARATOR, 8, 0),
         (BEFORE_SEPARATOR, 9, 1),
         (SEPARATOR_BEHIND_THIRTY, 32, 0),
@@ -175,105 +155,92 @@ fn see_breaks_at_any_edge<T: ByteChunk>(rt: &impl Abort) {
         (CRLF_BEHIND_SEVEN, 9, 1),
         (CRLF_BEHIND_THIRTY_ONE, 32, 0),
         (CRLF_BEHIND_THIRTY_ONE, 33, 1),
-    ];
-    for lead in 0..36 {
-        for (text, end, breaks) in counts {
-            let found = count_before::<T>(text, end, lead);
-            assert_eq!(rt; found, Some(breaks), "at {end} of {text} after {lead}");
-        }
-        for (text, line, byte) in begins {
-            let found = to_byte_idx_impl(&mut Probe::<T>::of(text), line, lead);
-            assert_eq!(rt; found, byte, "line {line} of {text} after {lead}");
-        }
-        for (text, byte, line) in inside {
-            let found = from_byte_idx_impl(&mut Probe::<T>::of(text), byte, lead);
-            assert_eq!(rt; found, line, "at {byte} of {text} after {lead}");
-        }
+    ],
+    to: &[
+        (BEFORE_SEPARATOR, 0, 0),
+        (BEFORE_SEPARATOR, 1, 9),
+        (BEFORE_SEPARATOR, 2, 10),
+        (SEPARATOR_BEHIND_THIRTY, 1, 33),
+        (SEPARATOR_BEHIND_THIRTY, 2, 34),
+        (CRLF_BEHIND_SEVEN, 1, 9),
+        (CRLF_BEHIND_THIRTY_ONE, 1, 33),
+        (CRLF_BEHIND_THIRTY_ONE, 2, 34),
+    ],
+};
+
+#[test]
+fn kernels_see_breaks_at_any_edge_of_a_chunk(rt: HostRuntime) {
+    rows::answer_over_each_chunk(&rt, &AFTER_ANY_LEAD);
+}
+
+fn same_line(rt: &impl Abort, text: &str, index: usize, found: usize, want: usize) {
+    let asked = Asked::at(Scheme::Lines, text, index);
+    rows::same_at(rt, "by characters", asked, found, want);
+}
+
+/// The line of a character.
+fn line_of_char(text: &str, index: usize) -> usize {
+    from_byte_idx(text, chars::to_byte_idx(text, index))
+}
+
+/// The character that a line begins with.
+fn char_of_line(text: &str, line: usize) -> usize {
+    chars::from_byte_idx(text, to_byte_idx(text, line))
+}
+
+fn each_char_is_on(rt: &impl Abort, row: RangeRow) {
+    let (text, first, end, line) = row;
+    for index in first..end {
+        same_line(rt, text, index, line_of_char(text, index), line);
+    }
+}
+
+/// Characters, and the line that they are on.
+const CHARS: &[RangeRow] = &[
+    (THREE_LINES, 0, 8, 0),
+    (THREE_LINES, 8, 10, 1),
+    (THREE_LINES, 10, 11, 2),
+    (ENGLISH_AND_JAPANESE, 0, 32, 0),
+    (ENGLISH_AND_JAPANESE, 32, 59, 1),
+    (ENGLISH_AND_JAPANESE, 59, 88, 2),
+    (ENGLISH_AND_JAPANESE, 88, 110, 3),
+];
+
+#[test]
+fn line_of_each_char(rt: HostRuntime) {
+    for row in CHARS {
+        each_char_is_on(&rt, *row);
+    }
+}
+
+/// Lines, and the character that each begins with.
+const CHARS_OF_LINES: &[Row] = &[
+    (THREE_LINES, 0, 0),
+    (THREE_LINES, 1, 8),
+    (THREE_LINES, 2, 10),
+    (ENGLISH_AND_JAPANESE, 0, 0),
+    (ENGLISH_AND_JAPANESE, 1, 32),
+    (ENGLISH_AND_JAPANESE, 2, 59),
+    (ENGLISH_AND_JAPANESE, 3, 88),
+    (ENGLISH_AND_JAPANESE, 4, 100),
+    (ENGLISH_AND_JAPANESE, 5, 100),
+    (ENGLISH_AND_JAPANESE, 6, 100),
+];
+
+#[test]
+fn char_that_a_line_begins_with(rt: HostRuntime) {
+    for &(text, line, index) in CHARS_OF_LINES {
+        same_line(&rt, text, line, char_of_line(text, line), index);
     }
 }
 
 #[test]
-fn kernels_see_breaks_at_any_edge_of_a_chunk(rt: HostRuntime) -> Result<(), Fail> {
-    see_breaks_at_any_edge::<Plain>(&rt);
-    see_breaks_at_any_edge::<usize>(&rt);
-    see_breaks_at_any_edge::<u128>(&rt);
-    see_breaks_at_any_edge::<u8x16>(&rt);
-    see_breaks_at_any_edge::<u8x32>(&rt);
-    Ok(())
-}
-
-fn count_every_break_after_each_lead<T: ByteChunk>(rt: &impl Abort) {
-    for lead in 0..50 {
-        let found = count_before::<T>(EVERY_BREAK, 48, lead);
-        assert_eq!(rt; found, Some(8), "after {lead}");
-    }
-}
-
-#[test]
-fn each_kind_of_break_counts_at_any_place_of_a_chunk(rt: HostRuntime) -> Result<(), Fail> {
-    count_every_break_after_each_lead::<Plain>(&rt);
-    count_every_break_after_each_lead::<usize>(&rt);
-    count_every_break_after_each_lead::<u128>(&rt);
-    count_every_break_after_each_lead::<u8x16>(&rt);
-    count_every_break_after_each_lead::<u8x32>(&rt);
-    Ok(())
-}
-
-#[test]
-fn char_to_line_and_back(rt: HostRuntime) -> Result<(), Fail> {
-    let table = [
-        (THREE_LINES, 0..8, 0),
-        (THREE_LINES, 8..10, 1),
-        (THREE_LINES, 10..11, 2),
-        (ENGLISH_AND_JAPANESE, 0..32, 0),
-        (ENGLISH_AND_JAPANESE, 32..59, 1),
-        (ENGLISH_AND_JAPANESE, 59..88, 2),
-        (ENGLISH_AND_JAPANESE, 88..110, 3),
-    ];
-    for (text, char_indices, line) in table {
-        for index in char_indices {
-            let found = from_byte_idx(text, chars::to_byte_idx(text, index));
-            assert_eq!(rt; found, line, "at {index} in {text}");
-        }
-    }
-    let starts = [
-        (THREE_LINES, 0, 0),
-        (THREE_LINES, 1, 8),
-        (THREE_LINES, 2, 10),
-        (ENGLISH_AND_JAPANESE, 0, 0),
-        (ENGLISH_AND_JAPANESE, 1, 32),
-        (ENGLISH_AND_JAPANESE, 2, 59),
-        (ENGLISH_AND_JAPANESE, 3, 88),
-        (ENGLISH_AND_JAPANESE, 4, 100),
-        (ENGLISH_AND_JAPANESE, 5, 100),
-        (ENGLISH_AND_JAPANESE, 6, 100),
-    ];
-    for (text, line, index) in starts {
-        let found = chars::from_byte_idx(text, to_byte_idx(text, line));
-        assert_eq!(rt; found, index, "at {line} in {text}");
-    }
-    Ok(())
-}
-
-#[test]
-fn char_and_line_round_trips_keep_where_a_line_begins(rt: HostRuntime) -> Result<(), Fail> {
+fn char_and_line_round_trips_keep_where_a_line_begins(rt: HostRuntime) {
     let text = FOUR_WORDS_BETWEEN_BREAKS;
-    for index in [0, 6, 21] {
-        let line = from_byte_idx(text, chars::to_byte_idx(text, index));
-        assert_eq!(rt; chars::from_byte_idx(text, to_byte_idx(text, line)), index);
+    for (index, line) in [(0, 0), (6, 2), (21, 5)] {
+        let back = char_of_line(text, line_of_char(text, index));
+        same_line(&rt, text, index, back, index);
+        let back = line_of_char(text, char_of_line(text, line));
+        same_line(&rt, text, line, back, line);
     }
-    for line in [0, 2, 5] {
-        let index = chars::from_byte_idx(text, to_byte_idx(text, line));
-        assert_eq!(rt; from_byte_idx(text, chars::to_byte_idx(text, index)), line);
-    }
-    Ok(())
-}
-
-#[test]
-fn each_of_many_line_feeds_counts(rt: HostRuntime) -> Result<(), Fail> {
-    let text = "\n".repeat(rt.alloc(), 4097)?;
-    assert_eq!(rt; count_breaks(&text), 4097);
-    assert_eq!(rt; to_byte_idx(&text, 4096), 4096);
-    assert_eq!(rt; to_byte_idx(&text, 4098), 4097);
-    Ok(())
 }

@@ -1,5 +1,5 @@
 //! Chunks and leading bytes that end anywhere in a text.
-use super::kernels;
+use super::rows::{self, Asked};
 use super::walk::{SCHEMES, Scheme, cut, surrogate_pairs};
 use byte_chunk::{ByteChunk, Plain};
 use std::alloc::Global;
@@ -55,23 +55,34 @@ struct Answers {
     to: usize,
 }
 
-/// The answers of the plain walk.
-fn walked(scheme: Scheme, text: &str, index: usize) -> Answers {
+/// The count before the byte by the plain walk, where the counting kernel takes it as an end.
+fn walked_before(scheme: Scheme, text: &str, index: usize) -> Option<usize> {
     let anywhere = matches!(scheme, Scheme::Lf | Scheme::Crlf) && index <= text.len();
-    let before = if anywhere || text.is_char_boundary(index) {
+    if anywhere || text.is_char_boundary(index) {
         Some(scheme.from_byte_idx(cut(text, index), index))
     } else {
         None
-    };
+    }
+}
+
+/// The answers of the plain walk.
+fn walked(scheme: Scheme, text: &str, index: usize) -> Answers {
     Answers {
-        before,
+        before: walked_before(scheme, text, index),
         from: scheme.from_byte_idx(text, index),
         to: scheme.to_byte_idx(text, index),
     }
 }
 
-/// Compares the kernels over one type of chunk with the answers, after any number of leading bytes.
-fn compare<T: ByteChunk>(
+/// Compares the kernels over one type of chunk with the answers.
+fn compare<T: ByteChunk>(rt: &impl Abort, asked: Asked, answers: &Answers) {
+    rows::count_is::<T>(rt, asked, answers.before);
+    rows::from_is::<T>(rt, asked, answers.from);
+    rows::to_is::<T>(rt, asked, answers.to);
+}
+
+/// Compares the kernels with the answers after any number of leading bytes.
+fn compare_after<T: ByteChunk>(
     rt: &impl Abort,
     scheme: Scheme,
     text: &str,
@@ -80,24 +91,8 @@ fn compare<T: ByteChunk>(
     answers: &Answers,
 ) {
     for &lead in leads {
-        let before = kernels::count::<T>(scheme, text, index, lead);
-        let from = kernels::from_byte_idx::<T>(scheme, text, index, lead);
-        let to = kernels::to_byte_idx::<T>(scheme, text, index, lead);
-        assert_eq!(rt;
-            before,
-            answers.before,
-            "{scheme:?} before {index} of {text:?} after {lead}"
-        );
-        assert_eq!(rt;
-            from,
-            answers.from,
-            "{scheme:?} from {index} of {text:?} after {lead}"
-        );
-        assert_eq!(rt;
-            to,
-            answers.to,
-            "{scheme:?} to {index} of {text:?} after {lead}"
-        );
+        let asked = Asked::new(scheme, text, index, lead);
+        compare::<T>(rt, asked, answers);
     }
 }
 
@@ -109,29 +104,40 @@ fn answer_as_the_walk<T: ByteChunk>(
     first: usize,
     leads: &[usize],
 ) {
-    for index in (0..4).chain(first..text.len() + 2) {
-        compare::<T>(rt, scheme, text, index, leads, &walked(scheme, text, index));
+    for index in 0..usize::max(4, text.len() + 2) {
+        if index < 4 || index >= first {
+            compare_after::<T>(rt, scheme, text, index, leads, &walked(scheme, text, index));
+        }
     }
 }
 
-fn count_surrogates_as_the_walk<T: ByteChunk>(
+/// The surrogate pairs before a byte by the plain walk, where the byte is at a character.
+fn walked_pairs(text: &str, end: usize) -> Option<usize> {
+    Some(surrogate_pairs(text.get(..end)?))
+}
+
+fn count_pairs_after<T: ByteChunk>(rt: &impl Abort, text: &str, index: usize, leads: &[usize]) {
+    let pairs = walked_pairs(text, index);
+    for &lead in leads {
+        let asked = Asked::new(Scheme::Utf16, text, index, lead);
+        rows::pairs_are::<T>(rt, asked, pairs);
+    }
+}
+
+fn count_pairs_as_the_walk<T: ByteChunk>(
     rt: &impl Abort,
     text: &str,
     first: usize,
     leads: &[usize],
 ) {
     for end in first..text.len() + 1 {
-        let pairs = text.get(..end).map(surrogate_pairs);
-        for &lead in leads {
-            let found = kernels::count_surrogates::<T>(text, end, lead);
-            assert_eq!(rt; found, pairs, "before {end} of {text:?} after {lead}");
-        }
+        count_pairs_after::<T>(rt, text, end, leads);
     }
 }
 
 fn texts_answer_as_the_walk<T: ByteChunk>(rt: &impl Abort) {
     for text in TEXTS {
-        count_surrogates_as_the_walk::<T>(rt, text, 0, &LEADS);
+        count_pairs_as_the_walk::<T>(rt, text, 0, &LEADS);
         for scheme in SCHEMES {
             answer_as_the_walk::<T>(rt, scheme, text, 4, &LEADS);
         }
@@ -203,21 +209,17 @@ fn answer_as_the_table<T: ByteChunk>(
     middle: &str,
     breaks: usize,
 ) {
-    for index in (0..4).chain(letters.saturating_sub(2)..text.len() + 2) {
-        let (from, to) = around_breaks(letters, middle, breaks, index);
-        let before = if index == text.len() {
-            Some(breaks)
-        } else {
-            walked(scheme, text, index).before
-        };
-        compare::<T>(
-            rt,
-            scheme,
-            text,
-            index,
-            &FEW_LEADS,
-            &Answers { before, from, to },
-        );
+    for index in 0..usize::max(4, text.len() + 2) {
+        if index < 4 || index + 2 >= letters {
+            let (from, to) = around_breaks(letters, middle, breaks, index);
+            let before = if index == text.len() {
+                Some(breaks)
+            } else {
+                walked_before(scheme, text, index)
+            };
+            let answers = Answers { before, from, to };
+            compare_after::<T>(rt, scheme, text, index, &FEW_LEADS, &answers);
+        }
     }
 }
 
@@ -226,55 +228,68 @@ fn middles_behind<T: ByteChunk>(
     alloc: Global,
     letters: usize,
 ) -> Result<(), Fail> {
+    let first = letters.saturating_sub(2);
     for (middle, [lf, crlf, lines]) in MIDDLES {
-        let text = surround(alloc, letters, middle)?;
-        let first = letters.saturating_sub(2);
-        count_surrogates_as_the_walk::<T>(rt, &text, first, &FEW_LEADS);
-        answer_as_the_walk::<T>(rt, Scheme::Chars, &text, first, &FEW_LEADS);
-        answer_as_the_walk::<T>(rt, Scheme::Utf16, &text, first, &FEW_LEADS);
-        answer_as_the_table::<T>(rt, Scheme::Lf, &text, letters, middle, lf);
-        answer_as_the_table::<T>(rt, Scheme::Crlf, &text, letters, middle, crlf);
-        answer_as_the_table::<T>(rt, Scheme::Lines, &text, letters, middle, lines);
+        let text = &surround(alloc, letters, middle)?;
+        count_pairs_as_the_walk::<T>(rt, text, first, &FEW_LEADS);
+        answer_as_the_walk::<T>(rt, Scheme::Chars, text, first, &FEW_LEADS);
+        answer_as_the_walk::<T>(rt, Scheme::Utf16, text, first, &FEW_LEADS);
+        answer_as_the_table::<T>(rt, Scheme::Lf, text, letters, middle, lf);
+        answer_as_the_table::<T>(rt, Scheme::Crlf, text, letters, middle, crlf);
+        answer_as_the_table::<T>(rt, Scheme::Lines, text, letters, middle, lines);
+    }
+    Ok(())
+}
+
+/// With `first` letters before the middle, and with each number more below `end`.
+fn middles_behind_each<T: ByteChunk>(
+    rt: &impl Abort,
+    alloc: Global,
+    first: usize,
+    end: usize,
+) -> Result<(), Fail> {
+    for letters in first..end {
+        middles_behind::<T>(rt, alloc, letters)?;
     }
     Ok(())
 }
 
 #[test]
-fn arrays_see_each_break_at_every_edge(rt: HostRuntime) -> Result<(), Fail> {
-    for letters in 0..41 {
-        middles_behind::<Plain>(&rt, rt.alloc(), letters)?;
-    }
-    Ok(())
+fn arrays_see_each_break_behind_up_to_15_letters(rt: HostRuntime) -> Result<(), Fail> {
+    middles_behind_each::<Plain>(&rt, rt.alloc(), 0, 16)
+}
+
+#[test]
+fn arrays_see_each_break_behind_16_to_24_letters(rt: HostRuntime) -> Result<(), Fail> {
+    middles_behind_each::<Plain>(&rt, rt.alloc(), 16, 25)
+}
+
+#[test]
+fn arrays_see_each_break_behind_25_to_32_letters(rt: HostRuntime) -> Result<(), Fail> {
+    middles_behind_each::<Plain>(&rt, rt.alloc(), 25, 33)
+}
+
+#[test]
+fn arrays_see_each_break_behind_33_to_40_letters(rt: HostRuntime) -> Result<(), Fail> {
+    middles_behind_each::<Plain>(&rt, rt.alloc(), 33, 41)
 }
 
 #[test]
 fn words_see_each_break_at_every_edge(rt: HostRuntime) -> Result<(), Fail> {
-    for letters in 0..41 {
-        middles_behind::<usize>(&rt, rt.alloc(), letters)?;
-    }
-    Ok(())
+    middles_behind_each::<usize>(&rt, rt.alloc(), 0, 41)
 }
 
 #[test]
 fn double_words_see_each_break_at_every_edge(rt: HostRuntime) -> Result<(), Fail> {
-    for letters in 0..41 {
-        middles_behind::<u128>(&rt, rt.alloc(), letters)?;
-    }
-    Ok(())
+    middles_behind_each::<u128>(&rt, rt.alloc(), 0, 41)
 }
 
 #[test]
 fn sixteen_lanes_see_each_break_at_every_edge(rt: HostRuntime) -> Result<(), Fail> {
-    for letters in 0..41 {
-        middles_behind::<u8x16>(&rt, rt.alloc(), letters)?;
-    }
-    Ok(())
+    middles_behind_each::<u8x16>(&rt, rt.alloc(), 0, 41)
 }
 
 #[test]
 fn thirty_two_lanes_see_each_break_at_every_edge(rt: HostRuntime) -> Result<(), Fail> {
-    for letters in 0..41 {
-        middles_behind::<u8x32>(&rt, rt.alloc(), letters)?;
-    }
-    Ok(())
+    middles_behind_each::<u8x32>(&rt, rt.alloc(), 0, 41)
 }

@@ -1,5 +1,5 @@
 //! Texts that fill every lane of a round, over and over.
-use super::kernels;
+use super::rows::{self, Asked};
 use super::walk::{SCHEMES, Scheme};
 use byte_chunk::{ByteChunk, Plain};
 use std::alloc::Global;
@@ -16,8 +16,11 @@ const REPEATED: [(&str, usize, [usize; 5]); 5] = [
     ("\u{1F438}", 1025, [1025, 2050, 0, 0, 0]),
 ];
 
-/// Bytes that are given an index, and the index: what is repeated, the scheme, the byte and the index.
-const FROM: [(&str, usize, Scheme, usize, usize); 7] = [
+/// A repeated character, its scheme, a byte or an index, and the index or the byte that it is given.
+type Row = (&'static str, usize, Scheme, usize, usize);
+
+/// Bytes that are given an index, and the index.
+const FROM: &[Row] = &[
     ("é", 4097, Scheme::Chars, 8193, 4096),
     ("é", 4097, Scheme::Utf16, 8193, 4096),
     ("\r\n", 4097, Scheme::Lf, 8193, 4096),
@@ -28,7 +31,7 @@ const FROM: [(&str, usize, Scheme, usize, usize); 7] = [
 ];
 
 /// Indices that go to a byte, and the byte.
-const TO: [(&str, usize, Scheme, usize, usize); 14] = [
+const TO: &[Row] = &[
     ("é", 4097, Scheme::Chars, 4096, 8192),
     ("é", 4097, Scheme::Utf16, 4096, 8192),
     ("\r", 4097, Scheme::Crlf, 4096, 4096),
@@ -47,73 +50,72 @@ const TO: [(&str, usize, Scheme, usize, usize); 14] = [
 
 /// The count of all of the text, and what the greatest index gives.
 fn count_whole<T: ByteChunk>(rt: &impl Abort, scheme: Scheme, text: &str, count: usize) {
-    let len = text.len();
     for lead in [0, 1, 31] {
-        assert_eq!(rt;
-            kernels::count::<T>(scheme, text, len, lead),
-            Some(count),
-            "{scheme:?} after {lead}"
-        );
-        assert_eq!(rt;
-            kernels::from_byte_idx::<T>(scheme, text, usize::MAX, lead),
-            count,
-            "{scheme:?} after {lead}"
-        );
-        assert_eq!(rt;
-            kernels::to_byte_idx::<T>(scheme, text, usize::MAX, lead),
-            len,
-            "{scheme:?} after {lead}"
-        );
+        let index = text.len();
+        rows::count_is::<T>(rt, Asked::new(scheme, text, index, lead), Some(count));
+        let index = usize::MAX;
+        let past = Asked::new(scheme, text, index, lead);
+        rows::from_is::<T>(rt, past, count);
+        rows::to_is::<T>(rt, past, text.len());
+    }
+}
+
+fn count_in_each_scheme<T: ByteChunk>(rt: &impl Abort, text: &str, counts: [usize; 5]) {
+    for i in 0..5 {
+        count_whole::<T>(rt, SCHEMES[i], text, counts[i]);
     }
 }
 
 fn count_each<T: ByteChunk>(rt: &impl Abort, alloc: Global) -> Result<(), Fail> {
     for (unit, times, counts) in REPEATED {
         let text = unit.repeat(alloc, times)?;
-        for (scheme, count) in SCHEMES.into_iter().zip(counts) {
-            count_whole::<T>(rt, scheme, &text, count);
-        }
+        count_in_each_scheme::<T>(rt, &text, counts);
     }
+    Ok(())
+}
+
+fn count_frogs<T: ByteChunk>(rt: &impl Abort, alloc: Global) -> Result<(), Fail> {
     let frogs = "\u{1F438}".repeat(alloc, 1025)?;
-    assert_eq!(rt; kernels::count_surrogates::<T>(&frogs, 4100, 0), Some(1025));
-    assert_eq!(rt; kernels::count_surrogates::<T>(&frogs, 4096, 3), Some(1024));
+    rows::pairs_are::<T>(rt, Asked::new(Scheme::Utf16, &frogs, 4100, 0), Some(1025));
+    rows::pairs_are::<T>(rt, Asked::new(Scheme::Utf16, &frogs, 4096, 3), Some(1024));
+    Ok(())
+}
+
+fn convert_from<T: ByteChunk>(rt: &impl Abort, alloc: Global, row: Row) -> Result<(), Fail> {
+    let (unit, times, scheme, byte, index) = row;
+    let text = unit.repeat(alloc, times)?;
+    rows::from_is::<T>(rt, Asked::new(scheme, &text, byte, 0), index);
+    Ok(())
+}
+
+fn convert_to<T: ByteChunk>(rt: &impl Abort, alloc: Global, row: Row) -> Result<(), Fail> {
+    let (unit, times, scheme, index, byte) = row;
+    let text = unit.repeat(alloc, times)?;
+    rows::to_is::<T>(rt, Asked::new(scheme, &text, index, 0), byte);
     Ok(())
 }
 
 fn convert_each<T: ByteChunk>(rt: &impl Abort, alloc: Global) -> Result<(), Fail> {
-    for (unit, times, scheme, byte, index) in FROM {
-        let text = unit.repeat(alloc, times)?;
-        assert_eq!(rt;
-            kernels::from_byte_idx::<T>(scheme, &text, byte, 0),
-            index,
-            "{scheme:?} from {byte}"
-        );
+    for row in FROM {
+        convert_from::<T>(rt, alloc, *row)?;
     }
-    for (unit, times, scheme, index, byte) in TO {
-        let text = unit.repeat(alloc, times)?;
-        assert_eq!(rt;
-            kernels::to_byte_idx::<T>(scheme, &text, index, 0),
-            byte,
-            "{scheme:?} to {index}"
-        );
+    for row in TO {
+        convert_to::<T>(rt, alloc, *row)?;
     }
     Ok(())
 }
 
-#[test]
-fn full_lanes_are_counted_over_every_chunk(rt: HostRuntime) -> Result<(), Fail> {
-    count_each::<Plain>(&rt, rt.alloc())?;
-    count_each::<usize>(&rt, rt.alloc())?;
-    count_each::<u128>(&rt, rt.alloc())?;
-    count_each::<u8x16>(&rt, rt.alloc())?;
-    count_each::<u8x32>(&rt, rt.alloc())
+fn fill_lanes<T: ByteChunk>(rt: &impl Abort, alloc: Global) -> Result<(), Fail> {
+    count_each::<T>(rt, alloc)?;
+    count_frogs::<T>(rt, alloc)?;
+    convert_each::<T>(rt, alloc)
 }
 
 #[test]
-fn full_lanes_are_converted_over_every_chunk(rt: HostRuntime) -> Result<(), Fail> {
-    convert_each::<Plain>(&rt, rt.alloc())?;
-    convert_each::<usize>(&rt, rt.alloc())?;
-    convert_each::<u128>(&rt, rt.alloc())?;
-    convert_each::<u8x16>(&rt, rt.alloc())?;
-    convert_each::<u8x32>(&rt, rt.alloc())
+fn full_lanes_answer_over_every_chunk(rt: HostRuntime) -> Result<(), Fail> {
+    fill_lanes::<Plain>(&rt, rt.alloc())?;
+    fill_lanes::<usize>(&rt, rt.alloc())?;
+    fill_lanes::<u128>(&rt, rt.alloc())?;
+    fill_lanes::<u8x16>(&rt, rt.alloc())?;
+    fill_lanes::<u8x32>(&rt, rt.alloc())
 }

@@ -5,23 +5,46 @@ use byte_chunk::{ByteChunk, Probe};
 
 /// The scheme's count before `end`, or `None` where its kernel does not take that end.
 pub fn count<T: ByteChunk>(scheme: Scheme, text: &str, end: usize, lead: usize) -> Option<usize> {
-    let mut probe = Probe::<T>::of(text);
+    match scheme {
+        Scheme::Lf | Scheme::Crlf => count_at_byte::<T>(scheme, text, end, lead),
+        _ => count_at_boundary::<T>(scheme, text, end, lead),
+    }
+}
+
+/// The count of a scheme whose kernel takes any byte as an end.
+fn count_at_byte<T: ByteChunk>(
+    scheme: Scheme,
+    text: &str,
+    end: usize,
+    lead: usize,
+) -> Option<usize> {
+    let probe = &mut Probe::<T>::of(text);
     if end > probe.len() {
         return None;
     }
-    match scheme {
-        Scheme::Lf => return Some(lines_lf::count_breaks_impl(&mut probe, end, lead)),
-        Scheme::Crlf => return Some(lines_crlf::count_breaks_impl(&mut probe, end, lead)),
-        _ => {}
+    if scheme == Scheme::Lf {
+        Some(lines_lf::count_breaks_impl(probe, end, lead))
+    } else {
+        Some(lines_crlf::count_breaks_impl(probe, end, lead))
     }
+}
+
+/// The count of a scheme whose kernel takes an end at a character alone.
+fn count_at_boundary<T: ByteChunk>(
+    scheme: Scheme,
+    text: &str,
+    end: usize,
+    lead: usize,
+) -> Option<usize> {
     if !text.is_char_boundary(end) {
         return None;
     }
     laws::boundaries(text, end);
+    let probe = &mut Probe::<T>::of(text);
     match scheme {
-        Scheme::Chars => Some(chars::count_impl(&mut probe, end, lead)),
-        Scheme::Utf16 => Some(utf16::count_impl(&mut probe, end, lead)),
-        _ => Some(lines::count_breaks_impl(&mut probe, end, lead)),
+        Scheme::Chars => Some(chars::count_impl(probe, end, lead)),
+        Scheme::Utf16 => Some(utf16::count_impl(probe, end, lead)),
+        _ => Some(lines::count_breaks_impl(probe, end, lead)),
     }
 }
 

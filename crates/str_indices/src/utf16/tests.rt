@@ -1,8 +1,7 @@
-use super::{
-    count, count_impl, count_surrogates, count_surrogates_impl, from_byte_idx, from_byte_idx_impl,
-    to_byte_idx, to_byte_idx_impl,
-};
-use byte_chunk::{ByteChunk, Plain, Probe};
+use super::count_surrogates;
+use crate::tests::rows::{self, Asked, KernelRows, RangeRow, RepeatedRow, Row};
+use crate::tests::walk::Scheme;
+use byte_chunk::{ByteChunk, Plain};
 use std::process::Abort;
 use std::simd::{u8x16, u8x32};
 use std::test::Fail;
@@ -13,74 +12,107 @@ const AROUND_FROG: &str = "aaaaaaa🐸b";
 
 const FROG_BEHIND_FIFTEEN: &str = "aaaaaaaaaaaaaaa🐸b";
 
-/// The units and the surrogate pairs before a boundary, over one type of chunk.
-fn count_before<T: ByteChunk>(text: &str, end: usize, lead: usize) -> Option<(usize, usize)> {
-    if !text.is_char_boundary(end) {
-        return None;
-    }
-    let mut probe = Probe::<T>::of(text);
-    let units = count_impl(&mut probe, end, lead);
-    Some((units, count_surrogates_impl(&mut probe, end, lead)))
-}
+const BYTES_OF_CHARS: &[(&str, &[u8])] = &[
+    ("\u{85}", b"\xC2\x85"),
+    ("\u{2028}", b"\xE2\x80\xA8"),
+    ("\u{2029}", b"\xE2\x80\xA9"),
+    ("せ", b"\xE3\x81\x9B"),
+    ("🐸", b"\xF0\x9F\x90\xB8"),
+];
 
 #[test]
-fn a_char_of_four_bytes_takes_two_units(rt: HostRuntime) -> Result<(), Fail> {
-    let table: [(&str, &[u8], usize, usize); 5] = [
-        ("\u{85}", b"\xC2\x85", 1, 0),
-        ("\u{2028}", b"\xE2\x80\xA8", 1, 0),
-        ("\u{2029}", b"\xE2\x80\xA9", 1, 0),
-        ("せ", b"\xE3\x81\x9B", 1, 0),
-        ("🐸", b"\xF0\x9F\x90\xB8", 2, 1),
-    ];
-    for (text, bytes, units, pairs) in table {
-        assert_eq!(rt; text.as_bytes(), bytes, "bytes of {text}");
-        assert_eq!(rt; count(text), units, "units of {text}");
-        assert_eq!(rt; count_surrogates(text), pairs, "pairs of {text}");
+fn chars_have_the_bytes_of_the_table(rt: HostRuntime) {
+    for &(text, bytes) in BYTES_OF_CHARS {
+        assert!(rt; text.as_bytes() == bytes, "{text}");
+    }
+}
+
+const TEXTS: &[(&str, usize)] = &[
+    ("\u{85}", 1),
+    ("\u{2028}", 1),
+    ("\u{2029}", 1),
+    ("せ", 1),
+    ("🐸", 2),
+    ("", 0),
+    (TEXT, 27),
+];
+
+#[test]
+fn counts_whole_texts(rt: HostRuntime) {
+    rows::count_texts(&rt, Scheme::Utf16, TEXTS);
+}
+
+/// A text, how often it is repeated, and how many pairs there are.
+const PAIRS_OF_TEXTS: &[Row] = &[
+    ("\u{85}", 1, 0),
+    ("\u{2028}", 1, 0),
+    ("\u{2029}", 1, 0),
+    ("せ", 1, 0),
+    ("🐸", 1, 1),
+    ("", 1, 0),
+    (TEXT, 1, 4),
+    ("🐸", 1025, 1025),
+];
+
+#[test]
+fn a_char_of_four_bytes_takes_a_pair(rt: HostRuntime) -> Result<(), Fail> {
+    for &(unit, times, pairs) in PAIRS_OF_TEXTS {
+        let text = &unit.repeat(rt.alloc(), times)?;
+        let found = count_surrogates(text);
+        let asked = Asked::at(Scheme::Utf16, text, text.len());
+        rows::same_at(&rt, "pairs before", asked, found, pairs);
     }
     Ok(())
 }
 
-#[test]
-fn counts_whole_texts(rt: HostRuntime) -> Result<(), Fail> {
-    for (text, units, pairs) in [("", 0, 0), (TEXT, 27, 4)] {
-        assert_eq!(rt; count(text), units, "units of {text}");
-        assert_eq!(rt; count_surrogates(text), pairs, "pairs of {text}");
+const PAIRS: &[Row] = &[
+    ("🐸🐸", 0, 0),
+    ("🐸🐸", 4, 1),
+    ("🐸🐸", 8, 2),
+    (AROUND_FROG, 7, 0),
+    (AROUND_FROG, 11, 1),
+    (AROUND_FROG, 12, 1),
+    (FROG_BEHIND_FIFTEEN, 15, 0),
+    (FROG_BEHIND_FIFTEEN, 19, 1),
+    (FROG_BEHIND_FIFTEEN, 20, 1),
+];
+
+fn count_pairs<T: ByteChunk>(rt: &impl Abort, lead: usize) {
+    for &(text, index, pairs) in PAIRS {
+        rows::pairs_are::<T>(
+            rt,
+            Asked::new(Scheme::Utf16, text, index, lead),
+            Some(pairs),
+        );
     }
-    Ok(())
 }
 
-fn count_after_each_lead<T: ByteChunk>(rt: &impl Abort) {
-    let table = [
-        ("🐸🐸", 0, (0, 0)),
-        ("🐸🐸", 4, (2, 1)),
-        ("🐸🐸", 8, (4, 2)),
-        (AROUND_FROG, 7, (7, 0)),
-        (AROUND_FROG, 11, (9, 1)),
-        (AROUND_FROG, 12, (10, 1)),
-        (FROG_BEHIND_FIFTEEN, 15, (15, 0)),
-        (FROG_BEHIND_FIFTEEN, 19, (17, 1)),
-        (FROG_BEHIND_FIFTEEN, 20, (18, 1)),
-    ];
+#[test]
+fn kernels_count_pairs_after_any_lead(rt: HostRuntime) {
     for lead in 0..22 {
-        for (text, end, counts) in table {
-            let found = count_before::<T>(text, end, lead);
-            assert_eq!(rt; found, Some(counts), "at {end} of {text} after {lead}");
-        }
+        count_pairs::<Plain>(&rt, lead);
+        count_pairs::<usize>(&rt, lead);
+        count_pairs::<u128>(&rt, lead);
+        count_pairs::<u8x16>(&rt, lead);
+        count_pairs::<u8x32>(&rt, lead);
     }
 }
 
-#[test]
-fn kernels_count_before_a_boundary_after_any_lead(rt: HostRuntime) -> Result<(), Fail> {
-    count_after_each_lead::<Plain>(&rt);
-    count_after_each_lead::<usize>(&rt);
-    count_after_each_lead::<u128>(&rt);
-    count_after_each_lead::<u8x16>(&rt);
-    count_after_each_lead::<u8x32>(&rt);
-    Ok(())
-}
-
-fn convert_after_each_lead<T: ByteChunk>(rt: &impl Abort) {
-    let units = [
+const AFTER_ANY_LEAD: KernelRows = KernelRows {
+    scheme: Scheme::Utf16,
+    leads: 22,
+    counts: &[
+        ("🐸🐸", 0, 0),
+        ("🐸🐸", 4, 2),
+        ("🐸🐸", 8, 4),
+        (AROUND_FROG, 7, 7),
+        (AROUND_FROG, 11, 9),
+        (AROUND_FROG, 12, 10),
+        (FROG_BEHIND_FIFTEEN, 15, 15),
+        (FROG_BEHIND_FIFTEEN, 19, 17),
+        (FROG_BEHIND_FIFTEEN, 20, 18),
+    ],
+    from: &[
         (AROUND_FROG, 7, 7),
         (AROUND_FROG, 8, 7),
         (AROUND_FROG, 10, 7),
@@ -90,8 +122,8 @@ fn convert_after_each_lead<T: ByteChunk>(rt: &impl Abort) {
         (FROG_BEHIND_FIFTEEN, 18, 15),
         (FROG_BEHIND_FIFTEEN, 19, 17),
         (FROG_BEHIND_FIFTEEN, 20, 18),
-    ];
-    let bytes = [
+    ],
+    to: &[
         (AROUND_FROG, 7, 7),
         (AROUND_FROG, 8, 7),
         (AROUND_FROG, 9, 11),
@@ -101,142 +133,101 @@ fn convert_after_each_lead<T: ByteChunk>(rt: &impl Abort) {
         (FROG_BEHIND_FIFTEEN, 16, 15),
         (FROG_BEHIND_FIFTEEN, 17, 19),
         (FROG_BEHIND_FIFTEEN, 18, 20),
-    ];
-    for lead in 0..22 {
-        for (text, byte, unit) in units {
-            let found = from_byte_idx_impl(&mut Probe::<T>::of(text), byte, lead);
-            assert_eq!(rt; found, unit, "at byte {byte} of {text} after {lead}");
-        }
-        for (text, unit, byte) in bytes {
-            let found = to_byte_idx_impl(&mut Probe::<T>::of(text), unit, lead);
-            assert_eq!(rt; found, byte, "at unit {unit} of {text} after {lead}");
-        }
-    }
-}
+    ],
+};
 
 #[test]
-fn kernels_convert_after_any_lead(rt: HostRuntime) -> Result<(), Fail> {
-    convert_after_each_lead::<Plain>(&rt);
-    convert_after_each_lead::<usize>(&rt);
-    convert_after_each_lead::<u128>(&rt);
-    convert_after_each_lead::<u8x16>(&rt);
-    convert_after_each_lead::<u8x32>(&rt);
-    Ok(())
+fn kernels_answer_after_any_lead(rt: HostRuntime) {
+    rows::answer_over_each_chunk(&rt, &AFTER_ANY_LEAD);
 }
 
-#[test]
-fn a_byte_inside_a_char_has_the_units_before_that_char(rt: HostRuntime) -> Result<(), Fail> {
-    let table = [
-        (0, 0),
-        (3, 3),
-        (4, 3),
-        (5, 3),
-        (6, 3),
-        (7, 5),
-        (9, 7),
-        (23, 17),
-        (24, 17),
-        (25, 17),
-        (26, 17),
-        (27, 19),
-        (33, 21),
-        (34, 21),
-        (35, 21),
-        (36, 21),
-        (37, 23),
-        (38, 23),
-        (39, 23),
-        (40, 23),
-        (41, 25),
-        (45, 27),
-        (46, 27),
-    ];
-    for (byte, unit) in table {
-        assert_eq!(rt; from_byte_idx(TEXT, byte), unit, "at byte {byte}");
-    }
-    Ok(())
-}
+const BYTES: &[RangeRow] = &[
+    ("", 0, 1, 0),
+    (TEXT, 0, 1, 0),
+    (TEXT, 3, 7, 3),
+    (TEXT, 7, 8, 5),
+    (TEXT, 9, 10, 7),
+    (TEXT, 23, 27, 17),
+    (TEXT, 27, 28, 19),
+    (TEXT, 33, 37, 21),
+    (TEXT, 37, 41, 23),
+    (TEXT, 41, 42, 25),
+    (TEXT, 45, 47, 27),
+];
 
 #[test]
-fn the_second_unit_of_a_pair_is_at_the_byte_of_its_char(rt: HostRuntime) -> Result<(), Fail> {
-    let table = [
-        (0, 0),
-        (3, 3),
-        (4, 3),
-        (5, 7),
-        (7, 9),
-        (17, 23),
-        (18, 23),
-        (19, 27),
-        (21, 33),
-        (22, 33),
-        (23, 37),
-        (24, 37),
-        (25, 41),
-        (27, 45),
-        (28, 45),
-    ];
-    for (unit, byte) in table {
-        assert_eq!(rt; to_byte_idx(TEXT, unit), byte, "at unit {unit}");
-    }
-    for (unit, byte) in [(7, 7), (8, 7), (9, 11), (10, 12), (11, 12)] {
-        assert_eq!(rt; to_byte_idx(AROUND_FROG, unit), byte, "at unit {unit}");
-    }
-    Ok(())
+fn a_byte_inside_a_char_has_the_units_before_that_char(rt: HostRuntime) {
+    rows::from_bytes(&rt, Scheme::Utf16, BYTES);
 }
 
+const BEGINS: &[Row] = &[
+    ("", 0, 0),
+    (TEXT, 0, 0),
+    (TEXT, 3, 3),
+    (TEXT, 4, 3),
+    (TEXT, 5, 7),
+    (TEXT, 7, 9),
+    (TEXT, 17, 23),
+    (TEXT, 18, 23),
+    (TEXT, 19, 27),
+    (TEXT, 21, 33),
+    (TEXT, 22, 33),
+    (TEXT, 23, 37),
+    (TEXT, 24, 37),
+    (TEXT, 25, 41),
+    (TEXT, 27, 45),
+    (TEXT, 28, 45),
+    (AROUND_FROG, 7, 7),
+    (AROUND_FROG, 8, 7),
+    (AROUND_FROG, 9, 11),
+    (AROUND_FROG, 10, 12),
+    (AROUND_FROG, 11, 12),
+];
+
 #[test]
-fn the_empty_text_answers_0(rt: HostRuntime) -> Result<(), Fail> {
-    for index in [0, 18446744073709551615] {
-        assert_eq!(rt; from_byte_idx("", index), 0);
-        assert_eq!(rt; to_byte_idx("", index), 0);
-    }
-    Ok(())
+fn the_second_unit_of_a_pair_is_at_the_byte_of_its_char(rt: HostRuntime) {
+    rows::to_bytes(&rt, Scheme::Utf16, BEGINS);
 }
+
+const REPEATED_TEXTS: &[RepeatedRow] = &[
+    ("🐸", 1025, 2050, 2049, 4096),
+    ("🐸", 1025, 2050, 2050, 4100),
+    ("🐸", 300, 600, 598, 1196),
+    ("🐸", 300, 600, 599, 1196),
+    ("🐸", 300, 600, 600, 1200),
+    ("a", 600, 600, 511, 511),
+    ("a", 600, 600, 600, 600),
+    ("a", 600, 600, 601, 600),
+];
 
 #[test]
 fn texts_of_many_chunks_are_counted_in_rounds(rt: HostRuntime) -> Result<(), Fail> {
-    let frogs = "🐸".repeat(rt.alloc(), 1025)?;
-    assert_eq!(rt; count_surrogates(&frogs), 1025);
-    assert_eq!(rt; count(&frogs), 2050);
-    for (unit, byte) in [(2049, 4096), (2050, 4100)] {
-        assert_eq!(rt; to_byte_idx(&frogs, unit), byte, "at unit {unit}");
-    }
-    Ok(())
+    rows::repeated_texts(&rt, rt.alloc(), Scheme::Utf16, REPEATED_TEXTS)
 }
 
-#[test]
-fn an_index_behind_many_chunks_is_reached(rt: HostRuntime) -> Result<(), Fail> {
-    let letters = "a".repeat(rt.alloc(), 600)?;
-    for (unit, byte) in [(511, 511), (600, 600), (601, 600)] {
-        assert_eq!(rt; to_byte_idx(&letters, unit), byte, "at unit {unit}");
-    }
-    let frogs = "🐸".repeat(rt.alloc(), 300)?;
-    for (unit, byte) in [(598, 1196), (599, 1196), (600, 1200)] {
-        assert_eq!(rt; to_byte_idx(&frogs, unit), byte, "at unit {unit}");
-    }
-    Ok(())
-}
+/// How many letters, a number of leading bytes, a unit and its byte.
+const LETTERS: &[(usize, usize, usize, usize)] = &[
+    (32, 0, 15, 15),
+    (32, 0, 16, 16),
+    (32, 0, 17, 17),
+    (32, 0, 33, 32),
+    (32, 1, 16, 16),
+    // 120 holds the greatest lane that is summed, 15, eight times, and eight chunks have 128 letters
+    (300, 0, 119, 119),
+    (300, 0, 120, 120),
+    (300, 0, 127, 127),
+    (300, 0, 128, 128),
+    (300, 0, 129, 129),
+    (300, 0, 255, 255),
+    (300, 0, 256, 256),
+    (300, 0, 300, 300),
+];
 
 #[test]
 fn an_index_is_reached_where_max_acc_is_below_size(rt: HostRuntime) -> Result<(), Fail> {
-    let letters = "a".repeat(rt.alloc(), 32)?;
-    let table = [
-        (0, 15, 15),
-        (0, 16, 16),
-        (0, 17, 17),
-        (0, 33, 32),
-        (1, 16, 16),
-    ];
-    for (lead, unit, byte) in table {
-        let found = to_byte_idx_impl(&mut Probe::<u128>::of(&letters), unit, lead);
-        assert_eq!(rt; found, byte, "at unit {unit} after {lead}");
-    }
-    // 120 holds the greatest lane that is summed, 15, eight times, and eight chunks have 128 letters.
-    let letters = "a".repeat(rt.alloc(), 300)?;
-    for unit in [119, 120, 127, 128, 129, 255, 256, 300] {
-        let found = to_byte_idx_impl(&mut Probe::<u128>::of(&letters), unit, 0);
-        assert_eq!(rt; found, unit, "at unit {unit}");
+    for &(letters, lead, index, byte) in LETTERS {
+        let text = &"a".repeat(rt.alloc(), letters)?;
+        rows::to_is::<u128>(&rt, Asked::new(Scheme::Utf16, text, index, lead), byte);
     }
     Ok(())
 }

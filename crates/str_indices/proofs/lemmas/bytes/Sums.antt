@@ -58,11 +58,6 @@ module _ (test : ℕ → Bool) (bytes : List ℕ) where
       → passing_before test bytes (at + n) ≤ passing_before test bytes at + n + 1
   passing_steady at n within = omega (arith, passing_before-more at n)
 
-  -- between two places no more bytes pass than stand there
-  pub passing_before-between : (m n : ℕ) → m ≤ n → passing_before test bytes n ≤ passing_before test bytes m + (n - m)
-  passing_before-between m n le =
-      let whole : m + (n - m) ≡ n = omega arith in rw whole at (passing_before-more m (n - m))
-
 -- a sum over more places is no less
 pub sum_below-le-sum_below : (f : ℕ → ℕ) (m n : ℕ) → m ≤ n → sum_below f m ≤ sum_below f n
 sum_below-le-sum_below f m n le =

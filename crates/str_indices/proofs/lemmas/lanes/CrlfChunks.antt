@@ -1,15 +1,15 @@
 -- The lanes of a chunk that say where the breaks of `Crlf` start.
-use Rattle.std.proofs.Common.{◌≡◌, ℕ, zero, suc, ◌+◌, ◌-◌, ◌<◌, ◌≤◌, Bool, List, [], ◌∷◌, ◌++◌, ◌↔◌, replicate, IsTrue, ap, sym, map, take, drop, length, get_or, refl, arith, ◌∙◌, add-zero, add-suc, bit_and}
+use Rattle.std.proofs.Common.{ap₂, ◌≡◌, ℕ, zero, suc, ◌+◌, ◌-◌, ◌<◌, ◌≤◌, Bool, List, [], ◌∷◌, ◌++◌, ◌↔◌, replicate, IsTrue, ap, sym, map, take, drop, length, get_or, refl, arith, ◌∙◌, add-zero, add-suc, bit_and}
 use Rattle.std.specs.Prelude.{◌&&◌, not}
 use Rattle.std.specs.Simd.Lanes.{zip2, Each2}
-use Rattle.std.proofs.Math.ListN.{drop_of_length-le}
-use Rattle.std.proofs.Math.Seq.{drop-cons}
+use Rattle.std.proofs.Math.ListN.{drop_of_length-le, get_or-append}
+use Rattle.std.proofs.Math.Seq.{drop-append_seam, drop-cons}
 use Rattle.std.proofs.lemmas.Bool.Decides.{nat_tests}
-use Rattle.std.proofs.lemmas.List.{get_or-take, length-take-le, take-replicate}
+use Rattle.std.proofs.lemmas.List.{drop-replicate, get_or-append-add, get_or-drop, get_or-replicate, get_or-take, length-append, length-drop, length-replicate, length-take-le, take-replicate}
 use Rattle.byte_chunk.specs.Lanes.{is_byte}
 use Rattle.str_indices.specs.Text.{line_feed, carriage_return}
-use Rattle.str_indices.specs.Bytes.{flag, mark, is_line_feed, is_carriage_return, byte_before, break_start}
-use Rattle.str_indices.specs.Lanes.{HasLanes}
+use Rattle.str_indices.specs.Bytes.{flag, mark, is_line_feed, is_carriage_return, byte_before, starts_break, break_start}
+use Rattle.str_indices.specs.Lanes.{HasLanes, HasLaterLanes}
 use Rattle.str_indices.proofs.lemmas.lanes.Lanes.{Each2-lanes, lanes_and, lanes_loaded, lanes_same, lanes_zip2}
 
 -- the chunk of `text` at `at`, and the chunk before it, whose last lane says whether the byte before `at` is CR
@@ -88,8 +88,44 @@ module _ {text : List ℕ} {at size : ℕ} {chunk before returns : List ℕ}
         starts_are = lanes_same (lanes_zip2 (λ a b. a - b) both_are pairs_are is_starts)
             (λ j l. grind (arith, nat_tests))
 
--- what the lanes of a chunk say, as the search takes it
-pub ruleset starts_in_chunk = (loaded_by, sums_fit, pairs_fit, starts_are, last_is_return)
+-- after zeros the byte before is 0, or there is none
+zero_before : (at : ℕ) (bytes : List ℕ) → byte_before (replicate at 0 ++ bytes) at ≡ 0
+zero_before zero bytes = refl
+zero_before (suc n) bytes =
+    get_or-append (replicate (suc n) 0) bytes 0 n (grind (arith, length-replicate {A = ℕ} (suc n) 0))
+    ∙ get_or-replicate {A = ℕ} (suc n) n 0 0 (omega arith)
+
+-- What a chunk says of its later lanes, where nothing was handed on to it: as if only zeros stood before it.
+module _ (text : List ℕ) (at : ℕ) where
+  -- from the chunk on that is no other text
+  same_from : (j : ℕ) → get_or (replicate at 0 ++ drop at text) (at + j) 0 ≡ get_or text (at + j) 0
+  same_from j = rw (length-replicate {A = ℕ} at 0) at (get_or-append-add (replicate at 0) (drop at text) j 0)
+      ∙ get_or-drop at text j 0
+
+  -- the chunk before it has no lane that is CR
+  pub loaded_after_zeros : {size : ℕ} {chunk zeros : List ℕ} → chunk ≡ take size (drop at text)
+      → zeros ≡ replicate size 0 → at + size ≤ length text → 4 ≤ size
+      → Loaded (replicate at 0 ++ drop at text) at size chunk zeros
+  loaded_after_zeros {size} taken filled within least =
+      let seam = drop-append_seam (replicate at 0) (drop at text) in
+      let one : size - (size - 1) ≡ 1 = omega (arith, least) in
+      record {
+        above = omega (arith, least);
+        within = grind (arith, within, length-append, length-drop, length-replicate {A = ℕ});
+        taken = rw (rw (length-replicate {A = ℕ} at 0) at seam) taken;
+        carried = rw (filled, zero_before at (drop at text), drop-replicate {X = ℕ} (size - 1) size 0, one) refl;
+      }
+
+  -- a break starts in each lane but the first where one does in the text
+  pub later_starts : {size : ℕ} {starts : List ℕ}
+      → HasLanes size (λ j. break_start (replicate at 0 ++ drop at text) (at + j)) starts
+      → HasLaterLanes size (λ j. break_start text (at + j)) starts
+  later_starts h = record { long = h.long; each = λ j later below. h.each j below ∙ start j later }
+    where
+      start : (j : ℕ) → 0 < j → break_start (replicate at 0 ++ drop at text) (at + j) ≡ break_start text (at + j)
+      start zero later = absurd (omega arith)
+      start (suc j) later = rw add-suc (ap₂ (λ before b. mark (starts_break before) b) (same_from j)
+          (rw add-suc at (same_from (suc j))))
 
 -- what is 0 exactly where a flag is, is not where the flag is 1
 unlike_flag : (is_zero b : Bool) → IsTrue is_zero ↔ (flag b ≡ 0) → not is_zero ≡ b

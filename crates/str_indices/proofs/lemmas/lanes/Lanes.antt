@@ -102,14 +102,6 @@ lanes_loaded u text at size {lanes} {counts} within loaded mapped = lanes_same
     (lanes_map u lanes (length-loaded text at size lanes within loaded) mapped)
     (λ j l. cc (get_or-take size (drop at text) j 0 l, get_or-drop at text j 0))
 
--- what u adds over such a chunk
-pub sum_below-loaded : (u : ℕ → ℕ) (text : List ℕ) (at size added : ℕ) (lanes counts : List ℕ)
-    → at + size ≤ length text → lanes ≡ take size (drop at text) → counts ≡ map u lanes → added ≡ sum counts
-    → sum_below (λ j. u (get_or text j 0)) (at + size) ≡ sum_below (λ j. u (get_or text j 0)) at + added
-sum_below-loaded u text at size added lanes counts within loaded mapped summed =
-    let here = lanes_loaded u text at size within loaded mapped in
-    omega (arith, summed, sum_below-chunk (λ j. u (get_or text j 0)) at here)
-
 -- two chunks, lane by lane
 pub lanes_zip2 : (u : ℕ → ℕ → ℕ) {size : ℕ} {f g : ℕ → ℕ} {xs ys zs : List ℕ} → HasLanes size f xs
     → HasLanes size g ys → zs ≡ zip2 u xs ys → HasLanes size (λ j. u (f j) (g j)) zs
@@ -173,9 +165,6 @@ module _ {size : ℕ} (chunk : List ℕ) (long : length chunk ≡ size) where
   lane_is_not a is_first none j within =
       let here = (lanes_map (is_byte a) chunk long is_first).each j within in
       grind (arith, nat_tests, here, none, get_or-replicate {A = ℕ} size j 0 0 within)
-
--- the sum of a chunk, for the search
-pub ruleset chunk_sums = (sum_below-chunk)
 
 -- 1 less the mark of a trailing byte is the mark of a leading one
 pub leading_marked : (lanes : List ℕ) {size : ℕ} {ones marks others : List ℕ} → length lanes ≡ size

@@ -1,14 +1,15 @@
 -- The last bytes of a text in one chunk, of which the lanes in front are left out.
 use Rattle.std.proofs.Common.{◌≡◌, ℕ, zero, suc, ◌+◌, ◌-◌, ◌≤◌, List, [], ◌∷◌, ◌++◌, take, drop, length, get_or, refl, arith, replicate, bit_and, ◌∙◌, ap, ◌<◌, slice_set, add-one}
 use Rattle.std.specs.Prelude.{sum}
+use Rattle.std.specs.Int.Bits.{and_zero_r}
 use Rattle.std.specs.Simd.Lanes.{zip2, Each1}
 use Rattle.std.proofs.Math.Seq.{take-append-add, take-suc}
 use Rattle.std.proofs.lemmas.List.{length-replicate, length-drop, get_or-drop, drop-append-le, drop-replicate, take-replicate, take_more_set, take_rest}
 use Rattle.std.proofs.lemmas.List.Folds.{sum_by-replicate}
 use Rattle.std.proofs.lemmas.List.Sums.{sum_by-append}
 use Rattle.str_indices.specs.Bytes.{sum_below}
-use Rattle.str_indices.specs.Lanes.{HasLanes}
-use Rattle.str_indices.proofs.lemmas.lanes.Lanes.{sum_below-chunk}
+use Rattle.str_indices.specs.Lanes.{HasLanes, HasLaterLanes}
+use Rattle.str_indices.proofs.lemmas.lanes.Lanes.{Each1-lanes, sum_below-chunk}
 
 -- a table of bytes for lanes that are left out and then of as many for those that are kept, from the last `out` on
 pub left_out_and_kept : (table : List ℕ) (most out kept size : ℕ) → table ≡ replicate most 0 ++ replicate most 0xFF
@@ -24,11 +25,11 @@ left_out_and_kept table most out kept size is whole few =
     rw (take_rest table (most - out), is, split, zeros)
     (front' ∙ ap (λ rest. replicate out 0 ++ rest) (take-replicate kept most 0xFF (omega arith)))
 
--- a small number shares all its bits with a byte that has them all, and none with 0
-small_bits : (lane : ℕ) → lane ≤ 2 → (bit_and lane 0xFF ≡ lane) × (bit_and lane 0 ≡ 0)
-small_bits zero le = (refl, refl)
-small_bits (suc zero) le = (refl, refl)
-small_bits (suc (suc zero)) le = (refl, refl)
+-- a small number shares all its bits with a byte that has them all
+small_bits : (lane : ℕ) → lane ≤ 2 → bit_and lane 0xFF ≡ lane
+small_bits zero le = refl
+small_bits (suc zero) le = refl
+small_bits (suc (suc zero)) le = refl
 small_bits (suc (suc (suc n))) le = absurd (omega arith)
 
 -- lanes that are kept stay as they are
@@ -37,23 +38,21 @@ kept_lanes : (lanes : List ℕ) (n : ℕ) → Each1 (λ lane. lane ≤ 2) lanes 
 kept_lanes [] zero small long = refl
 kept_lanes [] (suc n) small long = absurd (omega arith)
 kept_lanes (x ∷ xs) zero small long = absurd (omega arith)
-kept_lanes (x ∷ xs) (suc n) small long = cc ((small_bits x small.0).0, kept_lanes xs n small.1 (omega arith))
+kept_lanes (x ∷ xs) (suc n) small long = cc (small_bits x small.0, kept_lanes xs n small.1 (omega arith))
 
 -- the lanes in front become 0, and the others stay
-pub last_lanes_stay : (out kept : ℕ) (lanes : List ℕ) → Each1 (λ lane. lane ≤ 2) lanes → length lanes ≡ out + kept
+pub last_lanes_stay : (out kept : ℕ) (lanes : List ℕ) → Each1 (λ lane. lane ≤ 2) (drop out lanes)
+    → length lanes ≡ out + kept
     → zip2 bit_and lanes (replicate out 0 ++ replicate kept 0xFF) ≡ replicate out 0 ++ drop out lanes
 last_lanes_stay zero kept lanes small long = kept_lanes lanes kept small (omega arith)
 last_lanes_stay (suc out) kept [] small long = absurd (omega arith)
 last_lanes_stay (suc out) kept (x ∷ xs) small long =
-    cc ((small_bits x small.0).1, last_lanes_stay out kept xs small.1 (omega arith))
+    cc (and_zero_r x, last_lanes_stay out kept xs small (omega arith))
 
--- what holds of all lanes and of 0 holds of those that stay
-pub last_lanes_hold : (P : ℕ → Type 0) → P 0 → (out : ℕ) (lanes : List ℕ) → out ≤ length lanes → Each1 P lanes
-    → Each1 P (replicate out 0 ++ drop out lanes)
-last_lanes_hold P zeros zero lanes within each = each
-last_lanes_hold P zeros (suc out) [] within each = absurd (omega arith)
-last_lanes_hold P zeros (suc out) (x ∷ xs) within each =
-    (zeros, last_lanes_hold P zeros out xs (omega arith) each.1)
+-- what holds of 0 and of some lanes holds of them after zeros
+after_zeros : (P : ℕ → Type 0) → P 0 → (out : ℕ) (lanes : List ℕ) → Each1 P lanes → Each1 P (replicate out 0 ++ lanes)
+after_zeros P zeros zero lanes each = each
+after_zeros P zeros (suc out) lanes each = (zeros, after_zeros P zeros out lanes each)
 
 -- one byte more of a chunk that is put together
 pub byte_more : (bytes text : List ℕ) (at i byte : ℕ) → i < length bytes → at + i < length text
@@ -64,21 +63,35 @@ byte_more bytes text at i byte room within is filled =
     let next = take-suc (drop at text) i 0 (grind (arith, length-drop)) in
     rw (take_more_set bytes i byte room, add-one) (cc (filled, is, here, next))
 
--- what is counted from a place on to an end, by the last lanes of the chunk before that
-pub rest_added : (f : ℕ → ℕ) (end from size : ℕ) {lanes last : List ℕ} → size ≤ end → from ≤ end → end ≤ from + size
-    → HasLanes size (λ j. f (end - size + j)) lanes
-    → last ≡ replicate (size - (end - from)) 0 ++ drop (size - (end - from)) lanes
-    → sum_below f end ≡ sum_below f from + sum last
-rest_added f end from size {lanes} {last} long before near h is =
-    let out = size - (end - from) in
-    let add = sum_by-append (λ (a : ℕ). a) (replicate out 0) (drop out lanes) in
-    let zeros = sum_by-replicate (λ (a : ℕ). a) out 0 in
-    let here : from + (end - from) ≡ end = omega arith in
-    let behind : HasLanes (end - from) (λ j. f (from + j)) (drop out lanes) = record {
-      long = grind (arith, length-drop, h.long);
-      each = λ j l.
-          let place : end - size + (out + j) ≡ from + j = omega arith in
-          get_or-drop out lanes j 0 ∙ h.each (out + j) (omega arith) ∙ ap f place;
-    } in
-    let chunk = rw here at (sum_below-chunk f from behind) in
-    rw is (omega (arith, add, zeros, chunk))
+-- The last chunk before an end, of which the lanes from a place on are kept, and so not the first.
+module _ (f : ℕ → ℕ) (end from size : ℕ) {lanes : List ℕ} (long : size ≤ end) (near : (from ≤ end) × (end < from + size))
+    (h : HasLaterLanes size (λ j. f (end - size + j)) lanes) where
+  -- the lanes that are kept, by their places
+  kept : HasLanes (end - from) (λ j. f (from + j)) (drop (size - (end - from)) lanes)
+  kept = record {
+    long = grind (arith, length-drop, h.long);
+    each = λ j l.
+        let out = size - (end - from) in
+        let place : end - size + (out + j) ≡ from + j = omega arith in
+        get_or-drop out lanes j 0 ∙ h.each (out + j) (omega arith) (omega arith) ∙ ap f place;
+  }
+
+  -- none of them is above the most that f is
+  pub kept_small : (most : ℕ) → ((n : ℕ) → f n ≤ most) → Each1 (λ lane. lane ≤ most) (drop (size - (end - from)) lanes)
+  kept_small most few = Each1-lanes (λ lane. lane ≤ most) kept (λ j l. few (from + j))
+
+  module _ {last : List ℕ} (is : last ≡ replicate (size - (end - from)) 0 ++ drop (size - (end - from)) lanes) where
+    -- nor is one of those after zeros
+    pub rest_small : (most : ℕ) → ((n : ℕ) → f n ≤ most) → Each1 (λ lane. lane ≤ most) last
+    rest_small most few =
+        rw is (after_zeros (λ lane. lane ≤ most) (omega arith) (size - (end - from)) _ (kept_small most few))
+
+    -- what is counted from the place on to the end
+    pub rest_added : sum_below f end ≡ sum_below f from + sum last
+    rest_added =
+        let out = size - (end - from) in
+        let add = sum_by-append (λ (a : ℕ). a) (replicate out 0) (drop out lanes) in
+        let zeros = sum_by-replicate (λ (a : ℕ). a) out 0 in
+        let here : from + (end - from) ≡ end = omega arith in
+        let chunk = rw here at (sum_below-chunk f from kept) in
+        rw is (omega (arith, add, zeros, chunk))

@@ -1,11 +1,11 @@
 -- Lanes that hold what is counted in chunks are added, chunk after chunk, and summed once.
 use Rattle.std.proofs.Common.{◌≡◌, ℕ, ◌+◌, ◌*◌, ◌≤◌, List, [], ◌∷◌, length, refl, arith, replicate}
 use Rattle.std.specs.Prelude.{sum}
-use Rattle.std.specs.Simd.Lanes.{zip2, Each1, Each2}
+use Rattle.std.specs.Simd.Lanes.{zip2, Each2}
 use Rattle.std.proofs.lemmas.List.{length-replicate}
 use Rattle.std.proofs.lemmas.List.Folds.{sum_by-replicate}
 use Rattle.std.proofs.lemmas.List.Sums.{sum_by-cons}
-use Rattle.std.proofs.lemmas.Simd.{Each1-replicate, Each1-weaker, Each1-zip2, Each2-of, length-zip2}
+use Rattle.std.proofs.lemmas.Simd.{Each1-replicate, Each1-zip2, Each2-of, length-zip2}
 use Rattle.str_indices.specs.Bytes.{sum_below}
 use Rattle.str_indices.specs.Lanes.{AddsUp, HasLanes}
 use Rattle.str_indices.proofs.lemmas.lanes.Lanes.{Each1-lanes, sum_below-chunk}
@@ -32,10 +32,6 @@ module _ {counted : ℕ → ℕ} {most size from : ℕ} where
   as_many same lanes = rw same at lanes
 
   module _ {at m : ℕ} {xs : List ℕ} (so_far : AddsUp counted most size from at m xs) where
-    -- chunks that count no more than is summed can be summed
-    pub lanes_summable : (limit : ℕ) → m * most ≤ limit → Each1 (λ lane. lane ≤ limit) xs
-    lanes_summable limit few = Each1-weaker _ _ (λ lane le. omega arith) xs so_far.small
-
     module _ {to n : ℕ} {ys : List ℕ} (more : AddsUp counted most size at to n ys) where
       -- lanes below a bound have room for one another
       pub lanes_addable : (limit : ℕ) → (m + n) * most ≤ limit → Each2 (λ a b. a + b ≤ limit) xs ys

@@ -10,16 +10,6 @@ use Rattle.str_indices.proofs.lemmas.passes.Quotients.{div-add-le}
 pub nothing : (p : ProbeState) (first : ℕ) → Reads p p first 0 0 0
 nothing p first = search arith
 
--- so many turns
-pub turns_made : (old new : ProbeState) (first n : ℕ) → new ≡ record old { turns = old.turns + n }
-    → Reads old new first n 0 0
-turns_made old new first n is = rw is (search arith)
-
--- one load
-pub load_made : (old new : ProbeState) (first at : ℕ) → first ≤ at
-    → new ≡ record old { loads = old.loads + 1; low = min old.low at } → Reads old new first 0 1 0
-load_made old new first at behind is = rw is (search arith)
-
 -- one load, and the peeks that it pays
 pub chunk_made : {old loaded new : ProbeState} (first at : ℕ) → first ≤ at
     → loaded ≡ record old { loads = old.loads + 1; low = min old.low at } → Reads loaded new 0 0 0 4

@@ -5,12 +5,6 @@ use Rattle.std.proofs.Math.Nat.{div-le_self, div-mul-le_self}
 use Rattle.byte_chunk.specs.ProbeState.{ProbeState}
 use Rattle.str_indices.specs.Reads.{Reads, leading_bytes, pass_turns, pass_loads}
 
--- all of a pass that counts in n bytes
-pub counted_pass : {old new : ProbeState} (size lead n : ℕ) {first at t : ℕ} → 4 ≤ size → first ≡ min lead n
-    → Reads old new first t ((at - first) / size) 0 → at ≤ n → t ≤ pass_turns size lead n
-    → Reads old new (leading_bytes lead n) (pass_turns size lead n) (pass_loads size lead n) 0
-counted_pass size lead n {first} {at} least here all within few = grind (arith, le-div, div-mul-le_self)
-
 module _ {old led chunked new : ProbeState} (size lead n : ℕ) {first at t t' : ℕ} (least : 4 ≤ size) where
   -- a pass that counts in n bytes: leading bytes, then chunks, then the rest
   pub counting_pass : first ≡ min lead n → Reads old led 0 t 0 0

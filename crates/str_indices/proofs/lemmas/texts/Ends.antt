@@ -1,6 +1,6 @@
 -- The ends of a text: where they are, how many there are, what each character adds to them, and those of a cut text.
 use Rattle.std.proofs.Common.{◌≡◌, ℕ, ◌+◌, inl, inr, List, [], ◌∷◌, ◌++◌, map, arith, Bool, refl, cond, ◌∙◌, ap, ◌<◌, ◌≤◌, append-nil}
-use Rattle.std.specs.Prelude.{filter, sum_by, count_by, ◌==◌, nat_le}
+use Rattle.std.specs.Prelude.{filter, sum_by, ◌==◌, nat_le}
 use Rattle.std.specs.Char.{len_utf8}
 use Rattle.std.proofs.lemmas.Bool.{cases_Bool}
 use Rattle.std.proofs.lemmas.Str.{len_utf8_bounds}
@@ -82,10 +82,6 @@ count_characters cs = end_count_total Chars cs ∙ total_alone (end_weight Chars
 -- a line feed ends a line in `Lf`, whatever stands beside it
 pub end_weight-Lf : (c : ℕ) (cs : List ℕ) → end_weight Lf c cs ≡ cond (c == 10) 1 0
 end_weight-Lf c cs = grind (arith, nat_tests)
-
--- each line feed counts one in `Lf`
-pub count_line_feeds : (cs : List ℕ) → count Lf cs ≡ count_by (λ c. c == 10) cs
-count_line_feeds cs = end_count_total Lf cs ∙ total_alone (end_weight Lf) (λ c. cond (c == 10) 1 0) end_weight-Lf cs
 
 -- up to a byte index are the ends of the beginning that is cut off there
 pub ends_up_to_cut : (s : Scheme) (cs : List ℕ) (byte : ℕ)
