@@ -2,9 +2,10 @@
 """Makes each allocation, read and write of the program fail, each in a run of its own.
 
 The built program runs over tests/c/failing_calls.c: each allocation is refused, alone and with all after it; each read
-fails, is interrupted, or moves one byte; each write fails, is interrupted, or moves one byte or none. Then `rt try`
-builds the program once more, so that it stops at an index out of bounds and at a bad access, and refuses the last
-allocation of the longest text: a growth of what is read.
+fails, is interrupted, or moves one byte; each write fails, is interrupted, or moves one byte or none. It reads files,
+since a pipe brings a text in as many reads as it happens to take. Then `rt try` builds the program once more, so that it
+stops at an index out of bounds and at a bad access, and refuses the last allocation of the longest text: a growth of what
+is read.
 
 A run must end in the fault's status and line, and nothing is written but a beginning of the answer where a write
 failed. It may end in the right answer where a call moved less, or where less memory was enough, but not where the last
@@ -71,13 +72,20 @@ CASES = [
 ]
 
 
+def write_texts(folder):
+    """Each text in a file of its name."""
+    for text, name in [SHORT, LONG, UNFINISHED]:
+        (folder / name).write_bytes(text)
+
+
 def run_failing(library, case, one_byte, kind, at):
-    """Whether there was a call of this number and kind, and how the program ends."""
+    """Whether there was a call of this number and kind, and how the program ends; the texts lie beside the library."""
     reading, writing = os.pipe()
     env = dict(os.environ, LD_PRELOAD=str(library), FAULT=kind.name, FAULT_AT=str(at), FAULT_TOLD=str(writing))
     if one_byte:
         env["ONE_BYTE"] = "1"
-    ending = run([PROGRAM, *case.words], input=case.text, env=env, pass_fds=[writing])
+    with open(library.parent / "texts" / case.text_name, "rb") as text:
+        ending = run([PROGRAM, *case.words], stdin=text, env=env, pass_fds=[writing])
     os.close(writing)
     came = os.read(reading, 1) != b""
     os.close(reading)
@@ -141,14 +149,11 @@ def endings_of(done):
     return endings
 
 
-def try_last_allocation(tally, at):
+def try_last_allocation(tally, texts, at):
     """The last allocation of the longest text is refused, in a run with checks, and so none of the other texts."""
     wanted = {SHORT[1]: number(2), LONG[1]: NO_MEMORY, UNFINISHED[1]: NOT_UTF8}
-    with tempfile.TemporaryDirectory() as folder:
-        for text, name in [SHORT, LONG, UNFINISHED]:
-            (pathlib.Path(folder) / name).write_bytes(text)
-        command = ["rt", "try", "--fail-alloc", str(at), "--cases", folder, "--", *COUNT]
-        done = subprocess.run(command, cwd=CRATE, capture_output=True, text=True)
+    command = ["rt", "try", "--fail-alloc", str(at), "--cases", texts, "--", *COUNT]
+    done = subprocess.run(command, cwd=CRATE, capture_output=True, text=True)
     endings = endings_of(done)
     line = "; ".join(f"{name} {told(ending)}" for name, ending in endings.items())
     if not tally.result(endings == wanted, f"rt try --fail-alloc {at}: {line}"):
@@ -159,6 +164,9 @@ def main():
     tally = Tally()
     with tempfile.TemporaryDirectory() as folder:
         library = pathlib.Path(folder) / "failing_calls.so"
+        texts = pathlib.Path(folder) / "texts"
+        texts.mkdir()
+        write_texts(texts)
         compiled = subprocess.run([*COMPILER, SOURCE, "-o", library])
         if tally.result(compiled.returncode == 0, "failing_calls.c compiles") and build(tally):
             allocations = 0
@@ -167,7 +175,7 @@ def main():
                 allocations = max(allocations, count if case.words == COUNT else 0)
                 if case.text != LONG[0]:
                     try_case(tally, library, case, one_byte=True)
-            try_last_allocation(tally, allocations)
+            try_last_allocation(tally, texts, allocations)
     return tally.end()
 
 

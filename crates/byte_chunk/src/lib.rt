@@ -10,8 +10,6 @@ ghost use Rattle.byte_chunk.specs.Lanes.{is_byte, is_between, IsLawful};
 
 mod chunks;
 mod counters;
-#[cfg(test)]
-mod tests;
 mod text_probe;
 pub mod vectors;
 

@@ -11,8 +11,6 @@ mod queries;
 mod refusals;
 mod schemes;
 mod summaries;
-#[cfg(test)]
-mod tests;
 mod view;
 
 pub use list::PieceText;

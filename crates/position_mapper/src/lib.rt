@@ -16,8 +16,6 @@ ghost use Rattle.position_mapper.specs.Positions.{byte_at, position_at};
 ghost use Rattle.position_mapper.specs.Relations.{IsGreatestPlace};
 
 pub mod laws;
-#[cfg(test)]
-mod tests;
 
 use str_indices::laws::start_of_line;
 use str_indices::{lines_crlf as lines, utf16};

@@ -6,9 +6,6 @@ ghost use Rattle.str_indices.specs.Relations.{IsBoundary};
 ghost use Rattle.str_indices.specs.Bytes.{passing_before, is_leading};
 ghost use Rattle.str_indices.specs.Reads.{Reads, leading_bytes, pass_turns, pass_loads};
 
-#[cfg(test)]
-mod tests;
-
 use crate::bytes::{LeadingBytes, is_leading_byte};
 use crate::chunk_counts::skip_chunks;
 use crate::counting::{Weights, count_weights, skip_surely};

@@ -14,8 +14,6 @@ pub mod lines_crlf;
 pub mod lines_lf;
 mod places;
 mod rest;
-#[cfg(test)]
-mod tests;
 pub mod utf16;
 
 pub use byte_chunk;

@@ -21,9 +21,6 @@ use crate::places::{Position, boundary_at_or_after, boundary_at_or_before, is_no
 use crate::rest::count_rest;
 use byte_chunk::{ByteChunk, Chunk, Probe};
 
-#[cfg(test)]
-mod tests;
-
 /// How many chunks are added in one step.
 const GROUP: usize = 2;
 

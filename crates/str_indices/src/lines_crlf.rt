@@ -16,9 +16,6 @@ use crate::places::{Position, is_not_crlf_middle};
 use crate::rest::count_rest;
 use byte_chunk::{ByteChunk, Chunk, Probe};
 
-#[cfg(test)]
-mod tests;
-
 /// How many chunks are added in one step.
 const GROUP: usize = 4;
 

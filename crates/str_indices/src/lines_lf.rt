@@ -14,9 +14,6 @@ use crate::counting::{Weights, count_weights};
 use crate::places::Position;
 use byte_chunk::{ByteChunk, Chunk, Probe};
 
-#[cfg(test)]
-mod tests;
-
 /// How many line breaks the text has.
 ///
 /// A text has one line more: behind a break at its end an empty line begins.

@@ -9,9 +9,6 @@ ghost use Rattle.str_indices.specs.Relations.{IsBoundary};
 ghost use Rattle.str_indices.specs.Bytes.{mark, units_before, is_leading, begins_four_bytes};
 ghost use Rattle.str_indices.specs.Reads.{Reads, leading_bytes, pass_turns, pass_loads};
 
-#[cfg(test)]
-mod tests;
-
 use crate::bytes::{ByteWeight, FourByteLeads, Units};
 use crate::chunk_counts::skip_chunks;
 use crate::counting::{Weights, count_weights, skip_surely};

@@ -6,9 +6,6 @@
 ghost use Rattle.std.specs.Prelude.{◌≡◌, ◌+◌, ◌≤◌, IsCharBoundary, chars, drop, slice_range};
 ghost use Rattle.str_indices.specs.Schemes.{to_byte_idx, Chars, Lines};
 
-#[cfg(test)]
-mod tests;
-
 use str_indices::{chars, laws, lines};
 
 /// The text behind its first `n` characters; nothing where it has no more.

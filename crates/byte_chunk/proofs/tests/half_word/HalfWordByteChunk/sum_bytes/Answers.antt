@@ -1,6 +1,0 @@
-use Rattle.std.proofs.Common.{arith}
-use Rattle.byte_chunk.proofs.lemmas.Words.{word_sum}
-use Rattle.byte_chunk.proofs.tests.half_word.HalfWordByteChunk.sum_bytes.Goals as goal
-
-pub returns : goal.returns
-returns c = omega (arith, word_sum 3 c.args.self.now.0 63 (omega arith) c.requires)

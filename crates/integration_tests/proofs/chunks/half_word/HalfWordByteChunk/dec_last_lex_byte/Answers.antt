@@ -1,0 +1,6 @@
+use Rattle.std.proofs.Common.{arith}
+use Rattle.byte_chunk.proofs.lemmas.Words.{word_dec}
+use Rattle.integration_tests.proofs.chunks.half_word.HalfWordByteChunk.dec_last_lex_byte.Goals as goal
+
+pub returns : goal.returns
+returns c = cc (word_dec 4 3 c.args.self.now.0 (omega arith) c.requires)

@@ -1,0 +1,6 @@
+use Rattle.std.proofs.Common.{arith}
+use Rattle.byte_chunk.proofs.lemmas.Words.{word_shr}
+use Rattle.integration_tests.proofs.chunks.half_word.HalfWordByteChunk.shr.Goals as goal
+
+pub returns : goal.returns
+returns c = cc (word_shr 4 c.args.n c.args.self.now.0 (omega arith))

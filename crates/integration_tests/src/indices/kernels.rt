@@ -1,0 +1,86 @@
+//! The kernels of a scheme, over chunks of one type.
+use byte_chunk::{ByteChunk, Probe};
+use piece_text::Scheme;
+use str_indices::{chars, laws, lines, lines_crlf, lines_lf, utf16};
+
+/// The scheme's count before `end`, or `None` where its kernel does not take that end.
+pub fn count<T: ByteChunk>(scheme: Scheme, text: &str, end: usize, lead: usize) -> Option<usize> {
+    match scheme {
+        Scheme::Lf | Scheme::Crlf => count_at_byte::<T>(scheme, text, end, lead),
+        _ => count_at_boundary::<T>(scheme, text, end, lead),
+    }
+}
+
+/// The count of a scheme whose kernel takes any byte as an end.
+fn count_at_byte<T: ByteChunk>(
+    scheme: Scheme,
+    text: &str,
+    end: usize,
+    lead: usize,
+) -> Option<usize> {
+    let probe = &mut Probe::<T>::of(text);
+    if end > probe.len() {
+        return None;
+    }
+    if scheme == Scheme::Lf {
+        Some(lines_lf::count_breaks_impl(probe, end, lead))
+    } else {
+        Some(lines_crlf::count_breaks_impl(probe, end, lead))
+    }
+}
+
+/// The count of a scheme whose kernel takes an end at a character alone.
+fn count_at_boundary<T: ByteChunk>(
+    scheme: Scheme,
+    text: &str,
+    end: usize,
+    lead: usize,
+) -> Option<usize> {
+    if !text.is_char_boundary(end) {
+        return None;
+    }
+    laws::boundaries(text, end);
+    let probe = &mut Probe::<T>::of(text);
+    match scheme {
+        Scheme::Chars => Some(chars::count_impl(probe, end, lead)),
+        Scheme::Utf16 => Some(utf16::count_impl(probe, end, lead)),
+        _ => Some(lines::count_breaks_impl(probe, end, lead)),
+    }
+}
+
+/// The surrogate pairs before `end`, or `None` where the kernel does not take that end.
+pub fn count_surrogates<T: ByteChunk>(text: &str, end: usize, lead: usize) -> Option<usize> {
+    if !text.is_char_boundary(end) {
+        return None;
+    }
+    laws::boundaries(text, end);
+    let mut probe = Probe::<T>::of(text);
+    Some(utf16::count_surrogates_impl(&mut probe, end, lead))
+}
+
+pub fn from_byte_idx<T: ByteChunk>(
+    scheme: Scheme,
+    text: &str,
+    byte_idx: usize,
+    lead: usize,
+) -> usize {
+    let probe = &mut Probe::<T>::of(text);
+    match scheme {
+        Scheme::Chars => chars::from_byte_idx_impl(probe, byte_idx, lead),
+        Scheme::Utf16 => utf16::from_byte_idx_impl(probe, byte_idx, lead),
+        Scheme::Lf => lines_lf::from_byte_idx_impl(probe, byte_idx, lead),
+        Scheme::Crlf => lines_crlf::from_byte_idx_impl(probe, byte_idx, lead),
+        Scheme::Lines => lines::from_byte_idx_impl(probe, byte_idx, lead),
+    }
+}
+
+pub fn to_byte_idx<T: ByteChunk>(scheme: Scheme, text: &str, idx: usize, lead: usize) -> usize {
+    let probe = &mut Probe::<T>::of(text);
+    match scheme {
+        Scheme::Chars => chars::to_byte_idx_impl(probe, idx, lead),
+        Scheme::Utf16 => utf16::to_byte_idx_impl(probe, idx, lead),
+        Scheme::Lf => lines_lf::to_byte_idx_impl(probe, idx, lead),
+        Scheme::Crlf => lines_crlf::to_byte_idx_impl(probe, idx, lead),
+        Scheme::Lines => lines::to_byte_idx_impl(probe, idx, lead),
+    }
+}

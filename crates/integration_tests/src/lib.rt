@@ -1,0 +1,16 @@
+//! Tests of public calls, as another crate makes them: tables of worked answers, and loops that compare the answers with a
+//! plain walk over the characters.
+//!
+//! They are a crate of their own, so that the libraries are proved without them.
+#![tactic(auto)]
+
+#[cfg(test)]
+mod chunks;
+#[cfg(test)]
+mod indices;
+#[cfg(test)]
+mod pieces;
+#[cfg(test)]
+mod positions;
+#[cfg(test)]
+mod slices;

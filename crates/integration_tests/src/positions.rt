@@ -1,0 +1,123 @@
+use position_mapper::{Position, byte_of, line_end, position_of, position_round_trip, round_trip};
+use std::process::Abort;
+
+/// A line that ends in CRLF, one with a surrogate pair that ends in CR, one of a char of three bytes, an empty one, and
+/// one that no break ends.
+const TEXT: &str = "a\r\n🐸b\rせ\n\nx";
+
+fn at(line: usize, character: usize) -> Position {
+    Position { line, character }
+}
+
+/// Compares the byte index that a row of a table asks for.
+fn assert_byte(rt: &impl Abort, found: usize, wanted: usize, row: usize) {
+    assert_eq!(rt; found, wanted, "row {row}");
+}
+
+/// Compares the position and the byte index that a row of a table asks for.
+fn assert_both(rt: &impl Abort, found: (Position, usize), wanted: (Position, usize), row: usize) {
+    assert_eq!(rt; found, wanted, "row {row}");
+}
+
+/// Texts, lines, and where the lines end.
+const LINE_ENDS: [(&str, usize, usize); 16] = [
+    (TEXT, 0, 1),
+    (TEXT, 1, 8),
+    (TEXT, 2, 12),
+    (TEXT, 3, 13),
+    (TEXT, 4, 15),
+    (TEXT, 5, 15),
+    (TEXT, usize::MAX, 15),
+    ("", 0, 0),
+    ("", 1, 0),
+    ("\r", 0, 0),
+    ("\r", 1, 1),
+    ("\r\r\n\n", 0, 0),
+    ("\r\r\n\n", 1, 1),
+    ("\r\r\n\n", 2, 3),
+    ("\r\r\n\n", 3, 4),
+    ("a\u{0B}\u{0C}\u{85}\u{2028}\u{2029}b", 0, 12),
+];
+
+#[test]
+fn a_line_ends_before_its_break(rt: HostRuntime) {
+    for i in 0..LINE_ENDS.len() {
+        let (text, line, end) = LINE_ENDS[i];
+        assert_byte(&rt, line_end(text, line), end, i);
+    }
+}
+
+/// Bytes, the lines and the offsets of their positions, and the bytes of those.
+const BYTES: [(usize, usize, usize, usize); 18] = [
+    (0, 0, 0, 0),
+    (1, 0, 1, 1),
+    (2, 0, 1, 1), // between CR and LF
+    (3, 1, 0, 3),
+    (4, 1, 0, 3), // inside a char, as the next two
+    (5, 1, 0, 3),
+    (6, 1, 0, 3),
+    (7, 1, 2, 7),
+    (8, 1, 3, 8),
+    (9, 2, 0, 9),
+    (10, 2, 0, 9),
+    (11, 2, 0, 9),
+    (12, 2, 1, 12),
+    (13, 3, 0, 13),
+    (14, 4, 0, 14),
+    (15, 4, 1, 15),
+    (16, 4, 1, 15), // past the end
+    (usize::MAX, 4, 1, 15),
+];
+
+#[test]
+fn each_byte_has_a_position(rt: HostRuntime) {
+    for i in 0..BYTES.len() {
+        let (byte, line, character, back) = BYTES[i];
+        let found = (position_of(TEXT, byte), round_trip(TEXT, byte));
+        assert_both(&rt, found, (at(line, character), back), i);
+    }
+}
+
+/// Lines and offsets, their bytes, and the lines and the offsets of those.
+const POSITIONS: [(usize, usize, usize, usize, usize); 21] = [
+    (0, 0, 0, 0, 0),
+    (0, 1, 1, 0, 1),
+    (0, 2, 1, 0, 1), // past the end of its line
+    (0, usize::MAX, 1, 0, 1),
+    (1, 0, 3, 1, 0),
+    (1, 1, 3, 1, 0), // the second unit of a pair
+    (1, 2, 7, 1, 2),
+    (1, 3, 8, 1, 3),
+    (1, 4, 8, 1, 3),
+    (2, 0, 9, 2, 0),
+    (2, 1, 12, 2, 1),
+    (2, 2, 12, 2, 1),
+    (3, 0, 13, 3, 0),
+    (3, 1, 13, 3, 0),
+    (4, 0, 14, 4, 0),
+    (4, 1, 15, 4, 1),
+    (4, 2, 15, 4, 1),
+    (5, 0, 15, 4, 1), // past the last line
+    (5, 7, 15, 4, 1),
+    (usize::MAX, 0, 15, 4, 1),
+    (usize::MAX, usize::MAX, 15, 4, 1),
+];
+
+#[test]
+fn each_position_has_a_byte(rt: HostRuntime) {
+    for i in 0..POSITIONS.len() {
+        let (line, character, byte, back_line, back_character) = POSITIONS[i];
+        let position = at(line, character);
+        let back = position_round_trip(TEXT, position);
+        let wanted = (at(back_line, back_character), byte);
+        assert_both(&rt, (back, byte_of(TEXT, position)), wanted, i);
+    }
+}
+
+#[test]
+fn the_empty_text_has_one_position(rt: HostRuntime) {
+    for index in [0, 1, usize::MAX] {
+        let found = (position_of("", index), byte_of("", at(index, index)));
+        assert_both(&rt, found, (at(0, 0), 0), index);
+    }
+}
