@@ -1,7 +1,5 @@
 -- The decimal digits of a number, from its last digit on.
-use Rattle.std.proofs.Common.{◌≡◌, ℕ, zero, suc, ◌+◌, ◌-◌, ◌/◌, ◌%◌, ◌^◌, ◌<◌, ◌≤◌, List, ◌∷◌, ◌++◌, length, drop, refl, ◌∙◌, arith, append_assoc}
-use Rattle.std.specs.Prelude.{slice_set}
-use Rattle.std.specs.Fmt.{decimal}
+use Rattle.idx.proofs.Common.{◌≡◌, ℕ, zero, suc, ◌+◌, ◌-◌, ◌/◌, ◌%◌, ◌^◌, ◌<◌, ◌≤◌, List, ◌∷◌, ◌++◌, length, drop, refl, ◌∙◌, arith, append_assoc, slice_set, decimal}
 use Rattle.std.proofs.lemmas.Fmt.{decimal_digit, decimal_step}
 use Rattle.std.proofs.lemmas.Grind.{drop-set_at}
 

@@ -1,9 +1,7 @@
 -- Names that no row of a table has.
-use Rattle.std.proofs.Common.{◌≡◌, ◌≢◌, ℕ, List, [], ◌∷◌, false, None, refl, ap, arith}
-use Rattle.std.specs.Prelude.{⊤, bytes_eq, find}
-use Rattle.std.specs.Option.{option_map}
+use Rattle.idx.proofs.Common.{◌≡◌, ◌≢◌, ℕ, List, [], ◌∷◌, false, None, refl, ap, arith, bytes_eq, find, option_map, entry_named}
+use Rattle.std.specs.Prelude.{⊤}
 use Rattle.std.proofs.lemmas.Slice.Eq.{bytes_eq-Decides}
-use Rattle.idx.specs.Calls.{entry_named}
 
 -- no row of the table has the name
 abbrev pub NamesNoRow : {A : Type 0} → List ℕ → List (List ℕ × A) → Type 0

@@ -1,7 +1,5 @@
 -- Lists of words that are no request, by how many they are.
-use Rattle.std.proofs.Common.{◌≡◌, ◌<◌, ◌≤◌, ℕ, List, [], ◌∷◌, length, None, arith, refl}
-use denote.Ref.{Bor}
-use Rattle.idx.specs.Requests.{request_of, texts}
+use Rattle.idx.proofs.Common.{◌≡◌, ◌<◌, ◌≤◌, ℕ, List, [], ◌∷◌, length, None, arith, refl, Bor, request_of, texts}
 
 -- three words are no request
 pub three_words : (words : List (Bor (List ℕ))) → 3 ≤ length words → length words < 4 → None ≡ request_of (texts words)

@@ -2,27 +2,19 @@
 ghost use Rattle.std.specs.Prelude.{◌≡◌, chars};
 ghost use Rattle.idx.specs.Calls.{counting_named, conversion_named, answer_of};
 
-use str_indices::{chars, lines, lines_crlf, lines_lf, utf16};
+use str_indices::{Scheme, utf16};
 
 /// A call of the library, with its index where it takes one.
 #[derive(Clone, Copy)]
 pub enum Call {
-    CharsCount,
-    CharsFromByteIdx(usize),
-    CharsToByteIdx(usize),
-    Utf16Count,
-    Utf16CountSurrogates,
-    Utf16FromByteIdx(usize),
-    Utf16ToByteIdx(usize),
-    LinesLfCountBreaks,
-    LinesLfFromByteIdx(usize),
-    LinesLfToByteIdx(usize),
-    LinesCrlfCountBreaks,
-    LinesCrlfFromByteIdx(usize),
-    LinesCrlfToByteIdx(usize),
-    LinesCountBreaks,
-    LinesFromByteIdx(usize),
-    LinesToByteIdx(usize),
+    /// `count` of the scheme's module, which the line modules call `count_breaks`.
+    Count(Scheme),
+    /// `utf16::count_surrogates`.
+    Surrogates,
+    /// `from_byte_idx` of the scheme's module.
+    From(Scheme, usize),
+    /// `to_byte_idx` of the scheme's module.
+    To(Scheme, usize),
 }
 
 impl Call {
@@ -31,12 +23,12 @@ impl Call {
         ensures { result ≡ counting_named name.now }
     {
         match name {
-            "chars.count" => Some(Call::CharsCount),
-            "utf16.count" => Some(Call::Utf16Count),
-            "utf16.count_surrogates" => Some(Call::Utf16CountSurrogates),
-            "lines_lf.count_breaks" => Some(Call::LinesLfCountBreaks),
-            "lines_crlf.count_breaks" => Some(Call::LinesCrlfCountBreaks),
-            "lines.count_breaks" => Some(Call::LinesCountBreaks),
+            "chars.count" => Some(Call::Count(Scheme::Chars)),
+            "utf16.count" => Some(Call::Count(Scheme::Utf16)),
+            "utf16.count_surrogates" => Some(Call::Surrogates),
+            "lines_lf.count_breaks" => Some(Call::Count(Scheme::Lf)),
+            "lines_crlf.count_breaks" => Some(Call::Count(Scheme::Crlf)),
+            "lines.count_breaks" => Some(Call::Count(Scheme::Lines)),
             _ => None,
         }
     }
@@ -46,42 +38,29 @@ impl Call {
         ensures { result ≡ conversion_named name.now index }
     {
         match name {
-            "chars.from_byte_idx" => Some(Call::CharsFromByteIdx(index)),
-            "chars.to_byte_idx" => Some(Call::CharsToByteIdx(index)),
-            "utf16.from_byte_idx" => Some(Call::Utf16FromByteIdx(index)),
-            "utf16.to_byte_idx" => Some(Call::Utf16ToByteIdx(index)),
-            "lines_lf.from_byte_idx" => Some(Call::LinesLfFromByteIdx(index)),
-            "lines_lf.to_byte_idx" => Some(Call::LinesLfToByteIdx(index)),
-            "lines_crlf.from_byte_idx" => Some(Call::LinesCrlfFromByteIdx(index)),
-            "lines_crlf.to_byte_idx" => Some(Call::LinesCrlfToByteIdx(index)),
-            "lines.from_byte_idx" => Some(Call::LinesFromByteIdx(index)),
-            "lines.to_byte_idx" => Some(Call::LinesToByteIdx(index)),
+            "chars.from_byte_idx" => Some(Call::From(Scheme::Chars, index)),
+            "chars.to_byte_idx" => Some(Call::To(Scheme::Chars, index)),
+            "utf16.from_byte_idx" => Some(Call::From(Scheme::Utf16, index)),
+            "utf16.to_byte_idx" => Some(Call::To(Scheme::Utf16, index)),
+            "lines_lf.from_byte_idx" => Some(Call::From(Scheme::Lf, index)),
+            "lines_lf.to_byte_idx" => Some(Call::To(Scheme::Lf, index)),
+            "lines_crlf.from_byte_idx" => Some(Call::From(Scheme::Crlf, index)),
+            "lines_crlf.to_byte_idx" => Some(Call::To(Scheme::Crlf, index)),
+            "lines.from_byte_idx" => Some(Call::From(Scheme::Lines, index)),
+            "lines.to_byte_idx" => Some(Call::To(Scheme::Lines, index)),
             _ => None,
         }
     }
 
     /// The number that the library's public function answers for the text.
-    #[tactic(auto, unfolding(crate::specs::Calls::answer_of))]
     pub fn answer(&self, text: &str) -> usize
         ensures { result ≡ answer_of self.now (chars text.now) }
     {
         match *self {
-            Call::CharsCount => chars::count(text),
-            Call::CharsFromByteIdx(index) => chars::from_byte_idx(text, index),
-            Call::CharsToByteIdx(index) => chars::to_byte_idx(text, index),
-            Call::Utf16Count => utf16::count(text),
-            Call::Utf16CountSurrogates => utf16::count_surrogates(text),
-            Call::Utf16FromByteIdx(index) => utf16::from_byte_idx(text, index),
-            Call::Utf16ToByteIdx(index) => utf16::to_byte_idx(text, index),
-            Call::LinesLfCountBreaks => lines_lf::count_breaks(text),
-            Call::LinesLfFromByteIdx(index) => lines_lf::from_byte_idx(text, index),
-            Call::LinesLfToByteIdx(index) => lines_lf::to_byte_idx(text, index),
-            Call::LinesCrlfCountBreaks => lines_crlf::count_breaks(text),
-            Call::LinesCrlfFromByteIdx(index) => lines_crlf::from_byte_idx(text, index),
-            Call::LinesCrlfToByteIdx(index) => lines_crlf::to_byte_idx(text, index),
-            Call::LinesCountBreaks => lines::count_breaks(text),
-            Call::LinesFromByteIdx(index) => lines::from_byte_idx(text, index),
-            Call::LinesToByteIdx(index) => lines::to_byte_idx(text, index),
+            Call::Count(scheme) => scheme.count(text),
+            Call::Surrogates => utf16::count_surrogates(text),
+            Call::From(scheme, index) => scheme.from_byte_idx(text, index),
+            Call::To(scheme, index) => scheme.to_byte_idx(text, index),
         }
     }
 }

@@ -7,7 +7,7 @@ use crate::calls::Call;
 use crate::wide::Wide;
 use byte_chunk::{ByteChunk, Plain, Probe};
 use std::simd::u8x16;
-use str_indices::{chars, lines, lines_crlf, lines_lf, utf16};
+use str_indices::{Scheme, chars, lines, lines_crlf, lines_lf, utf16};
 
 /// A chunk type that a kernel can be asked to run over.
 #[derive(Clone, Copy)]
@@ -62,28 +62,28 @@ impl Kernel {
 
 /// The number that the call's kernel answers for all of the text, over chunks of any type, where it walks the first
 /// `lead` bytes one by one.
-#[tactic(auto, unfolding(crate::specs::Calls::answer_of), using(str_indices::proofs::lemmas::Callers::whole_text))]
+#[tactic(auto, using(str_indices::proofs::lemmas::Callers::whole_text))]
 fn answer_by_chunks<T: ByteChunk>(call: Call, text: &str, lead: usize) -> usize
     ensures { result ≡ answer_of call (chars text.now) }
 {
     let end = text.len();
     let probe = &mut Probe::<T>::of(text);
     match call {
-        Call::CharsCount => chars::count_impl(probe, end, lead),
-        Call::CharsFromByteIdx(index) => chars::from_byte_idx_impl(probe, index, lead),
-        Call::CharsToByteIdx(index) => chars::to_byte_idx_impl(probe, index, lead),
-        Call::Utf16Count => utf16::count_impl(probe, end, lead),
-        Call::Utf16CountSurrogates => utf16::count_surrogates_impl(probe, end, lead),
-        Call::Utf16FromByteIdx(index) => utf16::from_byte_idx_impl(probe, index, lead),
-        Call::Utf16ToByteIdx(index) => utf16::to_byte_idx_impl(probe, index, lead),
-        Call::LinesLfCountBreaks => lines_lf::count_breaks_impl(probe, end, lead),
-        Call::LinesLfFromByteIdx(index) => lines_lf::from_byte_idx_impl(probe, index, lead),
-        Call::LinesLfToByteIdx(index) => lines_lf::to_byte_idx_impl(probe, index, lead),
-        Call::LinesCrlfCountBreaks => lines_crlf::count_breaks_impl(probe, end, lead),
-        Call::LinesCrlfFromByteIdx(index) => lines_crlf::from_byte_idx_impl(probe, index, lead),
-        Call::LinesCrlfToByteIdx(index) => lines_crlf::to_byte_idx_impl(probe, index, lead),
-        Call::LinesCountBreaks => lines::count_breaks_impl(probe, end, lead),
-        Call::LinesFromByteIdx(index) => lines::from_byte_idx_impl(probe, index, lead),
-        Call::LinesToByteIdx(index) => lines::to_byte_idx_impl(probe, index, lead),
+        Call::Count(Scheme::Chars) => chars::count_impl(probe, end, lead),
+        Call::From(Scheme::Chars, index) => chars::from_byte_idx_impl(probe, index, lead),
+        Call::To(Scheme::Chars, index) => chars::to_byte_idx_impl(probe, index, lead),
+        Call::Count(Scheme::Utf16) => utf16::count_impl(probe, end, lead),
+        Call::Surrogates => utf16::count_surrogates_impl(probe, end, lead),
+        Call::From(Scheme::Utf16, index) => utf16::from_byte_idx_impl(probe, index, lead),
+        Call::To(Scheme::Utf16, index) => utf16::to_byte_idx_impl(probe, index, lead),
+        Call::Count(Scheme::Lf) => lines_lf::count_breaks_impl(probe, end, lead),
+        Call::From(Scheme::Lf, index) => lines_lf::from_byte_idx_impl(probe, index, lead),
+        Call::To(Scheme::Lf, index) => lines_lf::to_byte_idx_impl(probe, index, lead),
+        Call::Count(Scheme::Crlf) => lines_crlf::count_breaks_impl(probe, end, lead),
+        Call::From(Scheme::Crlf, index) => lines_crlf::from_byte_idx_impl(probe, index, lead),
+        Call::To(Scheme::Crlf, index) => lines_crlf::to_byte_idx_impl(probe, index, lead),
+        Call::Count(Scheme::Lines) => lines::count_breaks_impl(probe, end, lead),
+        Call::From(Scheme::Lines, index) => lines::from_byte_idx_impl(probe, index, lead),
+        Call::To(Scheme::Lines, index) => lines::to_byte_idx_impl(probe, index, lead),
     }
 }

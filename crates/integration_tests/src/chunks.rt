@@ -10,6 +10,7 @@ mod double_word;
 mod half_word;
 mod vectors;
 mod wide_vectors;
+pub(crate) mod widest;
 
 use half_word::HalfWord;
 

@@ -1,7 +1,6 @@
 //! The public functions over tables of worked answers, and all kernels over every chunk type, compared with such tables
 //! and with a plain walk: wherever chunks and leading bytes may end.
 
-pub mod calls;
 mod chars;
 mod edges;
 mod full_lanes;

@@ -2,7 +2,6 @@ mod caller;
 mod changes;
 mod random_edits;
 
-use crate::indices::calls::{from_byte_idx, to_byte_idx};
 use crate::indices::walk::SCHEMES;
 use piece_text::{PieceText, Refusal, Scheme};
 use std::alloc::Global;
@@ -59,16 +58,16 @@ fn assert_as_joined_by(rt: &impl Abort, text: &PieceText, joined: &str, s: Schem
     assert_same(
         rt,
         text.count(s),
-        from_byte_idx(s, joined, end),
+        s.from_byte_idx(joined, end),
         joined,
         s,
         end,
     );
     for i in 0..joined.len() + 2 {
         let from = text.from_byte_idx(s, i);
-        assert_same(rt, from, from_byte_idx(s, joined, i), joined, s, i);
+        assert_same(rt, from, s.from_byte_idx(joined, i), joined, s, i);
         let to = text.to_byte_idx(s, i);
-        assert_same(rt, to, to_byte_idx(s, joined, i), joined, s, i);
+        assert_same(rt, to, s.to_byte_idx(joined, i), joined, s, i);
     }
 }
 

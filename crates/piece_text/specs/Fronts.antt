@@ -1,7 +1,8 @@
 -- What a query knows of the text before a piece.
 use Rattle.std.specs.Prelude.{ℕ, ◌≡◌, List, take}
 use Rattle.str_indices.specs.Text.{Text, size}
-use Rattle.str_indices.specs.Schemes.{Scheme, count}
+use Rattle.str_indices.specs.Schemes.{count}
+use Rattle.str_indices.specs.declared.Scheme.{Scheme}
 use Rattle.str_indices.specs.Joins.{ends_in_return}
 use Rattle.piece_text.specs.Pieces.{joined}
 use Rattle.piece_text.specs.declared.queries.Front.{Front}

@@ -9,13 +9,12 @@ mod list;
 mod piece;
 mod queries;
 mod refusals;
-mod schemes;
 mod summaries;
 mod view;
 
 pub use list::PieceText;
 pub use queries::{count_in, from_in, to_in};
 pub use refusals::Refusal;
-pub use schemes::Scheme;
+pub use str_indices::Scheme;
 pub use summaries::Summary;
 pub use view::Pieces;

@@ -5,7 +5,6 @@ ghost use Rattle.str_indices.specs.Text.{size};
 ghost use Rattle.str_indices.specs.Relations.{IsBoundary};
 ghost use Rattle.piece_text.specs.Pieces.{joined, joined_size, piece_at, as_pieces};
 ghost use Rattle.piece_text.specs.Splits.{IsEdge, IsCut, IsSplit};
-ghost use Rattle.piece_text.specs.SchemeNames.{named};
 ghost use Rattle.piece_text.specs.declared.refusals.Refusal.TheVariants.{NoPiece, NotBoundary, TooLong, NoMemory};
 
 use crate::piece::Piece;
@@ -209,21 +208,21 @@ impl PieceText {
 
     /// How many characters, UTF-16 code units or line breaks the joined text has.
     pub fn count(&self, s: Scheme) -> usize
-        ensures { result ≡ count (named s) (joined self.now) }
+        ensures { result ≡ count s (joined self.now) }
     {
         count_in(&mut self.view(), s)
     }
 
     /// How many of them the joined text has up to a byte index.
     pub fn from_byte_idx(&self, s: Scheme, b: usize) -> usize
-        ensures { result ≡ from_byte_idx (named s) (joined self.now) b }
+        ensures { result ≡ from_byte_idx s (joined self.now) b }
     {
         from_in(&mut self.view(), s, b)
     }
 
     /// The byte index in the joined text behind the first `k` of them; its length where it has fewer.
     pub fn to_byte_idx(&self, s: Scheme, k: usize) -> usize
-        ensures { result ≡ to_byte_idx (named s) (joined self.now) k }
+        ensures { result ≡ to_byte_idx s (joined self.now) k }
     {
         to_in(&mut self.view(), s, k)
     }

@@ -75,8 +75,18 @@ impl Piece {
         requires boundary { IsBoundary self.now at }
         ensures { IfOk result (λ halves. IsHalved self.now halves.0 halves.1 at) }
     {
-        let (left, right) = self.text().split_at(at);
+        let (left, right) = self.split(at);
         Ok((Piece::of(alloc, left)?, Piece::of(alloc, right)?))
+    }
+
+    // Its text in two, neither of them empty.
+    fn split(&self, at: usize) -> (&str, &str)
+        requires above { 0 < at }
+        requires below { at < size self.now }
+        requires boundary { IsBoundary self.now at }
+        ensures { IsHalved self.now (chars result.0.now) (chars result.1.now) at }
+    {
+        self.text().split_at(at)
     }
 }
 

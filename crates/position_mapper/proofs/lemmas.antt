@@ -1,6 +1,14 @@
+pub mod Common
 pub mod Contents
 pub mod Lines
 pub mod LineBytes
 pub mod Positions
 pub mod WholeText
 pub mod FirstLines
+pub use Common.*
+pub use Contents.*
+pub use Lines.*
+pub use LineBytes.*
+pub use Positions.*
+pub use WholeText.*
+pub use FirstLines.*

@@ -9,7 +9,8 @@ use Rattle.std.specs.Prelude.{ℕ, ◌≡◌, ◌≢◌, ◌+◌, ◌⊎◌, Boo
 use Rattle.std.specs.Char.{char_set_contains}
 use Rattle.std.specs.List.{before_first}
 use Rattle.str_indices.specs.Text.{Text, size, cut}
-use Rattle.str_indices.specs.Schemes.{Crlf, break_characters, to_byte_idx}
+use Rattle.str_indices.specs.Schemes.{break_characters, to_byte_idx}
+use Rattle.str_indices.specs.declared.Scheme.TheVariants.{Crlf}
 
 -- whether a character is LF or CR, with which each line break begins
 abbrev pub is_break : ℕ → Bool

@@ -4,7 +4,8 @@
 --     byte_at text position           the byte index of a position
 use Rattle.std.specs.Prelude.{ℕ, ◌+◌, ◌-◌}
 use Rattle.str_indices.specs.Text.{Text}
-use Rattle.str_indices.specs.Schemes.{Crlf, Utf16, from_byte_idx, to_byte_idx}
+use Rattle.str_indices.specs.Schemes.{from_byte_idx, to_byte_idx}
+use Rattle.str_indices.specs.declared.Scheme.TheVariants.{Crlf, Utf16}
 use Rattle.position_mapper.specs.declared.Position.{Position}
 use Rattle.position_mapper.specs.Lines.{line_content}
 

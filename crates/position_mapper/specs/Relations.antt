@@ -5,7 +5,8 @@
 --     IsAtOrBefore p q              position p is at or before position q
 use Rattle.std.specs.Prelude.{ℕ, ◌≡◌, ◌<◌, ◌≤◌, ◌⊎◌, ◌∷◌, ◌++◌, IsTrue}
 use Rattle.str_indices.specs.Text.{Text, size}
-use Rattle.str_indices.specs.Schemes.{Crlf, to_byte_idx}
+use Rattle.str_indices.specs.Schemes.{to_byte_idx}
+use Rattle.str_indices.specs.declared.Scheme.TheVariants.{Crlf}
 use Rattle.str_indices.specs.Relations.{IsBoundary, IsCrlfMiddle}
 use Rattle.position_mapper.specs.declared.Position.{Position}
 use Rattle.position_mapper.specs.Lines.{is_break}

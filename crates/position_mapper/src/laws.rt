@@ -1,6 +1,7 @@
 //! Laws of lines and positions. Each function does nothing: its contract is the law.
 ghost use Rattle.std.specs.Prelude.{◌≡◌, ◌+◌, ◌<◌, ◌≤◌, chars, min};
-ghost use Rattle.str_indices.specs.Schemes.{count, from_byte_idx, to_byte_idx, Crlf, Utf16};
+ghost use Rattle.str_indices.specs.Schemes.{count, from_byte_idx, to_byte_idx};
+ghost use Rattle.str_indices.specs.declared.Scheme.TheVariants.{Crlf, Utf16};
 ghost use Rattle.position_mapper.specs.Lines.{line_end};
 ghost use Rattle.position_mapper.specs.Positions.{byte_at, position_at};
 ghost use Rattle.position_mapper.specs.Relations.{IsAtOrBefore, IsLineEnd};

@@ -8,7 +8,8 @@
 
 ghost use Rattle.std.specs.Prelude.{◌≡◌, ◌+◌, ◌<◌, ◌≤◌, ◌⊎◌, IsCharBoundary, chars, drop, length, min};
 ghost use Rattle.std.specs.List.{before_first};
-ghost use Rattle.str_indices.specs.Schemes.{count, from_byte_idx, to_byte_idx, Crlf, Utf16};
+ghost use Rattle.str_indices.specs.Schemes.{count, from_byte_idx, to_byte_idx};
+ghost use Rattle.str_indices.specs.declared.Scheme.TheVariants.{Crlf, Utf16};
 ghost use Rattle.str_indices.specs.Relations.{IsBoundary, IsCrlfMiddle};
 ghost use Rattle.str_indices.specs.Starts.{IsSecondUnit};
 ghost use Rattle.position_mapper.specs.Lines.{is_break, line_content, line_end, IsWithoutLast};
@@ -34,6 +35,7 @@ pub struct Position {
 /// bytes where it is the last line or past it.
 ///
 /// The text may be sliced at the answer.
+#[tactic(auto, using(crate::proofs::lemmas::LineBytes::line_in_bytes))]
 pub fn line_end(text: &str, line: usize) -> usize
     ensures answer { result ≡ line_end (chars text.now) line }
     ensures boundary { IsCharBoundary text.now result }
@@ -46,6 +48,7 @@ pub fn line_end(text: &str, line: usize) -> usize
 ///
 /// A byte inside a char has the position where the char begins, the byte between CR and LF that of the line's end, and
 /// a byte past the end that of the text's end.
+#[tactic(auto, using(crate::proofs::lemmas::LineBytes::line_in_bytes))]
 pub fn position_of(text: &str, byte: usize) -> Position
     ensures { result ≡ position_at (chars text.now) byte }
 {
@@ -65,6 +68,7 @@ pub fn position_of(text: &str, byte: usize) -> Position
 /// before its break, and a line past the last one the text's length in bytes.
 ///
 /// The text may be sliced at the answer.
+#[tactic(auto, using(crate::proofs::lemmas::LineBytes::line_in_bytes))]
 pub fn byte_of(text: &str, position: Position) -> usize
     ensures answer { result ≡ byte_at (chars text.now) position }
     ensures boundary { IsCharBoundary text.now result }
@@ -108,6 +112,7 @@ struct Line<'t> {
     content: &'t str,
 }
 
+#[tactic(auto, using(crate::proofs::lemmas::LineBytes::line_in_bytes))]
 fn line_of(text: &str, index: usize) -> Line<'_>
     ensures start { result.start ≡ to_byte_idx Crlf (chars text.now) index }
     ensures content { chars result.content.now ≡ line_content (chars text.now) index }

@@ -1,3 +1,4 @@
+pub mod Common
 pub mod texts
 pub mod laws
 pub mod bytes
@@ -5,3 +6,12 @@ pub mod schemes
 pub mod lanes
 pub mod passes
 pub mod Callers
+unfoldable pub use Common.*
+pub use texts.*
+pub use laws.*
+unfoldable pub use bytes.*
+pub use schemes.*
+pub use schemes.UnitBytes.{count-le-size}
+pub use lanes.*
+pub use passes.*
+pub use Callers.*

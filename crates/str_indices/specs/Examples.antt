@@ -116,8 +116,8 @@ crlf_counts_from_behind_its_line_feed :
     ≡ replicate 3 (0 ∷ 1 ∷ [])
 crlf_counts_from_behind_its_line_feed = refl
 
-line_begins_behind_crlf : map (λ s. to_byte_idx s letters_around_crlf 1) line_schemes ≡ replicate 3 3
-line_begins_behind_crlf = refl
+line_begins_after_crlf : map (λ s. to_byte_idx s letters_around_crlf 1) line_schemes ≡ replicate 3 3
+line_begins_after_crlf = refl
 
 many_line_feeds_are_as_many_breaks : map (λ s. count s (replicate 4097 line_feed)) line_schemes ≡ replicate 3 4097
 many_line_feeds_are_as_many_breaks = refl

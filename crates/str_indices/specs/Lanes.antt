@@ -1,10 +1,12 @@
 -- What stands in the lanes of a chunk, by their places.
 --     HasLanes size f lanes            there are `size` lanes, and f of its place in each
 --     HasLaterLanes size f lanes       there are `size` lanes, and f of its place in each but the first
+--     IsHandedOn carries carry         some chunk hands that carry on
 --     IsChunk bytes at size lanes      the lanes are the `size` bytes from `at` on
 --     AddsUp counted most size from to chunks lanes
 --                                      the lanes of so many chunks were added, and hold what is counted there
 --     FitsIn counted n                 before no place up to n is more counted than n
+--     IsSteady counted n               nor, between two places up to n, much more than there are bytes
 use Rattle.std.specs.Prelude.{ℕ, ◌≡◌, ◌+◌, ◌*◌, ◌<◌, ◌≤◌, List, length, slice_index, sum}
 use Rattle.std.specs.Simd.Lanes.{Each1}
 
@@ -15,6 +17,10 @@ pub record HasLanes (size : ℕ) (f : ℕ → ℕ) (lanes : List ℕ) : Type 0 w
 pub record HasLaterLanes (size : ℕ) (f : ℕ → ℕ) (lanes : List ℕ) : Type 0 where
   pub long : length lanes ≡ size
   pub each : (j : ℕ) → 0 < j → j < size → slice_index lanes j ≡ f j
+
+pub record IsHandedOn {C : Type 0} (carries : ℕ → C → Type 0) (carry : C) : Type 0 where
+  pub place : ℕ
+  pub there : carries place carry
 
 pub record IsChunk (bytes : List ℕ) (at size : ℕ) (lanes : List ℕ) : Type 0 where
   pub long : length lanes ≡ size
@@ -30,3 +36,7 @@ pub record AddsUp (counted : ℕ → ℕ) (most size from to chunks : ℕ) (lane
 -- before no place up to n is more counted than n
 abbrev pub FitsIn : (ℕ → ℕ) → ℕ → Type 0
 FitsIn counted n = (place : ℕ) → place ≤ n → counted place ≤ n
+
+pub record IsSteady (counted : ℕ → ℕ) (n : ℕ) : Type 0 where
+  pub fits : FitsIn counted n
+  pub near : (at more : ℕ) → at + more ≤ n → counted (at + more) ≤ counted at + more + 1

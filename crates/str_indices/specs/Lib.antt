@@ -10,3 +10,4 @@ pub mod SchemeGroups
 pub mod Starts
 pub mod Joins
 pub mod TraitLaws
+pub mod Prelude

@@ -6,15 +6,9 @@
 -- In `Utf16` the three go by the weights of characters. `surrogates text` counts the surrogate pairs.
 use Rattle.std.specs.Prelude.{ℕ, zero, suc, Bool, true, not, List, [], ◌∷◌, ◌&&◌, ◌==◌, nat_le, filter, map, fold, max, length, sum_by, count_by, slice_index_or}
 use Rattle.std.specs.Char.{char_set_contains}
+pub use Rattle.str_indices.specs.declared.schemes.Scheme.{Scheme}
+pub use Rattle.str_indices.specs.declared.schemes.Scheme.TheVariants.{Chars, Utf16, Lf, Crlf, Lines}
 use Rattle.str_indices.specs.Text.{Text, size, Placed, placed, line_feed, carriage_return, is_crlf_middle, cut, weight}
-
--- what is counted: characters, UTF-16 code units, or line breaks by one of three sets of break characters
-pub data Scheme : Type 0 where
-  Chars : Scheme
-  Utf16 : Scheme
-  Lf : Scheme
-  Crlf : Scheme
-  Lines : Scheme
 
 abbrev pub vertical_tab : ℕ
 vertical_tab = 0x0B

@@ -1,12 +1,7 @@
 //! Laws of the counts and the conversions. Each function does nothing: its contract is the law.
 ghost use Rattle.std.specs.Prelude.{ℕ, ◌≡◌, ◌≢◌, ◌+◌, ◌-◌, ◌<◌, ◌≤◌, ◌↔◌, ◌⊎◌, ◌++◌, min, chars, length, Contains, IsCharBoundary, if◌then◌else◌};
 ghost use Rattle.std.specs.List.Sorted.{IsStrictlyIncreasing};
-ghost use Rattle.str_indices.specs.Text.{cut};
-ghost use Rattle.str_indices.specs.Schemes.{Scheme, Chars, Utf16, Lf, Crlf, Lines, ends, count, from_byte_idx, to_byte_idx, surrogates};
-ghost use Rattle.str_indices.specs.SchemeGroups.{IsLineScheme, IsCharacterScheme};
-ghost use Rattle.str_indices.specs.Relations.{IsBoundary, IsEnd, IsGreatestWithin, IsLongestCut};
-ghost use Rattle.str_indices.specs.Starts.{IsGreatestBoundary, IsGreatestEnd, IsSecondUnit};
-ghost use Rattle.str_indices.specs.Joins.{joins_crlf, seam_loss};
+ghost use Rattle.str_indices.specs.Prelude.{cut, Scheme, Chars, Utf16, Lf, Crlf, Lines, ends, count, from_byte_idx, to_byte_idx, surrogates, IsLineScheme, IsCharacterScheme, IsBoundary, IsEnd, IsGreatestWithin, IsLongestCut, IsGreatestBoundary, IsGreatestEnd, IsSecondUnit, joins_crlf, seam_loss};
 
 /// From an index, in chars or in line breaks, to its byte index and back gives the index, or the count where the index
 /// is past it.
@@ -83,14 +78,10 @@ pub fn units(text: &str)
 /// A rope with summed counts relies on it: it adds up the counts of its pieces.
 #[tactic(auto, using(crate::proofs::lemmas::laws::CountLaws::joined_sums))]
 pub fn joined_sums(a: &str, b: &str)
-    ensures chars { count Chars (chars (a.now ++ b.now))
-        ≡ count Chars (chars a.now) + count Chars (chars b.now) }
-    ensures utf16 { count Utf16 (chars (a.now ++ b.now))
-        ≡ count Utf16 (chars a.now) + count Utf16 (chars b.now) }
-    ensures surrogates { surrogates (chars (a.now ++ b.now))
-        ≡ surrogates (chars a.now) + surrogates (chars b.now) }
-    ensures lines_lf { count Lf (chars (a.now ++ b.now))
-        ≡ count Lf (chars a.now) + count Lf (chars b.now) }
+    ensures chars { count Chars (chars (a.now ++ b.now)) ≡ count Chars (chars a.now) + count Chars (chars b.now) }
+    ensures utf16 { count Utf16 (chars (a.now ++ b.now)) ≡ count Utf16 (chars a.now) + count Utf16 (chars b.now) }
+    ensures surrogates { surrogates (chars (a.now ++ b.now)) ≡ surrogates (chars a.now) + surrogates (chars b.now) }
+    ensures lines_lf { count Lf (chars (a.now ++ b.now)) ≡ count Lf (chars a.now) + count Lf (chars b.now) }
 {}
 
 /// Two texts, joined, have the line breaks of both, by the sets in which CRLF is one break; or one less, exactly where
@@ -141,10 +132,8 @@ pub fn order_of_counts(text: &str)
 /// An editor's go to line relies on it: a later line never begins before an earlier one.
 #[tactic(auto, using(crate::proofs::lemmas::laws::CharacterLaws::index_laws))]
 pub fn monotone(text: &str, i: usize, j: usize)
-    ensures from { (s : Scheme) → i ≤ j →
-        from_byte_idx s (chars text.now) i ≤ from_byte_idx s (chars text.now) j }
-    ensures to { (s : Scheme) → i ≤ j →
-        to_byte_idx s (chars text.now) i ≤ to_byte_idx s (chars text.now) j }
+    ensures from { (s : Scheme) → i ≤ j → from_byte_idx s (chars text.now) i ≤ from_byte_idx s (chars text.now) j }
+    ensures to { (s : Scheme) → i ≤ j → to_byte_idx s (chars text.now) i ≤ to_byte_idx s (chars text.now) j }
 {}
 
 /// An index that is at least the text's length in bytes goes to its end: no text has more chars, UTF-16 code units or
@@ -166,8 +155,7 @@ pub fn past_end(text: &str)
 pub fn boundaries(text: &str, k: usize)
     ensures boundary { (s : Scheme) → IsBoundary (chars text.now) (to_byte_idx s (chars text.now) k) }
     ensures sliceable { (p : ℕ) → IsBoundary (chars text.now) p ↔ IsCharBoundary text.now p }
-    ensures ends { (s : Scheme) (p : ℕ) →
-        Contains (ends s (chars text.now)) p ↔ IsEnd s (chars text.now) p }
+    ensures ends { (s : Scheme) (p : ℕ) → Contains (ends s (chars text.now)) p ↔ IsEnd s (chars text.now) p }
     ensures order { (s : Scheme) → IsStrictlyIncreasing (ends s (chars text.now)) }
     ensures greatest { IsGreatestWithin (chars text.now) k (to_byte_idx Utf16 (chars text.now) k) }
     ensures longest { IsLongestCut (chars text.now) k (cut (chars text.now) k) }

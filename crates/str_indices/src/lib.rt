@@ -4,16 +4,18 @@
 //! Each module is one indexing scheme. Every text and every index has an answer: nothing panics, nothing allocates.
 #![tactic(auto)]
 
-mod bytes;
 pub mod chars;
-mod chunk_counts;
-mod counting;
 pub mod laws;
 pub mod lines;
 pub mod lines_crlf;
 pub mod lines_lf;
+mod passes;
+mod place_counts;
 mod places;
 mod rest;
+mod schemes;
 pub mod utf16;
+mod weights;
 
 pub use byte_chunk;
+pub use schemes::Scheme;

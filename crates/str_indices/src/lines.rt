@@ -3,22 +3,14 @@
 //! A line break is LF (U+000A), VT (U+000B), FF (U+000C), CR (U+000D), CR LF as one, U+0085, U+2028 or U+2029: the
 //! characters of the Unicode Standard's Annex 14 that the Rust crate `str_indices` lists.
 ghost use Rattle.std.specs.Prelude.{◌≡◌, ◌+◌, ◌-◌, ◌*◌, ◌/◌, ◌<◌, ◌≤◌, ◌==◌, ◌&&◌, ◌⊎◌, ℕ, IsCharBoundary, chars, length, map, min, slice_index, take, drop};
-ghost use Rattle.std.specs.Simd.Lanes.{Each1};
 ghost use Rattle.std.proofs.Common.{lit≤, lit<};
-ghost use Rattle.byte_chunk.specs.Lanes.{is_between, is_byte};
-ghost use Rattle.str_indices.specs.Text.{cut, size};
-ghost use Rattle.str_indices.specs.Schemes.{count, from_byte_idx, to_byte_idx, Lines};
-ghost use Rattle.str_indices.specs.Relations.{IsBoundary};
-ghost use Rattle.str_indices.specs.Bytes.{flag, is_carriage_return, is_middle};
-ghost use Rattle.str_indices.specs.TraitLaws.{break_at-le};
-ghost use Rattle.str_indices.specs.Breaks.{is_crlf, is_separator, narrow_break_at, next_line_at, separator_at, break_at, breaks_counted_before, ends_separator};
-ghost use Rattle.str_indices.specs.Lanes.{HasLanes, IsChunk};
-ghost use Rattle.str_indices.specs.Reads.{Reads, leading_bytes, pass_turns, pass_loads};
+ghost use Rattle.std.specs.Simd.Lanes.{Each1};
+ghost use Rattle.str_indices.specs.Prelude.{is_between, is_byte, cut, size, count, from_byte_idx, to_byte_idx, Lines, IsBoundary, flag, is_carriage_return, is_middle, break_at-le, is_crlf, is_separator, narrow_break_at, next_line_at, separator_at, break_at, breaks_counted_before, ends_separator, HasLanes, IsChunk, Reads, Counts, Finds};
 
-use crate::bytes::{CR, LF};
-use crate::chunk_counts::{CountedLanes, LaneCounts, count_chunks, skip_chunks};
-use crate::places::{Position, boundary_at_or_after, boundary_at_or_before, is_not_crlf_middle};
-use crate::rest::count_rest;
+use crate::passes::{count_up_to, find_first};
+use crate::place_counts::{CountedLanes, PlaceCounts};
+use crate::places::{boundary_at_or_after, boundary_at_or_before, is_crlf_middle};
+use crate::weights::{CR, LF};
 use byte_chunk::{ByteChunk, Chunk, Probe};
 
 /// How many chunks are added in one step.
@@ -58,41 +50,27 @@ pub fn to_byte_idx(text: &str, line_idx: usize) -> usize
 
 /// Counts the line breaks of the text before `end`, over chunks of any type, after `lead` bytes that are walked one by
 /// one.
-#[tactic(auto, using(crate::proofs::lemmas::schemes::LineBytes::breaks_in_parts))]
 pub fn count_breaks_impl<T: ByteChunk>(probe: &mut Probe<'_, T>, end: usize, lead: usize) -> usize
     requires within { end ≤ length probe.old.text }
     requires boundary { IsBoundary (chars probe.old.text) end }
     ensures count { result ≡ count Lines (cut (chars probe.old.text) end) }
     ensures text { probe.new.text ≡ probe.old.text }
-    ensures pass { Reads probe.old probe.new (leading_bytes lead end)
-        (pass_turns T.SIZE lead end) (pass_loads T.SIZE lead end) 0 }
+    ensures pass { Counts probe.old probe.new T.SIZE lead end 0 }
 {
     prove!(end <= probe.len());
-    let first_chunk = lead.min(end);
-    let start = Position { byte: 0, count: 0 };
-    let led = count_breaks_up_to(probe, start, first_chunk, end, usize::MAX);
-    if end < T::SIZE {
-        return count_breaks_up_to(probe, led, end, end, usize::MAX).count;
-    }
-    let chunked = count_chunks::<LineBreaks, T, GROUP, GROUP>(probe, led, end, ());
-    count_rest::<LineBreaks, T>(probe, chunked, end)
+    count_up_to::<LineBreaks, T, GROUP, GROUP>(probe, end, lead)
 }
 
 /// Converts a byte index to a line index, over chunks of any type, after `lead` bytes that are walked one by one.
 #[tactic(auto, using(crate::proofs::lemmas::schemes::LineBytes::lines_up_to))]
-pub fn from_byte_idx_impl<T: ByteChunk>(
-    probe: &mut Probe<'_, T>,
-    byte_idx: usize,
-    lead: usize,
-) -> usize
-    ensures answer { result ≡ from_byte_idx Lines (chars probe.old.text) byte_idx }
+pub fn from_byte_idx_impl<T: ByteChunk>(probe: &mut Probe<'_, T>, byte: usize, lead: usize) -> usize
+    ensures answer { result ≡ from_byte_idx Lines (chars probe.old.text) byte }
     ensures text { probe.new.text ≡ probe.old.text }
-    ensures pass { let n = min byte_idx (length probe.old.text) in
-        Reads probe.old probe.new (leading_bytes lead n) (pass_turns T.SIZE lead n) (pass_loads T.SIZE lead n) 3 }
+    ensures pass { Counts probe.old probe.new T.SIZE lead (min byte (length probe.old.text)) 3 }
 {
-    let end = boundary_at_or_before(probe, byte_idx);
+    let end = boundary_at_or_before(probe, byte);
     prove!(end <= probe.len());
-    let inside_crlf = parts_crlf(probe, end, byte_idx);
+    let inside_crlf = parts_crlf(probe, end, byte);
     let breaks = count_breaks_impl(probe, end, lead);
     if inside_crlf { breaks - 1 } else { breaks }
 }
@@ -109,75 +87,29 @@ fn parts_crlf<T: ByteChunk>(probe: &mut Probe<'_, T>, end: usize, byte_idx: usiz
     ensures reads_nothing { end < byte_idx → Reads probe.old probe.new 0 0 0 0 }
 {
     prove!(end <= probe.len());
-    end >= byte_idx && !is_not_crlf_middle(probe, end)
+    end >= byte_idx && is_crlf_middle(probe, end)
 }
 
 /// Converts a line index to a byte index, over chunks of any type, after `lead` bytes that are walked one by one.
-#[tactic(auto, using(crate::proofs::lemmas::schemes::LineBytes::breaks_bound))]
 pub fn to_byte_idx_impl<T: ByteChunk>(probe: &mut Probe<'_, T>, idx: usize, lead: usize) -> usize
     ensures answer { result ≡ to_byte_idx Lines (chars probe.old.text) idx }
+    ensures boundary { IsCharBoundary probe.old.text result }
     ensures text { probe.new.text ≡ probe.old.text }
-    ensures pass { let n = length probe.old.text in
-        Reads probe.old probe.new (leading_bytes lead n) (pass_turns T.SIZE lead n) (result / T.SIZE + 5) 3 }
+    ensures pass { Finds probe.old probe.new T.SIZE lead (length probe.old.text) result 3 }
 {
-    let len = probe.len();
-    let first_chunk = lead.min(len);
-    let start = Position { byte: 0, count: 0 };
-    let led = count_breaks_up_to(probe, start, first_chunk, len, idx);
-    if led.count == idx {
-        return boundary_at_or_after(probe, led.byte);
-    }
-    let grouped = skip_chunks::<LineBreaks, T, 4, 8>(probe, led, idx, ()).at;
-    let chunked = skip_chunks::<LineBreaks, T, 1, 1>(probe, grouped, idx, ()).at;
-    let reached = count_breaks_up_to(probe, chunked, len, len, idx);
-    boundary_at_or_after(probe, reached.byte)
+    let first_chunk = lead.min(probe.len());
+    let place = find_first::<LineBreaks, T, GROUP, GROUP, 8>(probe, idx, first_chunk);
+    boundary_at_or_after(probe, place)
 }
 
-/// Walks on from a position, one turn a byte, up to `to` or to the byte before which the count is `most`.
-///
-/// Of the text the bytes before `end` are seen.
-#[tactic(auto, using(crate::proofs::lemmas::schemes::LineBytes::breaks_bound))]
-fn count_breaks_up_to<T: ByteChunk>(
-    probe: &mut Probe<'_, T>,
-    from: Position,
-    to: usize,
-    end: usize,
-    most: usize,
-) -> Position
-    requires ordered { from.byte ≤ to }
-    requires seen { to ≤ end }
-    requires within { end ≤ length probe.old.text }
-    requires counted { from.count ≡ breaks_counted_before (take end probe.old.text) from.byte }
-    requires at_most { from.count ≤ most }
-    ensures reached { (from.byte ≤ result.byte) × (result.byte ≤ to) }
-    ensures counted { result.count ≡ breaks_counted_before (take end probe.old.text) result.byte }
-    ensures at_most { result.count ≤ most }
-    ensures first { let bytes = take end probe.old.text in
-        (d : ℕ) → from.byte ≤ d → d < result.byte → breaks_counted_before bytes d < most }
-    ensures stopped { result.byte < to → result.count ≡ most }
-    ensures all { to ≤ most → result.byte ≡ to }
-    ensures reads { Reads probe.old probe.new 0 (result.byte - from.byte) 0 0 }
-{
-    let mut at = from;
-    while at.byte < to && at.count < most {
-        let breaks = usize::from(is_break_at(probe, at.byte, end));
-        at = Position {
-            byte: at.byte + 1,
-            count: at.count + breaks,
-        };
-    }
-    at
-}
-
-/// Whether a break is counted at byte `at`, for one turn and at most two peeks.
-fn is_break_at<T: ByteChunk>(probe: &mut Probe<'_, T>, at: usize, end: usize) -> bool
-    requires seen { at < end }
-    requires within { end ≤ length probe.old.text }
+/// Whether a break is counted at a byte, the one at `at`, by at most two peeks.
+fn is_break_at<T: ByteChunk>(probe: &mut Probe<'_, T>, byte: u8, at: usize, end: usize) -> bool
+    requires seen { (at < end) × (end ≤ length probe.old.text) }
+    requires byte { byte ≡ slice_index probe.old.text at }
     ensures answer { flag result ≡ break_at (take end probe.old.text) at }
-    ensures reads { Reads probe.old probe.new 0 1 0 0 }
+    ensures reads { Reads probe.old probe.new 0 0 0 2 }
 {
     prove!(end <= probe.len());
-    let byte = probe.turn(at);
     match byte {
         LF | 0x0B | 0x0C => true,
         CR => peek_ahead(probe, at, 1, end) != LF,
@@ -193,8 +125,7 @@ fn starts_wide_break<T: ByteChunk>(
     at: usize,
     end: usize,
 ) -> bool
-    requires seen { at < end }
-    requires within { end ≤ length probe.old.text }
+    requires seen { (at < end) × (end ≤ length probe.old.text) }
     requires byte { byte ≡ slice_index (take end probe.old.text) at }
     ensures answer { let bytes = take end probe.old.text in
         flag result ≡ next_line_at bytes at + separator_at bytes at }
@@ -213,8 +144,7 @@ fn starts_wide_break<T: ByteChunk>(
 
 /// The byte that is so many bytes ahead of `at`, for one peek, or 0 where that is not before `end`.
 fn peek_ahead<T: ByteChunk>(probe: &mut Probe<'_, T>, at: usize, ahead: usize, end: usize) -> u8
-    requires seen { at ≤ end }
-    requires within { end ≤ length probe.old.text }
+    requires seen { (at ≤ end) × (end ≤ length probe.old.text) }
     ensures byte { result ≡ slice_index (take end probe.old.text) (ahead + at) }
     ensures reads { Reads probe.old probe.new 0 0 0 1 }
 {
@@ -235,7 +165,7 @@ fn is_separator(byte: u8, next: u8, after: u8) -> bool
 /// The breaks that are counted in the lanes of a chunk, 1 each.
 struct LineBreaks;
 
-impl<T: ByteChunk> LaneCounts<T> for LineBreaks {
+impl<T: ByteChunk> PlaceCounts<T> for LineBreaks {
     type Carry = ();
 
     ghost MOST = { 1 };
@@ -246,6 +176,15 @@ impl<T: ByteChunk> LaneCounts<T> for LineBreaks {
 
     const MOST: usize = 1;
 
+    const IS_DENSE: bool = false;
+
+    fn count_byte(probe: &mut Probe<'_, T>, _before: u8, byte: u8, at: usize, end: usize) -> usize {
+        usize::from(is_break_at(probe, byte, at, end))
+    }
+
+    fn carry_at(_probe: &mut Probe<'_, T>, _at: usize) {}
+
+    /// It peeks only where some lane is CR, C2 or E2: at the last two bytes of the chunk and the two after it.
     #[inline(always)]
     fn count_lanes(
         probe: &mut Probe<'_, T>,
@@ -254,15 +193,12 @@ impl<T: ByteChunk> LaneCounts<T> for LineBreaks {
         end: usize,
         _carry: (),
     ) -> CountedLanes<T, ()> {
+        prove!(end <= probe.len());
+        let narrow_breaks = count_narrow_breaks(probe, chunk, at, end);
         CountedLanes {
-            lanes: count_breaks_in_chunk(probe, chunk, at, end),
+            lanes: add_wide_breaks(probe, chunk, narrow_breaks, at, end),
             carry: (),
         }
-    }
-
-    #[inline(always)]
-    fn count_later_lanes(probe: &mut Probe<'_, T>, chunk: T, at: usize, end: usize) -> T {
-        count_breaks_in_chunk(probe, chunk, at, end)
     }
 
     ghost at_most = { λ end text. break_at-le (take end text) };
@@ -270,35 +206,12 @@ impl<T: ByteChunk> LaneCounts<T> for LineBreaks {
     ghost few = { (lit< tt, lit≤ tt) };
 }
 
-/// 1 in each lane of the chunk at `at` where a break is counted, and 0 in the others.
-///
-/// It peeks only where some lane is CR, C2 or E2: at the last two bytes of the chunk and the two behind it, at most four
-/// times.
-#[inline(always)]
-fn count_breaks_in_chunk<T: ByteChunk>(
-    probe: &mut Probe<'_, T>,
-    chunk: T,
-    at: usize,
-    end: usize,
-) -> T
-    requires seen { at + T.SIZE ≤ end }
-    requires within { end ≤ length probe.old.text }
-    requires chunk { T.lanes chunk ≡ take T.SIZE (drop at probe.old.text) }
-    ensures lanes { HasLanes T.SIZE (λ j. break_at (take end probe.old.text) (at + j)) (T.lanes result) }
-    ensures reads { Reads probe.old probe.new 0 0 0 4 }
-{
-    prove!(end <= probe.len());
-    let narrow_breaks = count_narrow_breaks(probe, chunk, at, end);
-    add_wide_breaks(probe, chunk, narrow_breaks, at, end)
-}
-
 /// 1 in each lane of the chunk at `at` that is a break of one byte or the LF of CR LF.
 ///
 /// Only where a lane is CR it peeks at the last byte, and only where that is CR at the one behind it.
 #[tactic(auto, using(crate::proofs::lemmas::lanes::BreakChunks::last_is_counted))]
 fn count_narrow_breaks<T: ByteChunk>(probe: &mut Probe<'_, T>, chunk: T, at: usize, end: usize) -> T
-    requires seen { at + T.SIZE ≤ end }
-    requires within { end ≤ length probe.old.text }
+    requires seen { (at + T.SIZE ≤ end) × (end ≤ length probe.old.text) }
     requires chunk { IsChunk (take end probe.old.text) at T.SIZE (T.lanes chunk) }
     ensures lanes { HasLanes T.SIZE (λ j. narrow_break_at (take end probe.old.text) (at + j)) (T.lanes result) }
     ensures reads { let last = slice_index probe.old.text (at + (T.SIZE - 1)) in
@@ -319,8 +232,7 @@ fn count_narrow_breaks<T: ByteChunk>(probe: &mut Probe<'_, T>, chunk: T, at: usi
 
 /// Whether CR LF starts at byte `at`: where that is CR, the byte behind it is peeked at too.
 fn starts_crlf<T: ByteChunk>(probe: &mut Probe<'_, T>, at: usize, end: usize) -> bool
-    requires seen { at < end }
-    requires within { end ≤ length probe.old.text }
+    requires seen { (at < end) × (end ≤ length probe.old.text) }
     ensures answer { let byte = slice_index (take end probe.old.text) in result ≡ is_crlf (byte at) (byte (1 + at)) }
     ensures reads { Reads probe.old probe.new 0 0 0 (1 + flag (is_carriage_return (slice_index probe.old.text at))) }
 {
@@ -337,8 +249,7 @@ fn add_wide_breaks<T: ByteChunk>(
     at: usize,
     end: usize,
 ) -> T
-    requires seen { at + T.SIZE ≤ end }
-    requires within { end ≤ length probe.old.text }
+    requires seen { (at + T.SIZE ≤ end) × (end ≤ length probe.old.text) }
     requires chunk { IsChunk (take end probe.old.text) at T.SIZE (T.lanes chunk) }
     requires counted { let bytes = take end probe.old.text in
         HasLanes T.SIZE (λ j. narrow_break_at bytes (at + j)) (T.lanes narrow_breaks) }
@@ -396,8 +307,7 @@ fn separator_ends<T: ByteChunk>(chunk: T) -> T
 /// `breaks` has those that are counted where no byte behind the chunk is seen. The last byte says whether more bytes
 /// are peeked at: two behind it, or the one before it and the one behind it.
 fn add_at_edge<T: ByteChunk>(probe: &mut Probe<'_, T>, breaks: T, at: usize, end: usize) -> T
-    requires seen { at + T.SIZE ≤ end }
-    requires within { end ≤ length probe.old.text }
+    requires seen { (at + T.SIZE ≤ end) × (end ≤ length probe.old.text) }
     requires counted { let bytes = take end probe.old.text in let inside = take (at + T.SIZE) bytes in
         HasLanes T.SIZE (λ j. narrow_break_at bytes (at + j) + next_line_at inside (at + j)
         + separator_at inside (at + j)) (T.lanes breaks) }

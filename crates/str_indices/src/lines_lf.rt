@@ -3,15 +3,10 @@
 //! LF is one of the breaks of the Unicode Standard's Annex 14 that the Rust crate lists; the others do not count here.
 //! CR LF counts once, because of its LF.
 ghost use Rattle.std.specs.Prelude.{◌≡◌, ◌+◌, ◌-◌, ◌/◌, ◌<◌, ◌≤◌, ◌⊎◌, ℕ, IsCharBoundary, chars, length, min};
-ghost use Rattle.str_indices.specs.Text.{cut};
-ghost use Rattle.str_indices.specs.Schemes.{count, from_byte_idx, to_byte_idx, Lf};
-ghost use Rattle.str_indices.specs.Bytes.{passing_before, is_line_feed};
-ghost use Rattle.str_indices.specs.Reads.{Reads, leading_bytes, pass_turns, pass_loads};
+ghost use Rattle.str_indices.specs.Prelude.{cut, count, from_byte_idx, to_byte_idx, Lf, passing_before, is_line_feed, Counts, Finds};
 
-use crate::bytes::{LF, LineFeeds};
-use crate::chunk_counts::skip_chunks;
-use crate::counting::{Weights, count_weights};
-use crate::places::Position;
+use crate::passes::{count_up_to, find_first};
+use crate::weights::{GROUP, LAST_GROUP, LineFeeds, Weights};
 use byte_chunk::{ByteChunk, Chunk, Probe};
 
 /// How many line breaks the text has.
@@ -49,78 +44,34 @@ pub fn to_byte_idx(text: &str, line_idx: usize) -> usize
 /// Counts the line breaks before `end`, over chunks of any type, after `lead` bytes that are walked one by one.
 ///
 /// An `end` inside a character leaves that character out.
-#[tactic(auto, using(crate::proofs::lemmas::schemes::LineFeedBytes::line_feeds_at_end))]
 pub fn count_breaks_impl<T: ByteChunk>(probe: &mut Probe<'_, T>, end: usize, lead: usize) -> usize
     requires within { end ≤ length probe.old.text }
     ensures count { result ≡ count Lf (cut (chars probe.old.text) end) }
     ensures text { probe.new.text ≡ probe.old.text }
-    ensures pass { Reads probe.old probe.new (leading_bytes lead end)
-        (pass_turns T.SIZE lead end) (pass_loads T.SIZE lead end) 0 }
+    ensures pass { Counts probe.old probe.new T.SIZE lead end 0 }
 {
     prove!(end <= probe.len());
-    count_weights::<LineFeeds, T>(probe, end, lead)
+    count_up_to::<Weights<LineFeeds>, T, GROUP, LAST_GROUP>(probe, end, lead)
 }
 
 /// Converts a byte index to a line index, over chunks of any type, after `lead` bytes that are walked one by one.
 #[tactic(auto, using(crate::proofs::lemmas::schemes::LineFeedBytes::line_of_byte))]
-pub fn from_byte_idx_impl<T: ByteChunk>(
-    probe: &mut Probe<'_, T>,
-    byte_idx: usize,
-    lead: usize,
-) -> usize
-    ensures answer { result ≡ from_byte_idx Lf (chars probe.old.text) byte_idx }
+pub fn from_byte_idx_impl<T: ByteChunk>(probe: &mut Probe<'_, T>, byte: usize, lead: usize) -> usize
+    ensures answer { result ≡ from_byte_idx Lf (chars probe.old.text) byte }
     ensures text { probe.new.text ≡ probe.old.text }
-    ensures pass { let n = min byte_idx (length probe.old.text) in
-        Reads probe.old probe.new (leading_bytes lead n) (pass_turns T.SIZE lead n) (pass_loads T.SIZE lead n) 3 }
+    ensures pass { Counts probe.old probe.new T.SIZE lead (min byte (length probe.old.text)) 3 }
 {
-    let end = byte_idx.min(probe.len());
+    let end = byte.min(probe.len());
     count_breaks_impl(probe, end, lead)
 }
 
 /// Converts a line index to a byte index, over chunks of any type, after `lead` bytes that are walked one by one.
-#[tactic(auto, using(crate::proofs::lemmas::bytes::Sums::passing_bounds))]
 pub fn to_byte_idx_impl<T: ByteChunk>(probe: &mut Probe<'_, T>, idx: usize, lead: usize) -> usize
     ensures answer { result ≡ to_byte_idx Lf (chars probe.old.text) idx }
+    ensures boundary { IsCharBoundary probe.old.text result }
     ensures text { probe.new.text ≡ probe.old.text }
-    ensures pass { let n = length probe.old.text in
-        Reads probe.old probe.new (leading_bytes lead n) (pass_turns T.SIZE lead n) (result / T.SIZE + 5) 3 }
+    ensures pass { Finds probe.old probe.new T.SIZE lead (length probe.old.text) result 3 }
 {
-    let len = probe.len();
-    let first_chunk = lead.min(len);
-    let start = Position { byte: 0, count: 0 };
-    let led = walk_to_line(probe, start, first_chunk, idx);
-    if led.count == idx {
-        return led.byte;
-    }
-    let grouped = skip_chunks::<Weights<LineFeeds>, T, 4, 4>(probe, led, idx, ()).at;
-    let chunked = skip_chunks::<Weights<LineFeeds>, T, 1, 1>(probe, grouped, idx, ()).at;
-    walk_to_line(probe, chunked, len, idx).byte
-}
-
-/// Walks on from a position, one turn a byte, up to `to` or to the byte before which the count is the index.
-fn walk_to_line<T: ByteChunk>(
-    probe: &mut Probe<'_, T>,
-    from: Position,
-    to: usize,
-    idx: usize,
-) -> Position
-    requires ordered { from.byte ≤ to }
-    requires within { to ≤ length probe.old.text }
-    requires counted { from.count ≡ passing_before is_line_feed probe.old.text from.byte }
-    requires at_most { from.count ≤ idx }
-    ensures reached { (from.byte ≤ result.byte) × (result.byte ≤ to) }
-    ensures counted { result.count ≡ passing_before is_line_feed probe.old.text result.byte }
-    ensures at_most { result.count ≤ idx }
-    ensures first { (d : ℕ) → from.byte ≤ d → d < result.byte → passing_before is_line_feed probe.old.text d < idx }
-    ensures stopped { result.byte < to → result.count ≡ idx }
-    ensures reads { Reads probe.old probe.new 0 (result.byte - from.byte) 0 0 }
-{
-    let mut at = from;
-    while at.byte < to && at.count < idx {
-        at = Position {
-            byte: at.byte + 1,
-            count: at.count + usize::from(probe.turn(at.byte) == LF),
-        };
-    }
-    at
+    let first_chunk = lead.min(probe.len());
+    find_first::<Weights<LineFeeds>, T, GROUP, LAST_GROUP, 4>(probe, idx, first_chunk)
 }

@@ -1,16 +1,13 @@
 //! Places in a text.
 ghost use Rattle.std.specs.Prelude.{◌≡◌, ◌≤◌, ◌+◌, ℕ, chars, length, min, not};
-ghost use Rattle.str_indices.specs.Text.{size, cut};
-ghost use Rattle.str_indices.specs.Bytes.{byte_before, is_carriage_return, is_middle};
-ghost use Rattle.str_indices.specs.Relations.{IsBoundary};
-ghost use Rattle.str_indices.specs.Reads.{Reads};
+ghost use Rattle.str_indices.specs.Prelude.{size, cut, byte_before, is_carriage_return, is_middle, IsBoundary, Reads};
 
-use crate::bytes::{CR, LF, is_trailing_byte};
+use crate::weights::{CR, LF, is_trailing_byte};
 use byte_chunk::{ByteChunk, Probe};
 
 /// A place in a text, and what a kernel counted before it.
 #[derive(Clone, Copy)]
-pub(crate) struct Position {
+pub(crate) struct Cursor {
     pub(crate) byte: usize,
     pub(crate) count: usize,
 }
@@ -43,27 +40,27 @@ pub(crate) fn boundary_at_or_before<T: ByteChunk>(
     boundary
 }
 
-/// Whether the byte before a place is CR, by one peek where there is such a byte.
-fn follows_carriage_return<T: ByteChunk>(probe: &mut Probe<'_, T>, at: usize) -> bool
+/// The byte before a place, for one turn, or 0 at the beginning of the text.
+pub(crate) fn byte_before<T: ByteChunk>(probe: &mut Probe<'_, T>, at: usize) -> u8
     requires { at ≤ length probe.old.text }
-    ensures follows { result ≡ is_carriage_return (byte_before probe.old.text at) }
-    ensures reads { Reads probe.old probe.new 0 0 0 (min at 1) }
+    ensures byte { result ≡ byte_before probe.old.text at }
+    ensures reads { Reads probe.old probe.new 0 1 0 0 }
 {
     if at == 0 {
-        return false;
+        return 0;
     }
-    probe.peek(at - 1) == CR
+    probe.turn(at - 1)
 }
 
-/// Whether a byte index does not stand between CR and LF, by at most two peeks.
-pub(crate) fn is_not_crlf_middle<T: ByteChunk>(probe: &mut Probe<'_, T>, byte_idx: usize) -> bool
-    ensures middle { result ≡ not (is_middle probe.old.text byte_idx) }
+/// Whether a byte index stands between CR and LF, by at most two peeks.
+pub(crate) fn is_crlf_middle<T: ByteChunk>(probe: &mut Probe<'_, T>, byte_idx: usize) -> bool
+    ensures middle { result ≡ is_middle probe.old.text byte_idx }
     ensures reads { Reads probe.old probe.new 0 0 0 2 }
 {
-    if byte_idx >= probe.len() || probe.peek(byte_idx) != LF {
-        return true;
+    if byte_idx == 0 || byte_idx >= probe.len() {
+        return false;
     }
-    !follows_carriage_return(probe, byte_idx)
+    probe.peek(byte_idx) == LF && probe.peek(byte_idx - 1) == CR
 }
 
 /// The least boundary at or after a byte, by at most three peeks.
@@ -79,10 +76,7 @@ pub(crate) fn boundary_at_or_after<T: ByteChunk>(probe: &mut Probe<'_, T>, byte_
     let len = probe.len();
     let mut boundary = byte_idx;
     for _ in 0..MOST_TRAILING_BYTES {
-        if boundary >= len {
-            break;
-        }
-        if !is_trailing_byte(probe.peek(boundary)) {
+        if boundary >= len || !is_trailing_byte(probe.peek(boundary)) {
             break;
         }
         boundary += 1;

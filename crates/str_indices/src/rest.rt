@@ -4,12 +4,10 @@
 //! the time. So the last bytes of a text are put into a chunk, whose first lanes are then left out.
 ghost use Rattle.std.specs.Prelude.{◌≡◌, ◌+◌, ◌-◌, ◌<◌, ◌≤◌, ◌++◌, length, take, drop, replicate};
 ghost use Rattle.std.specs.Simd.Lanes.{Each1};
-ghost use Rattle.str_indices.specs.Bytes.{sum_below};
-ghost use Rattle.str_indices.specs.Lanes.{FitsIn};
-ghost use Rattle.str_indices.specs.Reads.{Reads};
+ghost use Rattle.str_indices.specs.Prelude.{sum_below, FitsIn, IsHandedOn, Reads};
 
-use crate::chunk_counts::LaneCounts;
-use crate::places::Position;
+use crate::place_counts::PlaceCounts;
+use crate::places::Cursor;
 use byte_chunk::{ByteChunk, Probe};
 
 /// No chunk has more lanes.
@@ -20,41 +18,29 @@ static LEFT_OUT_AND_KEPT: [[u8; MOST_LANES]; 2] = [[0; MOST_LANES], [0xFF; MOST_
 
 /// Counts on from a position to `end`, over fewer bytes than a chunk has, for one turn a lane.
 ///
-/// Of the text the bytes before `end` are seen, and they are no fewer than a chunk has.
-pub(crate) fn count_rest<C: LaneCounts<T>, T: ByteChunk>(
+/// Of the text the bytes before `end` are seen, and they are no fewer than a chunk has. The lanes before the position are
+/// left out, since they are counted already. The first lane always is, so that `carry` need not be what the chunk before
+/// hands on.
+pub(crate) fn count_rest<C: PlaceCounts<T>, T: ByteChunk>(
     probe: &mut Probe<'_, T>,
-    from: Position,
+    from: Cursor,
     end: usize,
+    carry: C::Carry,
 ) -> usize
     requires long { T.SIZE ≤ end }
     requires near { (from.byte ≤ end) × (end < from.byte + T.SIZE) }
     requires within { end ≤ length probe.old.text }
     requires fits { FitsIn (sum_below (C.counted_at end probe.old.text)) (length probe.old.text) }
     requires counted { from.count ≡ sum_below (C.counted_at end probe.old.text) from.byte }
+    requires handed_on { IsHandedOn (C.carries probe.old.text) carry }
     ensures counted { result ≡ sum_below (C.counted_at end probe.old.text) end }
     ensures reads { Reads probe.old probe.new 0 T.SIZE 0 0 }
 {
     prove!(end <= probe.len());
-    from.count + sum_rest::<C, T>(probe, from.byte, end)
-}
-
-/// What is counted from a place on to `end`, by the last chunk before `end`: its lanes before that place, which are
-/// counted already, are left out. The first lane always is, so that nothing need be handed on to it.
-fn sum_rest<C: LaneCounts<T>, T: ByteChunk>(
-    probe: &mut Probe<'_, T>,
-    from: usize,
-    end: usize,
-) -> usize
-    requires long { T.SIZE ≤ end }
-    requires near { (from ≤ end) × (end < from + T.SIZE) }
-    requires within { end ≤ length probe.old.text }
-    ensures sum { let before = sum_below (C.counted_at end probe.old.text) in before end ≡ before from + result }
-    ensures reads { Reads probe.old probe.new 0 T.SIZE 0 0 }
-{
     let first = end - T::SIZE;
     let chunk = chunk_by_turns(probe, first);
-    let lanes = C::count_later_lanes(probe, chunk, first, end);
-    last_lanes(lanes, end - from).sum_bytes()
+    let counted = C::count_lanes(probe, chunk, first, end, carry);
+    from.count + last_lanes(counted.lanes, end - from.byte).sum_bytes()
 }
 
 /// The chunk at `at`, for one turn a byte.

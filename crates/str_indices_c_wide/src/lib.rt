@@ -6,7 +6,8 @@
 #![tactic(auto)]
 
 ghost use Rattle.std.specs.Prelude.{◌≡◌, IsCharBoundary, IsUtf8, chars};
-ghost use Rattle.str_indices.specs.Schemes.{count, from_byte_idx, surrogates, to_byte_idx, Chars, Crlf, Lf, Lines, Utf16};
+ghost use Rattle.str_indices.specs.Schemes.{count, from_byte_idx, surrogates, to_byte_idx};
+ghost use Rattle.str_indices.specs.declared.Scheme.TheVariants.{Chars, Crlf, Lf, Lines, Utf16};
 
 use byte_chunk::Probe;
 use std::simd::u8x32;

@@ -4,7 +4,8 @@
 #![tactic(auto)]
 
 ghost use Rattle.std.specs.Prelude.{◌≡◌, ◌+◌, ◌≤◌, IsCharBoundary, chars, drop, slice_range};
-ghost use Rattle.str_indices.specs.Schemes.{to_byte_idx, Chars, Lines};
+ghost use Rattle.str_indices.specs.Schemes.{to_byte_idx};
+ghost use Rattle.str_indices.specs.declared.Scheme.TheVariants.{Chars, Lines};
 
 use str_indices::{chars, laws, lines};
 

@@ -1,10 +1,7 @@
 -- Words that are made of the lanes of one word.
 --     LaneByLane f n w r    lane i of r is f of lane i of w, for each of n lanes, and r has no more
 --     Made f n w r          the same, as a record
-use Rattle.std.proofs.Common.{◌≡◌, ℕ, zero, suc, ◌+◌, ◌-◌, ◌*◌, ◌/◌, ◌%◌, ◌^◌, ◌<◌, ◌≤◌, List, map, ◌∷◌, refl, ap, ap₂, ◌∙◌, arith, pow-suc, bit_and}
-use Rattle.std.proofs.lemmas.Nat.{and_mod, and_shr}
-use Rattle.std.specs.Simd.Lanes.{digits_l}
-use Rattle.byte_chunk.specs.Lanes.{word_lanes}
+use Rattle.byte_chunk.proofs.lemmas.Common.{◌≡◌, ℕ, zero, suc, ◌+◌, ◌-◌, ◌*◌, ◌/◌, ◌%◌, ◌^◌, ◌<◌, ◌≤◌, List, map, ◌∷◌, refl, ap, ap₂, ◌∙◌, arith, pow-suc, bit_and, and_mod, and_shr, digits_l, word_lanes}
 use Rattle.byte_chunk.proofs.lemmas.Numbers.{ones, ones_pow}
 
 abbrev pub LaneByLane : (ℕ → ℕ) → ℕ → ℕ → ℕ → Type 0

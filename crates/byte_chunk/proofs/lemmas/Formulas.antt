@@ -1,12 +1,6 @@
 -- What the formulas of a word do to the byte in one lane: the top bit is set where a test holds, and no other bit.
-use Rattle.std.proofs.Common.{◌≡◌, ℕ, ◌+◌, ◌-◌, ◌*◌, ◌%◌, ◌<◌, ◌≤◌, true, refl, arith, bit_and, bit_or, bit_xor}
-use Rattle.std.specs.Prelude.{◌==◌}
+use Rattle.byte_chunk.proofs.lemmas.Common.{◌≡◌, ℕ, ◌+◌, ◌-◌, ◌*◌, ◌%◌, ◌<◌, ◌≤◌, true, refl, arith, bit_and, bit_or, bit_xor, ◌==◌, agree_below_at, eqb-true, and_high_numeral, nat_tests, and_shr, and_mask, and_le_l, and_le_r, is_byte, is_between}
 use Rattle.std.specs.Int.Bits.{xor_self, xor_zero_l, xor_zero_r, xor_assoc}
-use Rattle.std.proofs.lemmas.Bool.{agree_below_at, eqb-true}
-use Rattle.std.proofs.lemmas.Grind.{and_high_numeral}
-use Rattle.std.proofs.lemmas.Bool.Decides.{nat_tests}
-use Rattle.std.proofs.lemmas.Nat.{and_shr, and_mask, and_le_l, and_le_r}
-use Rattle.byte_chunk.specs.Lanes.{is_byte, is_between}
 
 -- the formula of `cmp_eq_byte`: the top bit of a byte that is 0
 pub top_of_zero : (y : ℕ) → y < 256 → bit_and (255 - bit_or (bit_and y 127 + 127) y) 128 ≡ 128 * is_byte 0 y

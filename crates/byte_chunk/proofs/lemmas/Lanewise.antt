@@ -1,13 +1,8 @@
 -- Lists that are made lane by lane: what an array's `map` and `from_fn` give by a closure that its calls leave as it
 -- is.
-use Rattle.std.proofs.Common.{◌≡◌, ℕ, zero, suc, ◌+◌, ◌-◌, ◌/◌, ◌%◌, ◌^◌, ◌<◌, ◌≤◌, Fits, w8, List, [], ◌∷◌, map, length, replicate, get_or, inl, inr, refl, sym, ap, ap₂, ◌∙◌, subst, arith, mod-eq_of_lt}
-use Rattle.std.proofs.lemmas.Bool.{cases_lt}
-use Rattle.std.proofs.lemmas.List.{length-map, ext_get_or, get_or-map}
-use Rattle.std.proofs.lemmas.Nat.{shr_below}
-use Rattle.std.proofs.lemmas.Simd.{length-zip2, get_or-zip2}
+use Rattle.byte_chunk.proofs.lemmas.Common.{◌≡◌, ℕ, zero, suc, ◌+◌, ◌-◌, ◌/◌, ◌%◌, ◌^◌, ◌<◌, ◌≤◌, Fits, w8, List, [], ◌∷◌, map, length, replicate, get_or, inl, inr, refl, sym, ap, ap₂, ◌∙◌, subst, arith, mod-eq_of_lt, cases_lt, length-map, ext_get_or, get_or-map, shr_below, length-zip2, get_or-zip2, zip2, Each1, Each2}
 use Rattle.std.specs.Array.{IsMapOf, MapsFrom, IsFromFnResult, IsFromFnResultFrom}
 use Rattle.std.specs.Iterator.{ActsAs}
-use Rattle.std.specs.Simd.Lanes.{zip2, Each1, Each2}
 use denote.Param.Members.{Mut}
 
 module _ {F : Type 0} {g : Mut F (ℕ × Unit {0}) ℕ} {closure : F} where

@@ -1,8 +1,7 @@
 -- The numbers that words are made of, to base 256 with the lowest lane first.
 --     written n f    the word whose n lanes are f 0, f 1 and so on
 --     ones n         the word whose n lanes are each 1
-use Rattle.std.proofs.Common.{◌≡◌, ℕ, zero, suc, ◌+◌, ◌*◌, ◌^◌, refl, ap, arith, pow-suc}
-use Rattle.std.proofs.lemmas.Nat.{pow-add}
+use Rattle.byte_chunk.proofs.lemmas.Common.{◌≡◌, ℕ, zero, suc, ◌+◌, ◌*◌, ◌^◌, refl, ap, arith, pow-suc, pow-add}
 
 abbrev pub written : ℕ → (ℕ → ℕ) → ℕ
 written zero f = 0

@@ -1,11 +1,6 @@
 -- What operations on vectors give, as lists of lanes.
-use Rattle.std.proofs.Common.{◌≡◌, ℕ, zero, suc, ◌+◌, ◌≤◌, List, [], ◌∷◌, ◌++◌, Bool, true, false, ◌&&◌, cond, eqb, ltb, map, length, replicate, take, drop, Fits, w8, w64, refl, sym, ap, ap₂, ◌∙◌, arith, bit_and, bit_or, length-append, length-drop}
+use Rattle.byte_chunk.proofs.lemmas.Common.{◌≡◌, ℕ, zero, suc, ◌+◌, ◌≤◌, List, [], ◌∷◌, ◌++◌, Bool, true, false, ◌&&◌, cond, eqb, ltb, map, length, replicate, take, drop, Fits, w8, w64, refl, sym, ap, ap₂, ◌∙◌, arith, bit_and, bit_or, length-append, length-drop, zip2, sel_l, top, pick_l, fold_l, Steps, Each1, Each2, append_assoc, take-append-drop, take_at, drop-append-le, length-take-le, and_comm, le_or_l, le_or_r, zip2_splat, zip2_splat_left, zip2_of_maps, pick_l-range_with_len, sum_bound, sum_fits, bytes_below, is_byte, is_between}
 use Rattle.std.specs.List.{range_with_len}
-use Rattle.std.specs.Simd.Lanes.{zip2, sel_l, top, pick_l, fold_l, Steps, Each1, Each2}
-use Rattle.std.proofs.lemmas.List.{append_assoc, take-append-drop, take_at, drop-append-le, length-take-le}
-use Rattle.std.proofs.lemmas.Nat.{le_or_l, le_or_r}
-use Rattle.std.proofs.lemmas.Simd.{zip2_splat, zip2_splat_left, zip2_of_maps, pick_l-range_with_len, sum_bound, sum_fits, bytes_below}
-use Rattle.byte_chunk.specs.Lanes.{is_byte, is_between}
 
 -- `is_zero`: where no lane has a bit, each lane is 0
 pub no_bits : (bits : ℕ) (lanes : List ℕ) → fold_l bit_or bits lanes ≡ 0
@@ -75,6 +70,16 @@ pub sums_fit : (xs ys : List ℕ) → Each2 (λ x y. x + y ≤ 255) xs ys → Ea
 sums_fit [] ys small = tt
 sums_fit (x ∷ xs) [] small = tt
 sums_fit (x ∷ xs) (y ∷ ys) (here, rest) = (record { fits = omega arith }, sums_fit xs ys rest)
+
+-- the operands of `bitand` and of `add` may be exchanged
+swapped : (op : ℕ → ℕ → ℕ) → ((x y : ℕ) → op x y ≡ op y x) → (xs ys : List ℕ) → zip2 op xs ys ≡ zip2 op ys xs
+swapped op same [] [] = refl
+swapped op same [] (y ∷ ys) = refl
+swapped op same (x ∷ xs) [] = refl
+swapped op same (x ∷ xs) (y ∷ ys) = ap₂ (λ l ls. l ∷ ls) (same x y) (swapped op same xs ys)
+
+pub and_swapped : (xs ys : List ℕ) → zip2 bit_and xs ys ≡ zip2 bit_and ys xs
+and_swapped = swapped bit_and and_comm
 
 -- the lanes of a vector cast to wider ones
 widened : (lanes : List ℕ) → map (λ lane. lane) lanes ≡ lanes

@@ -1,12 +1,8 @@
 -- The calls of a chunk, on a word of any number of lanes.
 --     nth n w i    lane i of a word, in the list of its n lanes
-use Rattle.std.proofs.Common.{◌≡◌, ℕ, zero, suc, ◌+◌, ◌-◌, ◌*◌, ◌/◌, ◌%◌, ◌^◌, ◌<◌, ◌≤◌, List, [], ◌∷◌, ◌++◌, map, length, replicate, take, drop, set, get_or, sum, refl, sym, ap, ap₂, ◌∙◌, arith, pow-suc, bit_and, bit_or, bit_xor}
-use Rattle.std.specs.List.{fold}
-use Rattle.std.specs.Simd.Lanes.{zip2, Each1, Each2}
-use Rattle.std.proofs.lemmas.Nat.{and_mod, and_shr, or_mod, or_shr, xor_mod, xor_shr, and_le_r, xor_lt, or_shifted, pow-add, field_of, one_shl, div_below, div-mul-add, mod-mul-add}
-use Rattle.std.proofs.Math.Nat.{one-le-pow, div-div-eq-div-mul, mul_comm, pow-succ', mul-le-mul_right}
+use Rattle.byte_chunk.proofs.lemmas.Common.{◌≡◌, ℕ, zero, suc, ◌+◌, ◌-◌, ◌*◌, ◌/◌, ◌%◌, ◌^◌, ◌<◌, ◌≤◌, List, [], ◌∷◌, ◌++◌, map, length, replicate, take, drop, set, get_or, sum, refl, sym, ap, ap₂, ◌∙◌, arith, pow-suc, bit_and, bit_or, bit_xor, fold, zip2, Each1, Each2, and_mod, and_shr, or_mod, or_shr, xor_mod, xor_shr, and_le_r, xor_lt, or_shifted, pow-add, field_of, one_shl, div_below, div-mul-add, mod-mul-add, mul_comm, mul-le-mul_right, word_lanes, is_byte, is_between}
+use Rattle.std.proofs.Math.Nat.{one-le-pow, div-div-eq-div-mul, pow-succ'}
 use Rattle.std.proofs.Math.Pow.{mod-mod-pow}
-use Rattle.byte_chunk.specs.Lanes.{word_lanes, is_byte, is_between}
 use Rattle.byte_chunk.proofs.lemmas.Formulas.{top_of_zero, is_byte_by_xor, top_of_between}
 use Rattle.byte_chunk.proofs.lemmas.Numbers.{written, ones, ones_pow, pow_of_bytes}
 use Rattle.byte_chunk.proofs.lemmas.Arithmetic.{next, made_self, made_splat, made_and, made_bits, made_add, made_sub, made_not, made_tops}

@@ -52,7 +52,7 @@ impl ByteChunk for u128 {
         *self >> (8 * n)
     }
 
-    #[tactic(auto, using(crate::proofs::lemmas::Words::word_across))]
+    #[tactic(auto, using(crate::proofs::lemmas::Words::word_across, std::proofs::lemmas::Nat::or_comm))]
     fn shift_across(&self, n: Self) -> Self {
         (n << 8) | (*self >> 120)
     }
@@ -76,7 +76,7 @@ impl ByteChunk for u128 {
         (below & !*self & above & HIGH) >> 7
     }
 
-    #[tactic(auto, using(crate::proofs::lemmas::Words::word_and))]
+    #[tactic(auto, using(crate::proofs::lemmas::Words::word_and, std::proofs::lemmas::Nat::and_comm))]
     fn bitand(&self, other: Self) -> Self {
         *self & other
     }

@@ -93,6 +93,7 @@ impl ByteChunk for Simd<u8, 16> {
         vectors::bytes_between_127(*self, a, b)
     }
 
+    #[tactic(auto, using(crate::proofs::lemmas::VectorLanes::and_swapped))]
     fn bitand(&self, other: Self) -> Self {
         *self & other
     }

@@ -106,6 +106,7 @@ impl ByteChunk for Simd<u8, 32> {
         vectors::bytes_between_127(*self, a, b)
     }
 
+    #[tactic(auto, using(crate::proofs::lemmas::VectorLanes::and_swapped))]
     fn bitand(&self, other: Self) -> Self {
         *self & other
     }

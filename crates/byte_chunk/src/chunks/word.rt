@@ -50,7 +50,7 @@ impl ByteChunk for usize {
         *self >> (8 * n)
     }
 
-    #[tactic(auto, using(crate::proofs::lemmas::Words::word_across))]
+    #[tactic(auto, using(crate::proofs::lemmas::Words::word_across, std::proofs::lemmas::Nat::or_comm))]
     fn shift_across(&self, n: Self) -> Self {
         (n << 8) | (*self >> 56)
     }
@@ -74,7 +74,7 @@ impl ByteChunk for usize {
         (below & !*self & above & HIGH) >> 7
     }
 
-    #[tactic(auto, using(crate::proofs::lemmas::Words::word_and))]
+    #[tactic(auto, using(crate::proofs::lemmas::Words::word_and, std::proofs::lemmas::Nat::and_comm))]
     fn bitand(&self, other: Self) -> Self {
         *self & other
     }

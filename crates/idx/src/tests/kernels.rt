@@ -10,7 +10,7 @@ use byte_chunk::Probe;
 use std::alloc::Global;
 use std::process::Abort;
 use std::test::Fail;
-use str_indices::{chars, laws, lines, lines_crlf, lines_lf, utf16};
+use str_indices::{Scheme, chars, laws, lines, lines_crlf, lines_lf, utf16};
 
 /// Numbers of leading bytes at which a chunk begins or ends elsewhere.
 const LEADS: [usize; 12] = [0, 1, 2, 3, 5, 7, 8, 15, 16, 31, 32, 40];
@@ -44,27 +44,13 @@ const MIDDLES: [&str; 16] = [
     "\u{1F438}",
 ];
 
-/// All calls, the conversions with this index.
-fn calls(index: usize) -> [Call; 16] {
-    [
-        Call::CharsCount,
-        Call::CharsFromByteIdx(index),
-        Call::CharsToByteIdx(index),
-        Call::Utf16Count,
-        Call::Utf16CountSurrogates,
-        Call::Utf16FromByteIdx(index),
-        Call::Utf16ToByteIdx(index),
-        Call::LinesLfCountBreaks,
-        Call::LinesLfFromByteIdx(index),
-        Call::LinesLfToByteIdx(index),
-        Call::LinesCrlfCountBreaks,
-        Call::LinesCrlfFromByteIdx(index),
-        Call::LinesCrlfToByteIdx(index),
-        Call::LinesCountBreaks,
-        Call::LinesFromByteIdx(index),
-        Call::LinesToByteIdx(index),
-    ]
-}
+const SCHEMES: [Scheme; 5] = [
+    Scheme::Chars,
+    Scheme::Utf16,
+    Scheme::Lf,
+    Scheme::Crlf,
+    Scheme::Lines,
+];
 
 /// What the counting kernel of the call answers for the text before `end`, or `None` where the call is a conversion.
 fn count_before(call: Call, text: &str, end: usize, lead: usize) -> Option<usize>
@@ -73,12 +59,12 @@ fn count_before(call: Call, text: &str, end: usize, lead: usize) -> Option<usize
 {
     let probe = &mut Probe::<Wide>::of(text);
     match call {
-        Call::CharsCount => Some(chars::count_impl(probe, end, lead)),
-        Call::Utf16Count => Some(utf16::count_impl(probe, end, lead)),
-        Call::Utf16CountSurrogates => Some(utf16::count_surrogates_impl(probe, end, lead)),
-        Call::LinesLfCountBreaks => Some(lines_lf::count_breaks_impl(probe, end, lead)),
-        Call::LinesCrlfCountBreaks => Some(lines_crlf::count_breaks_impl(probe, end, lead)),
-        Call::LinesCountBreaks => Some(lines::count_breaks_impl(probe, end, lead)),
+        Call::Count(Scheme::Chars) => Some(chars::count_impl(probe, end, lead)),
+        Call::Count(Scheme::Utf16) => Some(utf16::count_impl(probe, end, lead)),
+        Call::Surrogates => Some(utf16::count_surrogates_impl(probe, end, lead)),
+        Call::Count(Scheme::Lf) => Some(lines_lf::count_breaks_impl(probe, end, lead)),
+        Call::Count(Scheme::Crlf) => Some(lines_crlf::count_breaks_impl(probe, end, lead)),
+        Call::Count(Scheme::Lines) => Some(lines::count_breaks_impl(probe, end, lead)),
         _ => None,
     }
 }
@@ -119,10 +105,17 @@ fn compare_front(rt: &impl Abort, call: Call, text: &str, end: usize) {
     }
 }
 
+fn compare_call(rt: &impl Abort, call: Call, text: &str, index: usize) {
+    compare_whole(rt, call, text, index);
+    compare_front(rt, call, text, index);
+}
+
 fn compare(rt: &impl Abort, text: &str, index: usize) {
-    for call in calls(index) {
-        compare_whole(rt, call, text, index);
-        compare_front(rt, call, text, index);
+    compare_call(rt, Call::Surrogates, text, index);
+    for scheme in SCHEMES {
+        compare_call(rt, Call::Count(scheme), text, index);
+        compare_call(rt, Call::From(scheme, index), text, index);
+        compare_call(rt, Call::To(scheme, index), text, index);
     }
 }
 

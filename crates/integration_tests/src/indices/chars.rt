@@ -1,5 +1,5 @@
 use super::rows::{self, Asked, KernelRows, RangeRow, Row};
-use piece_text::Scheme;
+use str_indices::Scheme;
 use str_indices::chars::{from_byte_idx, to_byte_idx};
 
 const ENGLISH_AND_JAPANESE: &str =

@@ -1,21 +1,22 @@
 //! Chunks and leading bytes that end anywhere in a text.
 use super::rows::{self, Asked};
 use super::walk::{self, SCHEMES, cut, surrogate_pairs};
+use crate::chunks::widest::Widest;
 use byte_chunk::{ByteChunk, Plain};
-use piece_text::Scheme;
 use std::alloc::Global;
 use std::process::Abort;
 use std::simd::{u8x16, u8x32};
 use std::test::Fail;
+use str_indices::Scheme;
 
 /// Numbers of leading bytes, up to more than a chunk and the longest character have.
-const LEADS: [usize; 41] = [
+const LEADS: [usize; 45] = [
     0, 1, 2, 3, 4, 5, 6, 7, 8, 9, 10, 11, 12, 13, 14, 15, 16, 17, 18, 19, 20, 21, 22, 23, 24, 25,
-    26, 27, 28, 29, 30, 31, 32, 33, 34, 35, 36, 37, 38, 39, 40,
+    26, 27, 28, 29, 30, 31, 32, 33, 34, 35, 36, 37, 38, 39, 40, 63, 64, 65, 68,
 ];
 
 /// Those at which a chunk begins or ends elsewhere.
-const FEW_LEADS: [usize; 11] = [0, 1, 2, 3, 5, 7, 8, 15, 16, 31, 32];
+const FEW_LEADS: [usize; 13] = [0, 1, 2, 3, 5, 7, 8, 15, 16, 31, 32, 63, 64];
 
 /// Texts with chars of one to four bytes and with every kind of line break.
 const TEXTS: [&str; 6] = [
@@ -170,6 +171,11 @@ fn thirty_two_lanes_answer_as_a_plain_walk(rt: HostRuntime) {
     texts_answer_as_the_walk::<u8x32>(&rt);
 }
 
+#[test]
+fn sixty_four_lanes_answer_as_a_plain_walk(rt: HostRuntime) {
+    texts_answer_as_the_walk::<Widest>(&rt);
+}
+
 /// `letters` times `a`, the middle, and `b`.
 fn surround(alloc: Global, letters: usize, middle: &str) -> Result<String, Fail> {
     let mut text = "a".repeat(alloc, letters)?;
@@ -293,4 +299,9 @@ fn sixteen_lanes_see_each_break_at_every_edge(rt: HostRuntime) -> Result<(), Fai
 #[test]
 fn thirty_two_lanes_see_each_break_at_every_edge(rt: HostRuntime) -> Result<(), Fail> {
     middles_behind_each::<u8x32>(&rt, rt.alloc(), 0, 41)
+}
+
+#[test]
+fn sixty_four_lanes_see_each_break_at_every_edge(rt: HostRuntime) -> Result<(), Fail> {
+    middles_behind_each::<Widest>(&rt, rt.alloc(), 0, 73)
 }

@@ -1,12 +1,13 @@
 //! Texts that fill every lane of a round, over and over.
 use super::rows::{self, Asked};
 use super::walk::SCHEMES;
+use crate::chunks::widest::Widest;
 use byte_chunk::{ByteChunk, Plain};
-use piece_text::Scheme;
 use std::alloc::Global;
 use std::process::Abort;
 use std::simd::{u8x16, u8x32};
 use std::test::Fail;
+use str_indices::Scheme;
 
 /// A character repeated, and its count in each scheme, in the order of `SCHEMES`.
 const REPEATED: [(&str, usize, [usize; 5]); 5] = [
@@ -118,5 +119,6 @@ fn full_lanes_answer_over_every_chunk(rt: HostRuntime) -> Result<(), Fail> {
     fill_lanes::<usize>(&rt, rt.alloc())?;
     fill_lanes::<u128>(&rt, rt.alloc())?;
     fill_lanes::<u8x16>(&rt, rt.alloc())?;
-    fill_lanes::<u8x32>(&rt, rt.alloc())
+    fill_lanes::<u8x32>(&rt, rt.alloc())?;
+    fill_lanes::<Widest>(&rt, rt.alloc())
 }

@@ -1,7 +1,6 @@
 //! The kernels of a scheme, over chunks of one type.
 use byte_chunk::{ByteChunk, Probe};
-use piece_text::Scheme;
-use str_indices::{chars, laws, lines, lines_crlf, lines_lf, utf16};
+use str_indices::{Scheme, chars, laws, lines, lines_crlf, lines_lf, utf16};
 
 /// The scheme's count before `end`, or `None` where its kernel does not take that end.
 pub fn count<T: ByteChunk>(scheme: Scheme, text: &str, end: usize, lead: usize) -> Option<usize> {

@@ -1,9 +1,8 @@
 use super::rows::{self, Asked, KernelRows, RangeRow, RepeatedRow, Row};
-use piece_text::Scheme;
 use std::process::Abort;
 use std::test::Fail;
-use str_indices::chars;
 use str_indices::lines::{from_byte_idx, to_byte_idx};
+use str_indices::{Scheme, chars};
 
 const ENGLISH_AND_JAPANESE: &str =
     "Hello there!  How're you doing?\nIt's a fine day, isn't it?\nAren't you glad we're alive?\nこんにちは、みんなさん！";

@@ -1,6 +1,6 @@
 use super::rows::{self, KernelRows, RangeRow, RepeatedRow, Row};
-use piece_text::Scheme;
 use std::test::Fail;
+use str_indices::Scheme;
 
 const WORDS: &str = "Here\nare\nsome\nwords";
 

@@ -1,11 +1,12 @@
 //! Loops over tables of worked answers: each row is compared with what the functions of a scheme answer.
-use super::{calls, kernels};
+use super::kernels;
+use crate::chunks::widest::Widest;
 use byte_chunk::{ByteChunk, Plain};
-use piece_text::Scheme;
 use std::alloc::Global;
 use std::process::Abort;
 use std::simd::{u8x16, u8x32};
 use std::test::Fail;
+use str_indices::Scheme;
 
 /// A text, what a function is given, and what it is to answer.
 pub type Row = (&'static str, usize, usize);
@@ -62,11 +63,11 @@ pub fn same_at(rt: &impl Abort, call: &str, asked: Asked, found: usize, want: us
 pub fn count_texts(rt: &impl Abort, scheme: Scheme, rows: &[(&str, usize)]) {
     for &(text, count) in rows {
         let whole = Asked::at(scheme, text, text.len());
-        same_at(rt, "before", whole, calls::count(scheme, text), count);
+        same_at(rt, "before", whole, scheme.count(text), count);
         let past = Asked::at(scheme, text, usize::MAX);
-        let from = calls::from_byte_idx(scheme, text, usize::MAX);
+        let from = scheme.from_byte_idx(text, usize::MAX);
         same_at(rt, "from", past, from, count);
-        let to = calls::to_byte_idx(scheme, text, usize::MAX);
+        let to = scheme.to_byte_idx(text, usize::MAX);
         same_at(rt, "to", past, to, text.len());
     }
 }
@@ -74,7 +75,7 @@ pub fn count_texts(rt: &impl Abort, scheme: Scheme, rows: &[(&str, usize)]) {
 fn from_each_byte(rt: &impl Abort, scheme: Scheme, row: RangeRow) {
     let (text, first, end, index) = row;
     for byte in first..end {
-        let found = calls::from_byte_idx(scheme, text, byte);
+        let found = scheme.from_byte_idx(text, byte);
         same_at(rt, "from", Asked::at(scheme, text, byte), found, index);
     }
 }
@@ -88,7 +89,7 @@ pub fn from_bytes(rt: &impl Abort, scheme: Scheme, rows: &[RangeRow]) {
 /// Each row is a text, an index and the byte where it begins.
 pub fn to_bytes(rt: &impl Abort, scheme: Scheme, rows: &[Row]) {
     for &(text, index, byte) in rows {
-        let found = calls::to_byte_idx(scheme, text, index);
+        let found = scheme.to_byte_idx(text, index);
         same_at(rt, "to", Asked::at(scheme, text, index), found, byte);
     }
 }
@@ -96,11 +97,11 @@ pub fn to_bytes(rt: &impl Abort, scheme: Scheme, rows: &[Row]) {
 /// Each row is a text and a byte and an index that convert to each other.
 pub fn round_trips(rt: &impl Abort, scheme: Scheme, rows: &[Row]) {
     for &(text, byte, index) in rows {
-        let from = calls::from_byte_idx(scheme, text, byte);
-        let back = calls::to_byte_idx(scheme, text, from);
+        let from = scheme.from_byte_idx(text, byte);
+        let back = scheme.to_byte_idx(text, from);
         same_at(rt, "from and to", Asked::at(scheme, text, byte), back, byte);
-        let to = calls::to_byte_idx(scheme, text, index);
-        let back = calls::from_byte_idx(scheme, text, to);
+        let to = scheme.to_byte_idx(text, index);
+        let back = scheme.from_byte_idx(text, to);
         same_at(
             rt,
             "to and from",
@@ -122,7 +123,7 @@ pub fn repeated_texts(
 ) -> Result<(), Fail> {
     for &(unit, times, count, index, byte) in rows {
         let text = unit.repeat(alloc, times)?;
-        let counted = calls::count(scheme, &text);
+        let counted = scheme.count(&text);
         same_at(
             rt,
             "before",
@@ -130,7 +131,7 @@ pub fn repeated_texts(
             counted,
             count,
         );
-        let found = calls::to_byte_idx(scheme, &text, index);
+        let found = scheme.to_byte_idx(&text, index);
         same_at(rt, "to", Asked::at(scheme, &text, index), found, byte);
     }
     Ok(())
@@ -206,4 +207,5 @@ pub fn answer_over_each_chunk(rt: &impl Abort, rows: &KernelRows) {
     answer_after_each_lead::<u128>(rt, rows);
     answer_after_each_lead::<u8x16>(rt, rows);
     answer_after_each_lead::<u8x32>(rt, rows);
+    answer_after_each_lead::<Widest>(rt, rows);
 }

@@ -1,9 +1,10 @@
 use super::rows::{self, Asked, KernelRows, RangeRow, RepeatedRow, Row};
+use crate::chunks::widest::Widest;
 use byte_chunk::{ByteChunk, Plain};
-use piece_text::Scheme;
 use std::process::Abort;
 use std::simd::{u8x16, u8x32};
 use std::test::Fail;
+use str_indices::Scheme;
 use str_indices::utf16::count_surrogates;
 
 const TEXT: &str = "Hel🐸lo world! こん🐸にち🐸🐸は!";
@@ -95,6 +96,7 @@ fn kernels_count_pairs_after_any_lead(rt: HostRuntime) {
         count_pairs::<u128>(&rt, lead);
         count_pairs::<u8x16>(&rt, lead);
         count_pairs::<u8x32>(&rt, lead);
+        count_pairs::<Widest>(&rt, lead);
     }
 }
 

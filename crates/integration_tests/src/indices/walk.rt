@@ -1,5 +1,5 @@
 //! What the schemes answer by a walk over the chars of a text, one after the other.
-use piece_text::Scheme;
+use str_indices::Scheme;
 
 pub const SCHEMES: [Scheme; 5] = [
     Scheme::Chars,

@@ -1,6 +1,7 @@
 //! Callers, proved from the public contracts.
 ghost use Rattle.std.specs.Prelude.{◌≡◌, ◌≢◌, [], ◌++◌, chars, IfOk};
-ghost use Rattle.str_indices.specs.Schemes.{from_byte_idx, Crlf};
+ghost use Rattle.str_indices.specs.Schemes.{from_byte_idx};
+ghost use Rattle.str_indices.specs.declared.Scheme.TheVariants.{Crlf};
 ghost use Rattle.piece_text.specs.Pieces.{joined};
 
 use piece_text::{PieceText, Refusal, Scheme};

@@ -1,21 +1,15 @@
 -- The text before a piece, piece by piece: what it counts, how it ends, and what the joined text answers by it.
-use Rattle.std.proofs.Common.{◌≡◌, ◌≢◌, ℕ, ◌+◌, ◌-◌, ◌<◌, ◌≤◌, List, [], ◌++◌, length, take, drop, refl, arith, Bool, sym, ◌∙◌, ap, append_assoc}
-use Rattle.str_indices.specs.Text.{Text, size}
-use Rattle.str_indices.specs.Schemes.{Scheme, count, from_byte_idx, to_byte_idx}
+use Rattle.piece_text.proofs.lemmas.Common.{◌≡◌, ◌≢◌, ℕ, ◌+◌, ◌-◌, ◌<◌, ◌≤◌, List, [], ◌++◌, length, take, drop, refl, arith, Bool, sym, ◌∙◌, ap, append_assoc, Text, size, count, from_byte_idx, to_byte_idx, size-append, is_joined, count-le-size, ends_in_return-append, starts_with_feed-append, seam_loss-same, IsFront, joined, joined_size, piece_at}
+use Rattle.str_indices.specs.declared.Scheme.{Scheme}
+use Rattle.str_indices.specs.declared.Scheme.TheVariants.{Chars, Utf16, Lf, Crlf, Lines}
 use Rattle.str_indices.specs.Joins.{seam_loss, ends_in_return, starts_with_feed}
-use Rattle.str_indices.proofs.lemmas.Callers.{size-append, is_joined, count-le-size, ends_in_return-append, starts_with_feed-append, seam_loss-same}
-use Rattle.piece_text.specs.Fronts.{IsFront}
 use Rattle.piece_text.specs.declared.queries.Front.{Front}
 use Rattle.piece_text.specs.declared.summaries.Summary.{Summary}
-use Rattle.piece_text.specs.declared.schemes.Scheme as names
-use Rattle.piece_text.specs.declared.schemes.Scheme.TheVariants.{Chars, Utf16, Lf, Crlf, Lines}
-use Rattle.piece_text.specs.SchemeNames.{named}
 use Rattle.piece_text.specs.Summaries.{summary_of, count_of}
-use Rattle.piece_text.specs.Pieces.{joined, joined_size, piece_at}
 use Rattle.piece_text.proofs.lemmas.Joining.{joined-take, joined-split, joined-drop}
 
 -- a summary counts what its text has
-pub count_of-summary : (s : names.Scheme) (text : Text) → count_of (summary_of text) s ≡ count (named s) text
+pub count_of-summary : (s : Scheme) (text : Text) → count_of (summary_of text) s ≡ count s text
 count_of-summary Chars text = refl
 count_of-summary Utf16 text = refl
 count_of-summary Lf text = refl
@@ -102,11 +96,11 @@ module _ {s : Scheme} {texts : List Text} {i : ℕ} {front : Front} {lost len co
       }
 
 -- a look at a piece's summary
-pub is_look : (s : names.Scheme) {texts : List Text} {i : ℕ} {front : Front} {lost : ℕ} {piece : Summary}
-    → i < length texts → IsFront (named s) texts i front → piece ≡ summary_of (piece_at texts i) → piece_at texts i ≢ []
+pub is_look : (s : Scheme) {texts : List Text} {i : ℕ} {front : Front} {lost : ℕ} {piece : Summary}
+    → i < length texts → IsFront s texts i front → piece ≡ summary_of (piece_at texts i) → piece_at texts i ≢ []
     → ((a b : Text) → front.ends_cr ≡ ends_in_return a → piece.starts_lf ≡ starts_with_feed b
-    → lost ≡ seam_loss (named s) a b)
-    → IsLook (named s) texts i front lost piece.len (count_of piece s) piece.ends_cr
+    → lost ≡ seam_loss s a b)
+    → IsLook s texts i front lost piece.len (count_of piece s) piece.ends_cr
 is_look s {texts} {i} {front} {lost} {piece} inside before piece_is some seam = record {
   inside = inside;
   before = before;

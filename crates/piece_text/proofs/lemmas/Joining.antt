@@ -1,9 +1,5 @@
 -- The joined text of a list of pieces, by a piece and those before and behind it.
-use Rattle.std.proofs.Common.{◌≡◌, ◌≢◌, ℕ, zero, suc, ◌+◌, ◌<◌, ◌≤◌, List, [], ◌∷◌, ◌++◌, length, take, drop, insert, refl, arith, sym, ◌∙◌, ap, append_assoc, add-one}
-use Rattle.std.proofs.lemmas.List.{take_more, append-nil, take-append-drop}
-use Rattle.str_indices.specs.Text.{Text, size}
-use Rattle.str_indices.proofs.lemmas.Callers.{size-append}
-use Rattle.piece_text.specs.Pieces.{joined, joined_size, piece_at, as_pieces}
+use Rattle.piece_text.proofs.lemmas.Common.{◌≡◌, ◌≢◌, ℕ, zero, suc, ◌+◌, ◌<◌, ◌≤◌, List, [], ◌∷◌, ◌++◌, length, take, drop, insert, refl, arith, sym, ◌∙◌, ap, append_assoc, add-one, take_more, append-nil, take-append-drop, Text, size, size-append, joined, joined_size, piece_at, as_pieces}
 
 -- the pieces of two lists, one after the other
 pub joined-append : (xs ys : List Text) → joined (xs ++ ys) ≡ joined xs ++ joined ys

@@ -1,13 +1,7 @@
 -- A byte index inside a piece, and the piece cut in two there.
-use Rattle.std.proofs.Common.{◌≡◌, ◌≢◌, ℕ, zero, suc, ◌+◌, ◌-◌, ◌<◌, ◌≤◌, inl, inr, List, [], ◌∷◌, ◌++◌, length, take, drop, insert, remove, set, refl, arith, sym, ◌∙◌, ap, append_assoc, add-one, take-take, chars, IsUtf8}
+use Rattle.piece_text.proofs.lemmas.Common.{◌≡◌, ◌≢◌, ℕ, zero, suc, ◌+◌, ◌-◌, ◌<◌, ◌≤◌, inl, inr, List, [], ◌∷◌, ◌++◌, length, take, drop, insert, remove, set, refl, arith, sym, ◌∙◌, ap, append_assoc, add-one, take-take, chars, IsUtf8, take-append-drop, take_at, length-take-le, length-drop, Text, size, IsBoundary, size-append, size-chars, chars-append, chars-some, IsCharBoundary-from_boundary, IsBoundary-before, IsBoundary-behind, IsBoundary-either, joined, joined_size, piece_at, IsEdge, IsHalved, IsCut}
 use Rattle.std.proofs.lemmas.Bool.{cases_lt}
 use Rattle.std.proofs.lemmas.Str.{IsUtf8-take, IsUtf8-drop}
-use Rattle.std.proofs.lemmas.List.{take-append-drop, take_at, length-take-le, length-drop}
-use Rattle.str_indices.specs.Text.{Text, size}
-use Rattle.str_indices.specs.Relations.{IsBoundary}
-use Rattle.str_indices.proofs.lemmas.Callers.{size-append, size-chars, chars-append, chars-some, IsCharBoundary-from_boundary, IsBoundary-before, IsBoundary-behind, IsBoundary-either}
-use Rattle.piece_text.specs.Pieces.{joined, joined_size, piece_at}
-use Rattle.piece_text.specs.Splits.{IsEdge, IsHalved, IsCut}
 use Rattle.piece_text.proofs.lemmas.Joining.{joined-append, joined-take, joined-split, joined-drop, joined_size-take, drop-piece}
 
 -- the bytes of a piece, and of all others

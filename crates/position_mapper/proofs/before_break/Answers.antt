@@ -1,10 +1,4 @@
-use Rattle.std.proofs.Common.{◌≡◌, ◌-◌, ◌++◌, arith, chars, ◌∙◌, ap, subst, take}
-use Rattle.std.specs.List.{before_first}
-use Rattle.str_indices.specs.Text.{line_feed, cut}
-use Rattle.position_mapper.specs.Lines.{is_break, IsWithoutLast}
-use Rattle.position_mapper.proofs.lemmas.Contents.{split_at_first}
-use Rattle.position_mapper.proofs.lemmas.FirstLines.{first_line, without_break}
-use Rattle.position_mapper.proofs.lemmas.LineBytes.{chars-take}
+use Rattle.position_mapper.proofs.lemmas.{◌≡◌, ◌-◌, ◌++◌, arith, chars, ◌∙◌, ap, subst, take, before_first, line_feed, cut, is_break, IsWithoutLast, split_at_first, first_line, without_break, chars-take}
 use Rattle.position_mapper.proofs.before_break.Goals as goal
 
 pub returns-clause-content : goal.returns-clause-content

@@ -1,9 +1,5 @@
 -- What stands in a text before its first character that passes a test.
-use Rattle.std.proofs.Common.{◌≡◌, ℕ, Bool, true, false, List, [], ◌∷◌, ◌++◌, inl, inr, refl, sym, ◌∙◌, ap, arith, cond}
-use Rattle.std.specs.Prelude.{count_by, not}
-use Rattle.std.specs.List.{before_first}
-use Rattle.std.proofs.lemmas.Bool.{cases_Bool}
-use Rattle.std.proofs.lemmas.List.Sums.{take_while-cons, sum_by-cons}
+use Rattle.position_mapper.proofs.lemmas.Common.{◌≡◌, ℕ, Bool, true, false, List, [], ◌∷◌, ◌++◌, inl, inr, refl, sym, ◌∙◌, ap, arith, cond, count_by, not, before_first, cases_Bool, take_while-cons, sum_by-cons}
 
 module _ (p : ℕ → Bool) where
   -- a first character that passes, and one that doesn't

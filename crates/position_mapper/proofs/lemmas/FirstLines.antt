@@ -1,18 +1,6 @@
 -- The first line of a text: its content, and then its break, which two tests of a last character take off.
-use Rattle.std.proofs.Common.{◌≡◌, ℕ, ◌+◌, ◌<◌, ◌≤◌, true, List, [], ◌∷◌, ◌++◌, ◌⊎◌, inl, inr, get_or, reverse, sym, ◌∙◌, ap, arith, cond, refl, append_assoc, append-nil}
-use Rattle.std.specs.Prelude.{◌≢◌, count_by, nat_le}
-use Rattle.std.specs.Char.{len_utf8}
-use Rattle.std.specs.List.{before_first}
-use Rattle.std.proofs.lemmas.Bool.{cases_lt}
+use Rattle.position_mapper.proofs.lemmas.Common.{◌≡◌, ℕ, ◌+◌, ◌<◌, ◌≤◌, true, List, [], ◌∷◌, ◌++◌, ◌⊎◌, inl, inr, get_or, reverse, sym, ◌∙◌, ap, arith, cond, refl, append_assoc, append-nil, ◌≢◌, count_by, nat_le, len_utf8, before_first, cases_lt, reverse-append, append_cancel_right, sum_by-append, sum_by-cons, count_by-le-length, len_utf8_bounds, Text, size, cut, line_feed, carriage_return, ends, from_byte_idx, to_byte_idx, count, Crlf, IsBoundary, IsEnd, IsCrlfMiddle, size-append, size-cons, boundary_beside, cut_front, cut_all, IsBoundary-to_byte_idx, from-to, to-from_is_greatest, to_byte_idx-le, is_break, line_content, line_end, IsWithoutLast}
 use Rattle.std.proofs.lemmas.Bool.Decides.{nat_tests}
-use Rattle.std.proofs.lemmas.List.{reverse-append, append_cancel_right}
-use Rattle.std.proofs.lemmas.List.Sums.{sum_by-append, sum_by-cons, count_by-le-length}
-use Rattle.std.proofs.lemmas.Str.{len_utf8_bounds}
-use Rattle.str_indices.specs.Text.{Text, size, cut, line_feed, carriage_return}
-use Rattle.str_indices.specs.Schemes.{Crlf, ends, from_byte_idx, to_byte_idx, count}
-use Rattle.str_indices.specs.Relations.{IsBoundary, IsEnd, IsCrlfMiddle}
-use Rattle.str_indices.proofs.lemmas.Callers.{size-append, size-cons, boundary_beside, cut_front, cut_all, IsBoundary-to_byte_idx, from-to, to-from_is_greatest, to_byte_idx-le}
-use Rattle.position_mapper.specs.Lines.{is_break, line_content, line_end, IsWithoutLast}
 use Rattle.position_mapper.proofs.lemmas.Contents.{split_at_first}
 use Rattle.position_mapper.proofs.lemmas.Lines.{behind_boundary, crlf_is_not_utf16, ends_behind, end_behind_line_end, line_of_place, line_end_le, not_middle_at_end}
 

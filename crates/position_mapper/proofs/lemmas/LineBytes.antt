@@ -1,17 +1,6 @@
 -- The lines of a text in bytes, and where std lets it be sliced on them.
-use Rattle.std.proofs.Common.{◌≡◌, ℕ, List, [], ◌∷◌, ◌++◌, inl, inr, length, refl, append-nil, take, drop, sym, ◌∙◌, subst, chars, IsUtf8, IsCharBoundary, ap}
-use Rattle.std.proofs.lemmas.List.{take-append-drop, length-take-le}
-use Rattle.std.specs.Prelude.{◌≢◌}
+use Rattle.position_mapper.proofs.lemmas.Common.{◌≡◌, ℕ, List, [], ◌∷◌, ◌++◌, inl, inr, length, refl, append-nil, take, drop, sym, ◌∙◌, subst, chars, IsUtf8, IsCharBoundary, ap, take-append-drop, length-take-le, ◌≢◌, drop-length, chars-append, chars-nil, chars_past_char, encodes-chars, encodes-append, IsUtf8-take, IsUtf8-drop, size, cut, to_byte_idx, Crlf, Utf16, IsBoundary, size-chars, cut_front, IsBoundary-to_byte_idx, IsCharBoundary-from_boundary, Position, behind, line_content, line_end, IsWithoutLast, byte_at}
 use Rattle.std.proofs.Math.Utf8.{encode, encodes}
-use Rattle.std.proofs.Math.Seq.{drop-length}
-use Rattle.std.proofs.lemmas.Str.{chars-append, chars-nil, chars_past_char, encodes-chars, encodes-append, IsUtf8-take, IsUtf8-drop}
-use Rattle.str_indices.specs.Text.{size, cut}
-use Rattle.str_indices.specs.Schemes.{Utf16}
-use Rattle.str_indices.specs.Relations.{IsBoundary}
-use Rattle.str_indices.proofs.lemmas.Callers.{size-chars, cut_front, IsBoundary-to_byte_idx, IsCharBoundary-from_boundary}
-use Rattle.position_mapper.specs.declared.Position.{Position}
-use Rattle.position_mapper.specs.Lines.{behind, line_content, line_end, IsWithoutLast}
-use Rattle.position_mapper.specs.Positions.{byte_at}
 use Rattle.position_mapper.proofs.lemmas.Lines.{behind_boundary, IsBoundary-from_content, IsBoundary-line_end}
 
 module _ (bytes : List ℕ) (utf8 : IsUtf8 bytes) where
@@ -37,6 +26,12 @@ module _ (bytes : List ℕ) (utf8 : IsUtf8 bytes) where
     split = parted p at;
     place = part_ends p at;
   }))
+
+  -- those from the beginning of a line on
+  pub chars_from_line : (line : ℕ) → let start = to_byte_idx Crlf (chars bytes) line in
+      chars (drop start bytes) ≡ behind (chars bytes) start
+  chars_from_line line = chars-drop _
+      (IsCharBoundary-from_boundary bytes utf8 _ (IsBoundary-to_byte_idx Crlf (chars bytes) line))
 
   -- a character that stands at the end was taken off, or the text doesn't end in it
   pub without_taken : (c p : ℕ) → IsCharBoundary bytes p → drop p bytes ≡ encode c ++ drop (length bytes) bytes
@@ -66,3 +61,6 @@ module _ (bytes : List ℕ) (utf8 : IsUtf8 bytes) where
   IsCharBoundary-byte_at position p answer = IsCharBoundary-from_boundary bytes utf8 p
       (subst (IsBoundary (chars bytes)) (sym answer) (IsBoundary-from_content (chars bytes) position.line _
       (IsBoundary-to_byte_idx Utf16 (line_content (chars bytes) position.line) position.character)))
+
+-- what is known of a line's content, of its end and of a position on it, where the bytes tell them
+pub ruleset line_in_bytes = (chars_from_line, size-chars, IsCharBoundary-line_end, IsCharBoundary-byte_at)

@@ -1,18 +1,5 @@
 -- A text, split at one of its lines: what stands before it, its content, and what is behind that.
-use Rattle.std.proofs.Common.{◌≡◌, ℕ, ◌+◌, ◌-◌, ◌<◌, ◌≤◌, true, [], ◌∷◌, ◌++◌, ◌⊎◌, inl, inr, length, drop, sym, ◌∙◌, ap, arith, cond, refl, min, append_assoc, append-nil}
-use Rattle.std.specs.Prelude.{◌≢◌, count_by, nat_le}
-use Rattle.std.specs.Char.{len_utf8}
-use Rattle.std.proofs.Math.Seq.{drop-append_seam}
-use Rattle.std.proofs.lemmas.Bool.{cases_Bool, cases_lt}
-use Rattle.std.proofs.lemmas.List.{append_cancel_left}
-use Rattle.std.proofs.lemmas.List.Sums.{sum_by-append, count_by-le-length}
-use Rattle.std.proofs.lemmas.Str.{len_utf8_bounds}
-use Rattle.str_indices.specs.Text.{Text, size, weight, line_feed, carriage_return, is_crlf_middle}
-use Rattle.str_indices.specs.Schemes.{Crlf, Utf16, ends, from_byte_idx, to_byte_idx, count}
-use Rattle.str_indices.specs.Relations.{IsBoundary, IsEnd, IsEndOf, IsCrlfMiddle}
-use Rattle.str_indices.proofs.lemmas.Callers.{size-append, size-cons, boundary_beside, cut_front, cut_goes_on, is_crlf_middle_iff, end_at-past, units_at, IsBoundary-to_byte_idx, from-to, to-from_is_greatest, from_byte_idx-le}
-use Rattle.position_mapper.specs.Lines.{is_break, behind, line_content, line_end}
-use Rattle.position_mapper.specs.Relations.{IsBreakStart, IsLineEnd}
+use Rattle.position_mapper.proofs.lemmas.Common.{◌≡◌, ℕ, ◌+◌, ◌-◌, ◌<◌, ◌≤◌, true, [], ◌∷◌, ◌++◌, ◌⊎◌, inl, inr, length, drop, sym, ◌∙◌, ap, arith, cond, refl, min, append_assoc, append-nil, ◌≢◌, count_by, nat_le, len_utf8, drop-append_seam, cases_Bool, cases_lt, append_cancel_left, sum_by-append, count_by-le-length, len_utf8_bounds, Text, size, weight, line_feed, carriage_return, is_crlf_middle, ends, from_byte_idx, to_byte_idx, count, Crlf, Utf16, IsBoundary, IsEnd, IsEndOf, IsCrlfMiddle, size-append, size-cons, boundary_beside, cut_front, cut_goes_on, is_crlf_middle_iff, end_at-past, units_at, IsBoundary-to_byte_idx, from-to, to-from_is_greatest, from_byte_idx-le, is_break, behind, line_content, line_end, IsBreakStart, IsLineEnd}
 use Rattle.position_mapper.proofs.lemmas.Contents.{split_at_first}
 
 -- behind a boundary is the rest of the text

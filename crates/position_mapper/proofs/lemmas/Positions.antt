@@ -1,16 +1,5 @@
 -- What holds of the ends of lines, and of positions and their byte indices.
-use Rattle.std.proofs.Common.{◌≡◌, ℕ, ◌+◌, ◌-◌, ◌<◌, ◌≤◌, ◌⊎◌, inl, inr, sym, ◌∙◌, ap, arith, min}
-use Rattle.std.specs.Prelude.{sum_by}
-use Rattle.std.proofs.lemmas.Bool.{cases_lt}
-use Rattle.str_indices.specs.Text.{Text, size, weight}
-use Rattle.str_indices.specs.Schemes.{Crlf, Utf16, from_byte_idx, to_byte_idx, count}
-use Rattle.str_indices.specs.Relations.{IsBoundary}
-use Rattle.str_indices.specs.Starts.{IsSecondUnit}
-use Rattle.str_indices.proofs.lemmas.Callers.{cut_all, end_at-past, IsBoundary-to_byte_idx, from_byte_idx-le, to_byte_idx-le, to-from_is_greatest, to-from_is_greatest_boundary, units_or_second_unit, units-second_unit}
-use Rattle.position_mapper.specs.declared.Position.{Position}
-use Rattle.position_mapper.specs.Lines.{line_content, line_end}
-use Rattle.position_mapper.specs.Positions.{units_on_line, position_at, byte_at}
-use Rattle.position_mapper.specs.Relations.{IsGreatestPlace, IsAtOrBefore}
+use Rattle.position_mapper.proofs.lemmas.Common.{◌≡◌, ℕ, ◌+◌, ◌-◌, ◌<◌, ◌≤◌, ◌⊎◌, inl, inr, sym, ◌∙◌, ap, arith, min, sum_by, cases_lt, Text, size, weight, from_byte_idx, to_byte_idx, count, Crlf, Utf16, IsBoundary, IsSecondUnit, cut_all, end_at-past, IsBoundary-to_byte_idx, from_byte_idx-le, to_byte_idx-le, to-from_is_greatest, to-from_is_greatest_boundary, units_or_second_unit, units-second_unit, Position, line_content, line_end, units_on_line, position_at, byte_at, IsGreatestPlace, IsAtOrBefore}
 use Rattle.position_mapper.proofs.lemmas.Lines.{crlf_is_not_utf16, not_middle_at_end, boundary_within, line_of_place, line_end_le, not_middle_on_line, end_before, IsBoundary-from_content, IsBoundary-in_content, IsBoundary-line_end}
 
 -- the byte index of a position is a boundary, from the line's beginning to its end

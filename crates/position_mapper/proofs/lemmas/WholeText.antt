@@ -1,14 +1,5 @@
 -- Positions by the units of the whole text, where a position's own are those of its line's content.
-use Rattle.std.proofs.Common.{◌≡◌, ℕ, ◌+◌, ◌-◌, ◌≤◌, inl, inr, arith, refl, min}
-use Rattle.std.proofs.lemmas.Bool.{cases_lt}
-use Rattle.str_indices.specs.Text.{Text, size, cut}
-use Rattle.str_indices.specs.Schemes.{Crlf, Utf16, from_byte_idx, to_byte_idx}
-use Rattle.str_indices.specs.Relations.{IsBoundary}
-use Rattle.str_indices.specs.Starts.{IsGreatestBoundary}
-use Rattle.str_indices.proofs.lemmas.Callers.{cut_is_longest, units_at, IsBoundary-to_byte_idx, from_byte_idx-le, boundary_adjunction, to-from_is_greatest, to-from_is_greatest_boundary}
-use Rattle.position_mapper.specs.declared.Position.{Position}
-use Rattle.position_mapper.specs.Lines.{line_content, line_end}
-use Rattle.position_mapper.specs.Positions.{units_on_line, position_at, byte_at}
+use Rattle.position_mapper.proofs.lemmas.Common.{◌≡◌, ℕ, ◌+◌, ◌-◌, ◌≤◌, inl, inr, arith, refl, min, cases_lt, Text, size, cut, from_byte_idx, to_byte_idx, Crlf, Utf16, IsBoundary, IsGreatestBoundary, cut_is_longest, units_at, IsBoundary-to_byte_idx, from_byte_idx-le, boundary_adjunction, to-from_is_greatest, to-from_is_greatest_boundary, Position, line_content, line_end, units_on_line, position_at, byte_at}
 use Rattle.position_mapper.proofs.lemmas.Lines.{crlf_is_not_utf16, boundary_within, IsBoundary-from_content, units-from_content, IsBoundary-line_end, IsBoundary-in_content}
 
 -- before the greatest boundary at or before a byte index stand as many units as before the byte index

@@ -1,6 +1,4 @@
-use Rattle.std.proofs.Common.{◌≡◌, chars, ◌∙◌, ap}
-use Rattle.position_mapper.specs.Positions.{position_at, byte_at}
-use Rattle.position_mapper.proofs.lemmas.Positions.{line-position_at-byte_at, cut_to_line, second_to_first, last_line_end}
+use Rattle.position_mapper.proofs.lemmas.{◌≡◌, chars, ◌∙◌, ap, position_at, byte_at, line-position_at-byte_at, cut_to_line, second_to_first, last_line_end}
 use Rattle.position_mapper.proofs.position_round_trip.Goals as goal
 
 -- what comes back, by the definitions

@@ -1,7 +1,4 @@
-use Rattle.std.proofs.Common.{arith, chars, sym, ◌∙◌, ap, subst}
-use Rattle.position_mapper.specs.Positions.{byte_at}
-use Rattle.position_mapper.specs.Relations.{IsGreatestPlace}
-use Rattle.position_mapper.proofs.lemmas.Positions.{byte_at-position_at_is_greatest}
+use Rattle.position_mapper.proofs.lemmas.{arith, chars, sym, ◌∙◌, ap, subst, byte_at, IsGreatestPlace, byte_at-position_at_is_greatest}
 use Rattle.position_mapper.proofs.round_trip.Goals as goal
 
 pub returns-clause-greatest : goal.returns-clause-greatest

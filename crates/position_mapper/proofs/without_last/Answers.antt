@@ -1,6 +1,4 @@
-use Rattle.std.proofs.Common.{◌-◌, length, IsCharBoundary, chars, sym, subst}
-use Rattle.position_mapper.specs.Lines.{IsWithoutLast}
-use Rattle.position_mapper.proofs.lemmas.LineBytes.{without_taken, without_none}
+use Rattle.position_mapper.proofs.lemmas.{◌-◌, length, IsCharBoundary, chars, sym, subst, IsWithoutLast, without_taken, without_none}
 use Rattle.position_mapper.proofs.without_last.Goals as goal
 
 pub returns-in-Some-clause-without : goal.returns-in-Some-clause-without

@@ -1,5 +1,10 @@
-pub mod Lanes
+pub mod EachLane
 pub mod Rounds
 pub mod CrlfChunks
 pub mod BreakChunks
 pub mod Rest
+pub use EachLane.*
+pub use Rounds.*
+pub use CrlfChunks.*
+pub use BreakChunks.*
+pub use Rest.*

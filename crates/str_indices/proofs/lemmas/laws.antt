@@ -5,3 +5,10 @@ pub mod CountLaws
 pub mod PastEnds
 pub mod JoinedPlaces
 pub mod Bounds
+pub use EndLaws.*
+pub use UnitLaws.*
+pub use CharacterLaws.*
+pub use CountLaws.*
+pub use PastEnds.*
+pub use JoinedPlaces.*
+pub use Bounds.*

@@ -7,3 +7,12 @@ pub mod EndSets
 pub mod Units
 pub mod JoinedEnds
 pub mod JoinedUnits
+pub use Sizes.*
+pub use Increasing.*
+pub use Cuts.*
+pub use Ends.*
+pub use Seams.*
+pub use EndSets.*
+pub use Units.*
+pub use JoinedEnds.*
+pub use JoinedUnits.*

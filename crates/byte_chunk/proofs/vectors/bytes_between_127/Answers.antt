@@ -1,4 +1,4 @@
-use Rattle.byte_chunk.proofs.lemmas.VectorLanes.{marks_between}
+use Rattle.byte_chunk.proofs.lemmas.{marks_between}
 use Rattle.byte_chunk.proofs.vectors.bytes_between_127.Goals as goal
 
 pub returns : goal.returns

@@ -1,4 +1,4 @@
-use Rattle.byte_chunk.proofs.lemmas.VectorLanes.{marks_of_byte}
+use Rattle.byte_chunk.proofs.lemmas.{marks_of_byte}
 use Rattle.byte_chunk.proofs.vectors.cmp_eq_byte.Goals as goal
 
 pub returns : goal.returns

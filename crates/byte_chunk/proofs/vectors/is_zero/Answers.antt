@@ -1,6 +1,4 @@
-use Rattle.std.proofs.Common.{ap, ◌∙◌, replicate}
-use Rattle.std.proofs.lemmas.Bool.{eqb-true, eq-eqb}
-use Rattle.byte_chunk.proofs.lemmas.VectorLanes.{no_bits, no_bits_of_zeros}
+use Rattle.byte_chunk.proofs.lemmas.{ap, ◌∙◌, replicate, eqb-true, eq-eqb, no_bits, no_bits_of_zeros}
 use Rattle.byte_chunk.proofs.vectors.is_zero.Goals as goal
 
 pub returns : goal.returns

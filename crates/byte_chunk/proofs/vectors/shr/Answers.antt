@@ -1,6 +1,4 @@
-use Rattle.std.proofs.Common.{◌-◌, ◌/◌, ◌%◌, ◌^◌, map, ap, ◌∙◌, arith}
-use Rattle.std.proofs.lemmas.Simd.{zip2_splat}
-use Rattle.byte_chunk.proofs.lemmas.Lanewise.{low_bits_of_each}
+use Rattle.byte_chunk.proofs.lemmas.{◌-◌, ◌/◌, ◌%◌, ◌^◌, map, ap, ◌∙◌, arith, zip2_splat, low_bits_of_each}
 use Rattle.byte_chunk.proofs.vectors.shr.Goals as goal
 
 pub returns : goal.returns

@@ -1,6 +1,5 @@
 -- The list holds what the reader gave, and each turn lengthens it, up to 2 ^ 63 at most.
-use Rattle.std.proofs.Common.{◌-◌, ◌^◌, ◌<◌, length, vec_len}
-use Rattle.std.specs.Io.KnownBytes.{Consumes}
+use Rattle.idx.proofs.Common.{◌-◌, ◌^◌, ◌<◌, length, vec_len, Consumes}
 use Rattle.idx.proofs.input.read_all.Given as goal
 
 abbrev pub invariant-loop-bytes : goal.invariant-loop-bytes

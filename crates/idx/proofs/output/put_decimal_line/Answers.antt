@@ -1,6 +1,4 @@
-use Rattle.std.proofs.Common.{◌∙◌, ◌+◌, ◌-◌, ◌/◌, ◌%◌, ◌∷◌, ◌++◌, drop, ap, arith, drop_of_length-le}
-use Rattle.std.proofs.Math.ListN.{length-set}
-use Rattle.std.specs.Fmt.{decimal}
+use Rattle.idx.proofs.Common.{◌∙◌, ◌+◌, ◌-◌, ◌/◌, ◌%◌, ◌∷◌, ◌++◌, drop, ap, arith, drop_of_length-le, length-set, decimal}
 use Rattle.idx.proofs.Digits.{decimal_last, decimal_first, one_place_fewer, drop-set_before}
 use Rattle.idx.proofs.output.put_decimal_line.Goals as goal
 

@@ -1,6 +1,5 @@
 -- The digits of what is left, before those that stand in the buffer, make the line, and there is room for them.
-use Rattle.std.proofs.Common.{◌≡◌, ◌<◌, ◌≤◌, ◌^◌, ◌++◌, length, drop}
-use Rattle.std.specs.Fmt.{decimal}
+use Rattle.idx.proofs.Common.{◌≡◌, ◌<◌, ◌≤◌, ◌^◌, ◌++◌, length, drop, decimal}
 use Rattle.idx.specs.Program.{decimal_line}
 use Rattle.idx.proofs.output.put_decimal_line.Given as goal
 

@@ -1,6 +1,4 @@
-use Rattle.std.proofs.Common.{◌∙◌, ◌+◌, ◌-◌, ◌≡◌, ℕ, List, ◌++◌, length, ap, arith, subst, sym, take, drop, take_all, length-drop}
-use Rattle.std.proofs.Math.Seq.{take-add}
-use Rattle.std.specs.Io.KnownBytes.{Appends}
+use Rattle.idx.proofs.Common.{◌∙◌, ◌+◌, ◌-◌, ◌≡◌, ℕ, List, ◌++◌, length, ap, arith, subst, sym, take, drop, take_all, length-drop, take-add, Appends}
 use Rattle.std.proofs.KnownBytes.{Appends-trans}
 use Rattle.idx.proofs.output.write_text.Goals as goal
 

@@ -1,6 +1,5 @@
 -- The writer has taken the bytes before `written`.
-use Rattle.std.proofs.Common.{◌-◌, ◌≤◌, length, take}
-use Rattle.std.specs.Io.KnownBytes.{Appends}
+use Rattle.idx.proofs.Common.{◌-◌, ◌≤◌, length, take, Appends}
 use Rattle.idx.proofs.output.write_text.Given as goal
 
 abbrev pub invariant-loop-written : goal.invariant-loop-written

@@ -1,15 +1,11 @@
-use Rattle.std.proofs.Common.{rules, ◌≡◌, ◌<◌, ◌^◌, ℕ, List, true, length, Bool, false, arith, ◌∙◌}
-use Rattle.std.specs.Prelude.{Result, Ok, Err, Option, Some, None}
-use Rattle.std.specs.Result.{OkIff, result_ok}
+use Rattle.idx.proofs.Common.{rules, ◌≡◌, ◌<◌, ◌^◌, ℕ, List, true, length, Bool, false, arith, ◌∙◌, Result, Ok, Err, Option, Some, None, OkIff, MatchBool, IsCharBoundary, index_of}
+use Rattle.std.specs.Result.{result_ok}
 use Rattle.std.specs.Str.{all_ascii_digits}
 use Rattle.std.specs.Str.Parse.{digits_value, ParsesUnsigned}
 use Rattle.std.proofs.lemmas.Str.Parse.{parse_plain, numerals_by_value, tells_all_ascii_digits}
 use Rattle.std.proofs.lemmas.Str.Pattern.{starts_char}
 use Rattle.std.proofs.lemmas.Bool.Decides.{not_from_Decides}
-use Rattle.std.specs.Bool.{MatchBool}
-use Rattle.std.specs.Str.{IsCharBoundary}
 use Rattle.std.specs.Str.Pattern.{FindsCharPrefix}
-use Rattle.idx.specs.Requests.{index_of}
 use Rattle.idx.proofs.requests.parse_index.Goals as goal
 
 -- a parse that takes digits alone, up to the greatest `usize`, reads an index

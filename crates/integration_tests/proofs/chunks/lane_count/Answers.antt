@@ -1,6 +1,4 @@
-use Rattle.std.proofs.Common.{◌+◌, ◌≤◌, arith}
-use Rattle.std.proofs.lemmas.Simd.{Each1-zip2}
-use Rattle.byte_chunk.proofs.lemmas.Lanewise.{Each2-replicate}
+use Rattle.integration_tests.proofs.Common.{◌+◌, ◌≤◌, arith, Each1-zip2, Each2-replicate}
 use Rattle.integration_tests.proofs.chunks.lane_count.Goals as goal
 
 pub add-requires : goal.add-requires

@@ -1,7 +1,4 @@
-use Rattle.std.proofs.Common.{◌≡◌, ℕ, zero, suc, ◌+◌, ◌≤◌, ◌∷◌, replicate, refl, ap, arith}
-use Rattle.std.proofs.lemmas.Simd.{Each1-replicate}
-use Rattle.std.specs.Simd.Lanes.{zip2}
-use Rattle.byte_chunk.proofs.lemmas.Lanewise.{Each2-replicate}
+use Rattle.integration_tests.proofs.Common.{◌≡◌, ℕ, zero, suc, ◌+◌, ◌≤◌, ◌∷◌, replicate, refl, ap, arith, Each1-replicate, zip2, Each2-replicate}
 use Rattle.integration_tests.proofs.chunks.sum_of_ones.Goals as goal
 
 -- one more in each lane

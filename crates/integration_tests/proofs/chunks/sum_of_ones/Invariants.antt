@@ -1,4 +1,4 @@
-use Rattle.std.proofs.Common.{◌≡◌, ℕ, replicate}
+use Rattle.integration_tests.proofs.Common.{◌≡◌, ℕ, replicate}
 use Rattle.integration_tests.proofs.chunks.sum_of_ones.Given as goal
 
 abbrev pub invariant-rounds : goal.invariant-rounds

@@ -1,7 +1,4 @@
-use Rattle.std.proofs.Common.{◌≡◌, ℕ, ◌+◌, ◌-◌, ◌<◌, ◌≤◌, get_or, replicate, ap₂, ◌∙◌, arith}
-use Rattle.std.proofs.lemmas.List.{length-replicate, get_or-replicate, get_or-set_other}
-use Rattle.std.proofs.lemmas.Simd.{get_or-zip2, Each1-replicate, Each2-of}
-use Rattle.std.specs.Simd.Lanes.{zip2}
+use Rattle.integration_tests.proofs.Common.{◌≡◌, ℕ, ◌+◌, ◌-◌, ◌<◌, ◌≤◌, get_or, replicate, ap₂, ◌∙◌, arith, length-replicate, get_or-replicate, get_or-set_other, get_or-zip2, Each1-replicate, Each2-of, zip2}
 use Rattle.integration_tests.proofs.chunks.threes_with_a_step.Goals as goal
 
 -- a lane of the difference of a chunk of fives and one of twos

@@ -1,6 +1,5 @@
-use Rattle.std.proofs.Common.{ℕ, ◌≤◌, List, [], ◌∷◌, map, arith}
+use Rattle.integration_tests.proofs.Common.{ℕ, ◌≤◌, List, [], ◌∷◌, map, arith, Each1}
 use Rattle.std.proofs.lemmas.Bool.Decides.{nat_tests}
-use Rattle.std.specs.Simd.Lanes.{Each1}
 use Rattle.byte_chunk.specs.Lanes.{is_byte}
 use Rattle.integration_tests.proofs.chunks.trailing_bytes.Goals as goal
 

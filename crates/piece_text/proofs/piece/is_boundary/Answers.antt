@@ -1,4 +1,4 @@
-use Rattle.str_indices.proofs.lemmas.Callers.{IsBoundary-from_char_boundary, IsCharBoundary-from_boundary}
+use Rattle.piece_text.proofs.lemmas.{IsBoundary-from_char_boundary, IsCharBoundary-from_boundary}
 use Rattle.piece_text.proofs.piece.is_boundary.Goals as goal
 
 pub returns : goal.returns

@@ -1,8 +1,7 @@
-use Rattle.std.proofs.Common.{rules}
-use Rattle.piece_text.specs.SchemeNames.{named}
+use Rattle.piece_text.proofs.lemmas.{rules}
 use Rattle.piece_text.proofs.queries.count_in.Goals as goal
 
 -- nothing is before the first piece
 pub loop-i-init : goal.loop-i-init
 loop-i-init c =
-    record { front = c.before_all-front.ensures (named c.args.s) c.args.p.now.texts; state = search rules }
+    record { front = c.before_all-front.ensures c.args.s c.args.p.now.texts; state = search rules }

@@ -1,22 +1,16 @@
-use Rattle.std.proofs.Common.{◌≡◌, ◌≤◌, ◌-◌, ◌∙◌, ap, arith, take, rules}
-use Rattle.std.proofs.lemmas.List.{take_all}
-use Rattle.str_indices.specs.Text.{size}
-use Rattle.str_indices.specs.Schemes.{from_byte_idx}
-use Rattle.str_indices.proofs.lemmas.Callers.{count-le-size, from_byte_idx-le-count, from_byte_idx-all}
-use Rattle.piece_text.specs.SchemeNames.{named}
-use Rattle.piece_text.specs.Pieces.{joined, joined_size}
+use Rattle.piece_text.proofs.lemmas.{◌≡◌, ◌≤◌, ◌-◌, ◌∙◌, ap, arith, take, rules, take_all, size, from_byte_idx, count-le-size, from_byte_idx-le-count, from_byte_idx-all, joined, joined_size}
 use Rattle.piece_text.proofs.queries.from_in.Goals as goal
 
 -- nothing is before the first piece
 pub loop-i-init : goal.loop-i-init
 loop-i-init c =
-    let front = c.before_all-front.ensures (named c.args.s) c.args.p.now.texts in
+    let front = c.before_all-front.ensures c.args.s c.args.p.now.texts in
     record { front = front; state = search rules; past = omega (arith, front.len) }
 
 -- the sum is the answer for the joined text
 pub overflow_add-result : goal.overflow_add-result
 overflow_add-result c =
-    let s = named c.args.s in
+    let s = c.args.s in
     let texts = c.loop-i.p.texts in
     let kept = ap (λ p. p.texts) c.look_at-look.ensures.state in
     let own = c.from_byte_idx.ensures
@@ -36,7 +30,7 @@ overflow_add-result c =
 -- every piece ends at or before the byte index
 pub returns-clause-answer : goal.returns-clause-answer
 returns-clause-answer c =
-    let s = named c.args.s in
+    let s = c.args.s in
     let texts = c.args.p.now.texts in
     let all : take c.loop-i.i texts ≡ texts =
     take_all c.loop-i.i texts (omega (arith, c.loop-i-test.false, c.len-i-end.ensures.len)) in

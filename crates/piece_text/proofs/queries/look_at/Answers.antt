@@ -1,5 +1,4 @@
-use Rattle.std.proofs.Common.{arith}
-use Rattle.piece_text.proofs.lemmas.Fronts.{is_look, are_within, tells}
+use Rattle.piece_text.proofs.lemmas.{arith, is_look, are_within, tells}
 use Rattle.piece_text.proofs.queries.look_at.Goals as goal
 
 pub overflow_sub-reached : goal.overflow_sub-reached
@@ -8,14 +7,14 @@ overflow_sub-reached c =
     c.summary-piece.ensures.some c.lost_at_seam.ensures in
     (are_within look).lost_le
 
-pub overflow_add-result : goal.overflow_add-result
-overflow_add-result c =
+pub overflow_add-len : goal.overflow_add-len
+overflow_add-len c =
     let look = is_look c.args.s c.requires.inside c.requires.front c.summary-piece.ensures.summary
     c.summary-piece.ensures.some c.lost_at_seam.ensures in
     omega (arith, (are_within look).len_le, c.summary-piece.ensures.short)
 
-pub overflow_add-result-2 : goal.overflow_add-result-2
-overflow_add-result-2 c =
+pub overflow_add-total : goal.overflow_add-total
+overflow_add-total c =
     let look = is_look c.args.s c.requires.inside c.requires.front c.summary-piece.ensures.summary
     c.summary-piece.ensures.some c.lost_at_seam.ensures in
     let within = are_within look in

@@ -1,13 +1,10 @@
-use Rattle.std.proofs.Common.{[], arith, rules}
-use Rattle.str_indices.proofs.lemmas.Callers.{to_byte_idx-le-size, to_byte_idx-zero}
-use Rattle.piece_text.specs.SchemeNames.{named}
-use Rattle.piece_text.specs.Pieces.{piece_at}
+use Rattle.piece_text.proofs.lemmas.{[], arith, rules, to_byte_idx-le-size, to_byte_idx-zero, piece_at}
 use Rattle.piece_text.proofs.queries.piece_for.Goals as goal
 
 -- before the first piece is nothing, and its index 0 begins there
 pub loop-i-init : goal.loop-i-init
 loop-i-init c =
-    let s = named c.args.s in
+    let s = c.args.s in
     let texts = c.args.p.now.texts in
     record {
       front = c.before_all-front.ensures s texts;

@@ -1,7 +1,4 @@
-use Rattle.std.proofs.Common.{[], ◌∷◌, ◌∙◌}
-use Rattle.std.proofs.lemmas.Str.Pattern.{ends_text}
-use Rattle.str_indices.specs.Text.{carriage_return}
-use Rattle.str_indices.proofs.lemmas.Callers.{ends_in_return-bytes}
+use Rattle.piece_text.proofs.lemmas.{[], ◌∷◌, ◌∙◌, ends_text, carriage_return, ends_in_return-bytes}
 use Rattle.piece_text.proofs.summaries.ends_cr.Goals as goal
 
 pub returns : goal.returns

@@ -1,7 +1,4 @@
-use Rattle.std.proofs.Common.{[], ◌∷◌, ◌∙◌}
-use Rattle.std.proofs.lemmas.Str.Pattern.{starts_text}
-use Rattle.str_indices.specs.Text.{line_feed}
-use Rattle.str_indices.proofs.lemmas.Callers.{starts_with_feed-bytes}
+use Rattle.piece_text.proofs.lemmas.{[], ◌∷◌, ◌∙◌, starts_text, line_feed, starts_with_feed-bytes}
 use Rattle.piece_text.proofs.summaries.starts_lf.Goals as goal
 
 pub returns : goal.returns

@@ -1,5 +1,4 @@
-use Rattle.std.proofs.Common.{chars}
-use Rattle.position_mapper.proofs.lemmas.Positions.{byte_at-le}
+use Rattle.position_mapper.proofs.lemmas.{chars, byte_at-le}
 use Rattle.position_mapper.proofs.laws.bytes_in_order.Goals as goal
 
 pub returns : goal.returns

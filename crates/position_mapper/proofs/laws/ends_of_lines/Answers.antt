@@ -1,6 +1,4 @@
-use Rattle.std.proofs.Common.{chars, arith}
-use Rattle.position_mapper.specs.Lines.{line_end}
-use Rattle.position_mapper.proofs.lemmas.Lines.{line_end_is_least, line_of_place, line_end_le}
+use Rattle.position_mapper.proofs.lemmas.{chars, arith, line_end, line_end_is_least, line_of_place, line_end_le}
 use Rattle.position_mapper.proofs.laws.ends_of_lines.Goals as goal
 
 pub returns-clause-least : goal.returns-clause-least

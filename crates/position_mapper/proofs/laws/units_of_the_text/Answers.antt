@@ -1,5 +1,4 @@
-use Rattle.std.proofs.Common.{chars}
-use Rattle.position_mapper.proofs.lemmas.WholeText.{units_of_position, byte_of_units}
+use Rattle.position_mapper.proofs.lemmas.{chars, units_of_position, byte_of_units}
 use Rattle.position_mapper.proofs.laws.units_of_the_text.Goals as goal
 
 pub returns-clause-offset : goal.returns-clause-offset

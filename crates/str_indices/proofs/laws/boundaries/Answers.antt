@@ -1,4 +1,4 @@
-use Rattle.str_indices.proofs.lemmas.Callers.{IsCharBoundary-from_boundary, IsBoundary-from_char_boundary}
+use Rattle.str_indices.proofs.lemmas.{IsCharBoundary-from_boundary, IsBoundary-from_char_boundary}
 use Rattle.str_indices.proofs.laws.boundaries.Goals as goal
 
 pub returns-clause-sliceable : goal.returns-clause-sliceable

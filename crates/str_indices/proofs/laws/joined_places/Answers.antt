@@ -1,8 +1,4 @@
-use Rattle.std.proofs.Common.{◌≡◌, ◌+◌, ◌-◌, arith, chars, length}
-use Rattle.std.proofs.lemmas.Str.{chars-append}
-use Rattle.str_indices.specs.Text.{size}
-use Rattle.str_indices.proofs.lemmas.bytes.Walks.{size-chars}
-use Rattle.str_indices.proofs.lemmas.laws.JoinedPlaces.{is_joined}
+use Rattle.str_indices.proofs.lemmas.{◌≡◌, ◌+◌, ◌-◌, arith, chars, length, chars-append, size, size-chars, is_joined}
 use Rattle.str_indices.proofs.laws.joined_places.Goals as goal
 
 pub returns-clause-from_before : goal.returns-clause-from_before

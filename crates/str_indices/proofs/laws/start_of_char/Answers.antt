@@ -1,5 +1,4 @@
-use Rattle.std.proofs.Common.{chars}
-use Rattle.str_indices.proofs.lemmas.laws.CharacterLaws.{to-from_is_greatest_boundary}
+use Rattle.str_indices.proofs.lemmas.{chars, to-from_is_greatest_boundary}
 use Rattle.str_indices.proofs.laws.start_of_char.Goals as goal
 
 pub returns : goal.returns

@@ -1,5 +1,4 @@
-use Rattle.std.proofs.Common.{chars}
-use Rattle.str_indices.proofs.lemmas.laws.EndLaws.{line_scheme_is_not_utf16, to-from_is_greatest}
+use Rattle.str_indices.proofs.lemmas.{chars, line_scheme_is_not_utf16, to-from_is_greatest}
 use Rattle.str_indices.proofs.laws.start_of_line.Goals as goal
 
 pub returns : goal.returns

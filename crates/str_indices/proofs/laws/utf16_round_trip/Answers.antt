@@ -1,5 +1,4 @@
-use Rattle.std.proofs.Common.{chars}
-use Rattle.str_indices.proofs.lemmas.laws.UnitLaws.{units-second_unit}
+use Rattle.str_indices.proofs.lemmas.{chars, units-second_unit}
 use Rattle.str_indices.proofs.laws.utf16_round_trip.Goals as goal
 
 pub returns-clause-second_unit : goal.returns-clause-second_unit

@@ -1,15 +1,6 @@
 -- Boundaries of a text, by its bytes: where the byte is no trailing byte.
-use Rattle.std.proofs.Common.{◌≡◌, ℕ, zero, suc, ◌+◌, ◌-◌, ◌<◌, ◌≤◌, List, [], ◌∷◌, ◌++◌, length, get_or, refl, arith, true, false, take, drop, ◌∙◌, ap, chars, IsUtf8, IsCharBoundary}
-use Rattle.std.proofs.Math.Utf8.{encode, encodes, scalar, scalars}
-use Rattle.std.proofs.lemmas.Bool.{and_parts}
-use Rattle.std.proofs.lemmas.List.{take-append-drop, length-take-le}
-use Rattle.std.proofs.lemmas.Str.{scalars-chars, chars-append, IsUtf8-take, IsCharBoundary-after_ascii, len_utf8_bounds}
-use Rattle.str_indices.specs.Text.{size, cut}
-use Rattle.str_indices.specs.Relations.{IsBoundary}
-use Rattle.str_indices.specs.Bytes.{is_trailing, sum_below}
-use Rattle.str_indices.proofs.lemmas.texts.Sizes.{size-append}
-use Rattle.str_indices.proofs.lemmas.texts.Cuts.{cut_is, boundary-le-cut, cut_all}
-use Rattle.str_indices.proofs.lemmas.texts.EndSets.{IsBoundary-start}
+use Rattle.str_indices.proofs.lemmas.Common.{◌≡◌, ℕ, zero, suc, ◌+◌, ◌-◌, ◌<◌, ◌≤◌, List, [], ◌∷◌, ◌++◌, length, get_or, refl, arith, true, false, take, drop, ◌∙◌, ap, chars, IsUtf8, IsCharBoundary, encode, encodes, scalar, scalars, and_parts, take-append-drop, length-take-le, scalars-chars, chars-append, IsUtf8-take, IsCharBoundary-after_ascii, len_utf8_bounds, size, cut, IsBoundary, is_trailing, sum_below}
+use Rattle.str_indices.proofs.lemmas.texts.{size-append, cut_is, boundary-le-cut, cut_all, IsBoundary-start}
 use Rattle.str_indices.proofs.lemmas.bytes.Sums.{sum_below-still}
 use Rattle.str_indices.proofs.lemmas.bytes.Characters.{first_byte, is_trailing_later, scalars_parts, byte_seen}
 use Rattle.str_indices.proofs.lemmas.bytes.Walks.{size-chars, get_or-at_boundary}

@@ -1,13 +1,5 @@
 -- The bytes of one character.
-use Rattle.std.proofs.Common.{◌≡◌, ℕ, ◌+◌, ◌/◌, ◌%◌, ◌<◌, ◌≤◌, List, [], ◌∷◌, ◌++◌, All, Bool, arith, true, false, zero, suc, length, get_or, refl, ap, sym, ◌∙◌, bit_and}
-use Rattle.std.proofs.Math.Utf8.{encode, scalar, scalar_cases, scalars}
-use Rattle.std.proofs.lemmas.Bool.{cond_both, ltb-true, ltb-false, lt-ltb, le-ltb, agree_below_at, lt-leb, le-leb, and_parts}
-use Rattle.std.specs.Prelude.{◌==◌, ◌&&◌, nat_le, nat_lt}
-use Rattle.std.specs.Char.{len_utf8}
-use Rattle.std.proofs.lemmas.List.{get_or-append-add, get_or_append_left}
-use Rattle.std.proofs.lemmas.List.Elements.{All-nil, All-cons}
-use Rattle.std.proofs.lemmas.Str.{length-encode}
-use Rattle.str_indices.specs.Bytes.{is_trailing}
+use Rattle.str_indices.proofs.lemmas.Common.{◌≡◌, ℕ, ◌+◌, ◌/◌, ◌%◌, ◌<◌, ◌≤◌, List, [], ◌∷◌, ◌++◌, All, Bool, arith, true, false, zero, suc, length, get_or, refl, ap, sym, ◌∙◌, bit_and, encode, scalar, scalar_cases, scalars, cond_both, ltb-true, ltb-false, lt-ltb, le-ltb, agree_below_at, lt-leb, le-leb, and_parts, ◌==◌, ◌&&◌, nat_le, nat_lt, len_utf8, get_or-append-add, get_or_append_left, All-nil, All-cons, length-encode, is_trailing}
 
 -- a byte of a character that is not its first
 pub record IsTrailing (b : ℕ) : Type 0 where

@@ -1,15 +1,6 @@
 -- How a text starts and ends, by its bytes: LF and CR are one byte, which no other character has.
-use Rattle.std.proofs.Common.{◌≡◌, ◌≢◌, ℕ, ◌<◌, ◌≤◌, List, [], ◌∷◌, ◌++◌, length, get_or, refl, arith, All, true, false, ◌∙◌, sym, ap, append-nil, chars, IsUtf8}
-use Rattle.std.specs.Prelude.{◌==◌}
-use Rattle.std.proofs.Math.Utf8.{encode, encodes, scalar, scalars}
-use Rattle.std.proofs.lemmas.Bool.{and_parts}
-use Rattle.std.proofs.lemmas.Bool.Decides.{nat_tests}
-use Rattle.std.proofs.lemmas.Str.{encodes-chars, scalars-chars, chars-nil, len_utf8_bounds, length-encode}
-use Rattle.std.proofs.lemmas.List.{length-append}
-use Rattle.std.proofs.lemmas.List.Elements.{All-nil, All-head, All-tail}
-use Rattle.str_indices.specs.Text.{size, line_feed}
-use Rattle.str_indices.specs.Joins.{starts_with_feed, ends_in_return}
-use Rattle.str_indices.proofs.lemmas.texts.Seams.{ends_in_return-one, ends_in_return-cons, ends_in_return-append, starts_with_feed_is}
+use Rattle.str_indices.proofs.lemmas.Common.{◌≡◌, ◌≢◌, ℕ, ◌<◌, ◌≤◌, List, [], ◌∷◌, ◌++◌, length, get_or, refl, arith, All, true, false, ◌∙◌, sym, ap, append-nil, chars, IsUtf8, ◌==◌, encode, encodes, scalar, scalars, and_parts, nat_tests, encodes-chars, scalars-chars, chars-nil, len_utf8_bounds, length-encode, length-append, All-nil, All-head, All-tail, size, line_feed, starts_with_feed, ends_in_return}
+use Rattle.str_indices.proofs.lemmas.texts.{ends_in_return-one, ends_in_return-cons, ends_in_return-append, starts_with_feed_is}
 use Rattle.str_indices.proofs.lemmas.bytes.Characters.{IsTrailing, by_width}
 use Rattle.str_indices.proofs.lemmas.bytes.Walks.{size-chars}
 

@@ -1,22 +1,8 @@
 -- The ends of a scheme by the bytes at which they are counted: up to the place where the text is cut, and whether the
 -- cut parts CR from LF.
-use Rattle.std.proofs.Common.{◌≡◌, ℕ, suc, ◌+◌, ◌-◌, ◌<◌, ◌≤◌, inl, inr, Bool, true, List, [], ◌∷◌, ◌++◌, length, get_or, refl, arith, sym, ◌∙◌, ap, ap₂, chars, IsUtf8}
-use Rattle.std.specs.Prelude.{◌==◌, ◌&&◌, not}
-use Rattle.std.specs.Char.{len_utf8, char_set_contains}
-use Rattle.std.proofs.Math.Utf8.{encode, encodes, scalar, scalars}
-use Rattle.std.proofs.lemmas.Bool.{cases_lt, and_parts, ne_eqb, eqb-true}
+use Rattle.str_indices.proofs.lemmas.Common.{◌≡◌, ℕ, suc, ◌+◌, ◌-◌, ◌<◌, ◌≤◌, inl, inr, Bool, true, List, [], ◌∷◌, ◌++◌, length, get_or, refl, arith, sym, ◌∙◌, ap, ap₂, chars, IsUtf8, ◌==◌, ◌&&◌, not, len_utf8, char_set_contains, encode, encodes, scalar, scalars, cases_lt, and_parts, ne_eqb, eqb-true, nat_tests, get_or_past, scalars-chars, encode_ascii, length-encode, len_utf8_bounds, encodes-append, size, cut, line_feed, carriage_return, Scheme, break_characters, end_count, ends_up_to, ends_in_return, joins_crlf, flag, sum_below, is_line_feed, is_carriage_return, byte_before, is_middle}
 use Rattle.std.proofs.Math.Bool.{and-true}
-use Rattle.std.proofs.lemmas.Bool.Decides.{nat_tests}
-use Rattle.std.proofs.lemmas.List.{get_or_past}
-use Rattle.std.proofs.lemmas.Str.{scalars-chars, encode_ascii, length-encode, len_utf8_bounds, encodes-append}
-use Rattle.str_indices.specs.Text.{size, cut, line_feed, carriage_return}
-use Rattle.str_indices.specs.Schemes.{Scheme, break_characters, end_count, ends_up_to}
-use Rattle.str_indices.specs.Joins.{ends_in_return, joins_crlf}
-use Rattle.str_indices.specs.Bytes.{flag, sum_below, is_line_feed, is_carriage_return, byte_before, is_middle}
-use Rattle.str_indices.proofs.lemmas.texts.Sizes.{size-cons}
-use Rattle.str_indices.proofs.lemmas.texts.Cuts.{cut_is}
-use Rattle.str_indices.proofs.lemmas.texts.Ends.{end_weight, ends_up_to_cut}
-use Rattle.str_indices.proofs.lemmas.texts.Seams.{HasReturn, ends_in_return-cons, ends_in_return-one, starts_with_feed_is, end_count-cut_seam}
+use Rattle.str_indices.proofs.lemmas.texts.{size-cons, cut_is, end_weight, ends_up_to_cut, HasReturn, ends_in_return-cons, ends_in_return-one, starts_with_feed_is, end_count-cut_seam}
 use Rattle.str_indices.proofs.lemmas.bytes.Characters.{IsTrailing, by_size, by_width, get_or-behind, scalars_parts}
 use Rattle.str_indices.proofs.lemmas.bytes.Walks.{AddsAtFirst, counted_at, walk_to_cut, get_or-at_boundary, encodes-split}
 use Rattle.str_indices.proofs.lemmas.bytes.BoundaryBytes.{still_behind_cut, cut_boundary}

@@ -1,16 +1,6 @@
 -- A sum over the bytes of a text as a sum over its characters, in the whole text and in a cut text.
-use Rattle.std.proofs.Common.{◌≡◌, ℕ, ◌+◌, ◌-◌, Bool, List, [], ◌∷◌, ◌++◌, refl, arith, true, sym, ◌∙◌, ap, length, get_or, take, chars, IsUtf8}
-use Rattle.std.specs.Prelude.{sum_by}
-use Rattle.std.specs.Char.{len_utf8}
-use Rattle.std.proofs.Math.Utf8.{encode, encodes, scalar, scalars}
-use Rattle.std.proofs.lemmas.Bool.{and_parts}
-use Rattle.std.proofs.lemmas.Str.{len_utf8_bounds, encodes-chars, scalars-chars, length-encode, encodes-append}
-use Rattle.std.proofs.lemmas.List.{length-append, take_at, append-nil, get_or-append-add}
-use Rattle.str_indices.specs.Text.{size, cut}
-use Rattle.str_indices.specs.Bytes.{flag, sum_below}
-use Rattle.str_indices.specs.Relations.{IsBoundary}
-use Rattle.str_indices.proofs.lemmas.texts.Sizes.{size-cons, total, total_front, total-append, total_front_alone}
-use Rattle.str_indices.proofs.lemmas.texts.Cuts.{cut_is, cut_all, cut_front}
+use Rattle.str_indices.proofs.lemmas.Common.{◌≡◌, ℕ, ◌+◌, ◌-◌, Bool, List, [], ◌∷◌, ◌++◌, refl, arith, true, sym, ◌∙◌, ap, length, get_or, take, chars, IsUtf8, sum_by, len_utf8, encode, encodes, scalar, scalars, and_parts, len_utf8_bounds, encodes-chars, scalars-chars, length-encode, encodes-append, length-append, take_at, append-nil, get_or-append-add, size, cut, flag, sum_below, IsBoundary}
+use Rattle.str_indices.proofs.lemmas.texts.{size-cons, total, total_front, total-append, total_front_alone, cut_is, cut_all, cut_front}
 use Rattle.str_indices.proofs.lemmas.bytes.Sums.{sum_below-add, sum_below-same, sum_below-still}
 use Rattle.str_indices.proofs.lemmas.bytes.Characters.{IsTrailing, get_or-behind, later_trailing, scalars_parts}
 

@@ -1,17 +1,6 @@
 -- The breaks of a chunk, lane by lane: those of one byte, then those of several, and those that cross its end.
-use Rattle.std.proofs.Common.{◌≡◌, ◌≢◌, ℕ, ◌+◌, ◌-◌, ◌/◌, ◌%◌, ◌^◌, ◌<◌, ◌≤◌, true, false, List, [], ◌∷◌, ◌++◌, map, take, drop, replicate, length, get_or, refl, arith, ap, bit_and, slice_set}
-use Rattle.std.specs.Prelude.{◌==◌, ◌&&◌}
-use Rattle.std.specs.Simd.Lanes.{zip2, Each1, Each2}
-use Rattle.std.proofs.lemmas.Bool.Decides.{nat_tests}
-use Rattle.std.proofs.lemmas.Nat.{and_mask}
-use Rattle.std.proofs.lemmas.Simd.{Each2-of}
-use Rattle.std.proofs.lemmas.List.{get_or-take, get_or_past, get_or-replicate, length-take}
-use Rattle.byte_chunk.specs.Lanes.{is_byte, is_between}
-use Rattle.str_indices.specs.Bytes.{flag}
-use Rattle.str_indices.specs.Lanes.{HasLanes, IsChunk}
-use Rattle.str_indices.specs.Breaks.{is_crlf, is_separator, ends_separator, narrow_break_at, next_line_at, separator_at, break_at}
-use Rattle.str_indices.specs.TraitLaws.{flag-le}
-use Rattle.str_indices.proofs.lemmas.lanes.Lanes.{lanes_of, lanes_same, lanes_map, lanes_zip2, lanes_and, lanes_shift, lanes_set, lane_is_not, Each1-lanes, Each2-lanes}
+use Rattle.str_indices.proofs.lemmas.Common.{◌≡◌, ◌≢◌, ℕ, ◌+◌, ◌-◌, ◌/◌, ◌%◌, ◌^◌, ◌<◌, ◌≤◌, true, false, List, [], ◌∷◌, ◌++◌, map, take, drop, replicate, length, get_or, refl, arith, ap, bit_and, slice_set, ◌==◌, ◌&&◌, zip2, Each1, Each2, nat_tests, and_mask, Each2-of, get_or-take, get_or_past, get_or-replicate, length-take, is_byte, is_between, flag, HasLanes, IsChunk, is_crlf, is_separator, ends_separator, narrow_break_at, next_line_at, separator_at, break_at, flag-le}
+use Rattle.str_indices.proofs.lemmas.lanes.EachLane.{lanes_of, lanes_same, lanes_map, lanes_zip2, lanes_and, lanes_shift, lanes_set, lane_is_not, Each1-lanes, Each2-lanes}
 
 -- what is counted at a byte of a chunk where of the breaks of several bytes those are seen that end in it
 abbrev pub inside_at : List ℕ → ℕ → ℕ → ℕ → ℕ

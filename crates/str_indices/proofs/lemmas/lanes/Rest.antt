@@ -1,15 +1,8 @@
 -- The last bytes of a text in one chunk, of which the lanes in front are left out.
-use Rattle.std.proofs.Common.{◌≡◌, ℕ, zero, suc, ◌+◌, ◌-◌, ◌≤◌, List, [], ◌∷◌, ◌++◌, take, drop, length, get_or, refl, arith, replicate, bit_and, ◌∙◌, ap, ◌<◌, slice_set, add-one}
-use Rattle.std.specs.Prelude.{sum}
+use Rattle.str_indices.proofs.lemmas.Common.{◌≡◌, ℕ, zero, suc, ◌+◌, ◌-◌, ◌≤◌, List, [], ◌∷◌, ◌++◌, take, drop, length, get_or, refl, arith, replicate, bit_and, ◌∙◌, ap, ◌<◌, slice_set, add-one, sum, zip2, Each1, take-suc, length-replicate, length-drop, get_or-drop, drop-append-le, drop-replicate, take-replicate, take_more_set, take_rest, sum_by-replicate, sum_by-append, sum_below, HasLanes, HasLaterLanes}
 use Rattle.std.specs.Int.Bits.{and_zero_r}
-use Rattle.std.specs.Simd.Lanes.{zip2, Each1}
-use Rattle.std.proofs.Math.Seq.{take-append-add, take-suc}
-use Rattle.std.proofs.lemmas.List.{length-replicate, length-drop, get_or-drop, drop-append-le, drop-replicate, take-replicate, take_more_set, take_rest}
-use Rattle.std.proofs.lemmas.List.Folds.{sum_by-replicate}
-use Rattle.std.proofs.lemmas.List.Sums.{sum_by-append}
-use Rattle.str_indices.specs.Bytes.{sum_below}
-use Rattle.str_indices.specs.Lanes.{HasLanes, HasLaterLanes}
-use Rattle.str_indices.proofs.lemmas.lanes.Lanes.{Each1-lanes, sum_below-chunk}
+use Rattle.std.proofs.Math.Seq.{take-append-add}
+use Rattle.str_indices.proofs.lemmas.lanes.EachLane.{Each1-lanes, sum_below-chunk}
 
 -- a table of bytes for lanes that are left out and then of as many for those that are kept, from the last `out` on
 pub left_out_and_kept : (table : List ℕ) (most out kept size : ℕ) → table ≡ replicate most 0 ++ replicate most 0xFF

@@ -1,14 +1,7 @@
 -- Lanes that hold what is counted in chunks are added, chunk after chunk, and summed once.
-use Rattle.std.proofs.Common.{◌≡◌, ℕ, ◌+◌, ◌*◌, ◌≤◌, List, [], ◌∷◌, length, refl, arith, replicate}
-use Rattle.std.specs.Prelude.{sum}
-use Rattle.std.specs.Simd.Lanes.{zip2, Each2}
-use Rattle.std.proofs.lemmas.List.{length-replicate}
-use Rattle.std.proofs.lemmas.List.Folds.{sum_by-replicate}
-use Rattle.std.proofs.lemmas.List.Sums.{sum_by-cons}
-use Rattle.std.proofs.lemmas.Simd.{Each1-replicate, Each1-zip2, Each2-of, length-zip2}
-use Rattle.str_indices.specs.Bytes.{sum_below}
-use Rattle.str_indices.specs.Lanes.{AddsUp, HasLanes}
-use Rattle.str_indices.proofs.lemmas.lanes.Lanes.{Each1-lanes, sum_below-chunk}
+use Rattle.str_indices.proofs.lemmas.Common.{◌≡◌, ℕ, ◌+◌, ◌*◌, ◌≤◌, List, [], ◌∷◌, length, refl, arith, replicate, sum, zip2, Each2, length-replicate, sum_by-replicate, sum_by-cons, Each1-replicate, Each1-zip2, Each2-of, length-zip2, sum_below, AddsUp, HasLanes}
+use Rattle.str_indices.proofs.lemmas.lanes.EachLane.{Each1-lanes, sum_below-chunk}
+use Rattle.str_indices.proofs.lemmas.passes.{parts_end}
 
 -- the sum of lanes that were added two by two
 sum-zip2 : (xs ys : List ℕ) → length xs ≡ length ys → sum (zip2 (λ a b. a + b) xs ys) ≡ sum xs + sum ys
@@ -46,6 +39,17 @@ module _ {counted : ℕ → ℕ} {most size from : ℕ} where
             (lanes_addable ((m + n) * most) (omega arith));
         added = omega (arith, so_far.added, more.added, sum-zip2 xs ys (omega (arith, so_far.long, more.long)));
       })
+
+  -- two parts of some chunks, added
+  module _ {m n : ℕ} {xs ys : List ℕ} (so_far : AddsUp counted most size from (from + m * size) m xs)
+      (more : AddsUp counted most size (from + m * size) (from + m * size + n * size) n ys) where
+    pub parts_addable : (chunks limit : ℕ) → m + n ≡ chunks → chunks * most ≤ limit → Each2 (λ a b. a + b ≤ limit) xs ys
+    parts_addable chunks limit all room = lanes_addable so_far more limit (rw all room)
+
+    pub parts_added : (chunks : ℕ) {sums : List ℕ} → m + n ≡ chunks → sums ≡ zip2 (λ a b. a + b) xs ys
+        → AddsUp counted most size from (from + chunks * size) chunks sums
+    parts_added chunks all added =
+        as_many all (rw (parts_end from m n size chunks all) at (lanes_added so_far more added))
 
 -- the lanes of one chunk, each with what f adds at its place
 pub lanes_of_places : (f : ℕ → ℕ) {most size at : ℕ} {lanes : List ℕ} → ((j : ℕ) → f j ≤ most)

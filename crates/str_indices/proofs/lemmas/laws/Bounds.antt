@@ -1,15 +1,6 @@
 -- What no answer passes: the size of the text, in every scheme. And what each answers at the edges of a text.
-use Rattle.std.proofs.Common.{◌≡◌, ℕ, ◌+◌, ◌≤◌, List, [], ◌∷◌, length, refl, arith, ap}
-use Rattle.std.specs.Prelude.{sum_by}
-use Rattle.std.specs.Char.{len_utf8}
-use Rattle.std.proofs.lemmas.List.Sums.{sum_by-cons, sum_by-le-sum_by}
-use Rattle.str_indices.specs.Text.{size, weight}
-use Rattle.str_indices.specs.Schemes.{Scheme, Utf16, ends, boundary_at_units, count, from_byte_idx, to_byte_idx}
-use Rattle.str_indices.proofs.lemmas.texts.Sizes.{size-append}
-use Rattle.str_indices.proofs.lemmas.texts.Cuts.{cut_all}
-use Rattle.str_indices.proofs.lemmas.texts.Increasing.{IncreasesWithin}
-use Rattle.str_indices.proofs.lemmas.texts.EndSets.{ends_increase_within, ends_up_to-all}
-use Rattle.str_indices.proofs.lemmas.texts.Units.{boundary_at_units_is_greatest, count-units, weight_is_one_or_two, weight-le}
+use Rattle.str_indices.proofs.lemmas.Common.{◌≡◌, ℕ, ◌+◌, ◌≤◌, List, [], ◌∷◌, length, refl, arith, ap, sum_by, len_utf8, sum_by-cons, sum_by-le-sum_by, size, weight, Scheme, Utf16, ends, boundary_at_units, count, from_byte_idx, to_byte_idx}
+use Rattle.str_indices.proofs.lemmas.texts.{size-append, cut_all, IncreasesWithin, ends_increase_within, ends_up_to-all, boundary_at_units_is_greatest, count-units, weight_is_one_or_two, weight-le}
 use Rattle.str_indices.proofs.lemmas.laws.CharacterLaws.{IsBoundary-to_byte_idx, from_byte_idx-le}
 
 -- numbers that increase up to a bound are no more than it

@@ -1,15 +1,7 @@
 -- What holds of the conversions in every scheme, and in the two that count characters.
-use Rattle.std.proofs.Common.{ℕ, ◌≤◌, List, ◌↔◌}
-use Rattle.str_indices.specs.Schemes.{Scheme, Chars, Utf16, from_byte_idx, to_byte_idx, ends}
-use Rattle.str_indices.specs.Relations.{IsBoundary}
-use Rattle.str_indices.proofs.lemmas.texts.EndSets.{IsBoundary-end_at, ends_increase_within, end_at-select, zero_or_end, ends_are, ends_increase}
-use Rattle.str_indices.proofs.lemmas.texts.Units.{boundary_at_units_is_greatest, units-le-units}
+use Rattle.str_indices.proofs.lemmas.Common.{ℕ, ◌≤◌, List, ◌↔◌, Scheme, Chars, Utf16, from_byte_idx, to_byte_idx, ends, IsBoundary, size, IsCharacterScheme, IsGreatestBoundary}
+use Rattle.str_indices.proofs.lemmas.texts.{IsBoundary-end_at, ends_increase_within, end_at-select, zero_or_end, ends_are, ends_increase, boundary_at_units_is_greatest, units-le-units, rank, rank-le-rank, select-le-select, select-rank-le, member_adjunction, cut_is_longest}
 use Rattle.str_indices.proofs.lemmas.laws.UnitLaws.{boundary_at_units-le, boundary_le_iff, boundary_at_units-units-le}
-use Rattle.str_indices.specs.Text.{size}
-use Rattle.str_indices.specs.SchemeGroups.{IsCharacterScheme}
-use Rattle.str_indices.specs.Starts.{IsGreatestBoundary}
-use Rattle.str_indices.proofs.lemmas.texts.Increasing.{rank, rank-le-rank, select-le-select, select-rank-le, member_adjunction}
-use Rattle.str_indices.proofs.lemmas.texts.Cuts.{cut_is_longest}
 use Rattle.str_indices.proofs.lemmas.laws.EndLaws.{from-to}
 
 -- each conversion to a byte index answers a boundary

@@ -1,18 +1,6 @@
 -- The counts of one text in several schemes, and of two texts that are joined.
-use Rattle.std.proofs.Common.{ℕ, ◌≤◌, List, [], ◌∷◌, arith, cond, ◌≡◌, ◌+◌, ◌++◌, sym, ◌∙◌, ap}
-use Rattle.std.proofs.lemmas.List.{append_cancel_left}
-use Rattle.std.specs.Prelude.{◌==◌}
-use Rattle.std.proofs.lemmas.Bool.Decides.{nat_tests}
-use Rattle.str_indices.specs.Schemes.{Scheme, Lf, Crlf, Lines, end_count, ends_up_to, count, Chars, Utf16, surrogates, from_byte_idx}
-use Rattle.str_indices.proofs.lemmas.texts.Sizes.{total}
-use Rattle.str_indices.proofs.lemmas.texts.Seams.{end_count-append, end_count-cut_loss}
-use Rattle.str_indices.proofs.lemmas.texts.Cuts.{cut_is}
-use Rattle.str_indices.proofs.lemmas.texts.Ends.{end_weight, end_count_total}
-use Rattle.std.proofs.lemmas.List.Sums.{sum_by-append}
-use Rattle.str_indices.specs.Text.{cut, weight}
-use Rattle.str_indices.specs.Joins.{joins_crlf, seam_loss}
-use Rattle.std.proofs.lemmas.Str.{chars-append}
-use Rattle.str_indices.proofs.lemmas.texts.Units.{count-units, count-characters-surrogates}
+use Rattle.str_indices.proofs.lemmas.Common.{ℕ, ◌≤◌, List, [], ◌∷◌, arith, cond, ◌≡◌, ◌+◌, ◌++◌, sym, ◌∙◌, ap, append_cancel_left, ◌==◌, nat_tests, Scheme, Lf, Crlf, Lines, end_count, ends_up_to, count, Chars, Utf16, surrogates, from_byte_idx, sum_by-append, cut, weight, joins_crlf, seam_loss, chars-append}
+use Rattle.str_indices.proofs.lemmas.texts.{total, end_count-append, end_count-cut_loss, cut_is, end_weight, end_count_total, count-units, count-characters-surrogates}
 
 -- a sum of larger numbers is larger
 total-le-total : (v w : ℕ → List ℕ → ℕ) → ((c : ℕ) (cs : List ℕ) → v c cs ≤ w c cs) → (cs : List ℕ)

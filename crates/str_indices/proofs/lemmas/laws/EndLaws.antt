@@ -1,13 +1,6 @@
 -- The laws of the four schemes whose counts and conversions go by ends.
-use Rattle.std.proofs.Common.{◌≡◌, ℕ, ◌≤◌, ◌↔◌, inl, inr, min, List, refl}
-use Rattle.std.specs.Prelude.{◌≢◌, nat_le}
-use Rattle.std.proofs.lemmas.List.Sums.{count_by-le-length}
-use Rattle.str_indices.specs.Text.{size}
-use Rattle.str_indices.specs.Schemes.{Scheme, Utf16, ends, count, from_byte_idx, to_byte_idx}
-use Rattle.str_indices.specs.SchemeGroups.{IsLineScheme}
-use Rattle.str_indices.specs.Starts.{IsGreatestEnd}
-use Rattle.str_indices.proofs.lemmas.texts.Increasing.{rank, rank-select, adjunction, rank-le-rank, select-rank-le, member_adjunction, select_is_member}
-use Rattle.str_indices.proofs.lemmas.texts.EndSets.{ends_are, ends_increase_within, end_at-select}
+use Rattle.str_indices.proofs.lemmas.Common.{◌≡◌, ℕ, ◌≤◌, ◌↔◌, inl, inr, min, List, refl, ◌≢◌, nat_le, count_by-le-length, size, Scheme, Utf16, ends, count, from_byte_idx, to_byte_idx, IsLineScheme, IsGreatestEnd}
+use Rattle.str_indices.proofs.lemmas.texts.{rank, rank-select, adjunction, rank-le-rank, select-rank-le, member_adjunction, select_is_member, ends_are, ends_increase_within, end_at-select}
 
 -- a line scheme is not `Utf16`
 pub line_scheme_is_not_utf16 : (s : Scheme) → IsLineScheme s → s ≢ Utf16

@@ -1,10 +1,6 @@
 -- The counts and the conversions of two joined texts, by those of each, in every scheme.
-use Rattle.std.proofs.Common.{◌≡◌, ℕ, ◌+◌, ◌<◌, ◌≤◌, List, ◌++◌, arith}
-use Rattle.str_indices.specs.Text.{size}
-use Rattle.str_indices.specs.Schemes.{Scheme, Utf16, count, from_byte_idx, to_byte_idx}
-use Rattle.str_indices.specs.Joins.{seam_loss}
-use Rattle.str_indices.proofs.lemmas.texts.JoinedEnds.{seam_loss-le, ends_up_to-before, ends_up_to-behind, end_at-before, end_at-behind}
-use Rattle.str_indices.proofs.lemmas.texts.JoinedUnits.{units-before, units-behind, boundary_at_units-before, boundary_at_units-behind}
+use Rattle.str_indices.proofs.lemmas.Common.{◌≡◌, ℕ, ◌+◌, ◌<◌, ◌≤◌, List, ◌++◌, arith, size, Scheme, Utf16, count, from_byte_idx, to_byte_idx, seam_loss}
+use Rattle.str_indices.proofs.lemmas.texts.{seam_loss-le, ends_up_to-before, ends_up_to-behind, end_at-before, end_at-behind, units-before, units-behind, boundary_at_units-before, boundary_at_units-behind}
 use Rattle.str_indices.proofs.lemmas.laws.CountLaws.{count-append}
 
 -- what a scheme answers of a and b, joined, by what it answers of each

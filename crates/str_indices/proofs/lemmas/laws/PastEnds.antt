@@ -1,16 +1,7 @@
 -- Where an index goes that is at least the number of bytes of the text: to its end, in every scheme.
-use Rattle.std.proofs.Common.{◌≡◌, ℕ, zero, suc, ◌+◌, ◌≤◌, List, [], ◌∷◌, length, get_or, refl, arith, sym, ap, chars, IsUtf8}
-use Rattle.std.specs.Char.{len_utf8}
-use Rattle.std.proofs.lemmas.List.{append-nil}
-use Rattle.std.proofs.lemmas.List.Sums.{sum_by-le-sum_by}
-use Rattle.str_indices.specs.Text.{size, weight}
-use Rattle.str_indices.specs.Schemes.{Scheme, Utf16, ends, to_byte_idx}
-use Rattle.str_indices.specs.Relations.{IsBoundary}
-use Rattle.str_indices.proofs.lemmas.texts.Sizes.{size-append}
-use Rattle.str_indices.proofs.lemmas.texts.Increasing.{IncreasesWithin, low_le_high}
-use Rattle.str_indices.proofs.lemmas.texts.EndSets.{ends_increase_within}
-use Rattle.str_indices.proofs.lemmas.texts.Units.{boundary_at_units_is_greatest, weight-le}
-use Rattle.str_indices.proofs.lemmas.bytes.Walks.{size-chars}
+use Rattle.str_indices.proofs.lemmas.Common.{◌≡◌, ℕ, zero, suc, ◌+◌, ◌≤◌, List, [], ◌∷◌, length, get_or, refl, arith, sym, ap, chars, IsUtf8, len_utf8, append-nil, sum_by-le-sum_by, size, weight, Scheme, Utf16, ends, to_byte_idx, IsBoundary}
+use Rattle.str_indices.proofs.lemmas.texts.{size-append, IncreasesWithin, low_le_high, ends_increase_within, boundary_at_units_is_greatest, weight-le}
+use Rattle.str_indices.proofs.lemmas.bytes.{size-chars}
 
 -- of numbers that increase up to a bound, the k-th is the bound where so many must have reached it
 get_or-past : (low : ℕ) (es : List ℕ) (high k : ℕ) → IncreasesWithin low es high → high ≤ low + suc k

@@ -1,16 +1,6 @@
 -- The laws of the UTF-16 code units.
-use Rattle.std.proofs.Common.{◌≡◌, ℕ, ◌+◌, ◌<◌, ◌≤◌, ◌↔◌, ◌⊎◌, inl, inr, min, List, [], ◌∷◌, ◌++◌, refl, arith, sym, ◌∙◌, ap, append_assoc}
-use Rattle.std.specs.Prelude.{sum_by}
-use Rattle.std.proofs.lemmas.Bool.{cases_lt}
-use Rattle.std.proofs.lemmas.Str.{len_utf8_bounds}
-use Rattle.std.proofs.lemmas.List.Sums.{sum_by-cons, sum_by-append}
-use Rattle.str_indices.specs.Text.{size, weight, cut}
-use Rattle.str_indices.specs.Schemes.{Utf16, units, boundary_at_units, count}
-use Rattle.str_indices.specs.Relations.{IsBoundary}
-use Rattle.str_indices.specs.Starts.{IsSecondUnit}
-use Rattle.str_indices.proofs.lemmas.texts.Sizes.{size-cons, size-append, boundary_beside}
-use Rattle.str_indices.proofs.lemmas.texts.Cuts.{cut_is}
-use Rattle.str_indices.proofs.lemmas.texts.Units.{units_at, units-le-units, count-units, weight_is_one_or_two, boundary_at_units_is_greatest}
+use Rattle.str_indices.proofs.lemmas.Common.{◌≡◌, ℕ, ◌+◌, ◌<◌, ◌≤◌, ◌↔◌, ◌⊎◌, inl, inr, min, List, [], ◌∷◌, ◌++◌, refl, arith, sym, ◌∙◌, ap, append_assoc, sum_by, cases_lt, len_utf8_bounds, sum_by-cons, sum_by-append, size, weight, cut, Utf16, units, boundary_at_units, count, IsBoundary, IsSecondUnit}
+use Rattle.str_indices.proofs.lemmas.texts.{size-cons, size-append, boundary_beside, cut_is, units_at, units-le-units, count-units, weight_is_one_or_two, boundary_at_units_is_greatest}
 
 -- a boundary is at most the byte index of k exactly where at most k units are before it
 pub boundary_le_iff : (cs : List ℕ) (b k : ℕ) → IsBoundary cs b → (b ≤ boundary_at_units cs k) ↔ (units cs b ≤ k)

@@ -1,14 +1,15 @@
 -- What one turn or load reads, and what the parts of a pass add up to.
-use Rattle.std.proofs.Common.{◌≡◌, ℕ, ◌+◌, ◌-◌, ◌*◌, ◌/◌, ◌≤◌, min, arith, add-mul}
-use Rattle.std.proofs.lemmas.Nat.{le-div}
-use Rattle.std.proofs.Math.Nat.{div-mul-le_self}
-use Rattle.byte_chunk.specs.ProbeState.{ProbeState}
-use Rattle.str_indices.specs.Reads.{Reads}
+use Rattle.str_indices.proofs.lemmas.Common.{◌≡◌, ℕ, ◌+◌, ◌-◌, ◌*◌, ◌/◌, ◌≤◌, min, arith, add-mul, le-div, div-mul-le_self, ProbeState, Reads}
 use Rattle.str_indices.proofs.lemmas.passes.Quotients.{div-add-le}
 
 -- nothing was read
 pub nothing : (p : ProbeState) (first : ℕ) → Reads p p first 0 0 0
 nothing p first = search arith
+
+-- one turn, and the peeks that it pays
+pub byte_made : {old turned new : ProbeState} → turned ≡ record old { turns = old.turns + 1 } → Reads turned new 0 0 0 2
+    → Reads old new 0 1 0 0
+byte_made {old} is peeks = let paid = rw is at peeks in grind arith
 
 -- one load, and the peeks that it pays
 pub chunk_made : {old loaded new : ProbeState} (first at : ℕ) → first ≤ at
@@ -33,10 +34,11 @@ chunk_read le so_far more = grind arith
 
 module _ {old seen new : ProbeState} {from at : ℕ} where
   -- more chunks, from where whole chunks end
-  pub group_joined : {size group : ℕ} → 4 ≤ size → from ≤ at → Reads old seen from 0 ((at - from) / size) 0
-      → Reads seen new at 0 group 0 → Reads old new from 0 ((at + group * size - from) / size) 0
-  group_joined {size} {group} least le so_far more =
-      grind (arith, le-div ((at - from) / size + group) (at + group * size - from) size, div-mul-le_self, add-mul)
+  pub group_joined : {size group to : ℕ} → to ≡ at + group * size → 4 ≤ size → from ≤ at
+      → Reads old seen from 0 ((at - from) / size) 0 → Reads seen new at 0 group 0
+      → Reads old new from 0 ((to - from) / size) 0
+  group_joined {size} {group} {to} there least le so_far more =
+      grind (arith, le-div ((at - from) / size + group) (to - from) size, div-mul-le_self, add-mul)
 
   module _ {size to : ℕ} (least : 4 ≤ size) (le : from ≤ at) (le' : at ≤ to)
       (so_far : Reads old seen from 0 ((at - from) / size) 0) where

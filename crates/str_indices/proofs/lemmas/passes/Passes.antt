@@ -1,9 +1,5 @@
 -- What leading bytes, chunks and the rest of a text add up to: the bounds of a whole pass.
-use Rattle.std.proofs.Common.{◌≡◌, ℕ, ◌+◌, ◌-◌, ◌/◌, ◌≤◌, min, arith}
-use Rattle.std.proofs.lemmas.Nat.{le-div}
-use Rattle.std.proofs.Math.Nat.{div-le_self, div-mul-le_self}
-use Rattle.byte_chunk.specs.ProbeState.{ProbeState}
-use Rattle.str_indices.specs.Reads.{Reads, leading_bytes, pass_turns, pass_loads}
+use Rattle.str_indices.proofs.lemmas.Common.{◌≡◌, ℕ, ◌+◌, ◌-◌, ◌/◌, ◌≤◌, min, arith, le-div, div-le_self, div-mul-le_self, ProbeState, Reads, leading_bytes, pass_turns, pass_loads}
 
 module _ {old led chunked new : ProbeState} (size lead n : ℕ) {first at t t' : ℕ} (least : 4 ≤ size) where
   -- a pass that counts in n bytes: leading bytes, then chunks, then the rest
@@ -14,11 +10,11 @@ module _ {old led chunked new : ProbeState} (size lead n : ℕ) {first at t t' :
   counting_pass here leads chunks rests within few = grind (arith, le-div, div-mul-le_self)
 
   -- a pass that looks for a place in n bytes
-  pub placing_pass : {s : ℕ} (place : ℕ) → first ≡ min lead n → Reads old led 0 t 0 0
-      → Reads led chunked first 0 ((at - first) / size + 5) 0 → Reads chunked new 0 t' 0 s → at ≤ place
-      → t + t' ≤ pass_turns size lead n → s ≤ 3
-      → Reads old new (leading_bytes lead n) (pass_turns size lead n) (place / size + 5) 3
-  placing_pass place here leads chunks rests before few few' = grind (arith, le-div, div-mul-le_self)
+  pub placing_pass : (place : ℕ) → first ≡ min lead n → Reads old led 0 t 0 0
+      → Reads led chunked first 0 ((at - first) / size + 5) 0 → Reads chunked new 0 t' 0 0 → at ≤ place
+      → t + t' ≤ pass_turns size lead n
+      → Reads old new (leading_bytes lead n) (pass_turns size lead n) (place / size + 5) 0
+  placing_pass place here leads chunks rests before few = grind (arith, le-div, div-mul-le_self)
 
 module _ {old peeked new : ProbeState} (size lead end n : ℕ) (least : 4 ≤ size) (le : end ≤ n)
     (peeks : Reads old peeked 0 0 0 3) where

@@ -1,41 +1,8 @@
 -- The characters of a text, from its leading and its trailing bytes.
-use Rattle.std.proofs.Common.{◌≡◌, ℕ, suc, ◌+◌, ◌<◌, ◌≤◌, ◌⊎◌, inl, inr, List, length, get_or, refl, arith, sym, ◌∙◌, ap, add-one, chars, IsUtf8}
-use Rattle.std.proofs.lemmas.Bool.{cases_lt}
-use Rattle.str_indices.specs.Text.{size, cut}
-use Rattle.str_indices.specs.Schemes.{count, ends, ends_up_to, from_byte_idx, to_byte_idx, Chars}
-use Rattle.str_indices.specs.Relations.{IsBoundary}
-use Rattle.str_indices.specs.Bytes.{mark, passing_before, is_leading}
-use Rattle.std.proofs.Math.Utf8.{encodes}
-use Rattle.str_indices.proofs.lemmas.bytes.Sums.{passing_fits, sum_below-le-sum_below, passing_or_not}
-use Rattle.str_indices.specs.TraitLaws.{mark-le}
-use Rattle.str_indices.proofs.lemmas.texts.Increasing.{member_adjunction, select-rank-le}
-use Rattle.str_indices.proofs.lemmas.texts.Ends.{count_characters, cut-cut, end_count-cut}
-use Rattle.str_indices.proofs.lemmas.bytes.Characters.{first_byte, is_trailing_later}
-use Rattle.str_indices.proofs.lemmas.bytes.Walks.{bytes_to_boundary, size-chars}
-use Rattle.str_indices.proofs.lemmas.texts.EndSets.{ends_increase_within, end_at_reached, zero_or_end}
-use Rattle.str_indices.proofs.lemmas.bytes.BoundaryBytes.{begins_boundary, leading_among_four}
-use Rattle.str_indices.proofs.lemmas.passes.Passes.{pass_after_peeks}
-
--- what is counted grows by at least one at each leading byte
-abbrev pub CountsLeading : (List ℕ → ℕ → ℕ) → Type 0
-CountsLeading counted = (bytes : List ℕ) (m n : ℕ) → m ≤ n
-    → passing_before is_leading bytes n + counted bytes m ≤ passing_before is_leading bytes m + counted bytes n
-
--- Where less than a chunk is left, or what the chunk at `at` counts reaches k, a place with at most k counted before
--- it is less than four bytes behind the chunk.
-pub end_is_near : (counted : List ℕ → ℕ → ℕ) → CountsLeading counted → (bytes : List ℕ) → IsUtf8 bytes
-    → (at size k end : ℕ) → (length bytes < at + size) ⊎ (k ≤ counted bytes (at + size)) → end ≤ length bytes
-    → counted bytes end ≤ k → end < at + size + 4
-end_is_near counted leads bytes utf8 at size k end stopped within at_most =
-    elim (cases_lt end (at + size + 4)) [
-      | inl near ↦ near
-      | inr far ↦
-          let (m, le, lt, begins) = leading_among_four bytes utf8 (at + size) (omega arith) in
-          let one : ◌≡◌ {A = ℕ} (mark is_leading (get_or bytes m 0)) 1 = rw begins in
-          let up_to = sum_below-le-sum_below (λ j. mark is_leading (get_or bytes j 0)) in
-          let grown = leads bytes (at + size) end (omega arith) in
-          absurd (omega (arith, up_to (at + size) m le, up_to (suc m) end (omega arith)))
-    ]
+use Rattle.str_indices.proofs.lemmas.Common.{◌≡◌, ℕ, ◌+◌, ◌<◌, ◌≤◌, List, length, get_or, refl, arith, sym, ◌∙◌, ap, add-one, chars, IsUtf8, size, cut, count, ends, ends_up_to, from_byte_idx, to_byte_idx, Chars, IsBoundary, passing_before, is_leading, encodes, mark-le}
+use Rattle.str_indices.proofs.lemmas.texts.{member_adjunction, select-rank-le, count_characters, cut-cut, end_count-cut, ends_increase_within, end_at_reached, zero_or_end}
+use Rattle.str_indices.proofs.lemmas.bytes.{first_byte, is_trailing_later, bytes_to_boundary, size-chars, begins_boundary}
+use Rattle.str_indices.proofs.lemmas.passes.{pass_after_peeks}
 
 -- the characters of the text that is cut at the boundary at or before a byte are those that end at or before it
 pub chars_of_byte : (cs : List ℕ) (byte end : ℕ) → end ≡ size (cut cs byte)
@@ -68,13 +35,5 @@ module _ (bytes : List ℕ) (utf8 : IsUtf8 bytes) where
       let place = select-rank-le (ends Chars cs) (size cs) increases d in
       grind (arith, (adjoint (ends_up_to Chars cs d) (zero_or_end cs at b)).1))
 
-  -- a byte that begins the character after the k-th is where the k-th ends
-  pub char_found : (i k : ℕ) → i < length bytes → passing_before is_leading bytes i ≤ k
-      → k < passing_before is_leading bytes (i + 1) → i ≡ to_byte_idx Chars (chars bytes) k
-  char_found i k below at_most passed = char_reached i k (omega arith) at_most (λ _. passed)
-
 -- the text that is cut at the boundary at or before a byte, and a pass behind the peeks to it, for the search
 pub ruleset chars_up_to = (chars_of_byte, pass_after_peeks)
-
--- the bytes before a boundary, as the search takes them
-pub ruleset bytes_at_boundary = (leading_at_boundary, passing_fits)

@@ -1,25 +1,7 @@
 -- The line breaks of `Crlf`, from the bytes at which they start.
-use Rattle.std.proofs.Common.{◌≡◌, ℕ, zero, suc, ◌+◌, ◌<◌, ◌≤◌, inl, inr, Bool, cond, List, ◌++◌, length, get_or, min, refl, arith, ap, add-one, add-zero, chars, IsUtf8}
-use Rattle.std.specs.Prelude.{◌&&◌, ◌||◌, not}
-use Rattle.std.specs.Char.{char_set_contains}
-use Rattle.std.proofs.lemmas.Bool.{cases_Bool}
-use Rattle.std.proofs.lemmas.Bool.Decides.{nat_tests}
-use Rattle.str_indices.specs.Text.{size, cut}
-use Rattle.str_indices.specs.Schemes.{Crlf, break_characters, count, from_byte_idx, to_byte_idx, ends}
-use Rattle.str_indices.specs.Bytes.{sum_below, flag, mark, is_line_feed, is_carriage_return, byte_before, starts_break, break_start, breaks_before, is_middle}
-use Rattle.str_indices.specs.Lanes.{FitsIn}
-use Rattle.str_indices.proofs.lemmas.passes.Passes.{counting_pass}
-use Rattle.str_indices.proofs.lemmas.texts.Cuts.{cut_at_least}
-use Rattle.str_indices.proofs.lemmas.texts.Increasing.{rank-le-rank}
-use Rattle.str_indices.proofs.lemmas.texts.Ends.{end_weight}
-use Rattle.str_indices.proofs.lemmas.texts.Seams.{crlf_has_return}
-use Rattle.str_indices.proofs.lemmas.texts.EndSets.{end_at_reached}
-use Rattle.str_indices.proofs.lemmas.bytes.Sums.{sum_below-le}
-use Rattle.str_indices.specs.TraitLaws.{break_start-le}
-use Rattle.str_indices.proofs.lemmas.bytes.Characters.{by_width}
-use Rattle.str_indices.proofs.lemmas.bytes.Walks.{AddsAtFirst, counted_at, size-chars}
-use Rattle.str_indices.proofs.lemmas.bytes.BoundaryBytes.{still_behind_cut}
-use Rattle.str_indices.proofs.lemmas.bytes.EndBytes.{adds_breaks, ends_by_walk, ends_by_ascii_walk, breaks_of_cut_text, feed_at_middle}
+use Rattle.str_indices.proofs.lemmas.Common.{◌≡◌, ℕ, zero, suc, ◌+◌, ◌<◌, ◌≤◌, inl, inr, Bool, cond, List, ◌++◌, length, get_or, min, refl, arith, ap, add-one, add-zero, chars, IsUtf8, ◌&&◌, ◌||◌, not, char_set_contains, cases_Bool, nat_tests, size, cut, Crlf, break_characters, count, from_byte_idx, to_byte_idx, ends, sum_below, flag, mark, is_line_feed, is_carriage_return, byte_before, starts_break, break_start, breaks_before, is_middle, break_start-le}
+use Rattle.str_indices.proofs.lemmas.texts.{cut_at_least, rank-le-rank, end_weight, crlf_has_return, end_at_reached}
+use Rattle.str_indices.proofs.lemmas.bytes.{sum_below-first, by_width, AddsAtFirst, counted_at, size-chars, still_behind_cut, adds_breaks, ends_by_walk, ends_by_ascii_walk, breaks_of_cut_text, feed_at_middle}
 
 -- whether LF, CR or CRLF ends with b, which stands before `next`
 abbrev ends_break : ℕ → ℕ → ℕ → Bool
@@ -76,7 +58,7 @@ module _ (bytes : List ℕ) (utf8 : IsUtf8 bytes) where
 
   -- The first byte before which k breaks start, or else the text's end, is where line k begins; where it stands
   -- between CR and LF, the line begins behind the LF.
-  pub line_begins : (k at : ℕ) → at ≤ length bytes → (at < length bytes → breaks_before bytes at ≡ k)
+  pub line_begins : (k at : ℕ) → at ≤ length bytes → (at < length bytes → k ≤ breaks_before bytes at)
       → ((d : ℕ) → d < at → breaks_before bytes d < k)
       → at + mark (is_middle bytes) at ≡ to_byte_idx Crlf (chars bytes) k
   line_begins k at within stopped first =
@@ -89,30 +71,8 @@ module _ (bytes : List ℕ) (utf8 : IsUtf8 bytes) where
             let (inside, feed) = feed_at_middle bytes at middle in
             let here = rw middle at (breaks_up_to at within) in
             let behind : mark (is_middle bytes) (suc at) ≡ 0 = rw feed refl in
+            let exact = sum_below-first (break_start bytes) (break_start-le bytes) k at first in
             rw (middle, add-one) (end_at_reached Crlf (chars bytes) k (suc at) (omega arith)
             (λ _. omega (arith, stopped inside, breaks_up_to (suc at) (omega arith), behind))
-            (λ d before. omega (arith, stopped inside, rank-le-rank (ends Crlf (chars bytes)) d at (omega arith))))
+            (λ d before. omega (arith, exact, rank-le-rank (ends Crlf (chars bytes)) d at (omega arith))))
       ]
-
--- before each place no more breaks start than bytes stand there, as the search takes it
-pub starts_bound : (bytes : List ℕ) (n : ℕ) → breaks_before bytes n ≤ n
-starts_bound bytes n = sum_below-le (break_start bytes) (break_start-le bytes) n
-
--- one byte more, as a walk sees it
-pub break_walked : (text : List ℕ) (i byte added : ℕ) (follows : Bool) → byte ≡ get_or text i 0
-    → follows ≡ is_carriage_return (byte_before text i)
-    → ((before : ℕ) → follows ≡ is_carriage_return before → added ≡ mark (starts_break before) byte)
-    → breaks_before text (i + 1) ≡ breaks_before text i + added
-break_walked text i byte added follows is carried counted = rw (add-one, counted (byte_before text i) carried, is)
-
--- and whether the byte that was walked is CR
-pub return_walked : (text : List ℕ) (i byte : ℕ) → byte ≡ get_or text i 0
-    → is_carriage_return byte ≡ is_carriage_return (byte_before text (i + 1))
-return_walked text i byte is = rw (is, add-one)
-
--- so before no place of a text more start than it has bytes, as code asks for it
-pub starts_fit : (bytes : List ℕ) → FitsIn (breaks_before bytes) (length bytes)
-starts_fit bytes place within = omega (arith, starts_bound bytes place)
-
--- what a pass of chunks asks, and what it reads, as the search takes it
-pub ruleset starts_in_parts = (starts_fit, counting_pass)

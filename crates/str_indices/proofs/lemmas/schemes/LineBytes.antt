@@ -1,30 +1,8 @@
 -- The line breaks of `Lines` as the bytes at which they are counted: at a boundary, in a cut text, and where a line
 -- begins.
-use Rattle.std.proofs.Common.{◌≡◌, ℕ, ◌+◌, ◌<◌, ◌≤◌, List, ◌++◌, get_or, arith, false, ◌∙◌, ap, length, take, sym, chars, IsUtf8}
-use Rattle.std.specs.Char.{char_set_contains}
-use Rattle.std.proofs.lemmas.Bool.{false_from_ne_true, lt-leb}
-use Rattle.std.proofs.lemmas.Bool.Decides.{nat_tests}
-use Rattle.str_indices.specs.Text.{size, cut}
-use Rattle.str_indices.specs.Schemes.{Lines, break_characters, count, from_byte_idx, to_byte_idx}
-use Rattle.str_indices.specs.Breaks.{is_break, break_at, breaks_counted_before}
-use Rattle.str_indices.specs.Relations.{IsBoundary}
-use Rattle.str_indices.specs.Bytes.{flag, is_middle}
-use Rattle.str_indices.specs.Lanes.{FitsIn}
-use Rattle.str_indices.proofs.lemmas.texts.Cuts.{cut_is}
-use Rattle.str_indices.proofs.lemmas.texts.Ends.{end_weight, end_count_total, cut-cut}
-use Rattle.str_indices.proofs.lemmas.texts.Seams.{lines_has_return}
-use Rattle.str_indices.proofs.lemmas.texts.EndSets.{end_at_reached}
-use Rattle.str_indices.proofs.lemmas.bytes.Sums.{sum_below-le, sum_below-le-sum_below}
-use Rattle.str_indices.specs.TraitLaws.{break_at-le}
-use Rattle.str_indices.proofs.lemmas.bytes.Characters.{by_size}
-use Rattle.str_indices.proofs.lemmas.bytes.Walks.{AddsAtFirst, size-chars, size-cut, walk_to_boundary}
-use Rattle.str_indices.proofs.lemmas.bytes.BoundaryBytes.{boundary_of_cut, cut_boundary, wide_behind_cut}
-use Rattle.str_indices.proofs.lemmas.bytes.EndBytes.{adds_breaks, ends_by_walk, breaks_of_cut_text, feed_at_middle}
-use Rattle.str_indices.proofs.lemmas.passes.Passes.{counting_pass}
-
--- no more breaks than bytes are counted
-pub breaks_counted_before-le : (bytes : List ℕ) (n : ℕ) → breaks_counted_before bytes n ≤ n
-breaks_counted_before-le bytes n = sum_below-le (break_at bytes) (break_at-le bytes) n
+use Rattle.str_indices.proofs.lemmas.Common.{◌≡◌, ℕ, ◌+◌, ◌<◌, ◌≤◌, List, ◌++◌, get_or, arith, false, ◌∙◌, ap, length, take, sym, chars, IsUtf8, char_set_contains, false_from_ne_true, lt-leb, nat_tests, size, cut, Lines, break_characters, count, from_byte_idx, to_byte_idx, is_break, break_at, breaks_counted_before, IsBoundary, flag, is_middle}
+use Rattle.str_indices.proofs.lemmas.texts.{cut_is, end_weight, end_count_total, cut-cut, lines_has_return, end_at_reached}
+use Rattle.str_indices.proofs.lemmas.bytes.{sum_below-le, sum_below-le-sum_below, by_size, AddsAtFirst, size-chars, size-cut, walk_to_boundary, boundary_of_cut, cut_boundary, wide_behind_cut, adds_breaks, ends_by_walk, breaks_of_cut_text, feed_at_middle}
 
 -- a break is counted at the first byte of its last character
 breaks_add : AddsAtFirst is_break (end_weight Lines)
@@ -76,15 +54,5 @@ module _ (bytes : List ℕ) (utf8 : IsUtf8 bytes) where
 -- the byte before or at which a text is cut, as the search takes it
 pub ruleset lines_up_to = (boundary_of_cut, line_of_byte)
 
--- before no place are more counted than there are bytes, as code asks for it
-pub breaks_fit : (bytes : List ℕ) (n : ℕ) → FitsIn (breaks_counted_before bytes) n
-breaks_fit bytes n place within = omega (arith, breaks_counted_before-le bytes place)
-
--- no more breaks are counted than bytes, as the search takes it
-pub ruleset breaks_bound = (breaks_counted_before-le, breaks_fit)
-
 -- where a boundary stands between CR and LF, for the search
 pub ruleset parted = (moved_is_whole, lt-leb)
-
--- the breaks before a boundary, and a pass over them, as the search takes it
-pub ruleset breaks_in_parts = (breaks_in_cut, breaks_fit, counting_pass)

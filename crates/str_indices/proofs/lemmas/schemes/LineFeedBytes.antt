@@ -1,17 +1,7 @@
 -- The line breaks of `Lf` as the bytes that are LF.
-use Rattle.std.proofs.Common.{◌≡◌, ℕ, ◌<◌, ◌≤◌, List, ◌∷◌, length, arith, sym, ◌∙◌, ap, min, chars, IsUtf8}
-use Rattle.std.proofs.Math.Utf8.{scalar, scalars}
-use Rattle.std.proofs.lemmas.Bool.Decides.{nat_tests}
-use Rattle.std.proofs.lemmas.Bool.{and_from}
-use Rattle.str_indices.specs.Text.{cut}
-use Rattle.str_indices.specs.Bytes.{flag, passing_before, is_line_feed}
-use Rattle.str_indices.specs.Schemes.{Lf, count, from_byte_idx, to_byte_idx}
-use Rattle.str_indices.proofs.lemmas.bytes.Sums.{passing_fits}
-use Rattle.str_indices.proofs.lemmas.texts.Cuts.{cut_at_least}
-use Rattle.str_indices.proofs.lemmas.texts.Ends.{end_weight-Lf, end_count-cut}
-use Rattle.str_indices.proofs.lemmas.texts.EndSets.{end_at_reached}
-use Rattle.str_indices.proofs.lemmas.bytes.Walks.{size-chars}
-use Rattle.str_indices.proofs.lemmas.bytes.EndBytes.{ends_by_ascii_walk, next_line_feed}
+use Rattle.str_indices.proofs.lemmas.Common.{◌≡◌, ℕ, ◌<◌, ◌≤◌, List, ◌∷◌, length, arith, sym, ◌∙◌, ap, min, chars, IsUtf8, scalar, scalars, nat_tests, and_from, cut, flag, passing_before, is_line_feed, Lf, count, from_byte_idx, to_byte_idx}
+use Rattle.str_indices.proofs.lemmas.texts.{cut_at_least, end_weight-Lf, end_count-cut, end_at_reached}
+use Rattle.str_indices.proofs.lemmas.bytes.{size-chars, ends_by_ascii_walk, next_line_feed}
 
 -- the line breaks of a cut text are those at or before the cut
 breaks_of_cut : (cs : List ℕ) (end : ℕ) → count Lf (cut cs end) ≡ from_byte_idx Lf cs end
@@ -48,6 +38,3 @@ module _ (bytes : List ℕ) (utf8 : IsUtf8 bytes) where
   line_of_byte byte end here =
       ap (count Lf) (cut_at_least (chars bytes) byte end (omega (arith, size-chars bytes utf8)))
       ∙ breaks_of_cut (chars bytes) byte
-
--- the line feeds before a place, as the search takes them
-pub ruleset line_feeds_at_end = (line_feeds_before, passing_fits)

@@ -1,28 +1,9 @@
 -- The UTF-16 code units of a text, from its leading bytes and the first bytes of its characters of four bytes.
-use Rattle.std.proofs.Common.{◌≡◌, ℕ, zero, suc, ◌+◌, ◌-◌, ◌<◌, ◌≤◌, inl, inr, true, false, List, ◌++◌, length, get_or, refl, arith, sym, ◌∙◌, ap, add-one, add-zero, add-suc, chars, IsUtf8, bit_and}
-use Rattle.std.specs.Prelude.{◌==◌, nat_le, sum_by}
-use Rattle.std.specs.Char.{len_utf8}
-use Rattle.std.proofs.Math.Utf8.{encode, encodes, scalar}
-use Rattle.std.proofs.lemmas.Bool.{cases_Bool, false_from_ne_true, agree_below_at, lt-leb, eqb-true}
-use Rattle.std.proofs.lemmas.List.Sums.{sum_by-le-sum_by}
-use Rattle.std.proofs.lemmas.Nat.{and_assoc}
-use Rattle.std.proofs.lemmas.Str.{length-encode}
-use Rattle.std.proofs.lemmas.Bool.Decides.{nat_tests}
-use Rattle.str_indices.specs.Text.{size, cut, weight}
-use Rattle.str_indices.specs.Schemes.{count, from_byte_idx, Chars, Utf16, surrogates, boundary_at_units}
-use Rattle.str_indices.specs.Relations.{IsBoundary}
-use Rattle.str_indices.specs.Bytes.{flag, mark, passing_before, is_trailing, is_leading, begins_four_bytes, units_begun, units_before, byte_before}
-use Rattle.str_indices.specs.Lanes.{FitsIn}
-use Rattle.str_indices.proofs.lemmas.texts.Sizes.{size-append, boundary_beside}
-use Rattle.str_indices.proofs.lemmas.texts.Units.{units_at, boundary_at_units_is_greatest, count-units, count-characters-surrogates, weight-le}
-use Rattle.str_indices.proofs.lemmas.texts.Ends.{cut-cut}
-use Rattle.str_indices.proofs.lemmas.bytes.Sums.{sum_below-le-sum_below, sum_below-still, passing_fits}
-use Rattle.str_indices.specs.TraitLaws.{mark-le}
-use Rattle.str_indices.proofs.lemmas.bytes.Characters.{by_size}
-use Rattle.str_indices.proofs.lemmas.bytes.Walks.{bytes_to_boundary, boundary_at_end, size-chars}
-use Rattle.str_indices.proofs.lemmas.bytes.BoundaryBytes.{begins_at, begins_boundary}
-use Rattle.str_indices.proofs.lemmas.schemes.CharBytes.{CountsLeading, leading_at_boundary}
-use Rattle.str_indices.proofs.lemmas.passes.Passes.{pass_after_peeks}
+use Rattle.str_indices.proofs.lemmas.Common.{◌≡◌, ℕ, zero, suc, ◌+◌, ◌-◌, ◌<◌, ◌≤◌, inl, inr, true, false, List, ◌++◌, length, get_or, refl, arith, sym, ◌∙◌, ap, add-one, add-zero, add-suc, chars, IsUtf8, bit_and, ◌==◌, nat_le, sum_by, len_utf8, encode, encodes, scalar, cases_Bool, false_from_ne_true, agree_below_at, lt-leb, eqb-true, sum_by-le-sum_by, and_assoc, length-encode, nat_tests, size, cut, weight, count, from_byte_idx, Chars, Utf16, surrogates, boundary_at_units, IsBoundary, flag, mark, passing_before, is_trailing, is_leading, begins_four_bytes, units_begun, units_before, byte_before, IsSteady, mark-le}
+use Rattle.str_indices.proofs.lemmas.texts.{size-append, boundary_beside, units_at, boundary_at_units_is_greatest, count-units, count-characters-surrogates, weight-le, cut-cut}
+use Rattle.str_indices.proofs.lemmas.bytes.{sum_below-le-sum_below, sum_below-still, by_size, bytes_to_boundary, boundary_at_end, size-chars, begins_at, begins_boundary}
+use Rattle.str_indices.proofs.lemmas.schemes.CharBytes.{leading_at_boundary}
+use Rattle.str_indices.proofs.lemmas.passes.{pass_after_peeks}
 
 -- the mask of a first byte of four, as a range
 four_range : (b : ℕ) → b < 256 → begins_four_bytes b ≡ nat_le 240 b
@@ -56,12 +37,6 @@ units_are : (bytes : List ℕ) (n : ℕ)
     → units_before bytes n ≡ passing_before is_leading bytes n + passing_before begins_four_bytes bytes n
 units_are bytes zero = refl
 units_are bytes (suc n) = omega (arith, units_are bytes n)
-
--- units grow by at least one at each leading byte
-pub units_count_leading : CountsLeading units_before
-units_count_leading bytes m n le =
-    let fours = sum_below-le-sum_below (λ j. mark begins_four_bytes (get_or bytes j 0)) m n le in
-    omega (arith, units_are bytes m, units_are bytes n, fours)
 
 -- more bytes show no fewer units
 units_before-le-units_before : (bytes : List ℕ) (m n : ℕ) → m ≤ n → units_before bytes m ≤ units_before bytes n
@@ -139,10 +114,6 @@ module _ (bytes : List ℕ) (utf8 : IsUtf8 bytes) where
       let more = units_before-le-units_before bytes i (length bytes) within in
       omega (arith, b.place, units_at_boundary (length bytes) b)
 
-  -- the same, as code asks for it
-  pub units_fit : FitsIn (units_before bytes) (length bytes)
-  units_fit = units_before-le
-
   -- behind a byte that begins four stands no leading byte
   leads_or_behind_four : (n : ℕ) → n < length bytes
       → mark is_leading (get_or bytes n 0) + mark begins_four_bytes (byte_before bytes n) ≤ 1
@@ -168,6 +139,10 @@ module _ (bytes : List ℕ) (utf8 : IsUtf8 bytes) where
   units_before-more i n within =
       omega (arith, units_before-step i n within, mark-le begins_four_bytes (byte_before bytes (i + n)))
 
+  -- so they are steady, as code asks for it
+  pub units_steady : IsSteady (units_before bytes) (length bytes)
+  units_steady = record { fits = units_before-le; near = units_before-more }
+
   -- a boundary with at most k units before it, and more before the next byte, if there is one, is where the
   -- conversion of k answers
   pub unit_reached : (at k : ℕ) → at ≤ length bytes → units_before bytes at ≤ k
@@ -185,12 +160,3 @@ module _ (bytes : List ℕ) (utf8 : IsUtf8 bytes) where
 
 -- the text that is cut at the boundary at or before a byte, and a pass behind the peeks to it, for the search
 pub ruleset units_up_to = (units_of_byte, pass_after_peeks)
-
--- the units before a boundary, as the search takes them
-pub ruleset units_at_end = (units_in_cut, units_fit)
-
--- the first bytes of four before a boundary, as the search takes them
-pub ruleset pairs_at_end = (pairs_before_last_three, passing_fits)
-
--- how the units grow, as the search takes it
-pub ruleset units_bounds = (units_fit, units_before-more)

@@ -1,12 +1,5 @@
 -- What a text cut at a byte index is: the longest beginning that fits before the index.
-use Rattle.std.proofs.Common.{◌≡◌, ℕ, ◌+◌, ◌<◌, ◌≤◌, inl, inr, List, [], ◌∷◌, ◌++◌, length, map, min, refl, arith, sym, ◌∙◌, ap, append-nil}
-use Rattle.std.specs.Prelude.{filter, nat_le}
-use Rattle.std.specs.Char.{len_utf8}
-use Rattle.std.proofs.lemmas.Bool.{cases_lt, le-leb, lt-leb}
-use Rattle.std.proofs.lemmas.List.{length-append}
-use Rattle.std.proofs.lemmas.Str.{len_utf8_bounds}
-use Rattle.str_indices.specs.Text.{size, placed, cut}
-use Rattle.str_indices.specs.Relations.{IsLongestCut, IsBoundary}
+use Rattle.str_indices.proofs.lemmas.Common.{◌≡◌, ℕ, ◌+◌, ◌<◌, ◌≤◌, inl, inr, List, [], ◌∷◌, ◌++◌, length, map, min, refl, arith, sym, ◌∙◌, ap, append-nil, filter, nat_le, len_utf8, cases_lt, le-leb, lt-leb, length-append, len_utf8_bounds, size, placed, cut, IsLongestCut, IsBoundary}
 use Rattle.str_indices.proofs.lemmas.texts.Sizes.{size-cons, size-append}
 
 -- the characters that end at or before `end`, in a text that begins at `start`

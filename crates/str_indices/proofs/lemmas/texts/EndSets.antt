@@ -1,21 +1,10 @@
 -- The ends of a text against the relations that say what they are; the boundaries; where a walk to the k-th end stops.
-use Rattle.std.proofs.Common.{◌≡◌, ℕ, ◌+◌, ◌<◌, ◌↔◌, ◌⊎◌, inl, inr, List, [], ◌∷◌, ◌++◌, get_or, refl, arith, All, Bool, true, sym, ◌∙◌, ap, reverse, zero, suc, length, ◌≤◌}
-use Rattle.std.specs.Prelude.{filter, Contains, ◌==◌, slice_index, nat_le}
-use Rattle.std.specs.List.Sorted.{IsStrictlyIncreasing}
-use Rattle.std.specs.Char.{len_utf8, char_set_contains}
+use Rattle.str_indices.proofs.lemmas.Common.{◌≡◌, ℕ, ◌+◌, ◌<◌, ◌↔◌, ◌⊎◌, inl, inr, List, [], ◌∷◌, ◌++◌, get_or, refl, arith, All, Bool, true, sym, ◌∙◌, ap, reverse, zero, suc, length, ◌≤◌, filter, Contains, ◌==◌, slice_index, nat_le, IsStrictlyIncreasing, len_utf8, char_set_contains, cases_Bool, both_ways, and_parts, and_from, eqb-true, not-true, not_from_false, false_from_ne_true, cases_lt, len_utf8_bounds, append_cancel_left, append_assoc, take_all, take_more, get_or-map, length-map, reverse-append, append-nil, get_or_past, All-map, All-filter, filter_passes, All-nil, All-cons, All-contains, Contains-append_right, Contains-get_or, placed, size, Placed, is_crlf_middle, line_feed, carriage_return, Scheme, Chars, Utf16, is_break_end, ends, end_at, end_count, ends_up_to, IsEndOf, IsCrlfMiddle, IsBreakEnd, IsCharacterEnd, IsEnd, IsBoundary, count_by-le-length}
 use Rattle.str_indices.proofs.lemmas.texts.Cuts.{cut_front}
-use Rattle.std.proofs.lemmas.Bool.{cases_Bool, both_ways, and_parts, and_from, eqb-true, not-true, not_from_false, false_from_ne_true, cases_lt}
-use Rattle.std.proofs.lemmas.Str.{len_utf8_bounds}
-use Rattle.std.proofs.lemmas.List.{append_cancel_left, append_assoc, take_all, take_more, get_or-map, length-map, reverse-append, append-nil, get_or_past}
-use Rattle.std.proofs.lemmas.List.Elements.{All-map, All-filter, filter_passes, All-nil, All-cons, All-contains, Contains-append_right, Contains-get_or}
-use Rattle.str_indices.specs.Text.{placed, size, Placed, is_crlf_middle, line_feed, carriage_return}
-use Rattle.str_indices.specs.Schemes.{Scheme, Chars, Utf16, is_break_end, ends, end_at, end_count, ends_up_to}
-use Rattle.str_indices.specs.Relations.{IsEndOf, IsCrlfMiddle, IsBreakEnd, IsCharacterEnd, IsEnd, IsBoundary}
 use Rattle.str_indices.proofs.lemmas.texts.Sizes.{size-cons, size-append}
 use Rattle.str_indices.proofs.lemmas.texts.Increasing.{IsStrictlyIncreasing-within, select, adjunction, rank_all, rank-select, select-le-high}
 use Rattle.str_indices.proofs.lemmas.texts.Ends.{ends_from, first_placed}
 pub use Rattle.str_indices.proofs.lemmas.texts.Ends.{ends_increase_within}
-use Rattle.std.proofs.lemmas.List.Sums.{count_by-le-length}
 
 -- an element that passes a test is kept
 pub Contains-filter : {X : Type 0} (test : X → Bool) (xs : List X) (x : X) → Contains xs x → test x ≡ true

@@ -1,14 +1,7 @@
 -- The ends of a text: where they are, how many there are, what each character adds to them, and those of a cut text.
-use Rattle.std.proofs.Common.{◌≡◌, ℕ, ◌+◌, inl, inr, List, [], ◌∷◌, ◌++◌, map, arith, Bool, refl, cond, ◌∙◌, ap, ◌<◌, ◌≤◌, append-nil}
-use Rattle.std.specs.Prelude.{filter, sum_by, ◌==◌, nat_le}
-use Rattle.std.specs.Char.{len_utf8}
-use Rattle.std.proofs.lemmas.Bool.{cases_Bool}
-use Rattle.std.proofs.lemmas.Str.{len_utf8_bounds}
-use Rattle.str_indices.specs.Text.{size, Placed, placed, cut}
+use Rattle.str_indices.proofs.lemmas.Common.{◌≡◌, ℕ, ◌+◌, inl, inr, List, [], ◌∷◌, ◌++◌, map, arith, Bool, refl, cond, ◌∙◌, ap, ◌<◌, ◌≤◌, append-nil, filter, sum_by, ◌==◌, nat_le, len_utf8, cases_Bool, len_utf8_bounds, size, Placed, placed, cut, nat_tests, Chars, Lf, is_end, count, Scheme, ends, end_count, ends_up_to}
 use Rattle.str_indices.proofs.lemmas.texts.Sizes.{size-cons, total, total_front, total_alone, total_front_alone, total-append}
 use Rattle.str_indices.proofs.lemmas.texts.Increasing.{IncreasesWithin, rank, rank_none, rank-cons, rank_all}
-use Rattle.std.proofs.lemmas.Bool.Decides.{nat_tests}
-use Rattle.str_indices.specs.Schemes.{Chars, Lf, is_end, count, Scheme, ends, end_count, ends_up_to}
 use Rattle.str_indices.proofs.lemmas.texts.Cuts.{cut_is, cut_seam}
 
 -- where the characters end at which the test passes, in a text that begins at `start`

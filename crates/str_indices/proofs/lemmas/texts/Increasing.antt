@@ -1,11 +1,5 @@
 -- Lists of increasing numbers: how many are at most a number, and which is the k-th.
-use Rattle.std.proofs.Common.{◌+◌, ◌≡◌, ℕ, zero, suc, ◌<◌, ◌≤◌, ◌↔◌, inl, inr, min, List, [], ◌∷◌, length, get_or, count_by, refl, arith, cond, ◌∙◌, ap, ◌⊎◌, sym}
-use Rattle.std.specs.Prelude.{nat_le, Contains}
-use Rattle.std.specs.List.Sorted.{IsStrictlyIncreasing}
-use Rattle.std.proofs.lemmas.Bool.Decides.{nat_tests}
-use Rattle.std.proofs.lemmas.List.{get_or_past, get_or_default}
-use Rattle.std.proofs.lemmas.List.Sums.{sum_by-cons, count_by-le-length}
-use Rattle.std.proofs.lemmas.List.Elements.{Contains-get_or}
+use Rattle.str_indices.proofs.lemmas.Common.{◌+◌, ◌≡◌, ℕ, zero, suc, ◌<◌, ◌≤◌, ◌↔◌, inl, inr, min, List, [], ◌∷◌, length, get_or, count_by, refl, arith, cond, ◌∙◌, ap, ◌⊎◌, sym, nat_le, Contains, IsStrictlyIncreasing, nat_tests, get_or_past, get_or_default, sum_by-cons, count_by-le-length, Contains-get_or}
 
 -- the numbers increase strictly, each is above low, and the last is at most high
 abbrev pub IncreasesWithin : ℕ → List ℕ → ℕ → Type 0

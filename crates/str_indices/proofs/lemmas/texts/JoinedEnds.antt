@@ -1,14 +1,5 @@
 -- The ends of two texts, one after the other, by those of each: how many are up to a byte index, and which is the k-th.
-use Rattle.std.proofs.Common.{◌≡◌, ℕ, ◌+◌, ◌-◌, ◌<◌, ◌≤◌, inl, inr, List, [], ◌∷◌, ◌++◌, refl, arith, sym}
-use Rattle.std.specs.Prelude.{nat_le}
-use Rattle.std.specs.Char.{len_utf8}
-use Rattle.std.proofs.lemmas.Bool.{cases_lt}
-use Rattle.std.proofs.lemmas.Bool.Decides.{nat_tests}
-use Rattle.std.proofs.lemmas.Str.{len_utf8_bounds}
-use Rattle.std.proofs.lemmas.List.Sums.{count_by-le-length}
-use Rattle.str_indices.specs.Text.{size}
-use Rattle.str_indices.specs.Schemes.{Scheme, Chars, is_end, ends, end_count, ends_up_to, end_at}
-use Rattle.str_indices.specs.Joins.{seam_loss}
+use Rattle.str_indices.proofs.lemmas.Common.{◌≡◌, ℕ, ◌+◌, ◌-◌, ◌<◌, ◌≤◌, inl, inr, List, [], ◌∷◌, ◌++◌, refl, arith, sym, nat_le, len_utf8, cases_lt, nat_tests, len_utf8_bounds, count_by-le-length, size, Scheme, Chars, is_end, ends, end_count, ends_up_to, end_at, seam_loss}
 use Rattle.str_indices.proofs.lemmas.texts.Sizes.{size-cons, size-append}
 use Rattle.str_indices.proofs.lemmas.texts.Increasing.{rank, rank_none, rank-le-rank, adjunction, select-le-high}
 use Rattle.str_indices.proofs.lemmas.texts.Ends.{ends_from, ends_from-increases, ends_increase_within, end_weight, rank_step, rank-append, end_count_total}

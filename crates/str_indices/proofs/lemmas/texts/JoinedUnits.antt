@@ -1,10 +1,5 @@
 -- The boundaries of two texts, one after the other, and their UTF-16 code units, by those of each.
-use Rattle.std.proofs.Common.{◌≡◌, ℕ, ◌+◌, ◌≤◌, ◌⊎◌, inl, inr, List, [], ◌∷◌, ◌++◌, refl, arith, sym, ◌∙◌, ap, append_assoc, le_antisymm}
-use Rattle.std.specs.Prelude.{sum_by}
-use Rattle.std.proofs.lemmas.List.Sums.{sum_by-cons, sum_by-append}
-use Rattle.str_indices.specs.Text.{size, weight, cut}
-use Rattle.str_indices.specs.Schemes.{Utf16, units, boundary_at_units, count}
-use Rattle.str_indices.specs.Relations.{IsBoundary}
+use Rattle.str_indices.proofs.lemmas.Common.{◌≡◌, ℕ, ◌+◌, ◌≤◌, ◌⊎◌, inl, inr, List, [], ◌∷◌, ◌++◌, refl, arith, sym, ◌∙◌, ap, append_assoc, le_antisymm, sum_by, sum_by-cons, sum_by-append, size, weight, cut, Utf16, units, boundary_at_units, count, IsBoundary}
 use Rattle.str_indices.proofs.lemmas.texts.Sizes.{size-append}
 use Rattle.str_indices.proofs.lemmas.texts.Cuts.{cut_before, cut_behind}
 use Rattle.str_indices.proofs.lemmas.texts.Units.{count-units, weight_is_one_or_two, boundary_at_units_is_greatest}

@@ -1,11 +1,5 @@
 -- What a seam takes from the ends of the texts on its two sides: one where it makes a CRLF.
-use Rattle.std.proofs.Common.{ℕ, List, [], ◌∷◌, ◌++◌, get_or, arith, cond, ◌≡◌, ◌≢◌, ◌+◌, refl, true, sym, ◌∙◌}
-use Rattle.std.specs.Prelude.{◌==◌}
-use Rattle.std.specs.Char.{char_set_contains}
-use Rattle.std.proofs.lemmas.Bool.Decides.{nat_tests}
-use Rattle.str_indices.specs.Text.{cut, line_feed, carriage_return}
-use Rattle.str_indices.specs.Schemes.{Scheme, Chars, Utf16, Lf, Crlf, Lines, break_characters, end_count, ends_up_to, is_break_end, is_end}
-use Rattle.str_indices.specs.Joins.{ends_in_return, starts_with_feed, joins_crlf, seam_loss}
+use Rattle.str_indices.proofs.lemmas.Common.{ℕ, List, [], ◌∷◌, ◌++◌, get_or, arith, cond, ◌≡◌, ◌≢◌, ◌+◌, refl, true, sym, ◌∙◌, ◌==◌, char_set_contains, nat_tests, cut, line_feed, carriage_return, Scheme, Chars, Utf16, Lf, Crlf, Lines, break_characters, end_count, ends_up_to, is_break_end, is_end, ends_in_return, starts_with_feed, joins_crlf, seam_loss}
 use Rattle.str_indices.proofs.lemmas.texts.Sizes.{total, total_front, total_alone, total_front_alone, total-append}
 use Rattle.str_indices.proofs.lemmas.texts.Cuts.{cut_is}
 use Rattle.str_indices.proofs.lemmas.texts.Ends.{ReadsAlone, end_weight, end_weight-Lf, end_count_total, ends_up_to_cut, first_placed}

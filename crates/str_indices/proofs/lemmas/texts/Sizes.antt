@@ -1,10 +1,5 @@
 -- Sums over the characters of a text: its bytes, and what stands before each of two places where it is split.
-use Rattle.std.proofs.Common.{◌≡◌, ℕ, ◌+◌, List, ◌∷◌, ◌++◌, ◌≤◌, ◌⊎◌, inl, inr, [], refl, arith, sym, ◌∙◌, ap, append-nil}
-use Rattle.std.specs.Char.{len_utf8}
-use Rattle.std.proofs.lemmas.List.Sums.{sum_by-cons, sum_by-append}
-use Rattle.str_indices.specs.Text.{size}
-use Rattle.std.specs.Prelude.{sum_by}
-use Rattle.str_indices.specs.Relations.{IsBoundary}
+use Rattle.str_indices.proofs.lemmas.Common.{◌≡◌, ℕ, ◌+◌, List, ◌∷◌, ◌++◌, ◌≤◌, ◌⊎◌, inl, inr, [], refl, arith, sym, ◌∙◌, ap, append-nil, len_utf8, sum_by-cons, sum_by-append, size, sum_by, IsBoundary}
 
 -- a text takes the bytes of its first character and those of the rest
 pub size-cons : (c : ℕ) (cs : List ℕ) → size (c ∷ cs) ≡ len_utf8 c + size cs

@@ -1,15 +1,5 @@
 -- The UTF-16 code units before a place, and the greatest boundary before which a text takes at most so many.
-use Rattle.std.proofs.Common.{zero, suc, ◌≡◌, ℕ, ◌≤◌, List, [], ◌∷◌, max, arith, All, ◌+◌, ◌⊎◌, refl, cond, ap}
-use Rattle.std.specs.Prelude.{filter, fold, nat_le, ◌==◌, sum_by, Contains}
-use Rattle.std.proofs.lemmas.Bool.Decides.{nat_tests}
-use Rattle.std.proofs.lemmas.Bool.{le-leb, leb-true}
-use Rattle.std.proofs.lemmas.List.Elements.{All-nil, All-cons, All-head, All-tail, All-filter, All-contains, Contains-get_or, Contains-append_right, filter_passes}
-use Rattle.std.specs.Char.{len_utf8}
-use Rattle.std.proofs.lemmas.Str.{len_utf8_bounds}
-use Rattle.std.proofs.lemmas.List.Sums.{sum_by-cons, sum_by-append}
-use Rattle.str_indices.specs.Text.{size, weight, cut}
-use Rattle.str_indices.specs.Schemes.{Chars, Utf16, ends, units, boundaries, boundary_at_units, count, surrogates}
-use Rattle.str_indices.specs.Relations.{IsBoundary, IsGreatestWithin}
+use Rattle.str_indices.proofs.lemmas.Common.{zero, suc, ◌≡◌, ℕ, ◌≤◌, List, [], ◌∷◌, max, arith, All, ◌+◌, ◌⊎◌, refl, cond, ap, filter, fold, nat_le, ◌==◌, sum_by, Contains, nat_tests, le-leb, leb-true, All-nil, All-cons, All-head, All-tail, All-filter, All-contains, Contains-get_or, Contains-append_right, filter_passes, len_utf8, len_utf8_bounds, sum_by-cons, sum_by-append, size, weight, cut, Chars, Utf16, ends, units, boundaries, boundary_at_units, count, surrogates, IsBoundary, IsGreatestWithin}
 use Rattle.str_indices.proofs.lemmas.texts.Cuts.{cut_is, cut_goes_on, cut_front, cut_all}
 use Rattle.str_indices.proofs.lemmas.texts.Ends.{count_characters}
 use Rattle.str_indices.proofs.lemmas.texts.EndSets.{Contains-filter, ends_are, IsBoundary-start}

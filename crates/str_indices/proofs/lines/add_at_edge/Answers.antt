@@ -1,7 +1,4 @@
-use Rattle.std.proofs.Common.{◌-◌, ◌+◌, take, arith, ap, sym, ◌∙◌}
-use Rattle.std.proofs.lemmas.List.{get_or-take}
-use Rattle.str_indices.specs.Bytes.{flag}
-use Rattle.str_indices.proofs.lemmas.lanes.BreakChunks.{lane_small, separator_crosses, separator_kept, wide_crosses, wide_kept}
+use Rattle.str_indices.proofs.lemmas.{◌-◌, ◌+◌, take, arith, ap, sym, ◌∙◌, get_or-take, flag, lane_small, separator_crosses, separator_kept, wide_crosses, wide_kept}
 use Rattle.str_indices.proofs.lines.add_at_edge.Goals as goal
 
 pub returns-then-is_separator-clause-lanes : goal.returns-then-is_separator-clause-lanes

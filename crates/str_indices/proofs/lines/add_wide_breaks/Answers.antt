@@ -1,27 +1,33 @@
-use Rattle.str_indices.proofs.lemmas.lanes.BreakChunks.{firsts_fit, inside_counted, next_lines_fit, no_wide, sums_long, sums_small}
+use Rattle.str_indices.proofs.lemmas.{firsts_fit, inside_counted, next_lines_fit, no_wide, sums_long, sums_small, room_exchanged, sums_exchanged}
 use Rattle.str_indices.proofs.lines.add_wide_breaks.Goals as goal
 
 pub add-requires : goal.add-requires
-add-requires g c = firsts_fit g.met.T.ByteChunk.lawful.least c.requires.chunk c.cmp_eq_byte-next_lines.ensures
-    c.cmp_eq_byte-separators.ensures
+add-requires g c = search (
+  firsts_fit g.met.T.ByteChunk.lawful.least c.requires.chunk
+      c.cmp_eq_byte-next_lines.ensures c.cmp_eq_byte-separators.ensures,
+  room_exchanged,
+)
 
 pub returns-then-is_zero-clause-lanes : goal.returns-then-is_zero-clause-lanes
 returns-then-is_zero-clause-lanes g c =
     no_wide g.met.T.ByteChunk.lawful.least c.requires.chunk c.cmp_eq_byte-next_lines.ensures
-    c.cmp_eq_byte-separators.ensures c.add.ensures (c.is_zero.ensures.0 c.if-is_zero.true) c.requires.counted
+    c.cmp_eq_byte-separators.ensures (search (c.add.ensures, sums_exchanged)) (c.is_zero.ensures.0 c.if-is_zero.true) c.requires.counted
 
 pub add-with_next_lines-requires : goal.add-with_next_lines-requires
 add-with_next_lines-requires g c =
-    next_lines_fit g.met.T.ByteChunk.lawful.least c.requires.chunk c.requires.counted c.pair_starts.ensures
+    search (
+      next_lines_fit g.met.T.ByteChunk.lawful.least c.requires.chunk c.requires.counted c.pair_starts.ensures,
+      room_exchanged,
+    )
 
 pub add_separators-inside-requires-clause-as_long : goal.add_separators-inside-requires-clause-as_long
 add_separators-inside-requires-clause-as_long g c = sums_long g.met.T.ByteChunk.lawful.least c.requires.chunk
-    c.requires.counted c.pair_starts.ensures c.add-with_next_lines.ensures
+    c.requires.counted c.pair_starts.ensures (search (c.add-with_next_lines.ensures, sums_exchanged))
 
 pub add_separators-inside-requires-clause-room : goal.add_separators-inside-requires-clause-room
 add_separators-inside-requires-clause-room g c = sums_small g.met.T.ByteChunk.lawful.least c.requires.chunk
-    c.requires.counted c.pair_starts.ensures c.add-with_next_lines.ensures
+    c.requires.counted c.pair_starts.ensures (search (c.add-with_next_lines.ensures, sums_exchanged))
 
 pub add_at_edge-requires-clause-counted : goal.add_at_edge-requires-clause-counted
 add_at_edge-requires-clause-counted g c = inside_counted g.met.T.ByteChunk.lawful.least c.requires.chunk
-    c.requires.counted c.pair_starts.ensures c.add-with_next_lines.ensures c.add_separators-inside.ensures
+    c.requires.counted c.pair_starts.ensures (search (c.add-with_next_lines.ensures, sums_exchanged)) c.add_separators-inside.ensures

@@ -1,4 +1,4 @@
-use Rattle.str_indices.proofs.lemmas.lanes.BreakChunks.{crlf_fits, narrow_crossing, narrow_kept, no_crlf}
+use Rattle.str_indices.proofs.lemmas.{crlf_fits, narrow_crossing, narrow_kept, no_crlf}
 use Rattle.str_indices.proofs.lines.count_narrow_breaks.Goals as goal
 
 pub returns-then-is_zero-clause-lanes : goal.returns-then-is_zero-clause-lanes

@@ -1,5 +1,4 @@
-use Rattle.std.proofs.Common.{arith}
-use Rattle.str_indices.proofs.lemmas.bytes.BoundaryBytes.{no_boundary_before, boundary_behind_three}
+use Rattle.str_indices.proofs.lemmas.{arith, no_boundary_before, boundary_behind_three}
 use Rattle.str_indices.proofs.places.boundary_at_or_after.Goals as goal
 
 pub returns-after-loop-clause-boundary : goal.returns-after-loop-clause-boundary
@@ -12,8 +11,4 @@ returns-after-loop-clause-least g c =
 
 pub returns-then-boundary-len-clause-least : goal.returns-then-boundary-len-clause-least
 returns-then-boundary-len-clause-least g c =
-    no_boundary_before _ c.len-len.ensures.utf8 _ _ c.loop.invariant.within c.loop.invariant.trails
-
-pub returns-then-not-is_trailing_byte-clause-least : goal.returns-then-not-is_trailing_byte-clause-least
-returns-then-not-is_trailing_byte-clause-least g c =
     no_boundary_before _ c.len-len.ensures.utf8 _ _ c.loop.invariant.within c.loop.invariant.trails

@@ -1,5 +1,4 @@
-use Rattle.std.proofs.Common.{◌≡◌, ℕ, ◌+◌, ◌<◌, ◌≤◌, length, true, get_or}
-use Rattle.str_indices.specs.Bytes.{is_trailing}
+use Rattle.str_indices.proofs.lemmas.{◌≡◌, ℕ, ◌+◌, ◌<◌, ◌≤◌, length, true, get_or, is_trailing}
 use Rattle.str_indices.proofs.places.boundary_at_or_after.Given as goal
 
 abbrev pub invariant-loop : goal.invariant-loop

@@ -1,5 +1,4 @@
-use Rattle.std.proofs.Common.{arith}
-use Rattle.str_indices.proofs.lemmas.bytes.BoundaryBytes.{cut_behind_three}
+use Rattle.str_indices.proofs.lemmas.{arith, cut_behind_three}
 use Rattle.str_indices.proofs.places.boundary_at_or_before.Goals as goal
 
 pub returns-after-loop-clause-boundary : goal.returns-after-loop-clause-boundary

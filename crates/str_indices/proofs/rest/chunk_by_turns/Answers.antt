@@ -1,6 +1,4 @@
-use Rattle.std.proofs.Common.{ap, arith}
-use Rattle.std.proofs.lemmas.List.{length-set}
-use Rattle.str_indices.proofs.lemmas.lanes.Rest.{byte_more}
+use Rattle.str_indices.proofs.lemmas.{ap, arith, length-set, byte_more}
 use Rattle.str_indices.proofs.rest.chunk_by_turns.Goals as goal
 
 pub loop-i-preserved : goal.loop-i-preserved

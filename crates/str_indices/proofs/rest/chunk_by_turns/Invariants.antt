@@ -1,4 +1,4 @@
-use Rattle.std.proofs.Common.{◌≡◌, ◌+◌, take, drop, length}
+use Rattle.str_indices.proofs.lemmas.{◌≡◌, ◌+◌, take, drop, length}
 use Rattle.str_indices.proofs.rest.chunk_by_turns.Given as goal
 
 abbrev pub invariant-loop-i : goal.invariant-loop-i

@@ -1,5 +1,4 @@
-use Rattle.std.proofs.Common.{◌≡◌, ◌-◌, ◌++◌, replicate, arith}
-use Rattle.str_indices.proofs.lemmas.lanes.Rest.{left_out_and_kept, last_lanes_stay}
+use Rattle.str_indices.proofs.lemmas.{◌≡◌, ◌-◌, ◌++◌, replicate, arith, left_out_and_kept, last_lanes_stay, bits_exchanged, zip2, bit_and}
 use Rattle.str_indices.proofs.rest.last_lanes.Goals as goal
 
 pub returns : goal.returns
@@ -12,4 +11,6 @@ returns g c =
     g.met.T.ByteChunk.lawful.most in
     let loaded = rw c.SIZE.ensures at c.load-kept.ensures in
     let stay = last_lanes_stay out c.args.n lanes c.requires.small (omega (arith, c.requires.long, c.requires.some)) in
-    rw (c.bitand.ensures, loaded, kept) stay
+    let both : g.T.ByteChunk.lanes c.bitand.result ≡ zip2 bit_and lanes (g.T.ByteChunk.lanes c.load-kept.result) =
+    search (c.bitand.ensures, bits_exchanged) in
+    rw (both, loaded, kept) stay

@@ -1,56 +1,14 @@
-use Rattle.std.proofs.Common.{◌<◌, ◌+◌, arith, ◌∙◌}
-use Rattle.std.proofs.Math.Nat.{one-mul}
-use Rattle.str_indices.specs.Bytes.{units_before}
-use Rattle.str_indices.proofs.lemmas.schemes.CharBytes.{end_is_near}
-use Rattle.str_indices.proofs.lemmas.schemes.UnitBytes.{unit_reached, units_count_leading, units_fit}
-use Rattle.str_indices.proofs.lemmas.passes.Costs.{loads_to_place}
-use Rattle.str_indices.proofs.lemmas.passes.Passes.{placing_pass}
+use Rattle.str_indices.proofs.lemmas.{IsCharBoundary-to_byte_idx, Utf16, unit_reached, units_steady}
 use Rattle.str_indices.proofs.utf16.to_byte_idx_impl.Goals as goal
 
-pub skip_chunks-requires-clause-fits : goal.skip_chunks-requires-clause-fits
-skip_chunks-requires-clause-fits g c =
-    let before = c.skip_surely-surely.ensures.reads.text_kept ∙ c.walk_to_unit-led.ensures.reads.text_kept in
-    rw before (units_fit c.args.probe.now.text c.len-len.ensures.utf8)
-
-pub returns-then-led-first_chunk-clause-answer : goal.returns-then-led-first_chunk-clause-answer
-returns-then-led-first_chunk-clause-answer g c =
-    let led = c.walk_to_unit-led in
-    omega (
-      arith,
-      unit_reached c.args.probe.now.text c.len-len.ensures.utf8 led.result.byte c.args.idx (omega arith)
-          (omega (arith, led.ensures.counted, led.ensures.at_most)) (λ _. led.ensures.stopped (omega arith)),
-    )
+pub find-requires-clause-steady : goal.find-requires-clause-steady
+find-requires-clause-steady g c = units_steady c.args.probe.now.text c.len.ensures.utf8
 
 pub returns-clause-answer : goal.returns-clause-answer
 returns-clause-answer g c =
-    let rest = c.walk_to_unit in
-    let same = c.skip_chunks.ensures.reads.text_kept ∙ c.skip_surely-surely.ensures.reads.text_kept
-    ∙ c.walk_to_unit-led.ensures.reads.text_kept in
-    let counted = rw same at rest.ensures.counted in
-    let stopped = rw same at rest.ensures.stopped in
-    omega (
-      arith,
-      unit_reached c.args.probe.now.text c.len-len.ensures.utf8 rest.result.byte c.args.idx
-          (omega (arith, rest.ensures.reached.1))
-          (omega (arith, rest.ensures.at_most)) (λ inside. stopped (omega arith)),
-    )
+    unit_reached _ c.len.ensures.utf8 _ _ c.find.ensures.reached c.find.ensures.at_most c.find.ensures.stopped
 
-pub returns-clause-pass : goal.returns-clause-pass
-returns-clause-pass g c =
-    let text = c.args.probe.now.text in
-    let size = g.T.ByteChunk.SIZE in
-    let least = g.met.T.ByteChunk.lawful.least in
-    let led = c.walk_to_unit-led in
-    let surely = c.skip_surely-surely in
-    let chunks = c.skip_chunks in
-    let rest = c.walk_to_unit in
-    let same = surely.ensures.reads.text_kept ∙ led.ensures.reads.text_kept in
-    let counted = rw (chunks.ensures.reads.text_kept ∙ same) at rest.ensures.counted in
-    let stopped = rw (same, one-mul size) at chunks.ensures.stopped in
-    let near : rest.result.byte < chunks.result.at.byte + size + 4 =
-    end_is_near units_before units_count_leading text c.len-len.ensures.utf8 chunks.result.at.byte size c.args.idx
-    rest.result.byte stopped (omega (arith, rest.ensures.reached.1)) (omega (arith, rest.ensures.at_most)) in
-    let loads = loads_to_place least surely.ensures.reached.0 chunks.ensures.reached.0 surely.ensures.reads
-    chunks.ensures.reads (omega arith) (omega arith) in
-    placing_pass size c.args.lead _ least rest.result.byte (omega (arith, led.ensures.reached.1))
-    led.ensures.reads loads rest.ensures.reads rest.ensures.reached.0 (omega arith) (omega arith)
+pub returns-clause-boundary : goal.returns-clause-boundary
+returns-clause-boundary g c =
+    IsCharBoundary-to_byte_idx Utf16 _ c.len.ensures.utf8 _ _
+    (unit_reached _ c.len.ensures.utf8 _ _ c.find.ensures.reached c.find.ensures.at_most c.find.ensures.stopped)

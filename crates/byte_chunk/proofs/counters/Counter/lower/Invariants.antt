@@ -1,4 +1,4 @@
-use Rattle.std.proofs.Common.{min}
+use Rattle.byte_chunk.proofs.lemmas.{min}
 use Rattle.byte_chunk.proofs.counters.Counter.lower.Given as goal
 
 abbrev pub ghost-set : goal.ghost-set

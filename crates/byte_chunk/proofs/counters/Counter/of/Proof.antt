@@ -1,5 +1,5 @@
 -- `of` makes the struct that takes no bytes; its count is the number that the caller picks.
-use Rattle.std.proofs.Common.{[], ◌∷◌, refl}
+use Rattle.byte_chunk.proofs.lemmas.{[], ◌∷◌, refl}
 use Rattle.std.proofs.raw_atomic.Walks.{proved}
 use mir.Val.{vstruct, vnil}
 use base.Fml.{ftrue}

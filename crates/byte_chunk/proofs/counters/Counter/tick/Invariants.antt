@@ -1,4 +1,4 @@
-use Rattle.std.proofs.Common.{◌+◌}
+use Rattle.byte_chunk.proofs.lemmas.{◌+◌}
 use Rattle.byte_chunk.proofs.counters.Counter.tick.Given as goal
 
 abbrev pub ghost-set : goal.ghost-set

@@ -1,6 +1,4 @@
-use Rattle.std.proofs.Common.{sym, ap}
-use Rattle.std.specs.Option.{option_map}
-use Rattle.idx.specs.Calls.{conversions}
+use Rattle.idx.proofs.Common.{sym, ap, option_map, conversions}
 use Rattle.idx.proofs.Names.{entry_named-no_row}
 use Rattle.idx.proofs.calls.Call.conversion.Goals as goal
 

@@ -1,5 +1,4 @@
-use Rattle.std.proofs.Common.{sym}
-use Rattle.idx.specs.Calls.{counting_calls}
+use Rattle.idx.proofs.Common.{sym, counting_calls}
 use Rattle.idx.proofs.Names.{entry_named-no_row}
 use Rattle.idx.proofs.calls.Call.counting.Goals as goal
 

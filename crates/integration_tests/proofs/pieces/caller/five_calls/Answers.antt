@@ -1,4 +1,4 @@
-use Rattle.std.proofs.Common.{◌++◌, ◌∙◌, ap, chars, remove}
+use Rattle.integration_tests.proofs.Common.{◌++◌, ◌∙◌, ap, chars, remove}
 use Rattle.piece_text.specs.Pieces.{joined, as_pieces}
 use Rattle.piece_text.proofs.lemmas.Joining.{joined-append, joined-as_pieces, as_pieces-some}
 use Rattle.integration_tests.proofs.pieces.caller.five_calls.Goals as goal

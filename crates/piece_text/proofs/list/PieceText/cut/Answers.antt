@@ -1,9 +1,4 @@
-use Rattle.std.proofs.Common.{◌<◌, ◌∙◌, ap, sym, length, []}
-use Rattle.std.proofs.lemmas.List.{get_or_default}
-use Rattle.str_indices.specs.Text.{size}
-use Rattle.piece_text.specs.Pieces.{piece_at}
-use Rattle.piece_text.specs.Splits.{IsHalved}
-use Rattle.piece_text.proofs.lemmas.Splitting.{is_cut, joined-cut}
+use Rattle.piece_text.proofs.lemmas.{◌<◌, ◌∙◌, ap, sym, length, [], get_or_default, size, piece_at, IsHalved, is_cut, joined-cut}
 use Rattle.piece_text.proofs.list.PieceText.cut.Goals as goal
 
 pub invariant_of-self-2 : goal.invariant_of-self-2

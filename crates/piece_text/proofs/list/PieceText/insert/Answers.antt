@@ -1,9 +1,5 @@
-use Rattle.std.proofs.Common.{sym, ◌∙◌, arith, length}
-use Rattle.std.proofs.lemmas.Bool.{eqb-true}
+use Rattle.piece_text.proofs.lemmas.{sym, ◌∙◌, arith, length, eqb-true, take-append-drop, size-chars, chars-none, chars-some, joined_size-insert}
 use Rattle.std.proofs.lemmas.Bool.Decides.{nat_tests}
-use Rattle.std.proofs.lemmas.List.{take-append-drop}
-use Rattle.str_indices.proofs.lemmas.Callers.{size-chars, chars-none, chars-some}
-use Rattle.piece_text.proofs.lemmas.Joining.{joined_size-insert}
 use Rattle.piece_text.proofs.list.PieceText.insert.Goals as goal
 
 pub returns-then-is_empty-clause-ok : goal.returns-then-is_empty-clause-ok

@@ -1,9 +1,4 @@
-use Rattle.std.proofs.Common.{◌<◌, ◌∙◌, ap, arith, length, [], take}
-use Rattle.std.proofs.lemmas.List.{get_or_default}
-use Rattle.str_indices.specs.Text.{size}
-use Rattle.str_indices.proofs.lemmas.Callers.{size-append}
-use Rattle.piece_text.specs.Pieces.{joined, piece_at}
-use Rattle.piece_text.proofs.lemmas.Joining.{joined-take}
+use Rattle.piece_text.proofs.lemmas.{◌<◌, ◌∙◌, ap, arith, length, [], take, get_or_default, size, size-append, joined, piece_at, joined-take}
 use Rattle.piece_text.proofs.list.PieceText.piece_round.Goals as goal
 
 -- the next piece starts where this one ends

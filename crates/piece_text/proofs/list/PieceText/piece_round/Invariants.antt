@@ -1,5 +1,4 @@
-use Rattle.std.proofs.Common.{◌≡◌, ◌≤◌, take}
-use Rattle.piece_text.specs.Pieces.{joined_size}
+use Rattle.piece_text.proofs.lemmas.{◌≡◌, ◌≤◌, take, joined_size}
 use Rattle.piece_text.proofs.list.PieceText.piece_round.Given as goal
 
 -- where piece i starts is at or before the byte

@@ -1,7 +1,4 @@
-use Rattle.std.proofs.Common.{◌<◌, ◌∙◌, ap, arith, length, []}
-use Rattle.std.proofs.lemmas.List.{get_or_default}
-use Rattle.str_indices.specs.Text.{size}
-use Rattle.piece_text.proofs.lemmas.Splitting.{joined_size-remove}
+use Rattle.piece_text.proofs.lemmas.{◌<◌, ◌∙◌, ap, arith, length, [], get_or_default, size, joined_size-remove}
 use Rattle.piece_text.proofs.list.PieceText.remove.Goals as goal
 
 -- the piece takes no more bytes than all

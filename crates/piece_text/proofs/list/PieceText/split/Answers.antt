@@ -1,9 +1,6 @@
-use Rattle.std.proofs.Common.{◌≡◌, ◌<◌, ◌-◌, ◌∙◌, ap, sym, arith, length, inr, refl, take, true, false}
-use Rattle.std.proofs.lemmas.List.{take_all}
-use Rattle.piece_text.specs.Pieces.{joined}
-use Rattle.piece_text.proofs.lemmas.Splitting.{inside_of, boundary_of_piece, boundary_of_joined, no_edge, edge_of, edge_boundary, no_boundary_past, joined-cut}
-use Rattle.piece_text.proofs.list.PieceText.split.Goals as goal
+use Rattle.piece_text.proofs.lemmas.{◌≡◌, ◌<◌, ◌-◌, ◌∙◌, ap, sym, arith, length, inr, refl, take, true, false, take_all, joined, inside_of, boundary_of_piece, boundary_of_joined, no_edge, edge_of, edge_boundary, no_boundary_past, joined-cut}
 use Rattle.piece_text.proofs.list.PieceText.split.Goals.{then-at-len-via-then-at-len, then-at-len-via-else-at-len+then-not-is_boundary_in}
+use Rattle.piece_text.proofs.list.PieceText.split.Goals as goal
 
 -- where the piece starts at the byte, that is an edge
 pub returns-then-start-byte_idx-clause-ok : goal.returns-then-start-byte_idx-clause-ok

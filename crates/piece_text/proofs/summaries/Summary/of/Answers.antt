@@ -1,5 +1,4 @@
-use Rattle.std.proofs.Common.{sym}
-use Rattle.str_indices.proofs.lemmas.Callers.{size-chars}
+use Rattle.piece_text.proofs.lemmas.{sym, size-chars}
 use Rattle.piece_text.proofs.summaries.Summary.of.Goals as goal
 
 pub returns : goal.returns

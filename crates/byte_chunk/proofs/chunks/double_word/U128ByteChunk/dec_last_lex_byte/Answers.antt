@@ -1,5 +1,4 @@
-use Rattle.std.proofs.Common.{arith}
-use Rattle.byte_chunk.proofs.lemmas.Words.{word_dec}
+use Rattle.byte_chunk.proofs.lemmas.{arith, word_dec}
 use Rattle.byte_chunk.proofs.chunks.double_word.U128ByteChunk.dec_last_lex_byte.Goals as goal
 
 pub returns : goal.returns

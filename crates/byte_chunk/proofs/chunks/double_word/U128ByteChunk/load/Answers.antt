@@ -1,5 +1,4 @@
-use Rattle.std.proofs.Common.{arith}
-use Rattle.byte_chunk.proofs.lemmas.Words.{word_load}
+use Rattle.byte_chunk.proofs.lemmas.{arith, word_load}
 use Rattle.byte_chunk.proofs.chunks.double_word.U128ByteChunk.load.Goals as goal
 
 pub returns : goal.returns

@@ -1,7 +1,4 @@
-use Rattle.std.proofs.Common.{ℕ, ◌+◌, ◌<◌, ◌≤◌, get_or, Fits, w8, ap₂, ◌∙◌, rules, arith}
-use Rattle.std.proofs.iter.Serving.{serving}
-use Rattle.std.specs.Simd.Lanes.{zip2, Each2}
-use Rattle.byte_chunk.proofs.lemmas.Lanewise.{zip2_of-calls, Each2-get_or}
+use Rattle.byte_chunk.proofs.lemmas.{ℕ, ◌+◌, ◌<◌, ◌≤◌, get_or, Fits, w8, ap₂, ◌∙◌, rules, arith, serving, zip2, Each2, zip2_of-calls, Each2-get_or}
 use Rattle.byte_chunk.proofs.chunks.plain_array.PlainByteChunk.add.Goals as goal
 
 pub from_fn-requires : goal.from_fn-requires

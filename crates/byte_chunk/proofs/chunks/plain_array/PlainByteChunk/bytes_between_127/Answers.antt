@@ -1,6 +1,4 @@
-use Rattle.std.proofs.Common.{map, ap, ◌∙◌, rules, arith}
-use Rattle.byte_chunk.specs.Lanes.{is_between}
-use Rattle.byte_chunk.proofs.lemmas.Lanewise.{map_of-calls}
+use Rattle.byte_chunk.proofs.lemmas.{map, ap, ◌∙◌, rules, arith, is_between, map_of-calls}
 use Rattle.byte_chunk.proofs.chunks.plain_array.PlainByteChunk.bytes_between_127.Goals as goal
 
 pub returns : goal.returns

@@ -1,6 +1,4 @@
-use Rattle.std.proofs.Common.{map, ap, ◌∙◌, rules, arith}
-use Rattle.byte_chunk.specs.Lanes.{is_byte}
-use Rattle.byte_chunk.proofs.lemmas.Lanewise.{map_of-calls}
+use Rattle.byte_chunk.proofs.lemmas.{map, ap, ◌∙◌, rules, arith, is_byte, map_of-calls}
 use Rattle.byte_chunk.proofs.chunks.plain_array.PlainByteChunk.cmp_eq_byte.Goals as goal
 
 pub returns : goal.returns

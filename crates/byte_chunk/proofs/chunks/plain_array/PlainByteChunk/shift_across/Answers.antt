@@ -1,7 +1,4 @@
-use Rattle.std.proofs.Common.{◌≡◌, ℕ, zero, suc, ◌+◌, ◌-◌, ◌<◌, List, [], ◌∷◌, nat_eq, if◌then◌else◌, get_or, drop, take, ◌++◌, refl, sym, ap, ap₂, ◌∙◌, rules, arith}
-use Rattle.std.proofs.lemmas.Bool.Decides.{nat_tests}
-use Rattle.std.proofs.lemmas.List.{drop_more, drop_all, length-take-le, get_or-take}
-use Rattle.byte_chunk.proofs.lemmas.Lanewise.{list_of-calls}
+use Rattle.byte_chunk.proofs.lemmas.{◌≡◌, ℕ, zero, suc, ◌+◌, ◌-◌, ◌<◌, List, [], ◌∷◌, nat_eq, if◌then◌else◌, get_or, drop, take, ◌++◌, refl, sym, ap, ap₂, ◌∙◌, rules, arith, nat_tests, drop_more, drop_all, length-take-le, get_or-take, list_of-calls}
 use Rattle.byte_chunk.proofs.chunks.plain_array.PlainByteChunk.shift_across.Goals as goal
 
 -- the lanes of a list that starts with x and goes on with the first n of ys

@@ -1,8 +1,4 @@
-use Rattle.std.proofs.Common.{◌≡◌, ℕ, ◌+◌, ◌<◌, ◌≤◌, List, nat_lt, if◌then◌else◌, length, get_or, drop, replicate, ◌++◌, ap, ◌∙◌, rules, arith}
-use Rattle.std.proofs.lemmas.Bool.Decides.{nat_tests}
-use Rattle.std.proofs.lemmas.Grind.{common_steps}
-use Rattle.std.proofs.lemmas.List.{length-append, length-drop, length-replicate, get_or-replicate}
-use Rattle.byte_chunk.proofs.lemmas.Lanewise.{list_of-calls}
+use Rattle.byte_chunk.proofs.lemmas.{◌≡◌, ℕ, ◌+◌, ◌<◌, ◌≤◌, List, nat_lt, if◌then◌else◌, length, get_or, drop, replicate, ◌++◌, ap, ◌∙◌, rules, arith, nat_tests, common_steps, length-append, length-drop, length-replicate, get_or-replicate, list_of-calls}
 use Rattle.byte_chunk.proofs.chunks.plain_array.PlainByteChunk.shift_back_lex.Goals as goal
 
 -- the lanes of a list whose first n are dropped, with n lanes 0 after the rest

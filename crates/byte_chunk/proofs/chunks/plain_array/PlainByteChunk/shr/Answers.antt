@@ -1,6 +1,4 @@
-use Rattle.std.proofs.Common.{ℕ, ◌-◌, ◌/◌, ◌%◌, ◌^◌, Fits, w8, map, ap, ◌∙◌, rules, arith}
-use Rattle.std.proofs.lemmas.Simd.{Each1-from_get_or}
-use Rattle.byte_chunk.proofs.lemmas.Lanewise.{map_of-calls, low_bits_of_each}
+use Rattle.byte_chunk.proofs.lemmas.{ℕ, ◌-◌, ◌/◌, ◌%◌, ◌^◌, Fits, w8, map, ap, ◌∙◌, rules, arith, Each1-from_get_or, map_of-calls, low_bits_of_each}
 use Rattle.byte_chunk.proofs.chunks.plain_array.PlainByteChunk.shr.Goals as goal
 
 pub returns : goal.returns

@@ -1,4 +1,4 @@
-use Rattle.std.proofs.Common.{◌≡◌, ◌*◌, ◌≤◌, take, sum}
+use Rattle.byte_chunk.proofs.lemmas.{◌≡◌, ◌*◌, ◌≤◌, take, sum}
 use Rattle.byte_chunk.proofs.chunks.plain_array.PlainByteChunk.sum_bytes.Given as goal
 
 abbrev pub invariant-loop-lane : goal.invariant-loop-lane

@@ -1,5 +1,4 @@
-use Rattle.std.proofs.Common.{arith}
-use Rattle.byte_chunk.proofs.lemmas.Words.{word_dec}
+use Rattle.byte_chunk.proofs.lemmas.{arith, word_dec}
 use Rattle.byte_chunk.proofs.chunks.word.UsizeByteChunk.dec_last_lex_byte.Goals as goal
 
 pub returns : goal.returns

@@ -1,5 +1,4 @@
-use Rattle.std.proofs.Common.{arith, ◌-◌}
-use Rattle.byte_chunk.proofs.lemmas.Words.{word_inc, word_inc_fits, one_in_lane}
+use Rattle.byte_chunk.proofs.lemmas.{arith, ◌-◌, word_inc, word_inc_fits, one_in_lane}
 use Rattle.byte_chunk.proofs.chunks.word.UsizeByteChunk.inc_nth_from_end_lex_byte.Goals as goal
 
 pub overflow_add-result : goal.overflow_add-result
@@ -12,7 +11,8 @@ overflow_add-result c = record {
 }
 
 pub returns : goal.returns
-returns c = cc (
+returns c = grind (
+  arith,
   one_in_lane (7 - c.args.n) 64 (omega arith),
   word_inc 8 (7 - c.args.n) c.args.self.now (omega arith) c.requires.room,
 )

@@ -1,5 +1,4 @@
-use Rattle.std.proofs.Common.{arith}
-use Rattle.byte_chunk.proofs.lemmas.Words.{word_shr}
+use Rattle.byte_chunk.proofs.lemmas.{arith, word_shr}
 use Rattle.byte_chunk.proofs.chunks.word.UsizeByteChunk.shr.Goals as goal
 
 pub returns : goal.returns

@@ -1,5 +1,4 @@
-use Rattle.std.proofs.Common.{arith}
-use Rattle.byte_chunk.proofs.lemmas.Words.{word_sum}
+use Rattle.byte_chunk.proofs.lemmas.{arith, word_sum}
 use Rattle.byte_chunk.proofs.chunks.word.UsizeByteChunk.sum_bytes.Goals as goal
 
 pub returns : goal.returns

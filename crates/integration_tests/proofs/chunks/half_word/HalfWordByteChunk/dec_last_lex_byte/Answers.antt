@@ -1,5 +1,4 @@
-use Rattle.std.proofs.Common.{arith}
-use Rattle.byte_chunk.proofs.lemmas.Words.{word_dec}
+use Rattle.integration_tests.proofs.Common.{arith, word_dec}
 use Rattle.integration_tests.proofs.chunks.half_word.HalfWordByteChunk.dec_last_lex_byte.Goals as goal
 
 pub returns : goal.returns

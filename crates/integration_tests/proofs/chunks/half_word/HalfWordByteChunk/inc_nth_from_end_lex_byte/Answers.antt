@@ -1,5 +1,4 @@
-use Rattle.std.proofs.Common.{arith, ◌-◌}
-use Rattle.byte_chunk.proofs.lemmas.Words.{word_inc, word_inc_fits, one_in_lane}
+use Rattle.integration_tests.proofs.Common.{arith, ◌-◌, word_inc, word_inc_fits, one_in_lane}
 use Rattle.integration_tests.proofs.chunks.half_word.HalfWordByteChunk.inc_nth_from_end_lex_byte.Goals as goal
 
 pub overflow_add-result : goal.overflow_add-result

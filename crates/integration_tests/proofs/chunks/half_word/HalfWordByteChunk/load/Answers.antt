@@ -1,5 +1,4 @@
-use Rattle.std.proofs.Common.{arith}
-use Rattle.byte_chunk.proofs.lemmas.Words.{word_load}
+use Rattle.integration_tests.proofs.Common.{arith, word_load}
 use Rattle.integration_tests.proofs.chunks.half_word.HalfWordByteChunk.load.Goals as goal
 
 pub returns : goal.returns

@@ -1,5 +1,4 @@
-use Rattle.std.proofs.Common.{arith}
-use Rattle.byte_chunk.proofs.lemmas.Words.{word_sum}
+use Rattle.integration_tests.proofs.Common.{arith, word_sum}
 use Rattle.integration_tests.proofs.chunks.half_word.HalfWordByteChunk.sum_bytes.Goals as goal
 
 pub returns : goal.returns

@@ -1,9 +1,0 @@
-use Rattle.str_indices.proofs.lemmas.lanes.Lanes.{masked_lanes}
-use Rattle.str_indices.proofs.bytes.count_trailing_chunk.Goals as goal
-
-pub returns : goal.returns
-returns g c =
-    let chunk = g.T.ByteChunk in
-    masked_lanes 0xC0 0x80 chunk.SIZE (chunk.lanes c.args.chunk) (chunk.lanes c.splat.result)
-    (chunk.lanes c.bitand.result) (chunk.lanes c.cmp_eq_byte.result)
-    c.requires c.splat.ensures c.bitand.ensures c.cmp_eq_byte.ensures

@@ -1,7 +1,0 @@
-use Rattle.std.proofs.Common.{arith}
-use Rattle.str_indices.specs.Schemes.{Lf}
-use Rattle.str_indices.proofs.lemmas.Callers.{IsCharBoundary-to_byte_idx}
-use Rattle.str_indices.proofs.lines_lf.to_byte_idx.Goals as goal
-
-pub returns-clause-boundary : goal.returns-clause-boundary
-returns-clause-boundary c = IsCharBoundary-to_byte_idx Lf c.args.text.now c.utf8.text c.args.line_idx _ (grind arith)

@@ -1,0 +1,21 @@
+use Rattle.str_indices.proofs.lemmas.{arith}
+use Rattle.str_indices.proofs.passes.count_up_to.Goals as goal
+
+pub walk-requires-clause-counted : goal.walk-requires-clause-counted
+walk-requires-clause-counted g c =
+    let walked = c.walk-count.ensures in
+    let fits = c.requires.fits c.min-first.result (omega (arith, c.requires.within, c.min-first.ensures)) in
+    rw walked.reads.text_kept (walked.counted (omega (arith, fits, c.len.ensures.len)))
+
+pub returns-then-end-SIZE-clause-counted : goal.returns-then-end-SIZE-clause-counted
+returns-then-end-SIZE-clause-counted g c =
+    let same = c.walk-count.ensures.reads.text_kept in
+    let fits = c.requires.fits c.args.end c.requires.within in
+    (rw same at c.walk.ensures.counted) (omega (arith, fits, c.len.ensures.len))
+
+pub count_chunks-after_chunks-requires-clause-counted : goal.count_chunks-after_chunks-requires-clause-counted
+count_chunks-after_chunks-requires-clause-counted g c =
+    let walked = c.walk-count.ensures in
+    let fits = c.requires.fits c.min-first.result (omega (arith, c.requires.within, c.min-first.ensures)) in
+    rw (c.carry_at-carry.ensures.reads.text_kept, walked.reads.text_kept)
+    (walked.counted (omega (arith, fits, c.len.ensures.len)))

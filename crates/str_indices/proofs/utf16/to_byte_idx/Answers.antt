@@ -1,7 +1,0 @@
-use Rattle.std.proofs.Common.{arith}
-use Rattle.str_indices.specs.Schemes.{Utf16}
-use Rattle.str_indices.proofs.lemmas.Callers.{IsCharBoundary-to_byte_idx}
-use Rattle.str_indices.proofs.utf16.to_byte_idx.Goals as goal
-
-pub returns-clause-boundary : goal.returns-clause-boundary
-returns-clause-boundary c = IsCharBoundary-to_byte_idx Utf16 _ c.utf8.text c.args.utf16_idx _ (grind arith)

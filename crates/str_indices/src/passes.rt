@@ -1,0 +1,206 @@
+//! The passes of a kernel: the count before an end, and the search for a place, whatever is counted.
+//!
+//! Each is leading bytes one by one, then whole chunks, then the rest. `lead` bytes, or as many of them as the pass
+//! covers, are walked before the first chunk.
+ghost use Rattle.std.specs.Prelude.{◌≡◌, ℕ, ◌+◌, ◌-◌, ◌*◌, ◌/◌, ◌<◌, ◌≤◌, length};
+ghost use Rattle.str_indices.specs.Prelude.{sum_below, FitsIn, IsSteady, Reads, Counts, Finds};
+
+use crate::place_counts::{PlaceCounts, Reached, count_chunks, skip_chunks};
+use crate::places::{Cursor, byte_before};
+use crate::rest::count_rest;
+use byte_chunk::{ByteChunk, Probe};
+
+/// The fewest chunks that a search counts without a look at what it has so far.
+const LEAST_SURE: usize = 8;
+
+/// What is counted before `end`, of the text the bytes before it seen.
+///
+/// Chunks are added in groups of `GROUP`, and of `LAST_GROUP` in the last round, in which a short text has all its chunks.
+#[tactic(auto, using(crate::proofs::lemmas::passes::Passes::counting_pass))]
+pub(crate) fn count_up_to<
+    C: PlaceCounts<T>,
+    T: ByteChunk,
+    const GROUP: usize,
+    const LAST_GROUP: usize,
+>(probe: &mut Probe<'_, T>, end: usize, lead: usize) -> usize
+    requires some { (0 < GROUP) × (0 < LAST_GROUP) }
+    requires within { end ≤ length probe.old.text }
+    requires fits { FitsIn (sum_below (C.counted_at end probe.old.text)) (length probe.old.text) }
+    ensures counted { result ≡ sum_below (C.counted_at end probe.old.text) end }
+    ensures reads { Counts probe.old probe.new T.SIZE lead end 0 }
+{
+    prove!(end <= probe.len());
+    let start = Cursor { byte: 0, count: 0 };
+    let first = lead.min(end);
+    let count = walk::<C, T>(probe, start, first, end, usize::MAX).count;
+    let after_lead = Cursor { byte: first, count };
+    if end < T::SIZE {
+        return walk::<C, T>(probe, after_lead, end, end, usize::MAX).count;
+    }
+    let carry = C::carry_at(probe, first);
+    let after_chunks = count_chunks::<C, T, GROUP, LAST_GROUP>(probe, after_lead, end, end, carry);
+    count_rest::<C, T>(probe, after_chunks.at, end, after_chunks.carry)
+}
+
+/// The first place before which `idx` are counted, or the end of the text where fewer are.
+pub(crate) fn find_first<
+    C: PlaceCounts<T>,
+    T: ByteChunk,
+    const GROUP: usize,
+    const LAST_GROUP: usize,
+    const LEAST: usize,
+>(probe: &mut Probe<'_, T>, idx: usize, lead: usize) -> usize
+    requires some { (0 < GROUP) × (0 < LAST_GROUP) }
+    requires least { (4 ≤ LEAST) × (LEAST ≤ 16) }
+    requires within { lead ≤ length probe.old.text }
+    requires steady { let n = length probe.old.text in IsSteady (sum_below (C.counted_at n probe.old.text)) n }
+    ensures reached { result ≤ length probe.old.text }
+    ensures stopped { result < length probe.old.text
+        → idx ≤ sum_below (C.counted_at (length probe.old.text) probe.old.text) result }
+    ensures first { (d : ℕ) → d < result → sum_below (C.counted_at (length probe.old.text) probe.old.text) d < idx }
+    ensures reads { Finds probe.old probe.new T.SIZE lead (length probe.old.text) result 0 }
+{
+    if idx == 0 {
+        return 0;
+    }
+    let last = find::<C, T, GROUP, LAST_GROUP, LEAST>(probe, idx - 1, lead);
+    if last < probe.len() { last + 1 } else { last }
+}
+
+/// The first byte with which more than `idx` are counted, or the end of the text where no more are.
+///
+/// It looks at chunks in groups while at least `LEAST` are left.
+pub(crate) fn find<
+    C: PlaceCounts<T>,
+    T: ByteChunk,
+    const GROUP: usize,
+    const LAST_GROUP: usize,
+    const LEAST: usize,
+>(probe: &mut Probe<'_, T>, idx: usize, lead: usize) -> usize
+    requires some { (0 < GROUP) × (0 < LAST_GROUP) }
+    requires least { (4 ≤ LEAST) × (LEAST ≤ 16) }
+    requires within { lead ≤ length probe.old.text }
+    requires steady { let n = length probe.old.text in IsSteady (sum_below (C.counted_at n probe.old.text)) n }
+    ensures reached { result ≤ length probe.old.text }
+    ensures at_most { sum_below (C.counted_at (length probe.old.text) probe.old.text) result ≤ idx }
+    ensures stopped { result < length probe.old.text
+        → idx < sum_below (C.counted_at (length probe.old.text) probe.old.text) (result + 1) }
+    ensures reads { Finds probe.old probe.new T.SIZE lead (length probe.old.text) result 0 }
+{
+    let len = probe.len();
+    let start = Cursor { byte: 0, count: 0 };
+    let Walked { place, count } = walk::<C, T>(probe, start, lead, len, idx);
+    if place < lead {
+        return place;
+    }
+    let carry = C::carry_at(probe, lead);
+    let after_lead = Cursor { byte: lead, count };
+    let after_sure = skip_unreachable::<C, T, GROUP, LAST_GROUP>(probe, after_lead, idx, carry);
+    let group = 4 / C::MOST;
+    let after_groups = skip_chunks::<C, T>(
+        probe,
+        after_sure.at,
+        idx,
+        group,
+        LEAST,
+        after_sure.carry,
+    );
+    let after_chunks = skip_chunks::<C, T>(probe, after_groups.at, idx, 1, 1, after_groups.carry);
+    let last = T::SIZE.min(len - after_chunks.at.byte);
+    let to = after_chunks.at.byte + last;
+    walk::<C, T>(probe, after_chunks.at, to, len, idx).place
+}
+
+/// The byte that a walk looks for, and what is counted before the walk's end.
+#[derive(Clone, Copy)]
+struct Walked {
+    place: usize,
+    count: usize,
+}
+
+/// Walks on from a position to `to`, one turn a byte and one for the byte before them: the first byte with which more
+/// than `idx` are counted, or `to`.
+///
+/// Where most bytes count it does not stop there, since a few bytes more cost less than a branch that no processor
+/// foresees. Of the text the bytes before `end` are seen.
+#[inline(always)]
+fn walk<C: PlaceCounts<T>, T: ByteChunk>(
+    probe: &mut Probe<'_, T>,
+    from: Cursor,
+    to: usize,
+    end: usize,
+    idx: usize,
+) -> Walked
+    requires ordered { from.byte ≤ to }
+    requires seen { (to ≤ end) × (end ≤ length probe.old.text) }
+    requires fits { FitsIn (sum_below (C.counted_at end probe.old.text)) (length probe.old.text) }
+    requires counted { from.count ≡ sum_below (C.counted_at end probe.old.text) from.byte }
+    requires at_most { from.count ≤ idx }
+    ensures reached { (from.byte ≤ result.place) × (result.place ≤ to) }
+    ensures counted { let counted = sum_below (C.counted_at end probe.old.text) to in
+        counted ≤ idx → result.count ≡ counted }
+    ensures at_most { sum_below (C.counted_at end probe.old.text) result.place ≤ idx }
+    ensures stopped { result.place < to → idx < sum_below (C.counted_at end probe.old.text) (result.place + 1) }
+    ensures reads { Reads probe.old probe.new 0 (to - from.byte + 1) 0 0 }
+{
+    prove!(end <= probe.len());
+    let mut count = from.count;
+    let mut place = from.byte;
+    let mut before = byte_before(probe, from.byte);
+    for i in from.byte..to {
+        if !C::IS_DENSE && count > idx {
+            break;
+        }
+        let byte = probe.turn(i);
+        count += C::count_byte(probe, before, byte, i, end);
+        place += usize::from(count <= idx);
+        before = byte;
+    }
+    Walked { place, count }
+}
+
+/// Goes on in whole chunks from a position, in so many that with them no more than `idx` can be counted.
+///
+/// Between two places at most one more is counted than there are bytes.
+#[inline(always)]
+fn skip_unreachable<C: PlaceCounts<T>, T: ByteChunk, const GROUP: usize, const LAST_GROUP: usize>(
+    probe: &mut Probe<'_, T>,
+    from: Cursor,
+    idx: usize,
+    mut carry: C::Carry,
+) -> Reached<C::Carry>
+    requires some { (0 < GROUP) × (0 < LAST_GROUP) }
+    requires within { from.byte ≤ length probe.old.text }
+    requires steady { let n = length probe.old.text in IsSteady (sum_below (C.counted_at n probe.old.text)) n }
+    requires counted { from.count ≡ sum_below (C.counted_at (length probe.old.text) probe.old.text) from.byte }
+    requires at_most { from.count ≤ idx }
+    requires carried { C.carries probe.old.text from.byte carry }
+    ensures reached { (from.byte ≤ result.at.byte) × (result.at.byte ≤ length probe.old.text) }
+    ensures counted { result.at.count ≡ sum_below (C.counted_at (length probe.old.text) probe.old.text) result.at.byte }
+    ensures at_most { result.at.count ≤ idx }
+    ensures carried { C.carries probe.old.text result.at.byte result.carry }
+    ensures reads { Reads probe.old probe.new from.byte 0 ((result.at.byte - from.byte) / T.SIZE) 0 }
+{
+    let len = probe.len();
+    let mut at = from;
+    'rounds: loop {
+        let chunks = sure_chunks::<T>(idx - at.count, len - at.byte);
+        if !C::IS_DENSE || chunks < LEAST_SURE {
+            break;
+        }
+        let to = at.byte + chunks * T::SIZE;
+        let round = count_chunks::<C, T, GROUP, LAST_GROUP>(probe, at, to, len, carry);
+        at = round.at;
+        carry = round.carry;
+    }
+    Reached { at, carry }
+}
+
+/// How many whole chunks of so many bytes count at most so much, whatever is in them.
+fn sure_chunks<T: ByteChunk>(most: usize, bytes: usize) -> usize
+    ensures within { result * T.SIZE ≤ bytes }
+    ensures sure { 0 < result → result * T.SIZE + 1 ≤ most }
+{
+    let surely = most.saturating_sub(1) / T::SIZE;
+    surely.min(bytes / T::SIZE)
+}

@@ -1,0 +1,277 @@
+//! What is counted at each place of a text, and its sums over whole chunks.
+//!
+//! What hands lanes back is inlined, also where a function is long: else a chunk would go through memory each time.
+ghost use Rattle.std.specs.Prelude.{◌≡◌, ℕ, ◌+◌, ◌-◌, ◌*◌, ◌/◌, ◌<◌, ◌≤◌, ◌⊎◌, List, length, slice_index, take, drop};
+ghost use Rattle.str_indices.specs.Prelude.{byte_before, sum_below, AddsUp, FitsIn, HasLanes, HasLaterLanes, IsHandedOn, Reads};
+
+use crate::places::Cursor;
+use byte_chunk::{ByteChunk, Probe};
+
+/// What is counted at each place of a text: at one byte, and in the lanes of a chunk.
+///
+/// To a contract `counted_at end text n` is what is counted at place `n`, where of the text the bytes before `end` are
+/// seen, and `carries text at carry` says that the chunk before place `at` hands on that carry.
+pub(crate) trait PlaceCounts<T: ByteChunk> {
+    /// What a chunk hands on to the chunk behind it.
+    type Carry: Copy;
+
+    ghost MOST: { ℕ };
+
+    ghost counted_at: { ℕ → List ℕ → ℕ → ℕ };
+
+    ghost carries: { List ℕ → ℕ → Self.Carry → Type 0 };
+
+    /// The most that is counted at one place.
+    const MOST: usize;
+
+    /// Whether nearly as much is counted as there are bytes, so that a search gains by skipping what surely is too little.
+    const IS_DENSE: bool;
+
+    /// What is counted at a byte, the one at `at`, by at most two peeks. `before` is the byte before it, or 0.
+    ///
+    /// Of the text the bytes before `end` are seen.
+    fn count_byte(probe: &mut Probe<'_, T>, before: u8, byte: u8, at: usize, end: usize) -> usize
+        requires seen { (at < end) × (end ≤ length probe.old.text) }
+        requires before { before ≡ byte_before probe.old.text at }
+        requires byte { byte ≡ slice_index probe.old.text at }
+        ensures counted { result ≡ counted_at end probe.old.text at }
+        ensures reads { Reads probe.old probe.new 0 0 0 2 };
+
+    /// What a chunk before a place hands on there, for at most one turn.
+    fn carry_at(probe: &mut Probe<'_, T>, at: usize) -> Self::Carry
+        requires within { at ≤ length probe.old.text }
+        ensures carried { carries probe.old.text at result }
+        ensures reads { Reads probe.old probe.new 0 1 0 0 };
+
+    /// Counts in each lane of a chunk, which is the one at `at`, by at most four peeks.
+    ///
+    /// Of the text the bytes before `end` are seen. `carry` is what some chunk hands on. Only where that is the chunk
+    /// before does the first lane hold what is counted there.
+    fn count_lanes(
+        probe: &mut Probe<'_, T>,
+        chunk: T,
+        at: usize,
+        end: usize,
+        carry: Self::Carry,
+    ) -> CountedLanes<T, Self::Carry>
+        requires seen { (at + T.SIZE ≤ end) × (end ≤ length probe.old.text) }
+        requires chunk { T.lanes chunk ≡ take T.SIZE (drop at probe.old.text) }
+        requires handed_on { IsHandedOn (carries probe.old.text) carry }
+        ensures lanes { carries probe.old.text at carry →
+            HasLanes T.SIZE (λ j. counted_at end probe.old.text (at + j)) (T.lanes result.lanes) }
+        ensures later { HasLaterLanes T.SIZE (λ j. counted_at end probe.old.text (at + j)) (T.lanes result.lanes) }
+        ensures carried { carries probe.old.text (at + T.SIZE) result.carry }
+        ensures reads { Reads probe.old probe.new 0 0 0 4 };
+
+    ghost at_most: { (end : ℕ) (text : List ℕ) (n : ℕ) → counted_at end text n ≤ MOST };
+
+    ghost few: { (0 < MOST) × (MOST ≤ 2) };
+}
+
+/// The lanes in which was counted, and what is handed on.
+#[derive(Clone, Copy)]
+pub(crate) struct CountedLanes<T, C> {
+    pub(crate) lanes: T,
+    pub(crate) carry: C,
+}
+
+/// The position that was reached, and what is handed on there.
+#[derive(Clone, Copy)]
+pub(crate) struct Reached<C> {
+    pub(crate) at: Cursor,
+    pub(crate) carry: C,
+}
+
+/// Counts in the whole chunks from a position on that end at or before `to`, in rounds of as many chunks as fit and in a
+/// last round of what is left.
+///
+/// The last one, in which a short text has all its chunks, adds them in groups of `LAST_GROUP`, and the others of `GROUP`.
+/// Of the text the bytes before `end` are seen.
+pub(crate) fn count_chunks<
+    C: PlaceCounts<T>,
+    T: ByteChunk,
+    const GROUP: usize,
+    const LAST_GROUP: usize,
+>(
+    probe: &mut Probe<'_, T>,
+    from: Cursor,
+    to: usize,
+    end: usize,
+    mut carry: C::Carry,
+) -> Reached<C::Carry>
+    requires some { (0 < GROUP) × (0 < LAST_GROUP) }
+    requires ordered { from.byte ≤ to }
+    requires seen { (to ≤ end) × (end ≤ length probe.old.text) }
+    requires fits { FitsIn (sum_below (C.counted_at end probe.old.text)) (length probe.old.text) }
+    requires counted { from.count ≡ sum_below (C.counted_at end probe.old.text) from.byte }
+    requires carried { C.carries probe.old.text from.byte carry }
+    ensures reached { (from.byte ≤ result.at.byte) × (result.at.byte ≤ to) × (to < result.at.byte + T.SIZE) }
+    ensures counted { result.at.count ≡ sum_below (C.counted_at end probe.old.text) result.at.byte }
+    ensures carried { C.carries probe.old.text result.at.byte result.carry }
+    ensures reads { Reads probe.old probe.new from.byte 0 ((result.at.byte - from.byte) / T.SIZE) 0 }
+{
+    prove!(end <= probe.len());
+    let size = T::SIZE;
+    let most = chunks_of_round::<C, T, GROUP>();
+    let mut at = from;
+    'rounds: while most * size <= to - at.byte {
+        let round = add_in_groups::<C, T, GROUP>(probe, at.byte, most, end, carry);
+        let count = at.count + round.lanes.sum_bytes();
+        let byte = at.byte + most * size;
+        at = Cursor { byte, count };
+        carry = round.carry;
+    }
+    let left = (to - at.byte) / size;
+    let last = add_in_groups::<C, T, LAST_GROUP>(probe, at.byte, left, end, carry);
+    let count = at.count + last.lanes.sum_bytes();
+    let byte = at.byte + left * size;
+    Reached {
+        at: Cursor { byte, count },
+        carry: last.carry,
+    }
+}
+
+/// The most chunks that a round has: so few that what they count in a lane can be summed, and no part of a group unless
+/// not even one fits.
+fn chunks_of_round<C: PlaceCounts<T>, T: ByteChunk, const GROUP: usize>() -> usize
+    requires { 0 < GROUP }
+    ensures some { 0 < result }
+    ensures few { result ≤ 255 }
+    ensures summable { result * C.MOST ≤ T.MAX_ACC }
+{
+    let fitting = T::MAX_ACC / C::MOST;
+    if fitting < GROUP {
+        fitting
+    } else {
+        fitting / GROUP * GROUP
+    }
+}
+
+/// Skips groups of so many chunks from a position on, while with them no more than `idx` are counted and at least `least`
+/// chunks are left.
+#[inline(always)]
+pub(crate) fn skip_chunks<C: PlaceCounts<T>, T: ByteChunk>(
+    probe: &mut Probe<'_, T>,
+    from: Cursor,
+    idx: usize,
+    group: usize,
+    least: usize,
+    mut carry: C::Carry,
+) -> Reached<C::Carry>
+    requires some { 0 < group }
+    requires room { group * C.MOST ≤ 4 }
+    requires least { (group ≤ least) × (least ≤ 16) }
+    requires within { from.byte ≤ length probe.old.text }
+    requires fits { let n = length probe.old.text in FitsIn (sum_below (C.counted_at n probe.old.text)) n }
+    requires counted { from.count ≡ sum_below (C.counted_at (length probe.old.text) probe.old.text) from.byte }
+    requires at_most { from.count ≤ idx }
+    requires carried { C.carries probe.old.text from.byte carry }
+    ensures reached { (from.byte ≤ result.at.byte) × (result.at.byte ≤ length probe.old.text) }
+    ensures counted { result.at.count ≡ sum_below (C.counted_at (length probe.old.text) probe.old.text) result.at.byte }
+    ensures at_most { result.at.count ≤ idx }
+    ensures carried { C.carries probe.old.text result.at.byte result.carry }
+    ensures stopped { (length probe.old.text < result.at.byte + least * T.SIZE)
+        ⊎ (idx < sum_below (C.counted_at (length probe.old.text) probe.old.text) (result.at.byte + group * T.SIZE)) }
+    ensures reads { Reads probe.old probe.new from.byte 0 ((result.at.byte - from.byte) / T.SIZE + group) 0 }
+{
+    let len = probe.len();
+    let mut at = from;
+    'groups: while least * T::SIZE <= len - at.byte {
+        let added = add_chunks::<C, T>(probe, at.byte, group, len, carry);
+        let count = at.count + added.lanes.sum_bytes();
+        if count > idx {
+            break;
+        }
+        at = Cursor {
+            byte: at.byte + group * T::SIZE,
+            count,
+        };
+        carry = added.carry;
+    }
+    Reached { at, carry }
+}
+
+/// Adds what is counted in the lanes of so many chunks: of groups of `GROUP`, and then of what is left one at a time.
+#[inline(always)]
+fn add_in_groups<C: PlaceCounts<T>, T: ByteChunk, const GROUP: usize>(
+    probe: &mut Probe<'_, T>,
+    from: usize,
+    chunks: usize,
+    end: usize,
+    carry: C::Carry,
+) -> CountedLanes<T, C::Carry>
+    requires some { 0 < GROUP }
+    requires room { chunks * C.MOST ≤ 255 }
+    requires seen { (from + chunks * T.SIZE ≤ end) × (end ≤ length probe.old.text) }
+    requires carried { C.carries probe.old.text from carry }
+    ensures lanes { AddsUp (sum_below (C.counted_at end probe.old.text)) C.MOST T.SIZE from (from + chunks * T.SIZE) chunks
+        (T.lanes result.lanes) }
+    ensures carried { C.carries probe.old.text (from + chunks * T.SIZE) result.carry }
+    ensures reads { Reads probe.old probe.new from 0 chunks 0 }
+{
+    let groups = chunks / GROUP;
+    let grouped = add_groups::<C, T, GROUP>(probe, from, groups, end, carry);
+    let behind = from + groups * GROUP * T::SIZE;
+    let single = add_chunks::<C, T>(probe, behind, chunks % GROUP, end, grouped.carry);
+    CountedLanes {
+        lanes: grouped.lanes.add(single.lanes),
+        carry: single.carry,
+    }
+}
+
+/// Adds what is counted in the lanes of so many groups of `GROUP` chunks.
+#[inline(always)]
+fn add_groups<C: PlaceCounts<T>, T: ByteChunk, const GROUP: usize>(
+    probe: &mut Probe<'_, T>,
+    from: usize,
+    groups: usize,
+    end: usize,
+    mut carry: C::Carry,
+) -> CountedLanes<T, C::Carry>
+    requires room { groups * GROUP * C.MOST ≤ 255 }
+    requires seen { (from + groups * GROUP * T.SIZE ≤ end) × (end ≤ length probe.old.text) }
+    requires carried { C.carries probe.old.text from carry }
+    ensures lanes { AddsUp (sum_below (C.counted_at end probe.old.text)) C.MOST T.SIZE from (from + groups * GROUP * T.SIZE)
+        (groups * GROUP) (T.lanes result.lanes) }
+    ensures carried { C.carries probe.old.text (from + groups * GROUP * T.SIZE) result.carry }
+    ensures reads { Reads probe.old probe.new from 0 (groups * GROUP) 0 }
+{
+    let mut lanes = T::zero();
+    let mut at = from;
+    'groups: for _ in 0..groups {
+        let group = add_chunks::<C, T>(probe, at, GROUP, end, carry);
+        lanes = lanes.add(group.lanes);
+        carry = group.carry;
+        at += GROUP * T::SIZE;
+    }
+    CountedLanes { lanes, carry }
+}
+
+/// Adds what is counted in the lanes of so many chunks.
+#[inline(always)]
+fn add_chunks<C: PlaceCounts<T>, T: ByteChunk>(
+    probe: &mut Probe<'_, T>,
+    from: usize,
+    chunks: usize,
+    end: usize,
+    mut carry: C::Carry,
+) -> CountedLanes<T, C::Carry>
+    requires room { chunks * C.MOST ≤ 255 }
+    requires seen { (from + chunks * T.SIZE ≤ end) × (end ≤ length probe.old.text) }
+    requires carried { C.carries probe.old.text from carry }
+    ensures lanes { AddsUp (sum_below (C.counted_at end probe.old.text)) C.MOST T.SIZE from (from + chunks * T.SIZE) chunks
+        (T.lanes result.lanes) }
+    ensures carried { C.carries probe.old.text (from + chunks * T.SIZE) result.carry }
+    ensures reads { Reads probe.old probe.new from 0 chunks 0 }
+{
+    let mut lanes = T::zero();
+    let mut at = from;
+    'chunks: for _ in 0..chunks {
+        let chunk = probe.load(at);
+        let counted = C::count_lanes(probe, chunk, at, end, carry);
+        lanes = lanes.add(counted.lanes);
+        carry = counted.carry;
+        at += T::SIZE;
+    }
+    CountedLanes { lanes, carry }
+}

@@ -1,0 +1,227 @@
+//! LF, CR, and what a byte weighs by itself, beside its form for all lanes of a chunk.
+ghost use Rattle.std.specs.Prelude.{◌≡◌, ℕ, ◌<◌, ◌≤◌, length, map, slice_index};
+ghost use Rattle.std.proofs.Common.{lit≤, lit<};
+ghost use Rattle.str_indices.specs.Prelude.{mark, is_trailing, is_leading, begins_four_bytes, is_line_feed, units_begun, mark-le, units_begun-le};
+
+use crate::place_counts::{CountedLanes, PlaceCounts};
+use byte_chunk::{ByteChunk, Probe};
+use std::marker::PhantomData;
+
+pub(crate) const LF: u8 = b'\n';
+
+pub(crate) const CR: u8 = b'\r';
+
+/// A weight of one byte, and of all lanes of a chunk at once.
+pub(crate) trait ByteWeight {
+    ghost weight: { ℕ → ℕ };
+
+    ghost MOST: { ℕ };
+
+    /// The greatest weight of a byte.
+    const MOST: usize;
+
+    /// Whether most bytes, or every second or third, have a weight.
+    const IS_DENSE: bool;
+
+    /// The weight of the byte.
+    fn in_byte(byte: u8) -> usize
+        ensures { result ≡ weight byte };
+
+    /// The weight of each lane.
+    fn in_lanes<T: ByteChunk>(chunk: T) -> T
+        requires { length (T.lanes chunk) ≡ T.SIZE }
+        ensures { T.lanes result ≡ map weight (T.lanes chunk) };
+
+    ghost few: { (0 < MOST) × (MOST ≤ 2) };
+
+    ghost bounded: { (byte : ℕ) → weight byte ≤ MOST };
+}
+
+/// 1 for each LF.
+pub(crate) struct LineFeeds;
+
+impl ByteWeight for LineFeeds {
+    ghost weight = { mark is_line_feed };
+
+    ghost MOST = { 1 };
+
+    const MOST: usize = 1;
+
+    const IS_DENSE: bool = false;
+
+    fn in_byte(byte: u8) -> usize {
+        usize::from(byte == LF)
+    }
+
+    fn in_lanes<T: ByteChunk>(chunk: T) -> T {
+        chunk.cmp_eq_byte(LF)
+    }
+
+    ghost few = { (lit< tt, lit≤ tt) };
+
+    ghost bounded = { mark-le is_line_feed };
+}
+
+/// 1 for each byte that begins a char.
+pub(crate) struct LeadingBytes;
+
+impl ByteWeight for LeadingBytes {
+    ghost weight = { mark is_leading };
+
+    ghost MOST = { 1 };
+
+    const MOST: usize = 1;
+
+    const IS_DENSE: bool = true;
+
+    fn in_byte(byte: u8) -> usize {
+        usize::from(is_leading_byte(byte))
+    }
+
+    fn in_lanes<T: ByteChunk>(chunk: T) -> T {
+        mark_leading(chunk)
+    }
+
+    ghost few = { (lit< tt, lit≤ tt) };
+
+    ghost bounded = { mark-le is_leading };
+}
+
+/// 1 for each byte that begins a char of four bytes, which takes a surrogate pair.
+pub(crate) struct FourByteLeads;
+
+impl ByteWeight for FourByteLeads {
+    ghost weight = { mark begins_four_bytes };
+
+    ghost MOST = { 1 };
+
+    const MOST: usize = 1;
+
+    const IS_DENSE: bool = false;
+
+    fn in_byte(byte: u8) -> usize {
+        usize::from(is_four_byte_lead(byte))
+    }
+
+    fn in_lanes<T: ByteChunk>(chunk: T) -> T {
+        mark_surrogates(chunk)
+    }
+
+    ghost few = { (lit< tt, lit≤ tt) };
+
+    ghost bounded = { mark-le begins_four_bytes };
+}
+
+/// For each byte that begins a char the UTF-16 code units of that char, 1 or 2.
+pub(crate) struct Units;
+
+impl ByteWeight for Units {
+    ghost weight = { units_begun };
+
+    ghost MOST = { 2 };
+
+    const MOST: usize = 2;
+
+    const IS_DENSE: bool = true;
+
+    fn in_byte(byte: u8) -> usize {
+        usize::from(is_leading_byte(byte)) + usize::from(is_four_byte_lead(byte))
+    }
+
+    fn in_lanes<T: ByteChunk>(chunk: T) -> T {
+        mark_leading(chunk).add(mark_surrogates(chunk))
+    }
+
+    ghost few = { (lit< tt, lit≤ tt) };
+
+    ghost bounded = { units_begun-le };
+}
+
+/// How many chunks are added in one step.
+pub(crate) const GROUP: usize = 16;
+
+/// How many are in the last round, in which a short text has all its chunks.
+pub(crate) const LAST_GROUP: usize = 8;
+
+/// The weight of each byte, by itself.
+pub(crate) struct Weights<B>(PhantomData<B>);
+
+impl<B: ByteWeight, T: ByteChunk> PlaceCounts<T> for Weights<B> {
+    type Carry = ();
+
+    ghost MOST = { B.MOST };
+
+    ghost counted_at = { λ _ text n. B.weight (slice_index text n) };
+
+    ghost carries = { λ _ _ _. Unit {0} };
+
+    const MOST: usize = B::MOST;
+
+    const IS_DENSE: bool = B::IS_DENSE;
+
+    fn count_byte(_: &mut Probe<'_, T>, _: u8, byte: u8, _: usize, _: usize) -> usize {
+        B::in_byte(byte)
+    }
+
+    fn carry_at(_: &mut Probe<'_, T>, _: usize) {}
+
+    fn count_lanes(
+        _probe: &mut Probe<'_, T>,
+        chunk: T,
+        _at: usize,
+        _end: usize,
+        _carry: (),
+    ) -> CountedLanes<T, ()> {
+        CountedLanes {
+            lanes: B::in_lanes(chunk),
+            carry: (),
+        }
+    }
+
+    ghost at_most = { λ _ text n. B.bounded (slice_index text n) };
+
+    ghost few = { B.few };
+}
+
+pub(crate) fn is_leading_byte(byte: u8) -> bool
+    ensures { result ≡ is_leading byte }
+{
+    byte & 0xC0 != 0x80
+}
+
+pub(crate) fn is_trailing_byte(byte: u8) -> bool
+    ensures { result ≡ is_trailing byte }
+{
+    byte & 0xC0 == 0x80
+}
+
+/// 1 in each lane that is a trailing byte.
+fn mark_trailing<T: ByteChunk>(chunk: T) -> T
+    requires { length (T.lanes chunk) ≡ T.SIZE }
+    ensures { T.lanes result ≡ map (mark is_trailing) (T.lanes chunk) }
+{
+    chunk.bitand(T::splat(0xC0)).cmp_eq_byte(0x80)
+}
+
+/// 1 in each lane that begins a char.
+#[tactic(auto, using(crate::proofs::lemmas::lanes::EachLane::leading_lanes))]
+fn mark_leading<T: ByteChunk>(chunk: T) -> T
+    requires { length (T.lanes chunk) ≡ T.SIZE }
+    ensures { T.lanes result ≡ map (mark is_leading) (T.lanes chunk) }
+{
+    T::splat(1).sub(mark_trailing(chunk))
+}
+
+fn is_four_byte_lead(byte: u8) -> bool
+    ensures { result ≡ begins_four_bytes byte }
+{
+    byte & 0xF0 == 0xF0
+}
+
+/// 1 in each lane that begins a char of four bytes.
+fn mark_surrogates<T: ByteChunk>(chunk: T) -> T
+    requires { length (T.lanes chunk) ≡ T.SIZE }
+    ensures { T.lanes result ≡ map (mark begins_four_bytes) (T.lanes chunk) }
+{
+    chunk.bitand(T::splat(0xF0)).cmp_eq_byte(0xF0)
+}
