@@ -32,6 +32,7 @@ PROMISES = [
     ("A probe lends what it is asked for, and counts it once", "byte_chunk", r".*", r".*", ""),
     ("The program answers its words, and else says what is wrong", "idx", r".*", r".*", ""),
     ("A text in pieces answers as the joined text, and a refusal changes nothing", "piece_text", r".*", r".*", ""),
+    ("A rope answers as its text, changes it as asked, and a refusal changes nothing", "text_rope", r".*", r".*", ""),
     ("A position is a line and an offset on it, and back", "position_mapper", r".*", r".*", ""),
     ("A slice is what stands between two places", "text_slices", r".*", r".*", ""),
     ("Each export for C answers as the function that it calls", "str_indices_c", r".*", r".*", ""),

@@ -30,7 +30,7 @@ impl Summary {
     ghost use Rattle.piece_text.specs.Summaries.{summary_of, count_of};
 
     /// The summary of a text.
-    pub(crate) fn of(text: &str) -> Summary
+    pub fn of(text: &str) -> Summary
         ensures { result ≡ summary_of (chars text.now) }
     {
         Summary {
@@ -46,7 +46,7 @@ impl Summary {
     }
 
     /// The count of a scheme.
-    pub(crate) fn count(&self, s: Scheme) -> usize
+    pub fn count(&self, s: Scheme) -> usize
         ensures { result ≡ count_of self.now s }
     {
         match s {

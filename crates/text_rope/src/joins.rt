@@ -1,0 +1,98 @@
+//! Two trees and a fork between them in one balanced tree. Nothing here takes memory.
+ghost use Rattle.std.specs.Prelude.{◌≡◌, ◌+◌, ◌^◌, ◌<◌, ◌≤◌, ◌∷◌, ◌++◌};
+ghost use Rattle.str_indices.specs.Text.{size};
+ghost use Rattle.piece_text.specs.Pieces.{joined_size};
+ghost use Rattle.text_rope.specs.Shapes.{DifferByAtMost, IsJoinedHeight};
+
+use crate::tree::{Fork, Tree, over};
+
+/// One tree of all pieces of two with the fork's piece between them.
+pub(crate) fn join(left: Tree, fork: Box<Fork>, right: Tree) -> Tree
+    requires short { joined_size left.texts + size fork.value.piece + joined_size right.texts < 2 ^ 63 }
+    ensures texts { result.texts ≡ left.texts ++ fork.value.piece ∷ right.texts }
+    ensures size { joined_size result.texts ≡ joined_size left.texts + size fork.value.piece + joined_size right.texts }
+    ensures height { IsJoinedHeight left.height right.height result.height }
+{
+    let (l, r) = (left.height(), right.height());
+    if l > r + 1 {
+        let Some(top) = left.open() else {
+            unreachable!()
+        };
+        balanced(top.left, top.fork, join(top.right, fork, right))
+    } else if r > l + 1 {
+        let Some(top) = right.open() else {
+            unreachable!()
+        };
+        balanced(join(left, fork, top.left), top.fork, top.right)
+    } else {
+        over(left, fork, right)
+    }
+}
+
+/// The same of two trees that differ by two at most: with no rotation, one, or two.
+fn balanced(left: Tree, fork: Box<Fork>, right: Tree) -> Tree
+    requires near { DifferByAtMost 2 left.height right.height }
+    requires short { joined_size left.texts + size fork.value.piece + joined_size right.texts < 2 ^ 63 }
+    ensures texts { result.texts ≡ left.texts ++ fork.value.piece ∷ right.texts }
+    ensures size { joined_size result.texts ≡ joined_size left.texts + size fork.value.piece + joined_size right.texts }
+    ensures height { IsJoinedHeight left.height right.height result.height }
+{
+    let (l, r) = (left.height(), right.height());
+    if l > r + 1 {
+        lean_right(left, fork, right)
+    } else if r > l + 1 {
+        lean_left(left, fork, right)
+    } else {
+        over(left, fork, right)
+    }
+}
+
+/// The left tree is higher by two.
+fn lean_right(left: Tree, fork: Box<Fork>, right: Tree) -> Tree
+    requires near { left.height ≡ right.height + 2 }
+    requires short { joined_size left.texts + size fork.value.piece + joined_size right.texts < 2 ^ 63 }
+    ensures texts { result.texts ≡ left.texts ++ fork.value.piece ∷ right.texts }
+    ensures size { joined_size result.texts ≡ joined_size left.texts + size fork.value.piece + joined_size right.texts }
+    ensures not_lower { left.height ≤ result.height }
+    ensures at_most_one_higher { result.height ≤ left.height + 1 }
+{
+    let Some(top) = left.open() else {
+        unreachable!()
+    };
+    if top.left.height() >= top.right.height() {
+        return over(top.left, top.fork, over(top.right, fork, right));
+    }
+    let Some(inner) = top.right.open() else {
+        unreachable!()
+    };
+    over(
+        over(top.left, top.fork, inner.left),
+        inner.fork,
+        over(inner.right, fork, right),
+    )
+}
+
+/// The right tree is higher by two.
+fn lean_left(left: Tree, fork: Box<Fork>, right: Tree) -> Tree
+    requires near { right.height ≡ left.height + 2 }
+    requires short { joined_size left.texts + size fork.value.piece + joined_size right.texts < 2 ^ 63 }
+    ensures texts { result.texts ≡ left.texts ++ fork.value.piece ∷ right.texts }
+    ensures size { joined_size result.texts ≡ joined_size left.texts + size fork.value.piece + joined_size right.texts }
+    ensures not_lower { right.height ≤ result.height }
+    ensures at_most_one_higher { result.height ≤ right.height + 1 }
+{
+    let Some(top) = right.open() else {
+        unreachable!()
+    };
+    if top.right.height() >= top.left.height() {
+        return over(over(left, fork, top.left), top.fork, top.right);
+    }
+    let Some(inner) = top.left.open() else {
+        unreachable!()
+    };
+    over(
+        over(left, fork, inner.left),
+        inner.fork,
+        over(inner.right, top.fork, top.right),
+    )
+}

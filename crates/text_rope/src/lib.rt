@@ -1,0 +1,29 @@
+//! A text that changes: one text in a balanced tree of pieces.
+//!
+//! An editor or a language server changes one long text thousands of times and asks after each change. A [`Rope`] takes
+//! the logarithm of the number of pieces for every question and every change, and answers as `str_indices` does for the
+//! whole text.
+#![tactic(auto)]
+
+mod chunks;
+mod inserts;
+mod joins;
+mod loads;
+mod parts;
+mod piece;
+mod queries;
+mod refusals;
+mod removals;
+mod rope;
+mod summaries;
+#[cfg(test)]
+mod tests;
+mod tree;
+mod view;
+
+pub use chunks::{Chunk, Chunks};
+pub use piece_text::Scheme;
+pub use queries::{count_in, from_in, is_boundary_in, to_in};
+pub use refusals::Refusal;
+pub use rope::Rope;
+pub use view::View;

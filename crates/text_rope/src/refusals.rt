@@ -1,0 +1,14 @@
+//! Why a call of a rope did nothing.
+
+/// Why a call changed nothing.
+#[derive(Clone, Copy, PartialEq, Eq, Debug)]
+pub enum Refusal {
+    /// The first byte index is above the second.
+    NotOrdered,
+    /// A byte index is no boundary of the text: it is inside a character, or past the end.
+    NotBoundary,
+    /// The text would have more bytes than a text can have, `isize::MAX`.
+    TooLong,
+    /// Memory was refused.
+    NoMemory,
+}

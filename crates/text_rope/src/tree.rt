@@ -1,0 +1,233 @@
+//! A balanced tree of pieces.
+ghost use Rattle.std.specs.Prelude.{◌≡◌, ◌≢◌, ◌+◌, ◌^◌, ◌<◌, ◌≤◌, ◌↔◌, max, [], ◌∷◌, ◌++◌, length, IfSome, IsNone, IfNone, IfOk};
+ghost use Rattle.str_indices.specs.Text.{size};
+ghost use Rattle.piece_text.specs.Pieces.{joined, joined_size};
+ghost use Rattle.piece_text.specs.Summaries.{summary_of};
+ghost use Rattle.text_rope.specs.Shapes.{Seen, DifferByAtMost, IsForkOf, AreSummed, fewest};
+
+use crate::piece::Piece;
+use crate::summaries::{joined, summary_of_none};
+use byte_chunk::Counter;
+use piece_text::Summary;
+use std::alloc::{AllocError, Global};
+use std::marker::Model;
+use std::mem;
+
+/// A balanced tree of pieces. A contract sees their texts in order, and its height.
+#[cycle(tree)]
+#[derive(Drop)]
+pub(crate) struct Tree {
+    root: Root,
+}
+
+#[cycle(tree)]
+#[derive(Drop)]
+enum Root {
+    Leaf,
+    Fork(Box<Fork>),
+}
+
+/// A piece between two trees, with the summaries of both beside it: a way down the tree reads no other fork.
+#[cycle(tree)]
+#[derive(Drop)]
+pub(crate) struct Fork {
+    left: Tree,
+    pub(crate) piece: Piece,
+    pub(crate) before: Summary,
+    pub(crate) after: Summary,
+    height: usize,
+    right: Tree,
+}
+
+impl Model for Tree {
+    ghost use Rattle.text_rope.specs.Shapes.{Seen};
+
+    ghost Value = { Seen };
+
+    ghost use Rattle.std.specs.Prelude.{length};
+    ghost use Rattle.text_rope.specs.Views.{seen, IsSound};
+
+    ghost view = { λ a. seen a.root };
+
+    ghost invariant = { λ a. IsSound a.root };
+
+    ghost size = { λ d. length d.texts };
+
+    ghost use Rattle.std.proofs.Common.{arith, length-append};
+
+    ghost size_decreases = { λ a h. Prim.grind (arith, length-append) };
+}
+
+impl Fork {
+    ghost use Rattle.text_rope.specs.Views.{IsFork};
+
+    /// The summary of its whole text.
+    fn whole(&self) -> Summary
+        requires { IsFork self.now.left self.now.piece self.now.right self.now.before self.now.after self.now.height }
+        ensures { result ≡ summary_of (joined (self.now.left.texts ++ self.now.piece ∷ self.now.right.texts)) }
+    {
+        joined(joined(self.before, self.piece.summary()), self.after)
+    }
+}
+
+impl Tree {
+    ghost use Rattle.text_rope.specs.Views.{IsFork};
+
+    /// A tree without pieces.
+    pub(crate) fn new() -> Tree
+        ensures { result ≡ record { texts = []; height = 0 } }
+    {
+        Tree { root: Root::Leaf }
+    }
+
+    /// The summary of the whole text.
+    #[tactic(auto, using(crate::proofs::lemmas::Forks::fork_size))]
+    pub(crate) fn whole(&self) -> Summary
+        ensures whole { result ≡ summary_of (joined self.now.texts) }
+        ensures short { joined_size self.now.texts < 2 ^ 63 }
+    {
+        match &self.root {
+            Root::Leaf => summary_of_none(),
+            Root::Fork(fork) => fork.whole(),
+        }
+    }
+
+    /// How many levels it has.
+    #[tactic(auto, using(crate::proofs::lemmas::Forks::fork_size))]
+    pub(crate) fn height(&self) -> usize
+        ensures height { result ≡ self.now.height }
+        ensures low { self.now.height ≤ length self.now.texts }
+        ensures short { joined_size self.now.texts < 2 ^ 63 }
+        ensures many { fewest self.now.height ≤ length self.now.texts + 1 }
+        ensures few { length self.now.texts ≤ joined_size self.now.texts }
+    {
+        match &self.root {
+            Root::Leaf => 0,
+            Root::Fork(fork) => fork.height,
+        }
+    }
+
+    /// Its root, for one look.
+    #[tactic(auto, using(crate::proofs::lemmas::Forks::fork_size))]
+    pub(crate) fn look(&self, looks: &mut Counter) -> Option<Look<'_>>
+        ensures empty { IsNone result ↔ (self.now.height ≡ 0) }
+        ensures none { IfNone result (self.now.texts ≡ []) }
+        ensures parts { IfSome result (λ l. IsForkOf self.now l.left.now l.piece.now l.right.now) }
+        ensures summaries { IfSome result
+            (λ l. AreSummed l.left.now l.piece.now l.right.now l.before l.own l.after) }
+        ensures short { joined_size self.now.texts < 2 ^ 63 }
+        ensures one { IfSome result (λ _. looks.new ≡ looks.old + 1) }
+        ensures free { IfNone result (looks.new ≡ looks.old) }
+    {
+        match &self.root {
+            Root::Leaf => None,
+            Root::Fork(fork) => {
+                looks.tick();
+                let fork: &Fork = fork;
+                Some(Look {
+                    left: &fork.left,
+                    piece: &fork.piece,
+                    right: &fork.right,
+                    before: fork.before,
+                    own: fork.piece.summary(),
+                    after: fork.after,
+                })
+            }
+        }
+    }
+
+    /// Its root with no trees below it, and the two trees.
+    #[tactic(auto, using(crate::proofs::lemmas::Forks::fork_size))]
+    pub(crate) fn open(self) -> Option<Opened>
+        ensures empty { IsNone result ↔ (self.height ≡ 0) }
+        ensures none { IfNone result (self.texts ≡ []) }
+        ensures parts { IfSome result (λ o. IsForkOf self o.left o.fork.value.piece o.right) }
+        ensures sound { IfSome result (λ o. IsFork o.left o.fork.value.piece o.right
+            o.fork.value.before o.fork.value.after o.fork.value.height) }
+        ensures height { IfSome result (λ o. o.fork.value.height ≡ self.height) }
+        ensures short { joined_size self.texts < 2 ^ 63 }
+    {
+        match self.root {
+            Root::Leaf => None,
+            Root::Fork(mut fork) => {
+                let left = mem::replace(&mut fork.left, Tree::new());
+                let right = mem::replace(&mut fork.right, Tree::new());
+                Some(Opened { left, fork, right })
+            }
+        }
+    }
+}
+
+/// A fork as a question sees it, with the summaries of its parts.
+#[derive(Drop)]
+pub(crate) struct Look<'a> {
+    pub(crate) left: &'a Tree,
+    pub(crate) piece: &'a Piece,
+    pub(crate) right: &'a Tree,
+    pub(crate) before: Summary,
+    pub(crate) own: Summary,
+    pub(crate) after: Summary,
+}
+
+/// A fork with no trees below it, and the two trees that it had.
+#[derive(Drop)]
+pub(crate) struct Opened {
+    pub(crate) left: Tree,
+    pub(crate) fork: Box<Fork>,
+    pub(crate) right: Tree,
+}
+
+/// A fork over two trees.
+#[tactic(auto, using(crate::proofs::lemmas::Forks::fork_size))]
+pub(crate) fn over(left: Tree, mut fork: Box<Fork>, right: Tree) -> Tree
+    requires balanced { DifferByAtMost 1 left.height right.height }
+    requires short { joined_size left.texts + size fork.value.piece + joined_size right.texts < 2 ^ 63 }
+    ensures { IsForkOf result left fork.value.piece right }
+{
+    let _own = fork.piece.summary();
+    fork.before = left.whole();
+    fork.after = right.whole();
+    fork.height = left.height().max(right.height()) + 1;
+    fork.left = left;
+    fork.right = right;
+    Tree {
+        root: Root::Fork(fork),
+    }
+}
+
+impl Opened {
+    ghost use Rattle.text_rope.specs.Views.{IsFork};
+
+    /// The fork over its trees again, where all that it holds is right: reads neither tree.
+    #[tactic(auto, using(crate::proofs::lemmas::Forks::fork_size))]
+    pub(crate) fn closed(mut self) -> Tree
+        requires { IsFork self.left self.fork.value.piece self.right
+            self.fork.value.before self.fork.value.after self.fork.value.height }
+        ensures parts { IsForkOf result self.left self.fork.value.piece self.right }
+        ensures height { result.height ≡ self.fork.value.height }
+    {
+        self.fork.left = self.left;
+        self.fork.right = self.right;
+        Tree {
+            root: Root::Fork(self.fork),
+        }
+    }
+}
+
+/// A fork of a piece, with no trees below it.
+pub(crate) fn fork_of(alloc: Global, piece: Piece) -> Result<Box<Fork>, AllocError>
+    ensures { IfOk result (λ fork. fork.value.piece ≡ piece) }
+{
+    let none = summary_of_none();
+    Ok(Box::new(
+        alloc,
+        Fork {
+            left: Tree::new(),
+            piece,
+            before: none,
+            after: none,
+            height: 1,
+            right: Tree::new(),
+        },
+    )?)
+}
