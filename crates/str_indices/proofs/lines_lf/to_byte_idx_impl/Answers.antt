@@ -1,4 +1,4 @@
-use Rattle.str_indices.proofs.lemmas.{IsCharBoundary-to_byte_idx, Lf, is_line_feed, mark-le, ones_steady, line_begins}
+use Rattle.str_indices.proofs.lemmas.{arith, IsCharBoundary-to_byte_idx, Lf, is_line_feed, mark-le, ones_steady, line_begins}
 use Rattle.str_indices.proofs.lines_lf.to_byte_idx_impl.Goals as goal
 
 pub find_first-requires-clause-steady : goal.find_first-requires-clause-steady
@@ -6,7 +6,12 @@ find_first-requires-clause-steady g c = ones_steady _ (λ j. mark-le is_line_fee
 
 pub returns-clause-answer : goal.returns-clause-answer
 returns-clause-answer g c =
-    line_begins _ c.len.ensures.utf8 _ _ c.find_first.ensures.reached c.find_first.ensures.stopped c.find_first.ensures.first
+    let found = c.find_first in
+    omega (
+      arith,
+      line_begins c.args.probe.now.text c.len.ensures.utf8 c.args.idx found.result found.ensures.reached
+          found.ensures.stopped found.ensures.first,
+    )
 
 pub returns-clause-boundary : goal.returns-clause-boundary
 returns-clause-boundary g c =

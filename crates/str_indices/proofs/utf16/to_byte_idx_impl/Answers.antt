@@ -1,4 +1,4 @@
-use Rattle.str_indices.proofs.lemmas.{IsCharBoundary-to_byte_idx, Utf16, unit_reached, units_steady}
+use Rattle.str_indices.proofs.lemmas.{arith, IsCharBoundary-to_byte_idx, Utf16, unit_reached, units_steady}
 use Rattle.str_indices.proofs.utf16.to_byte_idx_impl.Goals as goal
 
 pub find-requires-clause-steady : goal.find-requires-clause-steady
@@ -6,7 +6,12 @@ find-requires-clause-steady g c = units_steady c.args.probe.now.text c.len.ensur
 
 pub returns-clause-answer : goal.returns-clause-answer
 returns-clause-answer g c =
-    unit_reached _ c.len.ensures.utf8 _ _ c.find.ensures.reached c.find.ensures.at_most c.find.ensures.stopped
+    let found = c.find in
+    omega (
+      arith,
+      unit_reached c.args.probe.now.text c.len.ensures.utf8 found.result c.args.idx found.ensures.reached
+          found.ensures.at_most found.ensures.stopped,
+    )
 
 pub returns-clause-boundary : goal.returns-clause-boundary
 returns-clause-boundary g c =
