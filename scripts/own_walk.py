@@ -1,7 +1,7 @@
 #!/usr/bin/env python3
 """Shows that each public function has its answer from the function that it calls, and from no walk of its own.
 
-A public function of str_indices calls its kernel, and a query of piece_text the function over a view of the pieces. Each
+A public function of str_indices calls its kernel, and a query of piece_text or of text_rope the function over a view. Each
 edit of a folder refusals/own-walk/CRATE takes the answer out of the contract of one function of that crate that is
 called so: the clause keeps its name and says nothing. The edit names the public function too. With that edit, the public
 function and all that it calls are checked: it alone must be refused, at the goal of its own answer. A function with a

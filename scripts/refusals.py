@@ -86,14 +86,17 @@ def is_inside(path, function):
 
 
 def proofs_of(function):
-    return f"proofs/{function.replace('::', '/')}/"
+    """The folders that may have the function's proof files: that of a function which calls itself has a plus."""
+    *modules, name = function.split("::")
+    return ["/".join(("proofs", *modules, f"{mark}{name}", "")) for mark in ("", "+")]
 
 
 def refused_at_proofs(function, output):
     """The goals that the check refuses at the function's proof files, but for those where a name alone is stale."""
     error = re.compile(r"^(?:\./)?(proofs/\S+)\.antt:\d+:\d+: error: `([^`]*)`: (.*(?:\n  .*)*)", re.MULTILINE)
+    folders = tuple(proofs_of(function))
     found = error.findall(output)
-    return [goal for file, goal, said in found if file.startswith(proofs_of(function)) and not STALE_NAME.search(said)]
+    return [goal for file, goal, said in found if file.startswith(folders) and not STALE_NAME.search(said)]
 
 
 def open_goals(crate, function, output):
@@ -121,8 +124,9 @@ def refused_functions(crate, output):
 
 def goals_after(crate, function, goals):
     """The goals open besides these, once their answers are holes: beside a wrong answer the check names none."""
-    file = crate / (proofs_of(function) + "Answers.antt")
-    if not file.is_file():
+    files = [crate / folder / "Answers.antt" for folder in proofs_of(function)]
+    file = next((file for file in files if file.is_file()), None)
+    if not file:
         return []
     text = holed = file.read_text(encoding="utf-8")
     for goal in goals:

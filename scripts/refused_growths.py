@@ -1,11 +1,11 @@
 #!/usr/bin/env python3
-"""Refuses each growth of a text in pieces in turn, and wants all as it was.
+"""Refuses each growth of a text in pieces and of a rope in turn, and wants all as it was.
 
-The program tests/refused_growths.txt makes a text grow, step by step. `rt try` builds it once, beside a copy of
-piece_text, and refuses the same allocation in each of its runs. In each run the program has taken less memory before
-its first step, so that a later growth is refused. It must answer `NoMemory` then, with every other answer as before,
-and succeed at the second try. The last runs come to an end with no growth refused. The last line printed is
-'N passed, M failed'.
+The programs tests/refused_growths.txt and tests/refused_rope_growths.txt make a text grow, step by step. `rt try`
+builds each once, beside a copy of its library, and refuses the same allocation in each of its runs. In each run the
+program has taken less memory before its first step, so that a later growth is refused. It must answer `NoMemory` then,
+with every other answer as before, and succeed at the second try. The last runs come to an end with no growth refused.
+The last line printed is 'N passed, M failed'.
 """
 import pathlib
 import re
@@ -13,25 +13,38 @@ import shutil
 import subprocess
 import sys
 import tempfile
+from typing import NamedTuple
 
 from crate_copies import ROOT, copy_crate
 from tally import Tally
 
-PROGRAM = ROOT / "tests" / "refused_growths.txt"
-# each of the six pieces that are put in takes its copy, each of the three splits two, and the list is longer at times
-LEAST = 12
-RUNS = 20
 
-MADE = "9 pieces, 16 bytes, 5 breaks\n"
-REFUSED = "no memory, and all as before\n" + MADE
+class Program(NamedTuple):
+    """A program, the library that it stands on, what it prints at its end, and how many growths it has at least."""
+
+    name: str
+    library: str
+    made: str
+    least: int
 
 
-def copy_program(folder):
-    """Puts the program beside a copy of the sources of piece_text, and answers where it is."""
-    copy_crate("piece_text", folder, "refused_growths: piece_text\n", left_out=("must-fail", "out"))
-    crate = folder / "crates" / "refused_growths"
+PROGRAMS = (
+    # each of the six pieces that are put in takes its copy, each of the three splits two, and the list is longer at times
+    Program("refused_growths", "piece_text", "9 pieces, 16 bytes, 5 breaks\n", 12),
+    # each new piece takes its text and its fork, and a text that is put into a full piece is put together first
+    Program("refused_rope_growths", "text_rope", "5004 bytes, 750 breaks, the number 15501513337787822859\n", 25),
+)
+RUNS = 40
+
+REFUSED = "no memory, and all as before\n"
+
+
+def copy_program(program, folder):
+    """Puts the program beside a copy of the sources of its library, and answers where it is."""
+    copy_crate(program.library, folder, f"{program.name}: {program.library}\n", left_out=("must-fail", "out"))
+    crate = folder / "crates" / program.name
     (crate / "src").mkdir(parents=True)
-    shutil.copyfile(PROGRAM, crate / "src" / "main.rt")
+    shutil.copyfile(ROOT / "tests" / f"{program.name}.txt", crate / "src" / "main.rt")
     return crate
 
 
@@ -51,21 +64,27 @@ def outputs_of(done):
     return dict(zip(map(int, parts[1::2]), parts[2::2]))
 
 
-def main():
-    tally = Tally()
+def try_program(program, tally):
+    """Refuses each growth of the program in turn."""
     with tempfile.TemporaryDirectory() as folder:
         folder = pathlib.Path(folder)
-        done = run_all(copy_program(folder), folder / "cases")
-    if not tally.result(done.returncode == 0, f"the program is built once, and comes to an end in {RUNS} runs"):
+        done = run_all(copy_program(program, folder), folder / "cases")
+    if not tally.result(done.returncode == 0, f"{program.name} is built once, and comes to an end in {RUNS} runs"):
         print(done.stdout + done.stderr)
     outputs = outputs_of(done)
     growths = 0
-    while growths < RUNS and outputs.get(growths + 1) != MADE:
+    while growths < RUNS and outputs.get(growths + 1) != program.made:
         growths += 1
         output = outputs.get(growths, "")
-        tally.result(output == REFUSED, f"growth {growths} is refused: {output!r}")
-    rest = [outputs.get(number) for number in range(growths + 1, RUNS + 1)]
-    tally.result(growths > LEAST and MADE in rest and set(rest) == {MADE}, f"{growths} growths were refused, and then none")
+        tally.result(output == REFUSED + program.made, f"{program.name}, growth {growths} is refused: {output!r}")
+    rest = {outputs.get(number) for number in range(growths + 1, RUNS + 1)}
+    tally.result(growths > program.least and rest == {program.made}, f"{growths} growths were refused, and then none")
+
+
+def main():
+    tally = Tally()
+    for program in PROGRAMS:
+        try_program(program, tally)
     return tally.end()
 
 

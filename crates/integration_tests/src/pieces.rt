@@ -1,5 +1,6 @@
 mod caller;
 mod changes;
+mod long_text;
 mod random_edits;
 
 use crate::indices::walk::SCHEMES;

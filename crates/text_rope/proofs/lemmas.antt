@@ -8,6 +8,8 @@ pub mod Cutting
 pub mod Changing
 pub mod Edges
 pub mod Chunks
+pub mod Copying
+pub mod Placing
 pub use Common.*
 pub use Summing.*
 pub use Heights.*
@@ -18,3 +20,5 @@ pub use Cutting.*
 pub use Changing.*
 pub use Edges.*
 pub use Chunks.*
+pub use Copying.*
+pub use Placing.*

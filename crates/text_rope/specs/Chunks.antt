@@ -1,5 +1,5 @@
 -- The parts of a text, one after the other.
-use Rattle.std.specs.Prelude.{ℕ, ◌≡◌, ◌+◌, ◌≤◌, ◌↔◌, ◌++◌, List, Option, IsNone, IfSome, chars}
+use Rattle.std.specs.Prelude.{ℕ, ◌≡◌, ◌+◌, ◌≤◌, ◌↔◌, ◌++◌, List, Option, IsNone, IfSome, chars, take, drop, IsUtf8}
 use Rattle.std.specs.Borrow.{Bor}
 use Rattle.str_indices.specs.Text.{Text, size}
 use Rattle.str_indices.specs.Relations.{IsBoundary}
@@ -30,3 +30,10 @@ pub record IsNext (old new : ChunksState) (given : Option (Bor (List ℕ))) : Ty
   pub part : IfSome given (λ chunk. IsPartAt old.text (chars chunk.now) old.at new.at)
   pub text : new.text ≡ old.text
   pub end : new.end ≡ old.end
+
+-- the part of a text between two byte indices stands in a room as its first n bytes, and the rest of the room is as before
+pub record IsCopied (text : Text) (from to n : ℕ) (old new : List ℕ) : Type 0 where
+  pub len : from + n ≡ to
+  pub utf8 : IsUtf8 (take n new)
+  pub part : IsPartAt text (chars (take n new)) from to
+  pub rest : drop n new ≡ drop n old

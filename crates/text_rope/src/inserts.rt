@@ -1,39 +1,76 @@
 //! A text that is put into a tree.
-ghost use Rattle.std.specs.Prelude.{◌≡◌, ◌+◌, ◌^◌, ◌<◌, length, chars, string_bytes, IfOk, IfErr};
+ghost use Rattle.std.specs.Prelude.{◌≡◌, ◌+◌, ◌^◌, ◌<◌, ◌≤◌, length, chars, string_bytes, IfOk, IfErr};
 ghost use Rattle.str_indices.specs.Text.{size};
 ghost use Rattle.str_indices.specs.Relations.{IsBoundary};
 ghost use Rattle.piece_text.specs.Pieces.{joined, joined_size};
 ghost use Rattle.text_rope.specs.Edits.{IsInserted};
+ghost use Rattle.text_rope.specs.Work.{WorkState, OpensFor};
 
+use crate::in_place::put_in_place;
 use crate::joins::join;
 use crate::loads::tree_of;
 use crate::parts::{concat, part};
 use crate::piece::{MAX_PIECE, Piece};
 use crate::tree::Tree;
+use crate::work::Work;
 use std::alloc::{AllocError, Global};
 
-/// The tree with a text put in: in the memory of the piece round the byte, or where that has no room, with several pieces
-/// in its place. Where memory is refused, a tree of the same text.
-pub(crate) fn put(alloc: Global, tree: Tree, at: usize, text: &str) -> Result<Tree, Tree>
+/// The tree with a text put in: in the memory of the piece at the byte, or where that has no room, with several pieces in
+/// its place. Where memory is refused, a tree of the same text.
+pub(crate) fn put(
+    work: &mut Work,
+    alloc: Global,
+    tree: Tree,
+    at: usize,
+    text: &str,
+) -> Result<Tree, Tree>
     requires boundary { IsBoundary (joined tree.texts) at }
     requires short { joined_size tree.texts + length text.now < 2 ^ 63 }
     ensures ok { IfOk result (λ new. IsInserted (joined tree.texts) (joined new.texts) at (chars text.now)) }
     ensures err { IfErr result (λ same. joined same.texts ≡ joined tree.texts) }
+    ensures opened { OpensFor 75 (joined_size tree.texts + length text.now) work.old work.new }
+    ensures copied { work.new.copied ≤ work.old.copied + 4 }
 {
+    let _height = tree.height();
+    match put_in_place(work, tree, at, text) {
+        Ok(new) => Ok(new),
+        Err(same) => put_apart(work, alloc, same, at, text),
+    }
+}
+
+/// The tree taken apart at a byte, with a text put in between.
+fn put_apart(
+    work: &mut Work,
+    alloc: Global,
+    tree: Tree,
+    at: usize,
+    text: &str,
+) -> Result<Tree, Tree>
+    requires boundary { IsBoundary (joined tree.texts) at }
+    requires short { joined_size tree.texts + length text.now < 2 ^ 63 }
+    ensures ok { IfOk result (λ new. IsInserted (joined tree.texts) (joined new.texts) at (chars text.now)) }
+    ensures err { IfErr result (λ same. joined same.texts ≡ joined tree.texts) }
+    ensures opened { OpensFor 74 (joined_size tree.texts + length text.now) work.old work.new }
+    ensures copied { work.new.copied ≤ work.old.copied + 3 }
+{
+    let _height = tree.height();
     let len = tree.whole().len;
     if len == 0 {
         return put_alone(alloc, tree, text);
     }
-    let mut parts = part(tree, at.min(len - 1));
+    let mut parts = part(work, tree, at.min(len - 1));
     let at = at - parts.left.whole().len;
     if text.len() <= MAX_PIECE - parts.fork.piece.len() {
-        parts.fork.piece.insert(at, text);
-        return Ok(join(parts.left, parts.fork, parts.right));
+        parts.fork.piece.insert(work, at, text);
+        return Ok(join(work, parts.left, parts.fork, parts.right));
     }
-    match grown(alloc, &parts.fork.piece, at, text) {
-        Ok(middle) => Ok(concat(concat(parts.left, middle), parts.right)),
-        Err(_) => Err(join(parts.left, parts.fork, parts.right)),
-    }
+    let Ok(middle) = grown(alloc, &parts.fork.piece, at, text) else {
+        return Err(join(work, parts.left, parts.fork, parts.right));
+    };
+    work.copy();
+    let _middle_height = middle.height();
+    let front = concat(work, parts.left, middle);
+    Ok(concat(work, front, parts.right))
 }
 
 /// A tree of the text alone.

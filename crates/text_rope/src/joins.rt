@@ -1,68 +1,75 @@
 //! Two trees and a fork between them in one balanced tree. Nothing here takes memory.
-ghost use Rattle.std.specs.Prelude.{◌≡◌, ◌+◌, ◌^◌, ◌<◌, ◌≤◌, ◌∷◌, ◌++◌};
+ghost use Rattle.std.specs.Prelude.{◌≡◌, ◌+◌, ◌-◌, ◌*◌, ◌^◌, ◌<◌, ◌≤◌, ◌∷◌, ◌++◌};
 ghost use Rattle.str_indices.specs.Text.{size};
 ghost use Rattle.piece_text.specs.Pieces.{joined_size};
 ghost use Rattle.text_rope.specs.Shapes.{DifferByAtMost, IsJoinedHeight};
+ghost use Rattle.text_rope.specs.Work.{WorkState, Costs};
 
 use crate::tree::{Fork, Tree, over};
+use crate::work::Work;
 
 /// One tree of all pieces of two with the fork's piece between them.
-pub(crate) fn join(left: Tree, fork: Box<Fork>, right: Tree) -> Tree
+pub(crate) fn join(work: &mut Work, left: Tree, fork: Box<Fork>, right: Tree) -> Tree
     requires short { joined_size left.texts + size fork.value.piece + joined_size right.texts < 2 ^ 63 }
     ensures texts { result.texts ≡ left.texts ++ fork.value.piece ∷ right.texts }
     ensures size { joined_size result.texts ≡ joined_size left.texts + size fork.value.piece + joined_size right.texts }
     ensures height { IsJoinedHeight left.height right.height result.height }
+    ensures work { Costs work.old work.new (3 * ((left.height - right.height) + (right.height - left.height))) 0 }
 {
     let (l, r) = (left.height(), right.height());
     if l > r + 1 {
-        let Some(top) = left.open() else {
+        let Some(top) = left.open(work) else {
             unreachable!()
         };
-        balanced(top.left, top.fork, join(top.right, fork, right))
+        let right = join(work, top.right, fork, right);
+        balanced(work, top.left, top.fork, right)
     } else if r > l + 1 {
-        let Some(top) = right.open() else {
+        let Some(top) = right.open(work) else {
             unreachable!()
         };
-        balanced(join(left, fork, top.left), top.fork, top.right)
+        let left = join(work, left, fork, top.left);
+        balanced(work, left, top.fork, top.right)
     } else {
         over(left, fork, right)
     }
 }
 
 /// The same of two trees that differ by two at most: with no rotation, one, or two.
-fn balanced(left: Tree, fork: Box<Fork>, right: Tree) -> Tree
+fn balanced(work: &mut Work, left: Tree, fork: Box<Fork>, right: Tree) -> Tree
     requires near { DifferByAtMost 2 left.height right.height }
     requires short { joined_size left.texts + size fork.value.piece + joined_size right.texts < 2 ^ 63 }
     ensures texts { result.texts ≡ left.texts ++ fork.value.piece ∷ right.texts }
     ensures size { joined_size result.texts ≡ joined_size left.texts + size fork.value.piece + joined_size right.texts }
     ensures height { IsJoinedHeight left.height right.height result.height }
+    ensures work { Costs work.old work.new 2 0 }
 {
     let (l, r) = (left.height(), right.height());
     if l > r + 1 {
-        lean_right(left, fork, right)
+        lean_right(work, left, fork, right)
     } else if r > l + 1 {
-        lean_left(left, fork, right)
+        lean_left(work, left, fork, right)
     } else {
         over(left, fork, right)
     }
 }
 
 /// The left tree is higher by two.
-fn lean_right(left: Tree, fork: Box<Fork>, right: Tree) -> Tree
+fn lean_right(work: &mut Work, left: Tree, fork: Box<Fork>, right: Tree) -> Tree
     requires near { left.height ≡ right.height + 2 }
     requires short { joined_size left.texts + size fork.value.piece + joined_size right.texts < 2 ^ 63 }
     ensures texts { result.texts ≡ left.texts ++ fork.value.piece ∷ right.texts }
     ensures size { joined_size result.texts ≡ joined_size left.texts + size fork.value.piece + joined_size right.texts }
     ensures not_lower { left.height ≤ result.height }
     ensures at_most_one_higher { result.height ≤ left.height + 1 }
+    ensures work { Costs work.old work.new 2 0 }
 {
-    let Some(top) = left.open() else {
+    let Some(top) = left.open(work) else {
         unreachable!()
     };
     if top.left.height() >= top.right.height() {
         return over(top.left, top.fork, over(top.right, fork, right));
     }
-    let Some(inner) = top.right.open() else {
+    let Some(inner) = top.right.open(work) else {
         unreachable!()
     };
     over(
@@ -73,21 +80,22 @@ fn lean_right(left: Tree, fork: Box<Fork>, right: Tree) -> Tree
 }
 
 /// The right tree is higher by two.
-fn lean_left(left: Tree, fork: Box<Fork>, right: Tree) -> Tree
+fn lean_left(work: &mut Work, left: Tree, fork: Box<Fork>, right: Tree) -> Tree
     requires near { right.height ≡ left.height + 2 }
     requires short { joined_size left.texts + size fork.value.piece + joined_size right.texts < 2 ^ 63 }
     ensures texts { result.texts ≡ left.texts ++ fork.value.piece ∷ right.texts }
     ensures size { joined_size result.texts ≡ joined_size left.texts + size fork.value.piece + joined_size right.texts }
     ensures not_lower { right.height ≤ result.height }
     ensures at_most_one_higher { result.height ≤ right.height + 1 }
+    ensures work { Costs work.old work.new 2 0 }
 {
-    let Some(top) = right.open() else {
+    let Some(top) = right.open(work) else {
         unreachable!()
     };
     if top.right.height() >= top.left.height() {
         return over(over(left, fork, top.left), top.fork, top.right);
     }
-    let Some(inner) = top.left.open() else {
+    let Some(inner) = top.left.open(work) else {
         unreachable!()
     };
     over(

@@ -6,6 +6,8 @@
 #![tactic(auto)]
 
 mod chunks;
+mod copies;
+mod in_place;
 mod inserts;
 mod joins;
 mod loads;
@@ -16,10 +18,9 @@ mod refusals;
 mod removals;
 mod rope;
 mod summaries;
-#[cfg(test)]
-mod tests;
 mod tree;
 mod view;
+mod work;
 
 pub use chunks::{Chunk, Chunks};
 pub use piece_text::Scheme;

@@ -7,6 +7,7 @@ ghost use Rattle.text_rope.specs.Pieces.{max_piece};
 use crate::joins::join;
 use crate::piece::{MAX_PIECE, Piece};
 use crate::tree::{Tree, fork_of};
+use crate::work::Work;
 use std::alloc::{AllocError, Global};
 
 /// How many bytes a piece of a long text has at most: there is room for the first changes.
@@ -51,7 +52,7 @@ fn built(alloc: Global, text: &str, each: usize) -> Result<Tree, AllocError>
     let left = built(alloc, middle.front, each)?;
     let fork = fork_of(alloc, Piece::of(alloc, middle.own)?)?;
     let right = built(alloc, middle.after, each)?;
-    Ok(join(left, fork, right))
+    Ok(join(&mut Work::none(), left, fork, right))
 }
 
 /// A tree of one piece.
@@ -61,7 +62,7 @@ fn lone(alloc: Global, text: &str) -> Result<Tree, AllocError>
     ensures { IfOk result (λ tree. joined tree.texts ≡ chars text.now) }
 {
     let fork = fork_of(alloc, Piece::of(alloc, text)?)?;
-    Ok(join(Tree::new(), fork, Tree::new()))
+    Ok(join(&mut Work::none(), Tree::new(), fork, Tree::new()))
 }
 
 /// The piece in the middle of a text, and what is before and after it.

@@ -6,7 +6,9 @@ ghost use Rattle.str_indices.specs.Relations.{IsBoundary};
 ghost use Rattle.piece_text.specs.Summaries.{summary_of};
 ghost use Rattle.text_rope.specs.Pieces.{max_piece};
 ghost use Rattle.text_rope.specs.Edits.{IsInserted, IsRemoved, IsCutAt};
+ghost use Rattle.text_rope.specs.Work.{WorkState};
 
+use crate::work::Work;
 use piece_text::Summary;
 use std::alloc::{AllocError, Global};
 use std::marker::Model;
@@ -77,25 +79,31 @@ impl Piece {
         self.text.as_str()
     }
 
-    /// Puts a text in at a boundary, into the memory that it has.
-    pub(crate) fn insert(&mut self, at: usize, more: &str)
+    /// Puts a text in at a boundary, into the memory that it has: one piece written.
+    pub(crate) fn insert(&mut self, work: &mut Work, at: usize, more: &str)
         requires boundary { IsBoundary self.old at }
         requires short { size self.old + length more.now ≤ max_piece }
-        ensures { IsInserted self.old self.new at (chars more.now) }
+        ensures text { IsInserted self.old self.new at (chars more.now) }
+        ensures copied { work.new.copied ≡ work.old.copied + 1 }
+        ensures opened { work.new.opened ≡ work.old.opened }
     {
+        work.copy();
         let _before = self.text.as_str();
         put(&mut self.text, at, more);
         self.summary = Summary::of(self.text.as_str());
     }
 
-    /// Takes out what is between two boundaries, where something is left.
-    pub(crate) fn remove(&mut self, from: usize, to: usize)
+    /// Takes out what is between two boundaries, where something is left: one piece written.
+    pub(crate) fn remove(&mut self, work: &mut Work, from: usize, to: usize)
         requires order { from ≤ to }
         requires start { IsBoundary self.old from }
         requires end { IsBoundary self.old to }
         requires rest { to < from + size self.old }
-        ensures { IsRemoved self.old self.new from to }
+        ensures text { IsRemoved self.old self.new from to }
+        ensures copied { work.new.copied ≡ work.old.copied + 1 }
+        ensures opened { work.new.opened ≡ work.old.opened }
     {
+        work.copy();
         take_out(&mut self.text, from, to);
         self.summary = Summary::of(self.text.as_str());
     }

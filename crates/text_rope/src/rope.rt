@@ -5,15 +5,17 @@ ghost use Rattle.str_indices.specs.Text.{size};
 ghost use Rattle.str_indices.specs.Relations.{IsBoundary};
 ghost use Rattle.piece_text.specs.Pieces.{PiecesState, joined};
 ghost use Rattle.text_rope.specs.Edits.{IsInserted, IsRemoved, IsReplaced, IsCutAt, IsChunkAt};
-ghost use Rattle.text_rope.specs.Chunks.{ChunksState};
+ghost use Rattle.text_rope.specs.Chunks.{ChunksState, IsCopied};
 ghost use Rattle.text_rope.specs.Pieces.{max_piece};
 ghost use Rattle.text_rope.specs.declared.refusals.Refusal.TheVariants.{NotOrdered, NotBoundary, TooLong, NoMemory};
 
+use crate::copies::copy_chunks;
 use crate::inserts::put;
 use crate::loads::tree_of;
 use crate::parts::concat;
 use crate::removals::{cut, without};
 use crate::tree::Tree;
+use crate::work::Work;
 use crate::{Chunk, Chunks, Refusal, Scheme, View, count_in, from_in, is_boundary_in, to_in};
 use byte_chunk::Counter;
 use std::alloc::{AllocError, Global};
@@ -158,6 +160,36 @@ impl Rope {
         Ok(Chunks::of(&self.tree, range.start, range.end))
     }
 
+    /// Writes the bytes between two byte indices, each between characters, to the beginning of a room, and answers how many
+    /// they are.
+    ///
+    /// After a refusal the room is as before. It is `NotOrdered` where the first index is above the second, or else
+    /// `NotBoundary` where one is inside a character or past the end, and else `TooLong` where the room is shorter than
+    /// that part.
+    pub fn copy_to(&self, range: Range<usize>, room: &mut [u8]) -> Result<usize, Refusal>
+        ensures ok { IfOk result (λ n. IsCopied self.now range.start range.end n room.old room.new) }
+        ensures err { OnErr result (room.new ≡ room.old) }
+        ensures not_ordered { IsErrOf result NotOrdered ↔ (range.end < range.start) }
+        ensures not_boundary { IsErrOf result NotBoundary
+            ↔ ((range.start ≤ range.end) × ¬ (IsBoundary self.now range.start × IsBoundary self.now range.end)) }
+        ensures too_long { IsErrOf result TooLong
+            ↔ ((range.start ≤ range.end) × (IsBoundary self.now range.start × IsBoundary self.now range.end)
+            × (range.start + length room.old < range.end)) }
+        ensures no_memory { ¬ (IsErrOf result NoMemory) }
+    {
+        if range.end < range.start {
+            return Err(Refusal::NotOrdered);
+        }
+        if !(self.is_char_boundary(range.start) && self.is_char_boundary(range.end)) {
+            return Err(Refusal::NotBoundary);
+        }
+        if room.len() < range.end - range.start {
+            return Err(Refusal::TooLong);
+        }
+        let mut chunks = Chunks::of(&self.tree, range.start, range.end);
+        Ok(copy_chunks(&mut chunks, room))
+    }
+
     /// Puts a text in at a byte index between characters.
     ///
     /// After a refusal every answer is as before. It is `NotBoundary` where the byte index is inside a character or past
@@ -257,7 +289,7 @@ impl Rope {
         }
         let front = mem::replace(&mut self.tree, Tree::new());
         let after = mem::replace(&mut other.tree, Tree::new());
-        self.tree = concat(front, after);
+        self.tree = concat(&mut Work::none(), front, after);
         Ok(())
     }
 
@@ -275,7 +307,8 @@ impl Rope {
         if !self.is_char_boundary(at) {
             return Err(Refusal::NotBoundary);
         }
-        match cut(self.alloc, mem::replace(&mut self.tree, Tree::new()), at) {
+        let tree = mem::replace(&mut self.tree, Tree::new());
+        match cut(&mut Work::none(), self.alloc, tree, at) {
             Ok(two) => {
                 self.tree = two.front;
                 Ok(Rope {
@@ -297,12 +330,8 @@ impl Rope {
         ensures ok { OnOk result (IsInserted self.old self.new at (chars text.now)) }
         ensures err { OnErr result (self.new ≡ self.old) }
     {
-        match put(
-            self.alloc,
-            mem::replace(&mut self.tree, Tree::new()),
-            at,
-            text,
-        ) {
+        let tree = mem::replace(&mut self.tree, Tree::new());
+        match put(&mut Work::none(), self.alloc, tree, at, text) {
             Ok(tree) => {
                 self.tree = tree;
                 Ok(())
@@ -321,7 +350,8 @@ impl Rope {
         requires end { IsBoundary self.old to }
         ensures { IsRemoved self.old self.new from to }
     {
-        self.tree = without(mem::replace(&mut self.tree, Tree::new()), from, to);
+        let tree = mem::replace(&mut self.tree, Tree::new());
+        self.tree = without(&mut Work::none(), tree, from, to);
     }
 
     /// Puts a text in after what is taken out, and only then takes that out: what can be refused comes first.

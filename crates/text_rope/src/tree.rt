@@ -3,10 +3,12 @@ ghost use Rattle.std.specs.Prelude.{◌≡◌, ◌≢◌, ◌+◌, ◌^◌, ◌<
 ghost use Rattle.str_indices.specs.Text.{size};
 ghost use Rattle.piece_text.specs.Pieces.{joined, joined_size};
 ghost use Rattle.piece_text.specs.Summaries.{summary_of};
+ghost use Rattle.text_rope.specs.Work.{WorkState};
 ghost use Rattle.text_rope.specs.Shapes.{Seen, DifferByAtMost, IsForkOf, AreSummed, fewest};
 
 use crate::piece::Piece;
 use crate::summaries::{joined, summary_of_none};
+use crate::work::Work;
 use byte_chunk::Counter;
 use piece_text::Summary;
 use std::alloc::{AllocError, Global};
@@ -138,7 +140,7 @@ impl Tree {
 
     /// Its root with no trees below it, and the two trees.
     #[tactic(auto, using(crate::proofs::lemmas::Forks::fork_size))]
-    pub(crate) fn open(self) -> Option<Opened>
+    pub(crate) fn open(self, work: &mut Work) -> Option<Opened>
         ensures empty { IsNone result ↔ (self.height ≡ 0) }
         ensures none { IfNone result (self.texts ≡ []) }
         ensures parts { IfSome result (λ o. IsForkOf self o.left o.fork.value.piece o.right) }
@@ -146,10 +148,14 @@ impl Tree {
             o.fork.value.before o.fork.value.after o.fork.value.height) }
         ensures height { IfSome result (λ o. o.fork.value.height ≡ self.height) }
         ensures short { joined_size self.texts < 2 ^ 63 }
+        ensures one { IfSome result (λ _. work.new.opened ≡ work.old.opened + 1) }
+        ensures free { IfNone result (work.new.opened ≡ work.old.opened) }
+        ensures copied { work.new.copied ≡ work.old.copied }
     {
         match self.root {
             Root::Leaf => None,
             Root::Fork(mut fork) => {
+                work.open();
                 let left = mem::replace(&mut fork.left, Tree::new());
                 let right = mem::replace(&mut fork.right, Tree::new());
                 Some(Opened { left, fork, right })

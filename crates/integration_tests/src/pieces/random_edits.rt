@@ -1,5 +1,6 @@
 //! A long list of changes, chosen from a seed, beside a model that keeps the pieces as plain texts.
 use super::{Change, assert_as_joined, make};
+use crate::random::Random;
 use piece_text::{PieceText, Refusal};
 use std::alloc::{AllocError, Global};
 use std::process::Abort;
@@ -23,17 +24,6 @@ const TEXTS: [&str; 12] = [
     "せい",
     "\u{B}d\r\ne",
 ];
-
-/// Numbers that look random, the same in each run.
-#[derive(Drop)]
-struct Random(u32);
-
-impl Random {
-    fn next(&mut self) -> usize {
-        self.0 = self.0.wrapping_mul(1_664_525).wrapping_add(1_013_904_223);
-        (self.0 >> 16) as usize
-    }
-}
 
 /// The next change, of a text that has this many pieces and this many bytes.
 fn next_change(random: &mut Random, pieces: usize, len: usize) -> Change {
@@ -160,7 +150,7 @@ fn answers_stay_those_of_the_joined_text(rt: HostRuntime) -> Result<(), Fail> {
         pieces: Vec::new(rt.alloc()),
         alloc: rt.alloc(),
     };
-    let mut random = Random(0x7069_6563);
+    let mut random = Random::new(0x7069_6563);
     for i in 0..CHANGES {
         let change = next_change(&mut random, text.pieces(), text.len());
         let wanted = model.make(change)?;

@@ -1,5 +1,5 @@
 -- The fewest pieces of a tree of a height.
-use Rattle.text_rope.proofs.lemmas.Common.{◌≡◌, ℕ, zero, suc, ◌+◌, ◌*◌, ◌^◌, ◌≤◌, inl, inr, arith, max, cases_lt, mul-le-mul, DifferByAtMost, fewest}
+use Rattle.text_rope.proofs.lemmas.Common.{◌≡◌, ℕ, zero, suc, ◌+◌, ◌*◌, ◌^◌, ◌≤◌, inl, inr, arith, max, cases_lt, mul-le-mul, DifferByAtMost, fewest, WorkState, OpensFor}
 
 -- more for a greater height
 pub fewest-suc : (h : ℕ) → fewest h ≤ fewest (suc h)
@@ -68,3 +68,25 @@ pub fewest_looks : (looks height n : ℕ) → looks ≤ height → fewest height
 fewest_looks looks height n le many =
     let few = fewest-looks looks height n le many in
     (few, omega (arith, fewest-square looks, mul-le-mul few few))
+
+-- a tree of a height has as many bytes
+pub height_of_bytes : (h p b n : ℕ) → fewest h ≤ p + 1 → p ≤ b → b ≤ n → 2 ^ h ≤ (n + 1) * (n + 1)
+height_of_bytes h p b n many few within =
+    let le : fewest h ≤ n + 1 = omega arith in
+    omega (arith, fewest-square h, mul-le-mul le le)
+
+-- forks that are opened along two trees
+pub opens : (h m n times : ℕ) (old new : WorkState) → 2 ^ h ≤ (n + 1) * (n + 1) → 2 ^ m ≤ (n + 1) * (n + 1)
+    → new.opened ≤ old.opened + times * (max h m + 3) → OpensFor times n old new
+opens h m n times old new few_h few_m within = elim (cases_lt h m) [
+  | inl less ↦ let is : max h m ≡ m = omega arith in
+      record { height = m; few = few_m; opened = rw is at within }
+  | inr more ↦ let is : max h m ≡ h = omega arith in
+      record { height = h; few = few_h; opened = rw is at within }
+]
+
+-- and those that are opened after as many as a tree is high
+pub opens_after : (h n : ℕ) (old mid new : WorkState) → 2 ^ h ≤ (n + 1) * (n + 1) → mid.opened ≤ old.opened + h
+    → OpensFor 74 n mid new → OpensFor 75 n old new
+opens_after h n old mid new few before after =
+    opens h after.height n 75 old new few after.few (omega (arith, after.opened))

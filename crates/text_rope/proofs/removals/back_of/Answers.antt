@@ -11,15 +11,15 @@ from_byte-requires-clause-boundary c =
     (rw c.part-parts.ensures.texts at c.requires.boundary) in
     own
 
-pub returns : goal.returns
-returns c =
+pub returns-clause-text : goal.returns-clause-text
+returns-clause-text c =
     let parts = c.part-parts.result in
     let xs = parts.left.texts in
     let t = parts.fork.value.piece in
     let ys = parts.right.texts in
     let start = ap (λ m. m.len) c.whole-2.ensures.whole in
     let is : joined c.settled.result.texts ≡ c.from_byte.result.value.piece ++ joined ys =
-    c.settled.ensures ∙ ap (λ r. joined r.texts ++ (c.from_byte.result.value.piece ++ joined ys)) c.new-2.ensures in
+    c.settled.ensures.text ∙ ap (λ r. joined r.texts ++ (c.from_byte.result.value.piece ++ joined ys)) c.new-2.ensures in
     back_around (joined c.args.tree.texts) (joined xs) t c.from_byte.result.value.piece (joined ys) (joined c.settled.result.texts) c.args.at
     (c.args.at - c.whole-2.result.len) (joined_around c.args.tree.texts xs t ys c.part-parts.ensures.texts) is
-    (omega (arith, start, c.part-parts.ensures.start)) c.from_byte.ensures
+    (omega (arith, start, c.part-parts.ensures.start)) c.from_byte.ensures.text

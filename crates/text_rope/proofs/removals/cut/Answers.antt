@@ -21,7 +21,7 @@ returns-clause-ok c =
     let start = ap (λ m. m.len) c.whole-2.ensures.whole in
     let half : IsBackOf t own (c.args.at - c.whole-2.result.len) = rw (ap (λ f. f.piece) c.deref.ensures) at c.in-Ok.ensures in
     let back : joined c.settled.result.texts ≡ own ++ joined ys =
-    c.settled.ensures ∙ ap (λ r. joined r.texts ++ (own ++ joined ys)) c.new-2.ensures in
+    c.settled.ensures.text ∙ ap (λ r. joined r.texts ++ (own ++ joined ys)) c.new-2.ensures in
     cut_around (joined c.args.tree.texts) (joined xs) t own (joined ys) (joined c.front_of.result.texts) (joined c.settled.result.texts) c.args.at
     (c.args.at - c.whole-2.result.len) (joined_around c.args.tree.texts xs t ys c.part-parts.ensures.texts)
-    (omega (arith, start, c.part-parts.ensures.start)) c.front_of.ensures half back
+    (omega (arith, start, c.part-parts.ensures.start)) c.front_of.ensures.text half back

@@ -1,8 +1,8 @@
 use Rattle.text_rope.proofs.lemmas.{◌≡◌, ◌-◌, ◌+◌, ◌++◌, ap, ◌∙◌, arith, append_assoc, sym, size, size-append, joined, joined_size, IsFrontOf, boundary_of_piece, boundary_in_right, joined_around, none_removed, removed_across}
 use Rattle.text_rope.proofs.removals.without.Goals as goal
 
-pub returns-then-from-to : goal.returns-then-from-to
-returns-then-from-to c = none_removed (joined c.args.tree.texts) c.args.from c.args.to c.if-from-to.true c.requires.start
+pub returns-then-from-to-clause-text : goal.returns-then-from-to-clause-text
+returns-then-from-to-clause-text c = none_removed (joined c.args.tree.texts) c.args.from c.args.to c.if-from-to.true c.requires.start
 
 pub without_inside-requires-clause-start : goal.without_inside-requires-clause-start
 without_inside-requires-clause-start c =
@@ -22,8 +22,8 @@ without_inside-requires-clause-end c =
     (omega (arith, start, c.part-parts.ensures.start, c.requires.order)) (omega (arith, start, len, c.part-parts.ensures.start, c.part-parts.ensures.end, c.requires.order))
     (rw c.part-parts.ensures.texts at c.requires.end)
 
-pub front_of-requires-clause-boundary : goal.front_of-requires-clause-boundary
-front_of-requires-clause-boundary c =
+pub front_of-front-requires-clause-boundary : goal.front_of-front-requires-clause-boundary
+front_of-front-requires-clause-boundary c =
     let parts = c.part-parts.result in
     let start = ap (λ m. m.len) c.whole-start.ensures.whole in
     let len = c.len.ensures.len ∙ ap (λ f. size f.piece) c.deref.ensures in
@@ -41,8 +41,8 @@ back_of-after-requires c =
           (omega (arith, start, len, c.if-to-end.false))).0 (rw c.part-parts.ensures.texts at c.requires.end);
     }
 
-pub returns-else-to-end : goal.returns-else-to-end
-returns-else-to-end c =
+pub returns-else-to-end-clause-text : goal.returns-else-to-end-clause-text
+returns-else-to-end-clause-text c =
     let parts = c.part-parts.result in
     let x = joined parts.left.texts in
     let t = parts.fork.value.piece in
@@ -52,7 +52,7 @@ returns-else-to-end c =
     let whole : joined c.args.tree.texts ≡ (x ++ t) ++ y =
     joined_around c.args.tree.texts parts.left.texts t parts.right.texts c.part-parts.ensures.texts ∙ sym (append_assoc x t y) in
     let place : joined_size parts.left.texts + (c.args.from - c.whole-start.result.len) ≡ c.args.from = omega (arith, start, c.part-parts.ensures.start) in
-    let front : IsFrontOf (x ++ t) (joined c.front_of.result.texts) c.args.from = rw place at c.front_of.ensures in
-    rw c.concat.ensures (removed_across (joined c.args.tree.texts) (x ++ t) y (joined c.front_of.result.texts) (joined c.back_of-after.result.texts) c.args.from
-    (c.args.to - (c.whole-start.result.len + c.len.result)) c.args.from c.args.to whole front c.back_of-after.ensures
+    let front : IsFrontOf (x ++ t) (joined c.front_of-front.result.texts) c.args.from = rw place at c.front_of-front.ensures.text in
+    rw c.concat.ensures.text (removed_across (joined c.args.tree.texts) (x ++ t) y (joined c.front_of-front.result.texts) (joined c.back_of-after.result.texts) c.args.from
+    (c.args.to - (c.whole-start.result.len + c.len.result)) c.args.from c.args.to whole front c.back_of-after.ensures.text
     (omega (arith, start, len, size-append x t, c.if-to-end.false)))

@@ -1,0 +1,62 @@
+//! Ropes that are cut in two and put together.
+use super::{Both, LINE, assert_same, assert_same_counts, joined, lines};
+use std::alloc::Global;
+use std::process::Abort;
+use std::test::Fail;
+use text_rope::{Refusal, Rope};
+
+/// Puts the second text after the first, and the second rope after the first.
+fn append(rt: &impl Abort, alloc: Global, first: &str, second: &str) -> Result<Both, Fail> {
+    let mut both = Both::of(alloc, first)?;
+    let mut rest = Rope::from_str(alloc, second)?;
+    assert_eq!(rt; both.rope.append(&mut rest), Ok(()));
+    assert!(rt; rest.is_empty());
+    both.text = joined(alloc, [first, second, ""])?;
+    Ok(both)
+}
+
+/// Cuts a rope at a byte, and compares both parts with those of the text.
+fn assert_cut(rt: &impl Abort, alloc: Global, text: &str, at: usize) -> Result<(), Fail> {
+    let (front, back) = text.split_at_checked(at).ok_or("no boundary")?;
+    let mut rope = Rope::from_str(alloc, text)?;
+    let rest = rope.split_off(at)?;
+    assert_same_counts(rt, &rope, front);
+    assert_same_counts(rt, &rest, back);
+    assert_same(rt, &rope, front);
+    assert_same(rt, &rest, back);
+    Ok(())
+}
+
+#[test]
+fn a_rope_after_another(rt: HostRuntime) -> Result<(), Fail> {
+    let text = joined(rt.alloc(), [&lines(rt.alloc(), 30)?, "\r", ""])?;
+    for second in ["", "\nend", "🐸", LINE, &text] {
+        let both = append(&rt, rt.alloc(), &text, second)?;
+        assert_same(&rt, &both.rope, &both.text);
+        let both = append(&rt, rt.alloc(), second, &text)?;
+        assert_same(&rt, &both.rope, &both.text);
+    }
+    Ok(())
+}
+
+#[test]
+fn a_rope_in_two(rt: HostRuntime) -> Result<(), Fail> {
+    let text = lines(rt.alloc(), 30)?;
+    let len = LINE.len();
+    // between CR and LF of the first line, of one in the middle, and of the last one
+    for at in [0, len - 1, len * 15 - 1, len * 15, len * 30 - 1, len * 30] {
+        assert_cut(&rt, rt.alloc(), &text, at)?;
+    }
+    Ok(())
+}
+
+#[test]
+fn a_cut_inside_a_character_is_refused(rt: HostRuntime) -> Result<(), Fail> {
+    let mut rope = Rope::from_str(rt.alloc(), "aé")?;
+    let found = rope.split_off(2).err();
+    assert_eq!(rt; found, Some(Refusal::NotBoundary));
+    let past = rope.split_off(4).err();
+    assert_eq!(rt; past, Some(Refusal::NotBoundary));
+    assert_same(&rt, &rope, "aé");
+    Ok(())
+}
