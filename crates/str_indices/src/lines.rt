@@ -274,9 +274,8 @@ fn pair_starts<T: ByteChunk>(chunk: T, first: u8, second: u8) -> T
     ensures { let byte = slice_index (T.lanes chunk) in
         HasLanes T.SIZE (λ j. flag (byte j == first && byte (1 + j) == second)) (T.lanes result) }
 {
-    chunk
-        .cmp_eq_byte(first)
-        .bitand(chunk.cmp_eq_byte(second).shift_back_lex(1))
+    let before = chunk.cmp_eq_byte(second).shift_back_lex(1);
+    chunk.cmp_eq_byte(first).bitand(before)
 }
 
 /// Adds each U+2028 and U+2029 that stands in a chunk as a whole to its breaks, where `firsts` says which lanes are E2.

@@ -5,8 +5,8 @@
 ghost use Rattle.std.specs.Prelude.{◌≡◌, ℕ, ◌+◌, ◌-◌, ◌*◌, ◌/◌, ◌<◌, ◌≤◌, length};
 ghost use Rattle.str_indices.specs.Prelude.{sum_below, FitsIn, IsSteady, Reads, Counts, Finds};
 
-use crate::place_counts::{PlaceCounts, Reached, count_chunks, skip_chunks};
-use crate::places::{Cursor, byte_before};
+use crate::place_counts::{Cursor, PlaceCounts, count_chunks, skip_chunks};
+use crate::places::byte_before;
 use crate::rest::count_rest;
 use byte_chunk::{ByteChunk, Probe};
 
@@ -30,16 +30,15 @@ pub(crate) fn count_up_to<
     ensures reads { Counts probe.old probe.new T.SIZE lead end 0 }
 {
     prove!(end <= probe.len());
-    let start = Cursor { byte: 0, count: 0 };
-    let first = lead.min(end);
-    let count = walk::<C, T>(probe, start, first, end, usize::MAX).count;
-    let after_lead = Cursor { byte: first, count };
+    let byte = lead.min(end);
+    let count = walk::<C, T>(probe, 0, 0, byte, end, usize::MAX).count;
     if end < T::SIZE {
-        return walk::<C, T>(probe, after_lead, end, end, usize::MAX).count;
+        return walk::<C, T>(probe, byte, count, end, end, usize::MAX).count;
     }
-    let carry = C::carry_at(probe, first);
-    let after_chunks = count_chunks::<C, T, GROUP, LAST_GROUP>(probe, after_lead, end, end, carry);
-    count_rest::<C, T>(probe, after_chunks.at, end, after_chunks.carry)
+    let carry = C::carry_at(probe, byte);
+    let after_lead = Cursor { byte, count, carry };
+    let after_chunks = count_chunks::<C, T, GROUP, LAST_GROUP>(probe, after_lead, end, end);
+    count_rest::<C, T>(probe, after_chunks, end)
 }
 
 /// The first place before which `idx` are counted, or the end of the text where fewer are.
@@ -88,27 +87,21 @@ pub(crate) fn find<
     ensures reads { Finds probe.old probe.new T.SIZE lead (length probe.old.text) result 0 }
 {
     let len = probe.len();
-    let start = Cursor { byte: 0, count: 0 };
-    let Walked { place, count } = walk::<C, T>(probe, start, lead, len, idx);
+    let Walked { place, count } = walk::<C, T>(probe, 0, 0, lead, len, idx);
     if place < lead {
         return place;
     }
-    let carry = C::carry_at(probe, lead);
-    let after_lead = Cursor { byte: lead, count };
-    let after_sure = skip_unreachable::<C, T, GROUP, LAST_GROUP>(probe, after_lead, idx, carry);
-    let group = 4 / C::MOST;
-    let after_groups = skip_chunks::<C, T>(
-        probe,
-        after_sure.at,
-        idx,
-        group,
-        LEAST,
-        after_sure.carry,
-    );
-    let after_chunks = skip_chunks::<C, T>(probe, after_groups.at, idx, 1, 1, after_groups.carry);
-    let last = T::SIZE.min(len - after_chunks.at.byte);
-    let to = after_chunks.at.byte + last;
-    walk::<C, T>(probe, after_chunks.at, to, len, idx).place
+    let after_lead = Cursor {
+        byte: lead,
+        count,
+        carry: C::carry_at(probe, lead),
+    };
+    let after_sure = skip_unreachable::<C, T, GROUP, LAST_GROUP>(probe, after_lead, idx);
+    let after_groups = skip_chunks::<C, T, LEAST>(probe, after_sure, idx, 4 / C::MOST);
+    let after_chunks = skip_chunks::<C, T, 1>(probe, after_groups, idx, 1);
+    let last = T::SIZE.min(len - after_chunks.byte);
+    let to = after_chunks.byte + last;
+    walk::<C, T>(probe, after_chunks.byte, after_chunks.count, to, len, idx).place
 }
 
 /// The byte that a walk looks for, and what is counted before the walk's end.
@@ -126,33 +119,33 @@ struct Walked {
 #[inline(always)]
 fn walk<C: PlaceCounts<T>, T: ByteChunk>(
     probe: &mut Probe<'_, T>,
-    from: Cursor,
+    from: usize,
+    mut count: usize,
     to: usize,
     end: usize,
     idx: usize,
 ) -> Walked
-    requires ordered { from.byte ≤ to }
+    requires ordered { from ≤ to }
     requires seen { (to ≤ end) × (end ≤ length probe.old.text) }
     requires fits { FitsIn (sum_below (C.counted_at end probe.old.text)) (length probe.old.text) }
-    requires counted { from.count ≡ sum_below (C.counted_at end probe.old.text) from.byte }
-    requires at_most { from.count ≤ idx }
-    ensures reached { (from.byte ≤ result.place) × (result.place ≤ to) }
+    requires counted { count ≡ sum_below (C.counted_at end probe.old.text) from }
+    requires at_most { count ≤ idx }
+    ensures reached { (from ≤ result.place) × (result.place ≤ to) }
     ensures counted { let counted = sum_below (C.counted_at end probe.old.text) to in
         counted ≤ idx → result.count ≡ counted }
     ensures at_most { sum_below (C.counted_at end probe.old.text) result.place ≤ idx }
     ensures stopped { result.place < to → idx < sum_below (C.counted_at end probe.old.text) (result.place + 1) }
-    ensures reads { Reads probe.old probe.new 0 (to - from.byte + 1) 0 0 }
+    ensures reads { Reads probe.old probe.new 0 (to - from + 1) 0 0 }
 {
     prove!(end <= probe.len());
-    let mut count = from.count;
-    let mut place = from.byte;
-    let mut before = byte_before(probe, from.byte);
-    for i in from.byte..to {
-        if !C::IS_DENSE && count > idx {
-            break;
-        }
+    let mut place = from;
+    let mut before = byte_before(probe, from);
+    for i in from..to {
         let byte = probe.turn(i);
         count += C::count_byte(probe, before, byte, i, end);
+        if !C::IS_DENSE && count > idx {
+            return Walked { place, count };
+        }
         place += usize::from(count <= idx);
         before = byte;
     }
@@ -165,21 +158,20 @@ fn walk<C: PlaceCounts<T>, T: ByteChunk>(
 #[inline(always)]
 fn skip_unreachable<C: PlaceCounts<T>, T: ByteChunk, const GROUP: usize, const LAST_GROUP: usize>(
     probe: &mut Probe<'_, T>,
-    from: Cursor,
+    from: Cursor<C::Carry>,
     idx: usize,
-    mut carry: C::Carry,
-) -> Reached<C::Carry>
+) -> Cursor<C::Carry>
     requires some { (0 < GROUP) × (0 < LAST_GROUP) }
     requires within { from.byte ≤ length probe.old.text }
     requires steady { let n = length probe.old.text in IsSteady (sum_below (C.counted_at n probe.old.text)) n }
     requires counted { from.count ≡ sum_below (C.counted_at (length probe.old.text) probe.old.text) from.byte }
     requires at_most { from.count ≤ idx }
-    requires carried { C.carries probe.old.text from.byte carry }
-    ensures reached { (from.byte ≤ result.at.byte) × (result.at.byte ≤ length probe.old.text) }
-    ensures counted { result.at.count ≡ sum_below (C.counted_at (length probe.old.text) probe.old.text) result.at.byte }
-    ensures at_most { result.at.count ≤ idx }
-    ensures carried { C.carries probe.old.text result.at.byte result.carry }
-    ensures reads { Reads probe.old probe.new from.byte 0 ((result.at.byte - from.byte) / T.SIZE) 0 }
+    requires carried { C.carries probe.old.text from.byte from.carry }
+    ensures reached { (from.byte ≤ result.byte) × (result.byte ≤ length probe.old.text) }
+    ensures counted { result.count ≡ sum_below (C.counted_at (length probe.old.text) probe.old.text) result.byte }
+    ensures at_most { result.count ≤ idx }
+    ensures carried { C.carries probe.old.text result.byte result.carry }
+    ensures reads { Reads probe.old probe.new from.byte 0 ((result.byte - from.byte) / T.SIZE) 0 }
 {
     let len = probe.len();
     let mut at = from;
@@ -189,11 +181,9 @@ fn skip_unreachable<C: PlaceCounts<T>, T: ByteChunk, const GROUP: usize, const L
             break;
         }
         let to = at.byte + chunks * T::SIZE;
-        let round = count_chunks::<C, T, GROUP, LAST_GROUP>(probe, at, to, len, carry);
-        at = round.at;
-        carry = round.carry;
+        at = count_chunks::<C, T, GROUP, LAST_GROUP>(probe, at, to, len);
     }
-    Reached { at, carry }
+    at
 }
 
 /// How many whole chunks of so many bytes count at most so much, whatever is in them.

@@ -4,7 +4,6 @@
 ghost use Rattle.std.specs.Prelude.{◌≡◌, ℕ, ◌+◌, ◌-◌, ◌*◌, ◌/◌, ◌<◌, ◌≤◌, ◌⊎◌, List, length, slice_index, take, drop};
 ghost use Rattle.str_indices.specs.Prelude.{byte_before, sum_below, AddsUp, FitsIn, HasLanes, HasLaterLanes, IsHandedOn, Reads};
 
-use crate::places::Cursor;
 use byte_chunk::{ByteChunk, Probe};
 
 /// What is counted at each place of a text: at one byte, and in the lanes of a chunk.
@@ -75,10 +74,11 @@ pub(crate) struct CountedLanes<T, C> {
     pub(crate) carry: C,
 }
 
-/// The position that was reached, and what is handed on there.
+/// A position in a text, what is counted before it, and what the chunk before it hands on.
 #[derive(Clone, Copy)]
-pub(crate) struct Reached<C> {
-    pub(crate) at: Cursor,
+pub(crate) struct Cursor<C> {
+    pub(crate) byte: usize,
+    pub(crate) count: usize,
     pub(crate) carry: C,
 }
 
@@ -92,43 +92,35 @@ pub(crate) fn count_chunks<
     T: ByteChunk,
     const GROUP: usize,
     const LAST_GROUP: usize,
->(
-    probe: &mut Probe<'_, T>,
-    from: Cursor,
-    to: usize,
-    end: usize,
-    mut carry: C::Carry,
-) -> Reached<C::Carry>
+>(probe: &mut Probe<'_, T>, from: Cursor<C::Carry>, to: usize, end: usize) -> Cursor<C::Carry>
     requires some { (0 < GROUP) × (0 < LAST_GROUP) }
     requires ordered { from.byte ≤ to }
     requires seen { (to ≤ end) × (end ≤ length probe.old.text) }
     requires fits { FitsIn (sum_below (C.counted_at end probe.old.text)) (length probe.old.text) }
     requires counted { from.count ≡ sum_below (C.counted_at end probe.old.text) from.byte }
-    requires carried { C.carries probe.old.text from.byte carry }
-    ensures reached { (from.byte ≤ result.at.byte) × (result.at.byte ≤ to) × (to < result.at.byte + T.SIZE) }
-    ensures counted { result.at.count ≡ sum_below (C.counted_at end probe.old.text) result.at.byte }
-    ensures carried { C.carries probe.old.text result.at.byte result.carry }
-    ensures reads { Reads probe.old probe.new from.byte 0 ((result.at.byte - from.byte) / T.SIZE) 0 }
+    requires carried { C.carries probe.old.text from.byte from.carry }
+    ensures reached { (from.byte ≤ result.byte) × (result.byte ≤ to) × (to < result.byte + T.SIZE) }
+    ensures counted { result.count ≡ sum_below (C.counted_at end probe.old.text) result.byte }
+    ensures carried { C.carries probe.old.text result.byte result.carry }
+    ensures reads { Reads probe.old probe.new from.byte 0 ((result.byte - from.byte) / T.SIZE) 0 }
 {
     prove!(end <= probe.len());
     let size = T::SIZE;
     let most = chunks_of_round::<C, T, GROUP>();
     let mut at = from;
     'rounds: while most * size <= to - at.byte {
-        let round = add_in_groups::<C, T, GROUP>(probe, at.byte, most, end, carry);
+        let round = add_in_groups::<C, T, GROUP>(probe, at.byte, most, end, at.carry);
         let count = at.count + round.lanes.sum_bytes();
         let byte = at.byte + most * size;
-        at = Cursor { byte, count };
-        carry = round.carry;
+        let carry = round.carry;
+        at = Cursor { byte, count, carry };
     }
     let left = (to - at.byte) / size;
-    let last = add_in_groups::<C, T, LAST_GROUP>(probe, at.byte, left, end, carry);
+    let last = add_in_groups::<C, T, LAST_GROUP>(probe, at.byte, left, end, at.carry);
     let count = at.count + last.lanes.sum_bytes();
     let byte = at.byte + left * size;
-    Reached {
-        at: Cursor { byte, count },
-        carry: last.carry,
-    }
+    let carry = last.carry;
+    Cursor { byte, count, carry }
 }
 
 /// The most chunks that a round has: so few that what they count in a lane can be summed, and no part of a group unless
@@ -147,48 +139,44 @@ fn chunks_of_round<C: PlaceCounts<T>, T: ByteChunk, const GROUP: usize>() -> usi
     }
 }
 
-/// Skips groups of so many chunks from a position on, while with them no more than `idx` are counted and at least `least`
+/// Skips groups of so many chunks from a position on, while with them no more than `idx` are counted and at least `LEAST`
 /// chunks are left.
 #[inline(always)]
-pub(crate) fn skip_chunks<C: PlaceCounts<T>, T: ByteChunk>(
+pub(crate) fn skip_chunks<C: PlaceCounts<T>, T: ByteChunk, const LEAST: usize>(
     probe: &mut Probe<'_, T>,
-    from: Cursor,
+    from: Cursor<C::Carry>,
     idx: usize,
     group: usize,
-    least: usize,
-    mut carry: C::Carry,
-) -> Reached<C::Carry>
+) -> Cursor<C::Carry>
     requires some { 0 < group }
     requires room { group * C.MOST ≤ 4 }
-    requires least { (group ≤ least) × (least ≤ 16) }
+    requires least { (group ≤ LEAST) × (LEAST ≤ 16) }
     requires within { from.byte ≤ length probe.old.text }
     requires fits { let n = length probe.old.text in FitsIn (sum_below (C.counted_at n probe.old.text)) n }
     requires counted { from.count ≡ sum_below (C.counted_at (length probe.old.text) probe.old.text) from.byte }
     requires at_most { from.count ≤ idx }
-    requires carried { C.carries probe.old.text from.byte carry }
-    ensures reached { (from.byte ≤ result.at.byte) × (result.at.byte ≤ length probe.old.text) }
-    ensures counted { result.at.count ≡ sum_below (C.counted_at (length probe.old.text) probe.old.text) result.at.byte }
-    ensures at_most { result.at.count ≤ idx }
-    ensures carried { C.carries probe.old.text result.at.byte result.carry }
-    ensures stopped { (length probe.old.text < result.at.byte + least * T.SIZE)
-        ⊎ (idx < sum_below (C.counted_at (length probe.old.text) probe.old.text) (result.at.byte + group * T.SIZE)) }
-    ensures reads { Reads probe.old probe.new from.byte 0 ((result.at.byte - from.byte) / T.SIZE + group) 0 }
+    requires carried { C.carries probe.old.text from.byte from.carry }
+    ensures reached { (from.byte ≤ result.byte) × (result.byte ≤ length probe.old.text) }
+    ensures counted { result.count ≡ sum_below (C.counted_at (length probe.old.text) probe.old.text) result.byte }
+    ensures at_most { result.count ≤ idx }
+    ensures carried { C.carries probe.old.text result.byte result.carry }
+    ensures stopped { (length probe.old.text < result.byte + LEAST * T.SIZE)
+        ⊎ (idx < sum_below (C.counted_at (length probe.old.text) probe.old.text) (result.byte + group * T.SIZE)) }
+    ensures reads { Reads probe.old probe.new from.byte 0 ((result.byte - from.byte) / T.SIZE + group) 0 }
 {
     let len = probe.len();
     let mut at = from;
-    'groups: while least * T::SIZE <= len - at.byte {
-        let added = add_chunks::<C, T>(probe, at.byte, group, len, carry);
+    'groups: while LEAST * T::SIZE <= len - at.byte {
+        let added = add_chunks::<C, T>(probe, at.byte, group, len, at.carry);
         let count = at.count + added.lanes.sum_bytes();
         if count > idx {
-            break;
+            return at;
         }
-        at = Cursor {
-            byte: at.byte + group * T::SIZE,
-            count,
-        };
-        carry = added.carry;
+        let byte = at.byte + group * T::SIZE;
+        let carry = added.carry;
+        at = Cursor { byte, count, carry };
     }
-    Reached { at, carry }
+    at
 }
 
 /// Adds what is counted in the lanes of so many chunks: of groups of `GROUP`, and then of what is left one at a time.

@@ -5,32 +5,22 @@ ghost use Rattle.str_indices.specs.Prelude.{size, cut, byte_before, is_carriage_
 use crate::weights::{CR, LF, is_trailing_byte};
 use byte_chunk::{ByteChunk, Probe};
 
-/// A place in a text, and what a kernel counted before it.
-#[derive(Clone, Copy)]
-pub(crate) struct Cursor {
-    pub(crate) byte: usize,
-    pub(crate) count: usize,
-}
-
 /// No character has more trailing bytes.
 const MOST_TRAILING_BYTES: usize = 3;
 
 /// The greatest boundary at or before a byte, by at most three peeks; the text's length where the byte is past it.
 #[tactic(auto, using(crate::proofs::lemmas::bytes::BoundaryBytes::places))]
-pub(crate) fn boundary_at_or_before<T: ByteChunk>(
-    probe: &mut Probe<'_, T>,
-    byte_idx: usize,
-) -> usize
-    ensures boundary { result ≡ size (cut (chars probe.old.text) byte_idx) }
-    ensures within { result ≤ min byte_idx (length probe.old.text) }
+pub(crate) fn boundary_at_or_before<T: ByteChunk>(probe: &mut Probe<'_, T>, byte: usize) -> usize
+    ensures boundary { result ≡ size (cut (chars probe.old.text) byte) }
+    ensures within { result ≤ min byte (length probe.old.text) }
     ensures reads { Reads probe.old probe.new 0 0 0 3 }
-    ensures reads_once { byte_idx ≤ result → Reads probe.old probe.new 0 0 0 1 }
+    ensures reads_once { byte ≤ result → Reads probe.old probe.new 0 0 0 1 }
 {
     let len = probe.len();
-    if byte_idx >= len {
+    if byte >= len {
         return len;
     }
-    let mut boundary = byte_idx;
+    let mut boundary = byte;
     for _ in 0..MOST_TRAILING_BYTES {
         if !is_trailing_byte(probe.peek(boundary)) {
             break;
@@ -65,16 +55,16 @@ pub(crate) fn is_crlf_middle<T: ByteChunk>(probe: &mut Probe<'_, T>, byte_idx: u
 
 /// The least boundary at or after a byte, by at most three peeks.
 #[tactic(auto, using(crate::proofs::lemmas::bytes::BoundaryBytes::places))]
-pub(crate) fn boundary_at_or_after<T: ByteChunk>(probe: &mut Probe<'_, T>, byte_idx: usize) -> usize
-    requires { byte_idx ≤ length probe.old.text }
+pub(crate) fn boundary_at_or_after<T: ByteChunk>(probe: &mut Probe<'_, T>, byte: usize) -> usize
+    requires { byte ≤ length probe.old.text }
     ensures boundary { IsBoundary (chars probe.old.text) result }
-    ensures least { (p : ℕ) → IsBoundary (chars probe.old.text) p → byte_idx ≤ p → result ≤ p }
-    ensures reached { (byte_idx ≤ result) × (result ≤ length probe.old.text) }
-    ensures near { result ≤ byte_idx + 3 }
+    ensures least { (p : ℕ) → IsBoundary (chars probe.old.text) p → byte ≤ p → result ≤ p }
+    ensures reached { (byte ≤ result) × (result ≤ length probe.old.text) }
+    ensures near { result ≤ byte + 3 }
     ensures reads { Reads probe.old probe.new 0 0 0 3 }
 {
     let len = probe.len();
-    let mut boundary = byte_idx;
+    let mut boundary = byte;
     for _ in 0..MOST_TRAILING_BYTES {
         if boundary >= len || !is_trailing_byte(probe.peek(boundary)) {
             break;

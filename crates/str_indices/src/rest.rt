@@ -6,8 +6,7 @@ ghost use Rattle.std.specs.Prelude.{◌≡◌, ◌+◌, ◌-◌, ◌<◌, ◌≤
 ghost use Rattle.std.specs.Simd.Lanes.{Each1};
 ghost use Rattle.str_indices.specs.Prelude.{sum_below, FitsIn, IsHandedOn, Reads};
 
-use crate::place_counts::PlaceCounts;
-use crate::places::Cursor;
+use crate::place_counts::{Cursor, PlaceCounts};
 use byte_chunk::{ByteChunk, Probe};
 
 /// No chunk has more lanes.
@@ -19,27 +18,26 @@ static LEFT_OUT_AND_KEPT: [[u8; MOST_LANES]; 2] = [[0; MOST_LANES], [0xFF; MOST_
 /// Counts on from a position to `end`, over fewer bytes than a chunk has, for one turn a lane.
 ///
 /// Of the text the bytes before `end` are seen, and they are no fewer than a chunk has. The lanes before the position are
-/// left out, since they are counted already. The first lane always is, so that `carry` need not be what the chunk before
-/// hands on.
+/// left out, since they are counted already. The first lane always is, so that the carry need not be what the chunk before
+/// the last one hands on.
 pub(crate) fn count_rest<C: PlaceCounts<T>, T: ByteChunk>(
     probe: &mut Probe<'_, T>,
-    from: Cursor,
+    from: Cursor<C::Carry>,
     end: usize,
-    carry: C::Carry,
 ) -> usize
     requires long { T.SIZE ≤ end }
     requires near { (from.byte ≤ end) × (end < from.byte + T.SIZE) }
     requires within { end ≤ length probe.old.text }
     requires fits { FitsIn (sum_below (C.counted_at end probe.old.text)) (length probe.old.text) }
     requires counted { from.count ≡ sum_below (C.counted_at end probe.old.text) from.byte }
-    requires handed_on { IsHandedOn (C.carries probe.old.text) carry }
+    requires handed_on { IsHandedOn (C.carries probe.old.text) from.carry }
     ensures counted { result ≡ sum_below (C.counted_at end probe.old.text) end }
     ensures reads { Reads probe.old probe.new 0 T.SIZE 0 0 }
 {
     prove!(end <= probe.len());
     let first = end - T::SIZE;
     let chunk = chunk_by_turns(probe, first);
-    let counted = C::count_lanes(probe, chunk, first, end, carry);
+    let counted = C::count_lanes(probe, chunk, first, end, from.carry);
     from.count + last_lanes(counted.lanes, end - from.byte).sum_bytes()
 }
 

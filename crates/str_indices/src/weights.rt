@@ -75,11 +75,12 @@ impl ByteWeight for LeadingBytes {
     const IS_DENSE: bool = true;
 
     fn in_byte(byte: u8) -> usize {
-        usize::from(is_leading_byte(byte))
+        usize::from(!is_trailing_byte(byte))
     }
 
+    #[tactic(auto, using(crate::proofs::lemmas::lanes::EachLane::leading_lanes))]
     fn in_lanes<T: ByteChunk>(chunk: T) -> T {
-        mark_leading(chunk)
+        T::splat(1).sub(mark_trailing(chunk))
     }
 
     ghost few = { (lit< tt, lit≤ tt) };
@@ -100,11 +101,11 @@ impl ByteWeight for FourByteLeads {
     const IS_DENSE: bool = false;
 
     fn in_byte(byte: u8) -> usize {
-        usize::from(is_four_byte_lead(byte))
+        usize::from(byte & 0xF0 == 0xF0)
     }
 
     fn in_lanes<T: ByteChunk>(chunk: T) -> T {
-        mark_surrogates(chunk)
+        chunk.bitand(T::splat(0xF0)).cmp_eq_byte(0xF0)
     }
 
     ghost few = { (lit< tt, lit≤ tt) };
@@ -125,11 +126,12 @@ impl ByteWeight for Units {
     const IS_DENSE: bool = true;
 
     fn in_byte(byte: u8) -> usize {
-        usize::from(is_leading_byte(byte)) + usize::from(is_four_byte_lead(byte))
+        LeadingBytes::in_byte(byte) + FourByteLeads::in_byte(byte)
     }
 
     fn in_lanes<T: ByteChunk>(chunk: T) -> T {
-        mark_leading(chunk).add(mark_surrogates(chunk))
+        let leading = LeadingBytes::in_lanes(chunk);
+        leading.add(FourByteLeads::in_lanes(chunk))
     }
 
     ghost few = { (lit< tt, lit≤ tt) };
@@ -183,12 +185,6 @@ impl<B: ByteWeight, T: ByteChunk> PlaceCounts<T> for Weights<B> {
     ghost few = { B.few };
 }
 
-pub(crate) fn is_leading_byte(byte: u8) -> bool
-    ensures { result ≡ is_leading byte }
-{
-    byte & 0xC0 != 0x80
-}
-
 pub(crate) fn is_trailing_byte(byte: u8) -> bool
     ensures { result ≡ is_trailing byte }
 {
@@ -201,27 +197,4 @@ fn mark_trailing<T: ByteChunk>(chunk: T) -> T
     ensures { T.lanes result ≡ map (mark is_trailing) (T.lanes chunk) }
 {
     chunk.bitand(T::splat(0xC0)).cmp_eq_byte(0x80)
-}
-
-/// 1 in each lane that begins a char.
-#[tactic(auto, using(crate::proofs::lemmas::lanes::EachLane::leading_lanes))]
-fn mark_leading<T: ByteChunk>(chunk: T) -> T
-    requires { length (T.lanes chunk) ≡ T.SIZE }
-    ensures { T.lanes result ≡ map (mark is_leading) (T.lanes chunk) }
-{
-    T::splat(1).sub(mark_trailing(chunk))
-}
-
-fn is_four_byte_lead(byte: u8) -> bool
-    ensures { result ≡ begins_four_bytes byte }
-{
-    byte & 0xF0 == 0xF0
-}
-
-/// 1 in each lane that begins a char of four bytes.
-fn mark_surrogates<T: ByteChunk>(chunk: T) -> T
-    requires { length (T.lanes chunk) ≡ T.SIZE }
-    ensures { T.lanes result ≡ map (mark begins_four_bytes) (T.lanes chunk) }
-{
-    chunk.bitand(T::splat(0xF0)).cmp_eq_byte(0xF0)
 }

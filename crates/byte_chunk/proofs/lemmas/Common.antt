@@ -1,5 +1,5 @@
 -- The names that the proofs here cite most, passed on from one place. Declares nothing.
-pub use Rattle.std.proofs.Common.{◌≡◌, ℕ, zero, suc, ◌+◌, ◌-◌, ◌*◌, ◌/◌, ◌%◌, ◌^◌, ◌<◌, ◌≤◌, min, Bool, true, false, cond, ◌&&◌, eqb, ltb, List, [], ◌∷◌, ◌++◌, map, length, get_or, take, drop, set, replicate, if◌then◌else◌, nat_eq, nat_lt, ◌==◌, bit_and, bit_or, bit_xor, fold, sum, sym, refl, ap, ◌∙◌, subst, ap₂, inl, inr, append_assoc, mul-le-mul_right, mod-eq_of_lt, mul_comm, pow-suc, arith, length-append, length-drop, take-append-drop, length-take-le, get_or-take, take_at, ext_get_or, pow-add, w8, w64, Fits, rules, eq-eqb, eqb-true}
+pub use Rattle.std.proofs.Common.{◌≡◌, ℕ, zero, suc, ◌+◌, ◌-◌, ◌*◌, ◌/◌, ◌%◌, ◌^◌, ◌<◌, ◌≤◌, min, Bool, true, false, cond, ◌&&◌, eqb, ltb, List, [], ◌∷◌, ◌++◌, map, length, get_or, take, drop, set, replicate, if◌then◌else◌, nat_eq, nat_lt, ◌==◌, bit_and, bit_or, bit_xor, fold, sum, sym, refl, ap, ◌∙◌, subst, ap₂, inl, inr, append_assoc, mul-le-mul_right, mod-eq_of_lt, mul_comm, pow-suc, arith, length-append, length-drop, take-append-drop, length-take-le, get_or-take, take_at, ext_get_or, pow-add, w8, w64, Fits, rules, eq-eqb, eqb-true, add_comm}
 pub use Rattle.std.proofs.iter.Serving.{serving}
 pub use Rattle.std.proofs.lemmas.Bool.{agree_below_at, cases_lt}
 pub use Rattle.std.proofs.lemmas.Bool.Decides.{nat_tests}

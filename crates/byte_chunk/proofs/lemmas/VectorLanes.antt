@@ -1,5 +1,5 @@
 -- What operations on vectors give, as lists of lanes.
-use Rattle.byte_chunk.proofs.lemmas.Common.{◌≡◌, ℕ, zero, suc, ◌+◌, ◌≤◌, List, [], ◌∷◌, ◌++◌, Bool, true, false, ◌&&◌, cond, eqb, ltb, map, length, replicate, take, drop, Fits, w8, w64, refl, sym, ap, ap₂, ◌∙◌, arith, bit_and, bit_or, length-append, length-drop, zip2, sel_l, top, pick_l, fold_l, Steps, Each1, Each2, append_assoc, take-append-drop, take_at, drop-append-le, length-take-le, and_comm, le_or_l, le_or_r, zip2_splat, zip2_splat_left, zip2_of_maps, pick_l-range_with_len, sum_bound, sum_fits, bytes_below, is_byte, is_between}
+use Rattle.byte_chunk.proofs.lemmas.Common.{◌≡◌, ℕ, zero, suc, ◌+◌, ◌≤◌, List, [], ◌∷◌, ◌++◌, Bool, true, false, ◌&&◌, cond, eqb, ltb, map, length, replicate, take, drop, Fits, w8, w64, refl, sym, ap, ap₂, ◌∙◌, arith, bit_and, bit_or, length-append, length-drop, zip2, sel_l, top, pick_l, fold_l, Steps, Each1, Each2, append_assoc, take-append-drop, take_at, drop-append-le, length-take-le, add_comm, and_comm, le_or_l, le_or_r, zip2_splat, zip2_splat_left, zip2_of_maps, pick_l-range_with_len, sum_bound, sum_fits, bytes_below, is_byte, is_between}
 use Rattle.std.specs.List.{range_with_len}
 
 -- `is_zero`: where no lane has a bit, each lane is 0
@@ -71,15 +71,26 @@ sums_fit [] ys small = tt
 sums_fit (x ∷ xs) [] small = tt
 sums_fit (x ∷ xs) (y ∷ ys) (here, rest) = (record { fits = omega arith }, sums_fit xs ys rest)
 
--- the operands of `bitand` and of `add` may be exchanged
-swapped : (op : ℕ → ℕ → ℕ) → ((x y : ℕ) → op x y ≡ op y x) → (xs ys : List ℕ) → zip2 op xs ys ≡ zip2 op ys xs
-swapped op same [] [] = refl
-swapped op same [] (y ∷ ys) = refl
-swapped op same (x ∷ xs) [] = refl
-swapped op same (x ∷ xs) (y ∷ ys) = ap₂ (λ l ls. l ∷ ls) (same x y) (swapped op same xs ys)
+-- two chunks may be exchanged where a call adds them or takes the bits of both
+exchanged : (op : ℕ → ℕ → ℕ) → ((x y : ℕ) → op x y ≡ op y x) → (xs ys : List ℕ) → zip2 op ys xs ≡ zip2 op xs ys
+exchanged op same [] [] = refl
+exchanged op same [] (y ∷ ys) = refl
+exchanged op same (x ∷ xs) [] = refl
+exchanged op same (x ∷ xs) (y ∷ ys) = ap₂ (λ l ls. l ∷ ls) (same y x) (exchanged op same xs ys)
 
-pub and_swapped : (xs ys : List ℕ) → zip2 bit_and xs ys ≡ zip2 bit_and ys xs
-and_swapped = swapped bit_and and_comm
+pub bits_exchanged : {zs : List ℕ} (xs ys : List ℕ) → zs ≡ zip2 bit_and ys xs → zs ≡ zip2 bit_and xs ys
+bits_exchanged xs ys is = is ∙ exchanged bit_and and_comm xs ys
+
+pub sums_exchanged : {zs : List ℕ} (xs ys : List ℕ) → zs ≡ zip2 (λ x y. x + y) ys xs → zs ≡ zip2 (λ x y. x + y) xs ys
+sums_exchanged xs ys is = is ∙ exchanged (λ x y. x + y) add_comm xs ys
+
+pub room_exchanged : (limit : ℕ) (xs ys : List ℕ) → Each2 (λ x y. x + y ≤ limit) ys xs → Each2 (λ x y. x + y ≤ limit) xs ys
+room_exchanged limit [] [] room = room
+room_exchanged limit [] (y ∷ ys) room = tt
+room_exchanged limit (x ∷ xs) [] room = tt
+room_exchanged limit (x ∷ xs) (y ∷ ys) room = (omega (arith, room.0), room_exchanged limit xs ys room.1)
+
+pub ruleset added_either_way = (sums_exchanged, room_exchanged)
 
 -- the lanes of a vector cast to wider ones
 widened : (lanes : List ℕ) → map (λ lane. lane) lanes ≡ lanes

@@ -106,11 +106,12 @@ impl ByteChunk for Simd<u8, 32> {
         vectors::bytes_between_127(*self, a, b)
     }
 
-    #[tactic(auto, using(crate::proofs::lemmas::VectorLanes::and_swapped))]
+    #[tactic(auto, using(crate::proofs::lemmas::VectorLanes::bits_exchanged))]
     fn bitand(&self, other: Self) -> Self {
         *self & other
     }
 
+    #[tactic(auto, using(crate::proofs::lemmas::VectorLanes::added_either_way))]
     fn add(&self, other: Self) -> Self {
         vectors::add(*self, other)
     }

@@ -1,5 +1,5 @@
 -- The lanes of a chunk by their places: what each call of a chunk leaves in a lane, and what the lanes add up to.
-use Rattle.str_indices.proofs.lemmas.Common.{◌≡◌, ◌≢◌, ℕ, suc, ◌+◌, ◌-◌, ◌<◌, ◌≤◌, Bool, true, false, List, [], ◌∷◌, ◌++◌, map, take, drop, replicate, length, get_or, bit_and, refl, arith, length-drop, slice_set, ◌∙◌, sum, not, ◌==◌, ◌&&◌, Each1, Each2, zip2, nat_tests, get_or-take, get_or-drop, get_or-map, get_or_past, get_or-append-add, get_or-replicate, get_or-set_same, get_or-set_other, length-append, length-map, length-take-le, length-replicate, length-set, sum_by-cons, zip2_splat, zip2_splat_left, zip2_of_maps, map-map, Each1-replicate, Each1-from_get_or, Each2-of, get_or-zip2, length-zip2, is_byte, flag, mark, sum_below, is_trailing, is_leading, HasLanes, HasLaterLanes, mark-le, add_comm, and_comm}
+use Rattle.str_indices.proofs.lemmas.Common.{◌≡◌, ◌≢◌, ℕ, suc, ◌+◌, ◌-◌, ◌<◌, ◌≤◌, Bool, true, false, List, [], ◌∷◌, ◌++◌, map, take, drop, replicate, length, get_or, bit_and, refl, arith, length-drop, slice_set, ◌∙◌, sum, not, ◌==◌, ◌&&◌, Each1, Each2, zip2, nat_tests, get_or-take, get_or-drop, get_or-map, get_or_past, get_or-append-add, get_or-replicate, get_or-set_same, get_or-set_other, length-append, length-map, length-take-le, length-replicate, length-set, sum_by-cons, zip2_splat, zip2_splat_left, zip2_of_maps, map-map, Each1-replicate, Each1-from_get_or, Each2-of, get_or-zip2, length-zip2, is_byte, flag, mark, sum_below, is_trailing, is_leading, HasLanes, HasLaterLanes, mark-le}
 use Rattle.std.proofs.Math.ListN.{get_or-append}
 use Rattle.str_indices.proofs.lemmas.bytes.{sum_below-add, sum_below-front}
 
@@ -70,25 +70,6 @@ module _ (test : ℕ → Bool) (lanes : List ℕ) {size : ℕ} {ones marks : Lis
       each : (xs : List ℕ) → map (λ b. 1 - mark test b) xs ≡ map (mark (λ b. not (test b))) xs
       each [] = refl
       each (x ∷ xs) = cc (other (test x), each xs)
-
--- two chunks may be exchanged where a call adds them or takes the bits of both
-zip2_exchanged : (f : ℕ → ℕ → ℕ) → ((a b : ℕ) → f a b ≡ f b a) → (xs ys : List ℕ) → zip2 f ys xs ≡ zip2 f xs ys
-zip2_exchanged f same [] [] = refl
-zip2_exchanged f same [] (y ∷ ys) = refl
-zip2_exchanged f same (x ∷ xs) [] = refl
-zip2_exchanged f same (x ∷ xs) (y ∷ ys) = cc (same x y, zip2_exchanged f same xs ys)
-
-pub sums_exchanged : {zs : List ℕ} (xs ys : List ℕ) → zs ≡ zip2 (λ a b. a + b) ys xs → zs ≡ zip2 (λ a b. a + b) xs ys
-sums_exchanged xs ys is = is ∙ zip2_exchanged (λ a b. a + b) add_comm xs ys
-
-pub bits_exchanged : {zs : List ℕ} (xs ys : List ℕ) → zs ≡ zip2 bit_and ys xs → zs ≡ zip2 bit_and xs ys
-bits_exchanged xs ys is = is ∙ zip2_exchanged bit_and and_comm xs ys
-
-pub room_exchanged : (limit : ℕ) (xs ys : List ℕ) → Each2 (λ a b. a + b ≤ limit) ys xs → Each2 (λ a b. a + b ≤ limit) xs ys
-room_exchanged limit [] [] room = room
-room_exchanged limit [] (y ∷ ys) room = tt
-room_exchanged limit (x ∷ xs) [] room = tt
-room_exchanged limit (x ∷ xs) (y ∷ ys) room = (omega (arith, room.0), room_exchanged limit xs ys room.1)
 
 -- lanes by themselves
 pub lanes_of : {size : ℕ} {xs : List ℕ} → length xs ≡ size → HasLanes size (λ j. get_or xs j 0) xs

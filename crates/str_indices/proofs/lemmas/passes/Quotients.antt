@@ -6,19 +6,14 @@ pub div-add-le : (size from at to : ℕ) → 4 ≤ size → from ≤ at → at �
     → (at - from) / size + (to - at) / size ≤ (to - from) / size
 div-add-le size from at to least le le' = grind (arith, le-div, div-mul-le_self, add-mul)
 
--- two parts of some chunks end where all of them do
-pub parts_end : (from m n size chunks : ℕ) → m + n ≡ chunks → from + m * size + n * size ≡ from + chunks * size
-parts_end from m n size chunks all = omega (arith, ap (λ k. k * size) all)
+-- of two parts of some chunks the first ends at a place, and the second where all of them do
+module _ (from m n size : ℕ) {chunks middle : ℕ} (all : m + n ≡ chunks) (there : from + m * size ≡ middle) where
+  pub parts_end : middle + n * size ≡ from + chunks * size
+  parts_end = omega (arith, ap (λ k. k * size) all)
 
--- and within what all of them are within
-pub parts_within : (from m n size chunks end : ℕ) → m + n ≡ chunks → from + chunks * size ≤ end
-    → from + m * size + n * size ≤ end
-parts_within from m n size chunks end all within = omega (arith, within, parts_end from m n size chunks all)
-
--- and what holds where the one ends holds where the other does
-pub parts_there : (P : ℕ → Type 0) (from m n size chunks : ℕ) → m + n ≡ chunks → P (from + m * size + n * size)
-    → P (from + chunks * size)
-parts_there P from m n size chunks all there = rw (parts_end from m n size chunks all) at there
+  -- and within what all of them are within
+  pub parts_within : (end : ℕ) → from + chunks * size ≤ end → middle + n * size ≤ end
+  parts_within end within = omega (arith, within, parts_end)
 
 -- fewer bytes than a round has make a round that can be summed
 pub round_fits : (bytes size most weight limit : ℕ) → 4 ≤ size → bytes < most * size → most * weight ≤ limit

@@ -1,28 +1,25 @@
-use Rattle.str_indices.proofs.lemmas.{IsCharBoundary-to_byte_idx, Crlf, arith, break_start-le, ones_steady}
+use Rattle.str_indices.proofs.lemmas.{◌≡◌, chars, to_byte_idx, IsCharBoundary-to_byte_idx, Crlf, arith, break_start-le, ones_steady}
 use Rattle.str_indices.proofs.lemmas.schemes.CrlfBytes.{line_begins}
 use Rattle.str_indices.proofs.lines_crlf.to_byte_idx_impl.Goals as goal
 
 pub find_first-place-requires-clause-steady : goal.find_first-place-requires-clause-steady
 find_first-place-requires-clause-steady g c = ones_steady _ (break_start-le c.args.probe.now.text) _
 
-pub returns-clause-answer : goal.returns-clause-answer
-returns-clause-answer g c =
+-- where the line begins, by the place at which the search stopped
+begins : (g : _) (c : goal.After-after_crlf g)
+    → c.after_crlf.result ≡ to_byte_idx Crlf (chars c.args.probe.now.text) c.args.idx
+begins g c =
     let place = c.find_first-place in
     let behind = rw place.ensures.reads.text_kept at c.after_crlf.ensures.behind in
     omega (
       arith,
       behind,
-      line_begins c.args.probe.now.text c.len.ensures.utf8 c.args.idx place.result place.ensures.reached
-          place.ensures.stopped place.ensures.first,
+      line_begins c.args.probe.now.text c.len.ensures.utf8 c.args.idx place.result
+          place.ensures.reached place.ensures.stopped place.ensures.first,
     )
 
+pub returns-clause-answer : goal.returns-clause-answer
+returns-clause-answer g c = omega (arith, begins g c)
+
 pub returns-clause-boundary : goal.returns-clause-boundary
-returns-clause-boundary g c =
-    let place = c.find_first-place in
-    let behind = rw place.ensures.reads.text_kept at c.after_crlf.ensures.behind in
-    IsCharBoundary-to_byte_idx Crlf _ c.len.ensures.utf8 c.args.idx _ (omega (
-      arith,
-      behind,
-      line_begins c.args.probe.now.text c.len.ensures.utf8 c.args.idx place.result place.ensures.reached
-          place.ensures.stopped place.ensures.first,
-    ))
+returns-clause-boundary g c = IsCharBoundary-to_byte_idx Crlf _ c.len.ensures.utf8 c.args.idx _ (omega (arith, begins g c))

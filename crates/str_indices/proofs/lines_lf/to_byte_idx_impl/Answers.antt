@@ -6,12 +6,8 @@ find_first-requires-clause-steady g c = ones_steady _ (λ j. mark-le is_line_fee
 
 pub returns-clause-answer : goal.returns-clause-answer
 returns-clause-answer g c =
-    let found = c.find_first in
-    omega (
-      arith,
-      line_begins c.args.probe.now.text c.len.ensures.utf8 c.args.idx found.result found.ensures.reached
-          found.ensures.stopped found.ensures.first,
-    )
+    let found = c.find_first.ensures in
+    omega (arith, line_begins _ c.len.ensures.utf8 c.args.idx _ found.reached found.stopped found.first)
 
 pub returns-clause-boundary : goal.returns-clause-boundary
 returns-clause-boundary g c =

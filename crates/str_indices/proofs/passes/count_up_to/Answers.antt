@@ -4,7 +4,7 @@ use Rattle.str_indices.proofs.passes.count_up_to.Goals as goal
 pub walk-requires-clause-counted : goal.walk-requires-clause-counted
 walk-requires-clause-counted g c =
     let walked = c.walk-count.ensures in
-    let fits = c.requires.fits c.min-first.result (omega (arith, c.requires.within, c.min-first.ensures)) in
+    let fits = c.requires.fits c.min-byte.result (omega (arith, c.requires.within, c.min-byte.ensures)) in
     rw walked.reads.text_kept (walked.counted (omega (arith, fits, c.len.ensures.len)))
 
 pub returns-then-end-SIZE-clause-counted : goal.returns-then-end-SIZE-clause-counted
@@ -16,6 +16,6 @@ returns-then-end-SIZE-clause-counted g c =
 pub count_chunks-after_chunks-requires-clause-counted : goal.count_chunks-after_chunks-requires-clause-counted
 count_chunks-after_chunks-requires-clause-counted g c =
     let walked = c.walk-count.ensures in
-    let fits = c.requires.fits c.min-first.result (omega (arith, c.requires.within, c.min-first.ensures)) in
+    let fits = c.requires.fits c.min-byte.result (omega (arith, c.requires.within, c.min-byte.ensures)) in
     rw (c.carry_at-carry.ensures.reads.text_kept, walked.reads.text_kept)
     (walked.counted (omega (arith, fits, c.len.ensures.len)))

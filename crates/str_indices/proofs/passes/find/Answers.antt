@@ -6,13 +6,13 @@ returns-clause-reads g c =
     let size = g.T.ByteChunk.SIZE in
     let least = g.met.T.ByteChunk.lawful.least in
     let led = c.walk-place in
-    let carry = c.carry_at-carry in
+    let carry = c.carry_at in
     let surely = c.skip_unreachable-after_sure in
     let groups = c.skip_chunks-after_groups in
     let chunks = c.skip_chunks-after_chunks in
     let rest = c.walk in
     let looked = chunk_read surely.ensures.reached.0 surely.ensures.reads groups.ensures.reads in
-    let fewer = div-add-le size c.args.lead surely.result.at.byte groups.result.at.byte least
+    let fewer = div-add-le size c.args.lead surely.result.byte groups.result.byte least
     surely.ensures.reached.0 groups.ensures.reached.0 in
     let loads = loads_to_place least (omega (arith, surely.ensures.reached.0, groups.ensures.reached.0))
     chunks.ensures.reached.0 looked chunks.ensures.reads (omega arith) (omega arith) in

@@ -4,11 +4,11 @@ use Rattle.str_indices.proofs.passes.skip_unreachable.Goals as goal
 pub rounds-preserved : goal.rounds-preserved
 rounds-preserved g c =
     let so_far = c.rounds.invariant in
-    let round = c.count_chunks-round in
+    let round = c.count_chunks-at in
     let counted = rw (so_far.reads.text_kept, c.len-len.ensures.len) at round.ensures.counted in
     let at = c.rounds.at.byte in
-    let steps = round.result.at.byte - at in
-    let there : at + steps ≡ round.result.at.byte = omega (arith, round.ensures.reached.0) in
+    let steps = round.result.byte - at in
+    let there : at + steps ≡ round.result.byte = omega (arith, round.ensures.reached.0) in
     let near = rw c.SIZE.ensures at round.ensures.reached.1 in
     let few = rw there at (c.requires.steady.near at steps (omega (arith, near))) in
     record {

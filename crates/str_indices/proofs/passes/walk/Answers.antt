@@ -1,4 +1,4 @@
-use Rattle.str_indices.proofs.lemmas.{add-one, ap, ◌∙◌, ◌≡◌, ◌+◌, inl, inr, true, false, nat_le, length, add-zero, arith, cases_lt, nat_tests, byte_before, sum_below, FitsIn, sum_below-next, sum_below-le-sum_below, byte_made, then_, weaken, place_after}
+use Rattle.str_indices.proofs.lemmas.{sym, add-one, ap, ◌∙◌, ◌≡◌, ◌+◌, inl, inr, true, false, nat_le, length, add-zero, arith, cases_lt, nat_tests, byte_before, sum_below, FitsIn, sum_below-next, sum_below-le-sum_below, byte_made, then_, weaken, place_after}
 use Rattle.str_indices.proofs.passes.walk.Goals as goal
 
 pub overflow_add-count : goal.overflow_add-count
@@ -68,7 +68,10 @@ loop-i-preserved g c =
 
 pub returns-then-count-idx-clause-counted : goal.returns-then-count-idx-clause-counted
 returns-then-count-idx-clause-counted g c = λ few.
-    let counted_at = g.C.PlaceCounts.counted_at c.args.end c.args.probe.now.text in
-    let so_far = rw c.byte_before-before.ensures.reads.text_kept at c.loop-i.invariant.counted in
-    let more = sum_below-le-sum_below counted_at c.loop-i.i c.args.to (omega arith) in
-    absurd (omega (arith, so_far, more, few))
+    let so_far = c.loop-i.invariant in
+    let counted_at = g.C.PlaceCounts.counted_at c.args.end c.byte_before-before.new.probe.text in
+    let turned = ap (λ p. p.text) c.turn-byte.ensures.state ∙ so_far.reads.text_kept in
+    let added = rw turned at c.count_byte-count.ensures.counted in
+    let more = sum_below-le-sum_below counted_at (c.loop-i.i + 1) c.args.to (omega arith) in
+    let all = rw (sym c.byte_before-before.ensures.reads.text_kept) at few in
+    absurd (omega (arith, so_far.counted, added, sum_below-next counted_at c.loop-i.i, more, all))

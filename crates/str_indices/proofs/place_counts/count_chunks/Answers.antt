@@ -1,4 +1,4 @@
-use Rattle.str_indices.proofs.lemmas.{◌-◌, arith, Each1-weaker, group_joined, round_fits, subst}
+use Rattle.str_indices.proofs.lemmas.{◌-◌, ◌+◌, ◌*◌, arith, counted_there, Each1-weaker, group_joined, round_fits, subst, sum_below}
 use Rattle.str_indices.proofs.place_counts.count_chunks.Goals as goal
 
 pub rounds-preserved : goal.rounds-preserved
@@ -7,10 +7,12 @@ rounds-preserved g c =
     let round = c.add_in_groups-round.ensures in
     let here = rw c.SIZE-size.ensures at c.rounds-test.true in
     let lanes = rw so_far.reads.text_kept at round.lanes in
+    let before = sum_below (g.C.PlaceCounts.counted_at c.args.end c.args.probe.now.text) in
+    let there = c.rounds.at.byte + c.chunks_of_round-most.result * g.T.ByteChunk.SIZE in
     rw c.SIZE-size.ensures (record {
       from_low = omega (arith, so_far.from_low);
       to_high = omega (arith, here);
-      counted = omega (arith, lanes.added, so_far.counted, c.sum_bytes.ensures);
+      counted = counted_there before there (omega arith) (omega (arith, lanes.added, so_far.counted, c.sum_bytes.ensures));
       carried = subst (λ at. g.C.PlaceCounts.carries c.args.probe.now.text at c.add_in_groups-round.result.carry)
           (omega arith) (rw so_far.reads.text_kept at round.carried);
       reads = group_joined (omega arith) g.met.T.ByteChunk.lawful.least so_far.from_low so_far.reads round.reads;

@@ -6,7 +6,7 @@ invariant-rounds g l = record {
   from_low : l.initial.at.byte ≤ l.at.byte;
   to_high : l.at.byte ≤ l.to;
   counted : l.at.count ≡ sum_below (g.C.PlaceCounts.counted_at l.end l.initial.probe.text) l.at.byte;
-  carried : g.C.PlaceCounts.carries l.initial.probe.text l.at.byte l.carry;
+  carried : g.C.PlaceCounts.carries l.initial.probe.text l.at.byte l.at.carry;
   reads : Reads l.initial.probe l.probe l.initial.at.byte 0 ((l.at.byte - l.initial.at.byte) / g.T.ByteChunk.SIZE) 0;
 }
 

@@ -8,7 +8,7 @@ invariant-groups g l = record {
   counted : l.at.count
       ≡ sum_below (g.C.PlaceCounts.counted_at (length l.initial.probe.text) l.initial.probe.text) l.at.byte;
   at_most : l.at.count ≤ l.idx;
-  carried : g.C.PlaceCounts.carries l.initial.probe.text l.at.byte l.carry;
+  carried : g.C.PlaceCounts.carries l.initial.probe.text l.at.byte l.at.carry;
   reads : Reads l.initial.probe l.probe l.initial.at.byte 0 ((l.at.byte - l.initial.at.byte) / g.T.ByteChunk.SIZE) 0;
 }
 

@@ -6,12 +6,8 @@ find-requires-clause-steady g c = units_steady c.args.probe.now.text c.len.ensur
 
 pub returns-clause-answer : goal.returns-clause-answer
 returns-clause-answer g c =
-    let found = c.find in
-    omega (
-      arith,
-      unit_reached c.args.probe.now.text c.len.ensures.utf8 found.result c.args.idx found.ensures.reached
-          found.ensures.at_most found.ensures.stopped,
-    )
+    let found = c.find.ensures in
+    omega (arith, unit_reached _ c.len.ensures.utf8 _ c.args.idx found.reached found.at_most found.stopped)
 
 pub returns-clause-boundary : goal.returns-clause-boundary
 returns-clause-boundary g c =

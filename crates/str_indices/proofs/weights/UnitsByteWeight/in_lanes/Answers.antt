@@ -3,8 +3,8 @@ use Rattle.str_indices.proofs.weights.UnitsByteWeight.in_lanes.Goals as goal
 
 pub add-requires : goal.add-requires
 add-requires g c =
-    search (marks_addable is_leading begins_four_bytes _ c.mark_leading.ensures c.mark_surrogates.ensures, room_exchanged)
+    search (marks_addable is_leading begins_four_bytes _ c.in_lanes-leading.ensures c.in_lanes.ensures, room_exchanged)
 
 pub returns : goal.returns
-returns g c = weights_added (mark is_leading) (mark begins_four_bytes) _ c.mark_leading.ensures
-    c.mark_surrogates.ensures (search (c.add.ensures, sums_exchanged))
+returns g c = weights_added (mark is_leading) (mark begins_four_bytes) _ c.in_lanes-leading.ensures
+    c.in_lanes.ensures (search (c.add.ensures, sums_exchanged))
