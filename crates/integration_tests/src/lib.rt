@@ -13,4 +13,8 @@ mod pieces;
 #[cfg(test)]
 mod positions;
 #[cfg(test)]
+mod random;
+#[cfg(test)]
+mod ropes;
+#[cfg(test)]
 mod slices;

@@ -1,4 +1,9 @@
-use position_mapper::{Position, byte_of, line_end, position_of, position_round_trip, round_trip};
+ghost use Rattle.std.specs.Prelude.{◌≡◌, chars, min};
+ghost use Rattle.str_indices.specs.Schemes.{count};
+ghost use Rattle.str_indices.specs.declared.Scheme.TheVariants.{Crlf};
+ghost use Rattle.position_mapper.specs.Relations.{IsGreatestPlace};
+
+use position_mapper::{Position, byte_of, laws, line_end, position_of};
 use std::process::Abort;
 
 /// A line that ends in CRLF, one with a surrogate pair that ends in CR, one of a char of three bytes, an empty one, and
@@ -7,6 +12,22 @@ const TEXT: &str = "a\r\n🐸b\rせ\n\nx";
 
 fn at(line: usize, character: usize) -> Position {
     Position { line, character }
+}
+
+/// From a byte to its position and back, as a caller writes it, who knows by the law what comes back.
+fn there_and_back(text: &str, byte: usize) -> usize
+    ensures { IsGreatestPlace (chars text.now) byte result }
+{
+    laws::round_trip(text, byte);
+    byte_of(text, position_of(text, byte))
+}
+
+/// From a position to its byte and back, so too.
+fn back_from_byte(text: &str, position: Position) -> Position
+    ensures { result.line ≡ min position.line (count Crlf (chars text.now)) }
+{
+    laws::position_round_trip(text, position);
+    position_of(text, byte_of(text, position))
 }
 
 /// Compares the byte index that a row of a table asks for.
@@ -73,7 +94,7 @@ const BYTES: [(usize, usize, usize, usize); 18] = [
 fn each_byte_has_a_position(rt: HostRuntime) {
     for i in 0..BYTES.len() {
         let (byte, line, character, back) = BYTES[i];
-        let found = (position_of(TEXT, byte), round_trip(TEXT, byte));
+        let found = (position_of(TEXT, byte), there_and_back(TEXT, byte));
         assert_both(&rt, found, (at(line, character), back), i);
     }
 }
@@ -108,7 +129,7 @@ fn each_position_has_a_byte(rt: HostRuntime) {
     for i in 0..POSITIONS.len() {
         let (line, character, byte, back_line, back_character) = POSITIONS[i];
         let position = at(line, character);
-        let back = position_round_trip(TEXT, position);
+        let back = back_from_byte(TEXT, position);
         let wanted = (at(back_line, back_character), byte);
         assert_both(&rt, (back, byte_of(TEXT, position)), wanted, i);
     }

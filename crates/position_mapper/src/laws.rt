@@ -1,10 +1,12 @@
 //! Laws of lines and positions. Each function does nothing: its contract is the law.
-ghost use Rattle.std.specs.Prelude.{◌≡◌, ◌+◌, ◌<◌, ◌≤◌, chars, min};
+ghost use Rattle.std.specs.Prelude.{◌≡◌, ◌+◌, ◌<◌, ◌≤◌, ◌⊎◌, chars, min};
+ghost use Rattle.str_indices.specs.Relations.{IsBoundary, IsCrlfMiddle};
 ghost use Rattle.str_indices.specs.Schemes.{count, from_byte_idx, to_byte_idx};
 ghost use Rattle.str_indices.specs.declared.Scheme.TheVariants.{Crlf, Utf16};
-ghost use Rattle.position_mapper.specs.Lines.{line_end};
+ghost use Rattle.str_indices.specs.Starts.{IsSecondUnit};
+ghost use Rattle.position_mapper.specs.Lines.{line_content, line_end};
 ghost use Rattle.position_mapper.specs.Positions.{byte_at, position_at};
-ghost use Rattle.position_mapper.specs.Relations.{IsAtOrBefore, IsLineEnd};
+ghost use Rattle.position_mapper.specs.Relations.{IsAtOrBefore, IsGreatestPlace, IsLineEnd};
 
 use crate::Position;
 
@@ -15,6 +17,33 @@ pub fn ends_of_lines(text: &str, line: usize, next: usize)
     ensures on_line { let cs = chars text.now in
         from_byte_idx Crlf cs (line_end cs line) ≡ min line (count Crlf cs) }
     ensures order { let cs = chars text.now in line < next → line_end cs line ≤ to_byte_idx Crlf cs next }
+{}
+
+/// From a byte index to its position and back: the greatest place at or before the byte that a position may have, a
+/// boundary that does not stand between CR and LF.
+///
+/// So such a place comes back as itself, a byte index inside a char as the char's beginning, the one between CR and LF
+/// as the place before them, and one past the end as the text's length in bytes.
+pub fn round_trip(text: &str, byte: usize)
+    ensures greatest { let cs = chars text.now in IsGreatestPlace cs byte (byte_at cs (position_at cs byte)) }
+    ensures place { let cs = chars text.now in
+        IsBoundary cs byte → ¬ (IsCrlfMiddle cs byte) → byte_at cs (position_at cs byte) ≡ byte }
+{}
+
+/// From a position to its byte index and back: the position, with an offset past the line's length cut to that, the
+/// second unit of a surrogate pair moved to its first, and a line past the last one moved to the end of the text.
+pub fn position_round_trip(text: &str, position: Position)
+    ensures line { let cs = chars text.now in
+        (position_at cs (byte_at cs position)).line ≡ min position.line (count Crlf cs) }
+    ensures cut { let cs = chars text.now in let content = line_content cs position.line in
+        position.line ≤ count Crlf cs
+        → ((position_at cs (byte_at cs position)).character ≡ min position.character (count Utf16 content))
+        ⊎ IsSecondUnit content position.character }
+    ensures second_unit { let cs = chars text.now in position.line ≤ count Crlf cs
+        → IsSecondUnit (line_content cs position.line) position.character
+        → (position_at cs (byte_at cs position)).character + 1 ≡ position.character }
+    ensures past { let cs = chars text.now in count Crlf cs < position.line
+        → (position_at cs (byte_at cs position)).character ≡ count Utf16 (line_content cs (count Crlf cs)) }
 {}
 
 /// A greater byte index never has an earlier position.

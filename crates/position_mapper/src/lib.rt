@@ -6,18 +6,17 @@
 //! Every text, byte index and position has an answer: nothing panics, nothing allocates.
 #![tactic(auto)]
 
-ghost use Rattle.std.specs.Prelude.{◌≡◌, ◌+◌, ◌<◌, ◌≤◌, ◌⊎◌, IsCharBoundary, chars, drop, length, min};
+ghost use Rattle.std.specs.Prelude.{◌≡◌, ◌+◌, ◌≤◌, IsCharBoundary, chars, drop, length};
 ghost use Rattle.std.specs.List.{before_first};
-ghost use Rattle.str_indices.specs.Schemes.{count, from_byte_idx, to_byte_idx};
-ghost use Rattle.str_indices.specs.declared.Scheme.TheVariants.{Crlf, Utf16};
-ghost use Rattle.str_indices.specs.Relations.{IsBoundary, IsCrlfMiddle};
-ghost use Rattle.str_indices.specs.Starts.{IsSecondUnit};
+ghost use Rattle.str_indices.specs.Schemes.{to_byte_idx};
+ghost use Rattle.str_indices.specs.declared.Scheme.TheVariants.{Crlf};
 ghost use Rattle.position_mapper.specs.Lines.{is_break, line_content, line_end, IsWithoutLast};
 ghost use Rattle.position_mapper.specs.Positions.{byte_at, position_at};
-ghost use Rattle.position_mapper.specs.Relations.{IsGreatestPlace};
 
 pub mod laws;
+mod look_back;
 
+use crate::look_back::line_start;
 use str_indices::laws::start_of_line;
 use str_indices::{lines_crlf as lines, utf16};
 
@@ -53,11 +52,11 @@ pub fn position_of(text: &str, byte: usize) -> Position
     ensures { result ≡ position_at (chars text.now) byte }
 {
     let index = lines::from_byte_idx(text, byte);
-    let line = line_of(text, index);
+    let line = line_at(text, index, line_start(text, byte));
     // A line begins at or before each of its bytes.
     start_of_line(text, byte);
     Position {
-        line: index,
+        line: line.index,
         character: utf16::from_byte_idx(line.content, byte - line.start),
     }
 }
@@ -77,37 +76,10 @@ pub fn byte_of(text: &str, position: Position) -> usize
     line.start + utf16::to_byte_idx(line.content, position.character)
 }
 
-/// From a byte index to its position and back: the greatest place at or before the byte that a position may have, a
-/// boundary that does not stand between CR and LF.
-///
-/// So such a place comes back as itself, a byte index inside a char as the char's beginning, the one between CR and LF
-/// as the place before them, and one past the end as the text's length in bytes.
-pub fn round_trip(text: &str, byte: usize) -> usize
-    ensures greatest { IsGreatestPlace (chars text.now) byte result }
-    ensures place { let cs = chars text.now in IsBoundary cs byte → ¬ (IsCrlfMiddle cs byte) → result ≡ byte }
-{
-    byte_of(text, position_of(text, byte))
-}
-
-/// From a position to its byte index and back: the position, with an offset past the line's length cut to that, the
-/// second unit of a surrogate pair moved to its first, and a line past the last one moved to the end of the text.
-pub fn position_round_trip(text: &str, position: Position) -> Position
-    ensures line { result.line ≡ min position.line (count Crlf (chars text.now)) }
-    ensures cut { let cs = chars text.now in let content = line_content cs position.line in
-        position.line ≤ count Crlf cs → (result.character ≡ min position.character (count Utf16 content))
-        ⊎ IsSecondUnit content position.character }
-    ensures second_unit { let cs = chars text.now in position.line ≤ count Crlf cs
-        → IsSecondUnit (line_content cs position.line) position.character
-        → result.character + 1 ≡ position.character }
-    ensures past { let cs = chars text.now in
-        count Crlf cs < position.line → result.character ≡ count Utf16 (line_content cs (count Crlf cs)) }
-{
-    position_of(text, byte_of(text, position))
-}
-
-/// A line: where it begins, and its text without its break.
+/// A line: its index, where it begins, and its text without its break.
 #[derive(Clone, Copy)]
 struct Line<'t> {
+    index: usize,
     start: usize,
     content: &'t str,
 }
@@ -119,10 +91,25 @@ fn line_of(text: &str, index: usize) -> Line<'_>
     ensures end { result.start + length result.content.now ≡ line_end (chars text.now) index }
     ensures within { result.start + length result.content.now ≤ length text.now }
 {
-    let start = lines::to_byte_idx(text, index);
+    line_at(text, index, lines::to_byte_idx(text, index))
+}
+
+/// The line of this index, which begins at `start`.
+#[tactic(auto, using(crate::proofs::lemmas::LineBytes::line_in_bytes))]
+fn line_at(text: &str, index: usize, start: usize) -> Line<'_>
+    requires start { start ≡ to_byte_idx Crlf (chars text.now) index }
+    requires boundary { IsCharBoundary text.now start }
+    ensures index { result.index ≡ index }
+    ensures start { result.start ≡ start }
+    ensures content { chars result.content.now ≡ line_content (chars text.now) index }
+    ensures end { result.start + length result.content.now ≡ line_end (chars text.now) index }
+    ensures within { result.start + length result.content.now ≤ length text.now }
+{
+    let content = before_break(&text[start..]);
     Line {
+        index,
         start,
-        content: before_break(&text[start..]),
+        content,
     }
 }
 

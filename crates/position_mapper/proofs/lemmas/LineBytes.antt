@@ -1,7 +1,7 @@
 -- The lines of a text in bytes, and where std lets it be sliced on them.
-use Rattle.position_mapper.proofs.lemmas.Common.{◌≡◌, ℕ, List, [], ◌∷◌, ◌++◌, inl, inr, length, refl, append-nil, take, drop, sym, ◌∙◌, subst, chars, IsUtf8, IsCharBoundary, ap, take-append-drop, length-take-le, ◌≢◌, drop-length, chars-append, chars-nil, chars_past_char, encodes-chars, encodes-append, IsUtf8-take, IsUtf8-drop, size, cut, to_byte_idx, Crlf, Utf16, IsBoundary, size-chars, cut_front, IsBoundary-to_byte_idx, IsCharBoundary-from_boundary, Position, behind, line_content, line_end, IsWithoutLast, byte_at}
+use Rattle.position_mapper.proofs.lemmas.Common.{◌≡◌, ℕ, ◌+◌, ◌-◌, ◌<◌, ◌≤◌, ◌⊎◌, List, [], ◌∷◌, ◌++◌, inl, inr, length, refl, append-nil, take, drop, sym, ◌∙◌, subst, chars, IsUtf8, IsCharBoundary, ap, take-append-drop, length-take-le, ◌≢◌, drop-length, chars-append, chars-nil, chars_past_char, encodes-chars, encodes-append, IsUtf8-take, IsUtf8-drop, size, cut, from_byte_idx, to_byte_idx, Crlf, Utf16, IsBoundary, size-chars, cut_front, IsBoundary-to_byte_idx, IsCharBoundary-from_boundary, Position, behind, line_content, line_end, IsWithoutLast, byte_at}
 use Rattle.std.proofs.Math.Utf8.{encode, encodes}
-use Rattle.position_mapper.proofs.lemmas.Lines.{behind_boundary, IsBoundary-from_content, IsBoundary-line_end}
+use Rattle.position_mapper.proofs.lemmas.Lines.{behind_boundary, begins_behind, IsBoundary-from_content, IsBoundary-line_end}
 
 module _ (bytes : List ℕ) (utf8 : IsUtf8 bytes) where
   -- the characters on both sides of a place where std lets a text be sliced
@@ -33,6 +33,15 @@ module _ (bytes : List ℕ) (utf8 : IsUtf8 bytes) where
   chars_from_line line = chars-drop _
       (IsCharBoundary-from_boundary bytes utf8 _ (IsBoundary-to_byte_idx Crlf (chars bytes) line))
 
+  -- where the line of a byte index begins, by the part of the text behind a place: all of it, or one in which a break
+  -- ends up to the byte index
+  pub line_behind : (p byte breaks : ℕ) → IsCharBoundary bytes p → p ≤ byte
+      → breaks ≡ from_byte_idx Crlf (chars (drop p bytes)) (byte - p) → (p ≡ 0) ⊎ (0 < breaks)
+      → p + to_byte_idx Crlf (chars (drop p bytes)) breaks
+      ≡ to_byte_idx Crlf (chars bytes) (from_byte_idx Crlf (chars bytes) byte)
+  line_behind p byte breaks at before are whole_or_some = rw (parted p at)
+      (begins_behind (chars (take p bytes)) (chars (drop p bytes)) p byte breaks (part_ends p at) before are whole_or_some)
+
   -- a character that stands at the end was taken off, or the text doesn't end in it
   pub without_taken : (c p : ℕ) → IsCharBoundary bytes p → drop p bytes ≡ encode c ++ drop (length bytes) bytes
       → IsWithoutLast c (chars bytes) (chars (take p bytes))
@@ -50,7 +59,12 @@ module _ (bytes : List ℕ) (utf8 : IsUtf8 bytes) where
             ∙ encodes-append front (c ∷ []) ∙ ap (λ r. encodes front ++ r) (append-nil (encode c))),
       )
 
-  -- std lets a text be sliced at the end of a line's content
+  -- std lets a text be sliced where a line begins
+  pub IsCharBoundary-line_start : (line p : ℕ) → p ≡ to_byte_idx Crlf (chars bytes) line → IsCharBoundary bytes p
+  IsCharBoundary-line_start line p answer = IsCharBoundary-from_boundary bytes utf8 p
+      (subst (IsBoundary (chars bytes)) (sym answer) (IsBoundary-to_byte_idx Crlf (chars bytes) line))
+
+  -- at the end of a line's content
   pub IsCharBoundary-line_end : (line p : ℕ) → p ≡ line_end (chars bytes) line → IsCharBoundary bytes p
   IsCharBoundary-line_end line p answer = IsCharBoundary-from_boundary bytes utf8 p
       (subst (IsBoundary (chars bytes)) (sym answer) (IsBoundary-line_end (chars bytes) line))

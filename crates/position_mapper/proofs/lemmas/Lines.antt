@@ -1,5 +1,5 @@
 -- A text, split at one of its lines: what stands before it, its content, and what is behind that.
-use Rattle.position_mapper.proofs.lemmas.Common.{◌≡◌, ℕ, ◌+◌, ◌-◌, ◌<◌, ◌≤◌, true, [], ◌∷◌, ◌++◌, ◌⊎◌, inl, inr, length, drop, sym, ◌∙◌, ap, arith, cond, refl, min, append_assoc, append-nil, ◌≢◌, count_by, nat_le, len_utf8, drop-append_seam, cases_Bool, cases_lt, append_cancel_left, sum_by-append, count_by-le-length, len_utf8_bounds, Text, size, weight, line_feed, carriage_return, is_crlf_middle, ends, from_byte_idx, to_byte_idx, count, Crlf, Utf16, IsBoundary, IsEnd, IsEndOf, IsCrlfMiddle, size-append, size-cons, boundary_beside, cut_front, cut_goes_on, is_crlf_middle_iff, end_at-past, units_at, IsBoundary-to_byte_idx, from-to, to-from_is_greatest, from_byte_idx-le, is_break, behind, line_content, line_end, IsBreakStart, IsLineEnd}
+use Rattle.position_mapper.proofs.lemmas.Common.{◌≡◌, ℕ, ◌+◌, ◌-◌, ◌<◌, ◌≤◌, true, [], ◌∷◌, ◌++◌, ◌⊎◌, inl, inr, length, drop, sym, ◌∙◌, ap, arith, cond, refl, min, append_assoc, append-nil, ◌≢◌, count_by, nat_le, len_utf8, drop-append_seam, cases_Bool, cases_lt, append_cancel_left, sum_by-append, count_by-le-length, len_utf8_bounds, Text, size, weight, line_feed, carriage_return, is_crlf_middle, ends, from_byte_idx, to_byte_idx, count, Crlf, Utf16, IsBoundary, IsEnd, IsEndOf, IsCrlfMiddle, size-append, size-cons, boundary_beside, cut_front, cut_goes_on, is_crlf_middle_iff, end_at-past, units_at, IsBoundary-to_byte_idx, from-to, to-from_is_greatest, from_byte_idx-le, is_joined, is_break, behind, line_content, line_end, IsBreakStart, IsLineEnd}
 use Rattle.position_mapper.proofs.lemmas.Contents.{split_at_first}
 
 -- behind a boundary is the rest of the text
@@ -296,3 +296,19 @@ module _ (cs : Text) (line : ℕ) where
               begins.split begins.is_break (omega (arith, begins.place, len_utf8_bounds begins.character)),
         );
       }
+
+-- of two joined texts, the line of a byte index behind their seam begins where the second has it, if a break ends there
+-- up to the byte index, or the first is empty
+pub begins_behind : (a b : Text) (from byte breaks : ℕ) → size a ≡ from → from ≤ byte
+    → breaks ≡ from_byte_idx Crlf b (byte - from) → (from ≡ 0) ⊎ (0 < breaks)
+    → from + to_byte_idx Crlf b breaks ≡ to_byte_idx Crlf (a ++ b) (from_byte_idx Crlf (a ++ b) byte)
+begins_behind a b from byte breaks long before are (inr some) =
+    let joined = is_joined Crlf a b in
+    let there : size a + (byte - from) ≡ byte = omega arith in
+    let line = rw there at (joined.from_behind (byte - from)) in
+    omega (arith, joined.to_behind (from_byte_idx Crlf (a ++ b) byte) breaks (omega (arith, line)) (omega (arith, line)))
+begins_behind [] b from byte breaks long before are (inl none) =
+    let whole : byte - from ≡ byte = omega arith in
+    omega (arith, ap (to_byte_idx Crlf b) (are ∙ ap (from_byte_idx Crlf b) whole))
+begins_behind (c ∷ a) b from byte breaks long before are (inl none) =
+    absurd (omega (arith, size-cons c a, len_utf8_bounds c))
