@@ -4,7 +4,8 @@
 --     IsBoundary text p                p is the size of a beginning of the text
 --     IsCrlfMiddle text p              p is a boundary between CR and LF
 --     IsEnd s text p                   p is an end of the text in the scheme
---     IsGreatestWithin text units p    p is the greatest boundary with at most this many UTF-16 units before it
+--     IsGreatestWeighed w text k p     p is the greatest boundary before which the characters weigh at most k
+--     IsGreatestWithin text units p    so by UTF-16 units: at most this many are before p
 --     IsLongestCut text end front      front is the longest beginning of the text that takes at most `end` bytes
 use Rattle.std.specs.Prelude.{ℕ, ◌≡◌, ◌<◌, ◌≤◌, List, [], ◌∷◌, ◌++◌, IsTrue, sum_by, length}
 use Rattle.std.specs.Char.{char_set_contains}
@@ -52,11 +53,15 @@ IsEnd Lf text p = IsBreakEnd (break_characters Lf) text p
 IsEnd Crlf text p = IsBreakEnd (break_characters Crlf) text p
 IsEnd Lines text p = IsBreakEnd (break_characters Lines) text p
 
--- p is a boundary before which the text takes at most this many units, and no greater boundary is one
-pub record IsGreatestWithin (text : Text) (units p : ℕ) : Type 0 where
+-- p is a boundary before which the characters weigh at most k, each by w, and no greater boundary is one
+pub record IsGreatestWeighed (w : ℕ → ℕ) (text : Text) (k p : ℕ) : Type 0 where
   pub boundary : IsBoundary text p
-  pub fits : sum_by weight boundary.front ≤ units
-  pub greatest : (q : ℕ) (other : IsBoundary text q) → sum_by weight other.front ≤ units → q ≤ p
+  pub fits : sum_by w boundary.front ≤ k
+  pub greatest : (q : ℕ) (other : IsBoundary text q) → sum_by w other.front ≤ k → q ≤ p
+
+-- p is a boundary before which the text takes at most this many units, and no greater boundary is one
+abbrev pub IsGreatestWithin : Text → ℕ → ℕ → Type 0
+IsGreatestWithin text units p = IsGreatestWeighed weight text units p
 
 -- front begins the text and takes at most `end` bytes, and no other beginning that does is longer
 pub record IsLongestCut (text : Text) (end : ℕ) (front : Text) : Type 0 where

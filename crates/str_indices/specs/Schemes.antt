@@ -3,6 +3,8 @@
 --     count s text                 how many ends the text has
 --     from_byte_idx s text byte    how many of its ends are at or before a byte index
 --     to_byte_idx s text index     0, then each end in turn, and past the last end the text's size
+--     weighed w text byte          what the characters up to a byte index weigh, each by w
+--     boundary_weighed w text k    the greatest boundary before which they weigh at most k
 -- In `Utf16` the three go by the weights of characters. `surrogates text` counts the surrogate pairs.
 use Rattle.std.specs.Prelude.{ℕ, zero, suc, Bool, true, not, List, [], ◌∷◌, ◌&&◌, ◌==◌, nat_le, filter, map, fold, max, length, sum_by, count_by, slice_index_or}
 use Rattle.std.specs.Char.{char_set_contains}
@@ -67,13 +69,21 @@ end_at s text (suc k) = slice_index_or (ends s text) k (size text)
 abbrev pub boundaries : Text → List ℕ
 boundaries text = 0 ∷ ends Chars text
 
+-- what the characters that end at or before the byte index weigh, each by w
+abbrev pub weighed : (ℕ → ℕ) → Text → ℕ → ℕ
+weighed w text byte = sum_by w (cut text byte)
+
+-- the greatest boundary before which the characters weigh at most k
+abbrev pub boundary_weighed : (ℕ → ℕ) → Text → ℕ → ℕ
+boundary_weighed w text k = fold max 0 (filter (λ p. nat_le (weighed w text p) k) (boundaries text))
+
 -- the UTF-16 code units of the characters that end at or before the byte index
 abbrev pub units : Text → ℕ → ℕ
-units text byte = sum_by weight (cut text byte)
+units text byte = weighed weight text byte
 
 -- the greatest boundary before which the characters take at most k units
 abbrev pub boundary_at_units : Text → ℕ → ℕ
-boundary_at_units text k = fold max 0 (filter (λ p. nat_le (units text p) k) (boundaries text))
+boundary_at_units text k = boundary_weighed weight text k
 
 abbrev pub count : Scheme → Text → ℕ
 count Utf16 text = units text (size text)

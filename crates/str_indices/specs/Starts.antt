@@ -3,7 +3,8 @@
 --     IsGreatestBoundary text byte p   p is the greatest boundary at or before the byte index
 --     IsGreatestEnd s text byte p      p is the greatest end at or before it, or 0 where there is none
 --     IsSecondUnit text k              the text has a surrogate pair whose first unit is unit k - 1
-use Rattle.std.specs.Prelude.{ℕ, ◌≡◌, ◌+◌, ◌≤◌, ◌⊎◌, ◌∷◌, ◌++◌, sum_by}
+--     IsInside w text k                k falls inside a character, where each weighs by w
+use Rattle.std.specs.Prelude.{ℕ, ◌≡◌, ◌+◌, ◌<◌, ◌≤◌, ◌⊎◌, ◌∷◌, ◌++◌, sum_by}
 use Rattle.str_indices.specs.Text.{Text, weight}
 use Rattle.str_indices.specs.Schemes.{Scheme}
 use Rattle.str_indices.specs.Relations.{IsBoundary, IsEnd}
@@ -29,3 +30,12 @@ pub record IsSecondUnit (text : Text) (k : ℕ) : Type 0 where
   pub split : text ≡ front ++ character ∷ back
   pub pair : weight character ≡ 2
   pub first_unit : sum_by weight front + 1 ≡ k
+
+-- the characters before some character weigh less than k, and with it more
+pub record IsInside (w : ℕ → ℕ) (text : Text) (k : ℕ) : Type 0 where
+  pub front : Text
+  pub character : ℕ
+  pub back : Text
+  pub split : text ≡ front ++ character ∷ back
+  pub after : sum_by w front < k
+  pub before : k < sum_by w front + w character

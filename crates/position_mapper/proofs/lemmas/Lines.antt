@@ -1,5 +1,5 @@
 -- A text, split at one of its lines: what stands before it, its content, and what is behind that.
-use Rattle.position_mapper.proofs.lemmas.Common.{◌≡◌, ℕ, ◌+◌, ◌-◌, ◌<◌, ◌≤◌, true, [], ◌∷◌, ◌++◌, ◌⊎◌, inl, inr, length, drop, sym, ◌∙◌, ap, arith, cond, refl, min, append_assoc, append-nil, ◌≢◌, count_by, nat_le, len_utf8, drop-append_seam, cases_Bool, cases_lt, append_cancel_left, sum_by-append, count_by-le-length, len_utf8_bounds, Text, size, weight, line_feed, carriage_return, is_crlf_middle, ends, from_byte_idx, to_byte_idx, count, Crlf, Utf16, IsBoundary, IsEnd, IsEndOf, IsCrlfMiddle, size-append, size-cons, boundary_beside, cut_front, cut_goes_on, is_crlf_middle_iff, end_at-past, units_at, IsBoundary-to_byte_idx, from-to, to-from_is_greatest, from_byte_idx-le, is_joined, is_break, behind, line_content, line_end, IsBreakStart, IsLineEnd}
+use Rattle.position_mapper.proofs.lemmas.Common.{◌≡◌, ℕ, ◌+◌, ◌-◌, ◌<◌, ◌≤◌, true, [], ◌∷◌, ◌++◌, ◌⊎◌, inl, inr, length, drop, sym, ◌∙◌, ap, arith, cond, refl, min, append_assoc, append-nil, ◌≢◌, count_by, nat_le, len_utf8, drop-append_seam, cases_Bool, cases_lt, append_cancel_left, sum_by-append, count_by-le-length, len_utf8_bounds, Text, size, weight, line_feed, carriage_return, is_crlf_middle, ends, from_byte_idx, to_byte_idx, count, Crlf, Utf16, IsBoundary, IsEnd, IsEndOf, IsCrlfMiddle, size-append, size-cons, boundary_beside, cut_front, cut_goes_on, is_crlf_middle_iff, end_at-past, weighed_at, IsBoundary-to_byte_idx, from-to, to-from_is_greatest, from_byte_idx-le, is_joined, is_break, behind, line_content, line_end, IsBreakStart, IsLineEnd}
 use Rattle.position_mapper.proofs.lemmas.Contents.{split_at_first}
 
 -- behind a boundary is the rest of the text
@@ -120,9 +120,9 @@ module _ (cs : Text) (line : ℕ) where
       } in
       omega (
         arith,
-        units_at cs start begins,
-        units_at cs (start + p) here,
-        units_at content p at,
+        weighed_at weight cs start begins,
+        weighed_at weight cs (start + p) here,
+        weighed_at weight content p at,
         sum_by-append weight parts.before at.front,
       )
 

@@ -1,5 +1,5 @@
 -- Positions by the units of the whole text, where a position's own are those of its line's content.
-use Rattle.position_mapper.proofs.lemmas.Common.{◌≡◌, ℕ, ◌+◌, ◌-◌, ◌≤◌, inl, inr, arith, refl, min, cases_lt, Text, size, cut, from_byte_idx, to_byte_idx, Crlf, Utf16, IsBoundary, IsGreatestBoundary, cut_is_longest, units_at, IsBoundary-to_byte_idx, from_byte_idx-le, boundary_adjunction, to-from_is_greatest, to-from_is_greatest_boundary, Position, line_content, line_end, units_on_line, position_at, byte_at}
+use Rattle.position_mapper.proofs.lemmas.Common.{◌≡◌, ℕ, ◌+◌, ◌-◌, ◌≤◌, inl, inr, arith, refl, min, cases_lt, Text, size, cut, from_byte_idx, to_byte_idx, Crlf, Utf16, IsBoundary, IsGreatestBoundary, cut_is_longest, weighed_at, IsBoundary-to_byte_idx, from_byte_idx-le, boundary_adjunction, to-from_is_greatest, to-from_is_greatest_boundary, Position, line_content, line_end, units_on_line, position_at, byte_at}
 use Rattle.position_mapper.proofs.lemmas.Lines.{crlf_is_not_utf16, boundary_within, IsBoundary-from_content, units-from_content, IsBoundary-line_end, IsBoundary-in_content}
 
 -- before the greatest boundary at or before a byte index stand as many units as before the byte index
@@ -12,7 +12,7 @@ units_at_greatest cs byte p place =
     let most = place.greatest (size (cut cs byte)) here longest.fits in
     omega (
       arith,
-      units_at cs (size (cut cs byte)) here,
+      weighed_at weight cs (size (cut cs byte)) here,
       from_byte_idx-le Utf16 cs (size (cut cs byte)) p most,
       from_byte_idx-le Utf16 cs p byte place.at_or_before,
     )

@@ -22,9 +22,9 @@ pub use Rattle.str_indices.specs.Bytes.{sum_below, flag, mark, passing_before, i
 pub use Rattle.str_indices.specs.Joins.{ends_in_return, starts_with_feed, joins_crlf, seam_loss}
 pub use Rattle.str_indices.specs.Lanes.{HasLanes, HasLaterLanes, IsChunk, AddsUp, FitsIn, IsSteady}
 pub use Rattle.str_indices.specs.Reads.{Reads, leading_bytes, pass_turns, pass_loads}
-pub use Rattle.str_indices.specs.Relations.{IsBoundary, IsEndOf, IsCrlfMiddle, IsBreakEnd, IsCharacterEnd, IsEnd, IsGreatestWithin, IsLongestCut}
+pub use Rattle.str_indices.specs.Relations.{IsBoundary, IsEndOf, IsCrlfMiddle, IsBreakEnd, IsCharacterEnd, IsEnd, IsGreatestWeighed, IsGreatestWithin, IsLongestCut}
 pub use Rattle.str_indices.specs.SchemeGroups.{IsLineScheme, IsCharacterScheme}
-pub use Rattle.str_indices.specs.Schemes.{break_characters, is_break_end, is_end, ends, end_count, ends_up_to, end_at, boundaries, units, boundary_at_units, count, from_byte_idx, to_byte_idx, surrogates, Scheme, Chars, Utf16, Lf, Crlf, Lines}
-pub use Rattle.str_indices.specs.Starts.{IsGreatestBoundary, IsGreatestEnd, IsSecondUnit}
+pub use Rattle.str_indices.specs.Schemes.{break_characters, is_break_end, is_end, ends, end_count, ends_up_to, end_at, boundaries, weighed, boundary_weighed, units, boundary_at_units, count, from_byte_idx, to_byte_idx, surrogates, Scheme, Chars, Utf16, Lf, Crlf, Lines}
+pub use Rattle.str_indices.specs.Starts.{IsGreatestBoundary, IsGreatestEnd, IsSecondUnit, IsInside}
 pub use Rattle.str_indices.specs.Text.{size, Placed, placed, line_feed, carriage_return, is_crlf_middle, cut, weight}
 pub use Rattle.str_indices.specs.TraitLaws.{flag-le, mark-le, break_start-le, break_at-le}

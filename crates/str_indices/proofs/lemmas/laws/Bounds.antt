@@ -1,6 +1,6 @@
 -- What no answer passes: the size of the text, in every scheme. And what each answers at the edges of a text.
 use Rattle.str_indices.proofs.lemmas.Common.{◌≡◌, ℕ, ◌+◌, ◌≤◌, List, [], ◌∷◌, length, refl, arith, ap, sum_by, len_utf8, sum_by-cons, sum_by-le-sum_by, size, weight, Scheme, Utf16, ends, boundary_at_units, count, from_byte_idx, to_byte_idx}
-use Rattle.str_indices.proofs.lemmas.texts.{size-append, cut_all, IncreasesWithin, ends_increase_within, ends_up_to-all, boundary_at_units_is_greatest, count-units, weight_is_one_or_two, weight-le}
+use Rattle.str_indices.proofs.lemmas.texts.{size-append, cut_all, IncreasesWithin, ends_increase_within, ends_up_to-all, boundary_weighed_is_greatest, count-units, weight_is_one_or_two, weight-le}
 use Rattle.str_indices.proofs.lemmas.laws.CharacterLaws.{IsBoundary-to_byte_idx, from_byte_idx-le}
 
 -- numbers that increase up to a bound are no more than it
@@ -31,7 +31,7 @@ from_byte_idx-le-count s cs byte =
 -- the index 0 begins at 0
 pub to_byte_idx-zero : (s : Scheme) (cs : List ℕ) → to_byte_idx s cs 0 ≡ 0
 to_byte_idx-zero Utf16 cs =
-    let answer = boundary_at_units_is_greatest cs 0 in
+    let answer = boundary_weighed_is_greatest weight cs 0 in
     (elim answer.boundary.front as (λ front. answer.boundary.front ≡ front → boundary_at_units cs 0 ≡ 0) [
       | [] ↦ λ is. omega (arith, answer.boundary.place, ap size is)
       | c ∷ rest ↦ λ is.

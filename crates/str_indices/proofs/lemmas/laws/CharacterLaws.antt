@@ -1,22 +1,22 @@
 -- What holds of the conversions in every scheme, and in the two that count characters.
-use Rattle.str_indices.proofs.lemmas.Common.{ℕ, ◌≤◌, List, ◌↔◌, Scheme, Chars, Utf16, from_byte_idx, to_byte_idx, ends, IsBoundary, size, IsCharacterScheme, IsGreatestBoundary}
-use Rattle.str_indices.proofs.lemmas.texts.{IsBoundary-end_at, ends_increase_within, end_at-select, zero_or_end, ends_are, ends_increase, boundary_at_units_is_greatest, units-le-units, rank, rank-le-rank, select-le-select, select-rank-le, member_adjunction, cut_is_longest}
-use Rattle.str_indices.proofs.lemmas.laws.UnitLaws.{boundary_at_units-le, boundary_le_iff, boundary_at_units-units-le}
+use Rattle.str_indices.proofs.lemmas.Common.{ℕ, ◌≤◌, List, ◌↔◌, Scheme, Chars, Utf16, from_byte_idx, to_byte_idx, ends, IsBoundary, size, weight, IsCharacterScheme, IsGreatestBoundary}
+use Rattle.str_indices.proofs.lemmas.texts.{IsBoundary-end_at, ends_increase_within, end_at-select, zero_or_end, ends_are, ends_increase, boundary_weighed_is_greatest, weighed-le-weighed, weight-some, rank, rank-le-rank, select-le-select, select-rank-le, member_adjunction, cut_is_longest}
+use Rattle.str_indices.proofs.lemmas.laws.UnitLaws.{boundary_weighed-le, boundary_weighed_iff, boundary_weighed-weighed-le}
 use Rattle.str_indices.proofs.lemmas.laws.EndLaws.{from-to}
 
 -- each conversion to a byte index answers a boundary
 pub IsBoundary-to_byte_idx : (s : Scheme) (cs : List ℕ) (k : ℕ) → IsBoundary cs (to_byte_idx s cs k)
-IsBoundary-to_byte_idx Utf16 cs k = (boundary_at_units_is_greatest cs k).boundary
+IsBoundary-to_byte_idx Utf16 cs k = (boundary_weighed_is_greatest weight cs k).boundary
 IsBoundary-to_byte_idx s cs k = IsBoundary-end_at s cs k
 
 -- a greater byte index has no lesser index
 pub from_byte_idx-le : (s : Scheme) (cs : List ℕ) (i j : ℕ) → i ≤ j → from_byte_idx s cs i ≤ from_byte_idx s cs j
-from_byte_idx-le Utf16 cs = units-le-units cs
+from_byte_idx-le Utf16 cs = weighed-le-weighed weight cs
 from_byte_idx-le s cs = rank-le-rank (ends s cs)
 
 -- a greater index has no lesser byte index
 pub to_byte_idx-le : (s : Scheme) (cs : List ℕ) (i j : ℕ) → i ≤ j → to_byte_idx s cs i ≤ to_byte_idx s cs j
-to_byte_idx-le Utf16 cs i j le = boundary_at_units-le cs i j le
+to_byte_idx-le Utf16 cs i j le = boundary_weighed-le weight cs i j le
 to_byte_idx-le s cs i j le = rw (end_at-select s cs i, end_at-select s cs j)
     (select-le-select (ends s cs) (size cs) (ends_increase_within s cs) i j le)
 
@@ -25,12 +25,12 @@ pub boundary_adjunction : (s : Scheme) → IsCharacterScheme s → (cs : List �
     → (b ≤ to_byte_idx s cs k) ↔ (from_byte_idx s cs b ≤ k)
 boundary_adjunction Chars character cs b k at = rw (end_at-select Chars cs k)
     (member_adjunction (ends Chars cs) (size cs) (ends_increase_within Chars cs) b k (zero_or_end cs b at))
-boundary_adjunction Utf16 character cs b k at = boundary_le_iff cs b k at
+boundary_adjunction Utf16 character cs b k at = boundary_weighed_iff weight cs b k at
 boundary_adjunction s character cs b k at = absurd character
 
 -- from a byte index and back is at or before it
 to-from-le-each : (s : Scheme) (cs : List ℕ) (b : ℕ) → to_byte_idx s cs (from_byte_idx s cs b) ≤ b
-to-from-le-each Utf16 cs b = boundary_at_units-units-le cs b
+to-from-le-each Utf16 cs b = boundary_weighed-weighed-le weight weight-some cs b
 to-from-le-each s cs b = rw (end_at-select s cs (rank (ends s cs) b))
     (select-rank-le (ends s cs) (size cs) (ends_increase_within s cs) b)
 
@@ -48,4 +48,4 @@ to-from_is_greatest_boundary s character cs b = record {
 pub ruleset index_laws = (from-to, from_byte_idx-le, to_byte_idx-le)
 
 -- what the law of boundaries and ends cites
-pub ruleset end_laws = (IsBoundary-to_byte_idx, boundary_at_units_is_greatest, cut_is_longest, ends_are, ends_increase)
+pub ruleset end_laws = (IsBoundary-to_byte_idx, boundary_weighed_is_greatest, cut_is_longest, ends_are, ends_increase)

@@ -1,6 +1,6 @@
 -- Where an index goes that is at least the number of bytes of the text: to its end, in every scheme.
 use Rattle.str_indices.proofs.lemmas.Common.{◌≡◌, ℕ, zero, suc, ◌+◌, ◌≤◌, List, [], ◌∷◌, length, get_or, refl, arith, sym, ap, chars, IsUtf8, len_utf8, append-nil, sum_by-le-sum_by, size, weight, Scheme, Utf16, ends, to_byte_idx, IsBoundary}
-use Rattle.str_indices.proofs.lemmas.texts.{size-append, IncreasesWithin, low_le_high, ends_increase_within, boundary_at_units_is_greatest, weight-le}
+use Rattle.str_indices.proofs.lemmas.texts.{size-append, IncreasesWithin, low_le_high, ends_increase_within, boundary_weighed_is_greatest, weight-le}
 use Rattle.str_indices.proofs.lemmas.bytes.{size-chars}
 
 -- of numbers that increase up to a bound, the k-th is the bound where so many must have reached it
@@ -13,7 +13,7 @@ get_or-past low (e ∷ es) high (suc k) h past = get_or-past e es high k h.1 (om
 -- an index that is at least the size goes to the end of the text
 to_byte_idx-past : (s : Scheme) (cs : List ℕ) (k : ℕ) → size cs ≤ k → to_byte_idx s cs k ≡ size cs
 to_byte_idx-past Utf16 cs k past =
-    let answer = boundary_at_units_is_greatest cs k in
+    let answer = boundary_weighed_is_greatest weight cs k in
     let whole : IsBoundary cs (size cs) = record { front = cs; back = []; split = sym (append-nil cs); place = refl } in
     let most = answer.greatest (size cs) whole (omega (arith, sum_by-le-sum_by weight len_utf8 cs weight-le)) in
     omega (arith, ap size answer.boundary.split, size-append answer.boundary.front answer.boundary.back)

@@ -1,6 +1,6 @@
 -- The UTF-16 code units of a text, from its leading bytes and the first bytes of its characters of four bytes.
 use Rattle.str_indices.proofs.lemmas.Common.{◌≡◌, ℕ, zero, suc, ◌+◌, ◌-◌, ◌<◌, ◌≤◌, inl, inr, true, false, List, ◌++◌, length, get_or, refl, arith, sym, ◌∙◌, ap, add-one, add-zero, add-suc, chars, IsUtf8, bit_and, ◌==◌, nat_le, sum_by, len_utf8, encode, encodes, scalar, cases_Bool, false_from_ne_true, agree_below_at, lt-leb, eqb-true, sum_by-le-sum_by, and_assoc, length-encode, nat_tests, size, cut, weight, count, from_byte_idx, Chars, Utf16, surrogates, boundary_at_units, IsBoundary, flag, mark, passing_before, is_trailing, is_leading, begins_four_bytes, units_begun, units_before, byte_before, IsSteady, mark-le}
-use Rattle.str_indices.proofs.lemmas.texts.{size-append, boundary_beside, units_at, boundary_at_units_is_greatest, count-units, count-characters-surrogates, weight-le, cut-cut}
+use Rattle.str_indices.proofs.lemmas.texts.{size-append, boundary_beside, weighed_at, boundary_weighed_is_greatest, count-units, count-characters-surrogates, weight-le, cut-cut}
 use Rattle.str_indices.proofs.lemmas.bytes.{sum_below-le-sum_below, sum_below-still, by_size, bytes_to_boundary, boundary_at_end, size-chars, begins_at, begins_boundary}
 use Rattle.str_indices.proofs.lemmas.schemes.CharBytes.{leading_at_boundary}
 use Rattle.str_indices.proofs.lemmas.passes.{pass_after_peeks}
@@ -86,7 +86,7 @@ module _ (bytes : List ℕ) (utf8 : IsUtf8 bytes) where
   -- before a boundary the units that the bytes show are those of the characters
   units_at_boundary : (p : ℕ) (b : IsBoundary (chars bytes) p) → units_before bytes p ≡ sum_by weight b.front
   units_at_boundary p b =
-      let units = units_at (chars bytes) p b in
+      let units = weighed_at weight (chars bytes) p b in
       let pairs = pairs_at_boundary p b in
       omega (
         arith,
@@ -149,7 +149,7 @@ module _ (bytes : List ℕ) (utf8 : IsUtf8 bytes) where
       → (at < length bytes → k < units_before bytes (at + 1)) → at ≡ boundary_at_units (chars bytes) k
   unit_reached at k within at_most stopped =
       let p = boundary_at_units (chars bytes) k in
-      let answer = boundary_at_units_is_greatest (chars bytes) k in
+      let answer = boundary_weighed_is_greatest weight (chars bytes) k in
       let b = begins_boundary bytes utf8 at within
       (λ below. grind (arith, stopped below, units_before-next bytes at, four_leads (get_or bytes at 0))) in
       let reaches = answer.greatest at b (omega (arith, units_at_boundary at b)) in

@@ -2,7 +2,7 @@
 use Rattle.str_indices.proofs.lemmas.Common.{◌≡◌, ℕ, ◌+◌, ◌≤◌, ◌⊎◌, inl, inr, List, [], ◌∷◌, ◌++◌, refl, arith, sym, ◌∙◌, ap, append_assoc, le_antisymm, sum_by, sum_by-cons, sum_by-append, size, weight, cut, Utf16, units, boundary_at_units, count, IsBoundary}
 use Rattle.str_indices.proofs.lemmas.texts.Sizes.{size-append}
 use Rattle.str_indices.proofs.lemmas.texts.Cuts.{cut_before, cut_behind}
-use Rattle.str_indices.proofs.lemmas.texts.Units.{count-units, weight_is_one_or_two, boundary_at_units_is_greatest}
+use Rattle.str_indices.proofs.lemmas.texts.Units.{count-units, weight_is_one_or_two, boundary_weighed_is_greatest}
 
 -- a beginning of two joined texts is one of the first, or goes on from it with a character c of the second
 compare_seam : (a b front back : List ℕ) → a ++ b ≡ front ++ back → ((rest : List ℕ) × (a ≡ front ++ rest))
@@ -58,8 +58,8 @@ module _ (a b : List ℕ) where
   -- up to the units of the first text, an index is one of its own
   pub boundary_at_units-before : (k : ℕ) → k ≤ count Utf16 a → boundary_at_units (a ++ b) k ≡ boundary_at_units a k
   boundary_at_units-before k within =
-      let whole = boundary_at_units_is_greatest (a ++ b) k in
-      let own = boundary_at_units_is_greatest a k in
+      let whole = boundary_weighed_is_greatest weight (a ++ b) k in
+      let own = boundary_weighed_is_greatest weight a k in
       let p = boundary_at_units (a ++ b) k in
       let q = boundary_at_units a k in
       let at = whole.boundary in
@@ -77,8 +77,8 @@ module _ (a b : List ℕ) where
   pub boundary_at_units-behind : (k index : ℕ) → count Utf16 a + index ≡ k
       → boundary_at_units (a ++ b) k ≡ size a + boundary_at_units b index
   boundary_at_units-behind k index sum =
-      let whole = boundary_at_units_is_greatest (a ++ b) k in
-      let own = boundary_at_units_is_greatest b index in
+      let whole = boundary_weighed_is_greatest weight (a ++ b) k in
+      let own = boundary_weighed_is_greatest weight b index in
       let p = boundary_at_units (a ++ b) k in
       let q = boundary_at_units b index in
       let at = whole.boundary in

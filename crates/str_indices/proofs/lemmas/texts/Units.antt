@@ -1,5 +1,6 @@
--- The UTF-16 code units before a place, and the greatest boundary before which a text takes at most so many.
-use Rattle.str_indices.proofs.lemmas.Common.{zero, suc, ◌≡◌, ℕ, ◌≤◌, List, [], ◌∷◌, max, arith, All, ◌+◌, ◌⊎◌, refl, cond, ap, filter, fold, nat_le, ◌==◌, sum_by, Contains, nat_tests, le-leb, leb-true, All-nil, All-cons, All-head, All-tail, All-filter, All-contains, Contains-get_or, Contains-append_right, filter_passes, len_utf8, len_utf8_bounds, sum_by-cons, sum_by-append, size, weight, cut, Chars, Utf16, ends, units, boundaries, boundary_at_units, count, surrogates, IsBoundary, IsGreatestWithin}
+-- What the characters before a place weigh, and the greatest boundary before which a text weighs at most so much. By
+-- UTF-16 code units, how many a character and a text take.
+use Rattle.str_indices.proofs.lemmas.Common.{zero, suc, ◌≡◌, ℕ, ◌<◌, ◌≤◌, List, [], ◌∷◌, max, arith, All, ◌+◌, ◌⊎◌, refl, cond, ap, filter, fold, nat_le, ◌==◌, sum_by, Contains, nat_tests, le-leb, leb-true, All-nil, All-cons, All-head, All-tail, All-filter, All-contains, Contains-get_or, Contains-append_right, filter_passes, len_utf8, len_utf8_bounds, sum_by-cons, sum_by-append, size, weight, cut, Chars, Utf16, ends, weighed, boundary_weighed, boundaries, count, surrogates, IsBoundary, IsGreatestWeighed}
 use Rattle.str_indices.proofs.lemmas.texts.Cuts.{cut_is, cut_goes_on, cut_front, cut_all}
 use Rattle.str_indices.proofs.lemmas.texts.Ends.{count_characters}
 use Rattle.str_indices.proofs.lemmas.texts.EndSets.{Contains-filter, ends_are, IsBoundary-start}
@@ -17,9 +18,9 @@ fold_max_holds P a [] start all = start
 fold_max_holds P a (x ∷ xs) start all =
     fold_max_holds P (max a x) xs (grind (arith, All-head P x xs all)) (All-tail P x xs all)
 
--- the units before a boundary are those of the beginning that ends there
-pub units_at : (cs : List ℕ) (p : ℕ) (at : IsBoundary cs p) → units cs p ≡ sum_by weight at.front
-units_at cs p at = ap (sum_by weight) (cut_front cs p at)
+-- before a boundary the characters weigh what the beginning does that ends there
+pub weighed_at : (w : ℕ → ℕ) (cs : List ℕ) (p : ℕ) (at : IsBoundary cs p) → weighed w cs p ≡ sum_by w at.front
+weighed_at w cs p at = ap (sum_by w) (cut_front cs p at)
 
 -- each place that `boundaries` lists is a boundary
 boundaries_are : (cs : List ℕ) → All (IsBoundary cs) (boundaries cs)
@@ -33,25 +34,32 @@ boundary_is_listed cs zero at = (0, omega arith, refl)
 boundary_is_listed cs (suc p) at = Contains-append_right (0 ∷ []) (ends Chars cs) (suc p)
     ((ends_are Chars cs (suc p)).1 (record { boundary = at; above = omega arith }))
 
--- `boundary_at_units` answers the greatest boundary before which the text takes at most so many units
-pub boundary_at_units_is_greatest : (cs : List ℕ) (k : ℕ) → IsGreatestWithin cs k (boundary_at_units cs k)
-boundary_at_units_is_greatest cs k =
-    let test = λ (p : ℕ). nat_le (units cs p) k in
+-- `boundary_weighed` answers the greatest boundary before which the text weighs at most so much
+pub boundary_weighed_is_greatest : (w : ℕ → ℕ) (cs : List ℕ) (k : ℕ) → IsGreatestWeighed w cs k (boundary_weighed w cs k)
+boundary_weighed_is_greatest w cs k =
+    let test = λ (p : ℕ). nat_le (weighed w cs p) k in
     let all = boundaries cs in
-    let answer = fold_max_holds (λ p. IsBoundary cs p × (units cs p ≤ k)) 0 (filter test all)
-    (IsBoundary-start cs, omega (arith, units_at cs 0 (IsBoundary-start cs)))
+    let answer = fold_max_holds (λ p. IsBoundary cs p × (weighed w cs p ≤ k)) 0 (filter test all)
+    (IsBoundary-start cs, omega (arith, weighed_at w cs 0 (IsBoundary-start cs)))
     (λ i d inside. (
       All-filter test (IsBoundary cs) all (boundaries_are cs) i d inside,
-      leb-true (units cs _) k (filter_passes test all i d inside),
+      leb-true (weighed w cs _) k (filter_passes test all i d inside),
     )) in
     record {
       boundary = answer.0;
-      fits = rw (units_at cs _ answer.0) at answer.1;
+      fits = rw (weighed_at w cs _ answer.0) at answer.1;
       greatest = λ q other fits.
-          let passes = le-leb (units cs q) k (rw (units_at cs q other) fits) in
-          All-contains (λ p. p ≤ boundary_at_units cs k) (filter test all) q (fold_max_bounds 0 (filter test all)).1
+          let passes = le-leb (weighed w cs q) k (rw (weighed_at w cs q other) fits) in
+          All-contains (λ p. p ≤ boundary_weighed w cs k) (filter test all) q (fold_max_bounds 0 (filter test all)).1
           (Contains-filter test all q (boundary_is_listed cs q other) passes);
     }
+
+-- no less is before a greater byte index
+pub weighed-le-weighed : (w : ℕ → ℕ) (cs : List ℕ) (i j : ℕ) → i ≤ j → weighed w cs i ≤ weighed w cs j
+weighed-le-weighed w cs i j le =
+    let parts = cut_is cs i in
+    let (more, is) = cut_goes_on cs (cut cs i) parts.rest j parts.split (omega (arith, parts.at.fits)) in
+    omega (arith, ap (sum_by w) is, sum_by-append w (cut cs i) more)
 
 -- a text has the units that its characters take
 pub count-units : (cs : List ℕ) → count Utf16 cs ≡ sum_by weight cs
@@ -60,6 +68,10 @@ count-units cs = ap (sum_by weight) (cut_all cs (size cs) (omega arith))
 -- a character takes one unit or two
 pub weight_is_one_or_two : (c : ℕ) → (weight c ≡ 1) ⊎ (weight c ≡ 2)
 weight_is_one_or_two c = grind (arith, nat_tests)
+
+-- a character takes some
+pub weight-some : (c : ℕ) → 0 < weight c
+weight-some c = omega (arith, weight_is_one_or_two c)
 
 -- a character takes at least as many bytes as units
 pub weight-le : (c : ℕ) → weight c ≤ len_utf8 c
@@ -75,10 +87,3 @@ sum_by-weight (c ∷ cs) =
 -- a text has one unit for each character, and one more for each surrogate pair
 pub count-characters-surrogates : (cs : List ℕ) → count Utf16 cs ≡ count Chars cs + surrogates cs
 count-characters-surrogates cs = omega (arith, count-units cs, sum_by-weight cs, count_characters cs)
-
--- no fewer units are before a greater byte index
-pub units-le-units : (cs : List ℕ) (i j : ℕ) → i ≤ j → units cs i ≤ units cs j
-units-le-units cs i j le =
-    let parts = cut_is cs i in
-    let (more, is) = cut_goes_on cs (cut cs i) parts.rest j parts.split (omega (arith, parts.at.fits)) in
-    omega (arith, ap (sum_by weight) is, sum_by-append weight (cut cs i) more)
