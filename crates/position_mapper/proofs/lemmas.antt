@@ -1,5 +1,6 @@
 pub mod Common
 pub mod Contents
+pub mod Encodings
 pub mod Lines
 pub mod LineBytes
 pub mod Positions
@@ -7,6 +8,7 @@ pub mod WholeText
 pub mod FirstLines
 pub use Common.*
 pub use Contents.*
+pub use Encodings.*
 pub use Lines.*
 pub use LineBytes.*
 pub use Positions.*

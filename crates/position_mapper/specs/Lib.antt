@@ -1,4 +1,5 @@
 pub mod Lines
+pub mod Encodings
 pub mod Positions
 pub mod Relations
 pub mod Examples

@@ -1,26 +1,28 @@
--- The positions on the lines of a text, and their byte indices.
---     units_on_line text line byte    the UTF-16 code units of a line's content up to a byte index
---     position_at text byte           the position of a byte index
---     byte_at text position           the byte index of a position
+-- The positions on the lines of a text, and their byte indices, where offsets are counted in an encoding.
+--     units_on_line e text line byte    the units of a line's content up to a byte index
+--     position_at e text byte           the position of a byte index
+--     byte_at e text position           the byte index of a position
 use Rattle.std.specs.Prelude.{ℕ, ◌+◌, ◌-◌}
 use Rattle.str_indices.specs.Text.{Text}
-use Rattle.str_indices.specs.Schemes.{from_byte_idx, to_byte_idx}
-use Rattle.str_indices.specs.declared.Scheme.TheVariants.{Crlf, Utf16}
+use Rattle.str_indices.specs.Schemes.{from_byte_idx, to_byte_idx, weighed, boundary_weighed}
+use Rattle.str_indices.specs.declared.Scheme.TheVariants.{Crlf}
 use Rattle.position_mapper.specs.declared.Position.{Position}
+use Rattle.position_mapper.specs.declared.encodings.Encoding.{Encoding}
+use Rattle.position_mapper.specs.Encodings.{units_of}
 use Rattle.position_mapper.specs.Lines.{line_content}
 
--- the UTF-16 code units of a line's content up to the byte index: all of them, where it is behind the content
-abbrev pub units_on_line : Text → ℕ → ℕ → ℕ
-units_on_line text line byte = from_byte_idx Utf16 (line_content text line) (byte - to_byte_idx Crlf text line)
+-- the units of a line's content up to the byte index: all of them, where it is behind the content
+abbrev pub units_on_line : Encoding → Text → ℕ → ℕ → ℕ
+units_on_line e text line byte = weighed (units_of e) (line_content text line) (byte - to_byte_idx Crlf text line)
 
 -- the line of the byte index, and the units on that line up to it
-abbrev pub position_at : Text → ℕ → Position
-position_at text byte = record {
+abbrev pub position_at : Encoding → Text → ℕ → Position
+position_at e text byte = record {
   line = from_byte_idx Crlf text byte;
-  character = units_on_line text (from_byte_idx Crlf text byte) byte;
+  character = units_on_line e text (from_byte_idx Crlf text byte) byte;
 }
 
 -- where, in the line's content, the character of that unit begins; the line's end, where the content has no such unit
-abbrev pub byte_at : Text → Position → ℕ
-byte_at text position =
-    to_byte_idx Crlf text position.line + to_byte_idx Utf16 (line_content text position.line) position.character
+abbrev pub byte_at : Encoding → Text → Position → ℕ
+byte_at e text position = to_byte_idx Crlf text position.line
+    + boundary_weighed (units_of e) (line_content text position.line) position.character

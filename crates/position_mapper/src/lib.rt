@@ -1,7 +1,8 @@
 //! Maps byte indices of a UTF-8 text to the positions of the Language Server Protocol 3.17, and back.
 //!
-//! A line ends in LF, CR or CRLF, and a position is a line and an offset on it in UTF-16 code units. No position names
-//! a place inside or behind a break on its line: an offset past the line's end means the line's end, before its break.
+//! A line ends in LF, CR or CRLF, and a position is a line and an offset on it. The offset is counted in UTF-16 code
+//! units, the protocol's default, or by the methods of [`Encoding`] in bytes or scalar values. No position names a place
+//! inside or behind a break on its line: an offset past the line's end means the line's end, before its break.
 //!
 //! Every text, byte index and position has an answer: nothing panics, nothing allocates.
 #![tactic(auto)]
@@ -13,12 +14,12 @@ ghost use Rattle.str_indices.specs.declared.Scheme.TheVariants.{Crlf};
 ghost use Rattle.position_mapper.specs.Lines.{is_break, line_content, line_end, IsWithoutLast};
 ghost use Rattle.position_mapper.specs.Positions.{byte_at, position_at};
 
+mod encodings;
 pub mod laws;
 mod look_back;
 
-use crate::look_back::line_start;
-use str_indices::laws::start_of_line;
-use str_indices::{lines_crlf as lines, utf16};
+pub use crate::encodings::Encoding;
+use str_indices::lines_crlf as lines;
 
 /// A place in a text, as a language server names it.
 #[derive(Clone, Copy, PartialEq, Eq, Debug)]
@@ -26,7 +27,7 @@ use str_indices::{lines_crlf as lines, utf16};
 pub struct Position {
     /// The line, counted from 0.
     pub line: usize,
-    /// The offset on that line, in UTF-16 code units.
+    /// The offset on that line, in the units of an encoding.
     pub character: usize,
 }
 
@@ -47,18 +48,10 @@ pub fn line_end(text: &str, line: usize) -> usize
 ///
 /// A byte inside a char has the position where the char begins, the byte between CR and LF that of the line's end, and
 /// a byte past the end that of the text's end.
-#[tactic(auto, using(crate::proofs::lemmas::LineBytes::line_in_bytes))]
 pub fn position_of(text: &str, byte: usize) -> Position
-    ensures { result ≡ position_at (chars text.now) byte }
+    ensures { result ≡ position_at Encoding.Utf16 (chars text.now) byte }
 {
-    let index = lines::from_byte_idx(text, byte);
-    let line = line_at(text, index, line_start(text, byte));
-    // A line begins at or before each of its bytes.
-    start_of_line(text, byte);
-    Position {
-        line: line.index,
-        character: utf16::from_byte_idx(line.content, byte - line.start),
-    }
+    Encoding::Utf16.position_of(text, byte)
 }
 
 /// The byte index where the char at a position begins.
@@ -67,13 +60,11 @@ pub fn position_of(text: &str, byte: usize) -> Position
 /// before its break, and a line past the last one the text's length in bytes.
 ///
 /// The text may be sliced at the answer.
-#[tactic(auto, using(crate::proofs::lemmas::LineBytes::line_in_bytes))]
 pub fn byte_of(text: &str, position: Position) -> usize
-    ensures answer { result ≡ byte_at (chars text.now) position }
+    ensures answer { result ≡ byte_at Encoding.Utf16 (chars text.now) position }
     ensures boundary { IsCharBoundary text.now result }
 {
-    let line = line_of(text, position.line);
-    line.start + utf16::to_byte_idx(line.content, position.character)
+    Encoding::Utf16.byte_of(text, position)
 }
 
 /// A line: its index, where it begins, and its text without its break.

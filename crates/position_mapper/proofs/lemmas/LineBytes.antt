@@ -1,5 +1,5 @@
 -- The lines of a text in bytes, and where std lets it be sliced on them.
-use Rattle.position_mapper.proofs.lemmas.Common.{◌≡◌, ℕ, ◌+◌, ◌-◌, ◌<◌, ◌≤◌, ◌⊎◌, List, [], ◌∷◌, ◌++◌, inl, inr, length, refl, append-nil, take, drop, sym, ◌∙◌, subst, chars, IsUtf8, IsCharBoundary, ap, take-append-drop, length-take-le, ◌≢◌, drop-length, chars-append, chars-nil, chars_past_char, encodes-chars, encodes-append, IsUtf8-take, IsUtf8-drop, size, cut, from_byte_idx, to_byte_idx, Crlf, Utf16, IsBoundary, size-chars, cut_front, IsBoundary-to_byte_idx, IsCharBoundary-from_boundary, Position, behind, line_content, line_end, IsWithoutLast, byte_at}
+use Rattle.position_mapper.proofs.lemmas.Common.{◌≡◌, ℕ, ◌+◌, ◌-◌, ◌<◌, ◌≤◌, ◌⊎◌, List, [], ◌∷◌, ◌++◌, inl, inr, length, refl, append-nil, take, drop, sym, ◌∙◌, subst, chars, IsUtf8, IsCharBoundary, ap, take-append-drop, length-take-le, ◌≢◌, drop-length, chars-append, chars-nil, chars_past_char, encodes-chars, encodes-append, IsUtf8-take, IsUtf8-drop, size, cut, from_byte_idx, to_byte_idx, Crlf, IsBoundary, boundary_weighed_is_greatest, Encoding, units_of, size-chars, cut_front, IsBoundary-to_byte_idx, IsCharBoundary-from_boundary, Position, behind, line_content, line_end, IsWithoutLast, byte_at}
 use Rattle.std.proofs.Math.Utf8.{encode, encodes}
 use Rattle.position_mapper.proofs.lemmas.Lines.{behind_boundary, begins_behind, IsBoundary-from_content, IsBoundary-line_end}
 
@@ -70,11 +70,13 @@ module _ (bytes : List ℕ) (utf8 : IsUtf8 bytes) where
       (subst (IsBoundary (chars bytes)) (sym answer) (IsBoundary-line_end (chars bytes) line))
 
   -- and at the byte index of each position
-  pub IsCharBoundary-byte_at : (position : Position) (p : ℕ) → p ≡ byte_at (chars bytes) position
+  pub IsCharBoundary-byte_at : (e : Encoding) (position : Position) (p : ℕ) → p ≡ byte_at e (chars bytes) position
       → IsCharBoundary bytes p
-  IsCharBoundary-byte_at position p answer = IsCharBoundary-from_boundary bytes utf8 p
-      (subst (IsBoundary (chars bytes)) (sym answer) (IsBoundary-from_content (chars bytes) position.line _
-      (IsBoundary-to_byte_idx Utf16 (line_content (chars bytes) position.line) position.character)))
+  IsCharBoundary-byte_at e position p answer =
+      let content = line_content (chars bytes) position.line in
+      let answers = boundary_weighed_is_greatest (units_of e) content position.character in
+      IsCharBoundary-from_boundary bytes utf8 p (subst (IsBoundary (chars bytes)) (sym answer)
+      (IsBoundary-from_content (chars bytes) position.line _ answers.boundary))
 
 -- what is known of a line's content, of its end and of a position on it, where the bytes tell them
 pub ruleset line_in_bytes = (chars_from_line, size-chars, IsCharBoundary-line_end, IsCharBoundary-byte_at)

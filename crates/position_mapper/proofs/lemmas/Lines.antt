@@ -1,6 +1,7 @@
 -- A text, split at one of its lines: what stands before it, its content, and what is behind that.
-use Rattle.position_mapper.proofs.lemmas.Common.{◌≡◌, ℕ, ◌+◌, ◌-◌, ◌<◌, ◌≤◌, true, [], ◌∷◌, ◌++◌, ◌⊎◌, inl, inr, length, drop, sym, ◌∙◌, ap, arith, cond, refl, min, append_assoc, append-nil, ◌≢◌, count_by, nat_le, len_utf8, drop-append_seam, cases_Bool, cases_lt, append_cancel_left, sum_by-append, count_by-le-length, len_utf8_bounds, Text, size, weight, line_feed, carriage_return, is_crlf_middle, ends, from_byte_idx, to_byte_idx, count, Crlf, Utf16, IsBoundary, IsEnd, IsEndOf, IsCrlfMiddle, size-append, size-cons, boundary_beside, cut_front, cut_goes_on, is_crlf_middle_iff, end_at-past, weighed_at, IsBoundary-to_byte_idx, from-to, to-from_is_greatest, from_byte_idx-le, is_joined, is_break, behind, line_content, line_end, IsBreakStart, IsLineEnd}
+use Rattle.position_mapper.proofs.lemmas.Common.{◌≡◌, ℕ, ◌+◌, ◌-◌, ◌<◌, ◌≤◌, true, [], ◌∷◌, ◌++◌, ◌⊎◌, inl, inr, length, drop, sym, ◌∙◌, ap, arith, cond, refl, min, append_assoc, append-nil, ◌≢◌, count_by, nat_le, len_utf8, drop-append_seam, cases_Bool, cases_lt, append_cancel_left, sum_by-append, count_by-le-length, len_utf8_bounds, Text, size, line_feed, carriage_return, is_crlf_middle, ends, from_byte_idx, to_byte_idx, count, weighed, Crlf, IsBoundary, IsEnd, IsEndOf, IsCrlfMiddle, size-append, size-cons, boundary_beside, cut_front, cut_goes_on, is_crlf_middle_iff, end_at-past, weighed_at, IsBoundary-to_byte_idx, from-to, to-from_is_greatest, from_byte_idx-le, is_joined, is_break, behind, line_content, line_end, IsBreakStart, IsLineEnd}
 use Rattle.position_mapper.proofs.lemmas.Contents.{split_at_first}
+use Rattle.str_indices.specs.declared.Scheme.TheVariants.{Utf16}
 
 -- behind a boundary is the rest of the text
 pub behind_boundary : (cs : Text) (p : ℕ) (at : IsBoundary cs p) → behind cs p ≡ at.back
@@ -105,10 +106,10 @@ module _ (cs : Text) (line : ℕ) where
     place = let parts = line_parts in omega (arith, size-append parts.before at.front, parts.place, at.place);
   }
 
-  -- the units before it are those before the line, and those of the content before it
-  pub units-from_content : (p : ℕ) → IsBoundary content p → from_byte_idx Utf16 cs (start + p)
-      ≡ from_byte_idx Utf16 cs start + from_byte_idx Utf16 content p
-  units-from_content p at =
+  -- before it is what is before the line, and what of the content is before it
+  pub weighed-from_content : (w : ℕ → ℕ) (p : ℕ) → IsBoundary content p
+      → weighed w cs (start + p) ≡ weighed w cs start + weighed w content p
+  weighed-from_content w p at =
       let parts = line_parts in
       let begins : IsBoundary cs start =
       record { front = parts.before; back = content ++ parts.after; split = parts.split; place = parts.place } in
@@ -120,10 +121,10 @@ module _ (cs : Text) (line : ℕ) where
       } in
       omega (
         arith,
-        weighed_at weight cs start begins,
-        weighed_at weight cs (start + p) here,
-        weighed_at weight content p at,
-        sum_by-append weight parts.before at.front,
+        weighed_at w cs start begins,
+        weighed_at w cs (start + p) here,
+        weighed_at w content p at,
+        sum_by-append w parts.before at.front,
       )
 
   -- its content ends at a boundary

@@ -15,9 +15,9 @@ pub use Rattle.str_indices.proofs.lemmas.texts.Sizes.{size-cons, size-append, bo
 pub use Rattle.str_indices.proofs.lemmas.texts.Cuts.{cut_front, cut_goes_on, cut_all, cut_is_longest}
 pub use Rattle.str_indices.proofs.lemmas.texts.Units.{weighed_at, weighed-le-weighed, boundary_weighed_is_greatest, weight-some}
 pub use Rattle.str_indices.proofs.lemmas.texts.EndSets.{end_at-past, is_crlf_middle_iff}
-pub use Rattle.str_indices.proofs.lemmas.laws.CharacterLaws.{IsBoundary-to_byte_idx, from_byte_idx-le, to_byte_idx-le, boundary_adjunction, to-from_is_greatest_boundary}
+pub use Rattle.str_indices.proofs.lemmas.laws.CharacterLaws.{IsBoundary-to_byte_idx, from_byte_idx-le, to_byte_idx-le, boundary_adjunction, to-from_is_greatest_boundary, characters_weighed, boundary_of_characters}
 pub use Rattle.str_indices.proofs.lemmas.laws.EndLaws.{from-to, to-from_is_greatest}
-pub use Rattle.str_indices.proofs.lemmas.laws.UnitLaws.{boundary_weighed_iff, weighed_is_greatest_boundary, weighed_or_inside, weighed_inside}
+pub use Rattle.str_indices.proofs.lemmas.laws.UnitLaws.{boundary_weighed_iff, boundary_weighed-le, weighed_is_greatest_boundary, weighed_or_inside, weighed_inside}
 
 -- std lets a text be sliced at each boundary
 pub IsCharBoundary-from_boundary : (bytes : List ℕ) → IsUtf8 bytes → (p : ℕ) → IsBoundary (chars bytes) p

@@ -2,9 +2,9 @@ use Rattle.position_mapper.proofs.lemmas.{arith, chars, byte_at-position_at_is_g
 use Rattle.position_mapper.proofs.laws.round_trip.Goals as goal
 
 pub returns-clause-greatest : goal.returns-clause-greatest
-returns-clause-greatest c = byte_at-position_at_is_greatest (chars c.args.text.now) c.args.byte
+returns-clause-greatest c = byte_at-position_at_is_greatest c.args.encoding (chars c.args.text.now) c.args.byte
 
 pub returns-clause-place : goal.returns-clause-place
 returns-clause-place c at not_middle =
-    let place = byte_at-position_at_is_greatest (chars c.args.text.now) c.args.byte in
+    let place = byte_at-position_at_is_greatest c.args.encoding (chars c.args.text.now) c.args.byte in
     omega (arith, place.at_or_before, place.greatest c.args.byte at not_middle (omega arith))

@@ -1,8 +1,9 @@
 -- What holds of the conversions in every scheme, and in the two that count characters.
-use Rattle.str_indices.proofs.lemmas.Common.{ℕ, ◌≤◌, List, ◌↔◌, Scheme, Chars, Utf16, from_byte_idx, to_byte_idx, ends, IsBoundary, size, weight, IsCharacterScheme, IsGreatestBoundary}
-use Rattle.str_indices.proofs.lemmas.texts.{IsBoundary-end_at, ends_increase_within, end_at-select, zero_or_end, ends_are, ends_increase, boundary_weighed_is_greatest, weighed-le-weighed, weight-some, rank, rank-le-rank, select-le-select, select-rank-le, member_adjunction, cut_is_longest}
+use Rattle.str_indices.proofs.lemmas.Common.{◌≡◌, ℕ, ◌≤◌, List, ◌↔◌, Scheme, Chars, Utf16, from_byte_idx, to_byte_idx, ends, IsBoundary, arith, size, weight, cut, weighed, boundary_weighed, IsCharacterScheme, IsGreatestBoundary}
+use Rattle.str_indices.proofs.lemmas.texts.{IsBoundary-end_at, ends_increase_within, end_at-select, zero_or_end, ends_are, ends_increase, boundary_weighed_is_greatest, weighed-le-weighed, weight-some, rank, rank-le-rank, select-le-select, select-rank-le, member_adjunction, cut_is, cut_is_longest, count_characters}
 use Rattle.str_indices.proofs.lemmas.laws.UnitLaws.{boundary_weighed-le, boundary_weighed_iff, boundary_weighed-weighed-le}
 use Rattle.str_indices.proofs.lemmas.laws.EndLaws.{from-to}
+use Rattle.str_indices.proofs.lemmas.laws.CountLaws.{count-cut}
 
 -- each conversion to a byte index answers a boundary
 pub IsBoundary-to_byte_idx : (s : Scheme) (cs : List ℕ) (k : ℕ) → IsBoundary cs (to_byte_idx s cs k)
@@ -43,6 +44,27 @@ to-from_is_greatest_boundary s character cs b = record {
   greatest = λ q at le. (boundary_adjunction s character cs q (from_byte_idx s cs b) at).1
       (from_byte_idx-le s cs q b le);
 }
+
+-- where each character weighs one, what is before a byte index is the number of characters
+pub characters_weighed : (cs : List ℕ) (b : ℕ) → weighed (λ _. 1) cs b ≡ from_byte_idx Chars cs b
+characters_weighed cs b =
+    let parts = cut_is cs b in
+    omega (arith, count_characters (cut cs b), count-cut Chars cs b parts.rest parts.split)
+
+-- and the place of so much is that of so many
+pub boundary_of_characters : (cs : List ℕ) (k : ℕ) → boundary_weighed (λ _. 1) cs k ≡ to_byte_idx Chars cs k
+boundary_of_characters cs k =
+    let p = boundary_weighed (λ _. 1) cs k in
+    let q = to_byte_idx Chars cs k in
+    let at = (boundary_weighed_is_greatest (λ _. 1) cs k).boundary in
+    let at' = IsBoundary-to_byte_idx Chars cs k in
+    let few = (boundary_weighed_iff (λ _. 1) cs p k at).0 (omega arith) in
+    let few' = (boundary_adjunction Chars tt cs q k at').0 (omega arith) in
+    omega (
+      arith,
+      (boundary_adjunction Chars tt cs p k at).1 (omega (arith, characters_weighed cs p)),
+      (boundary_weighed_iff (λ _. 1) cs q k at').1 (omega (arith, characters_weighed cs q)),
+    )
 
 -- what the laws of the way there and back and of greater indices cite
 pub ruleset index_laws = (from-to, from_byte_idx-le, to_byte_idx-le)
