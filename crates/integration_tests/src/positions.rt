@@ -3,7 +3,7 @@ ghost use Rattle.str_indices.specs.Schemes.{count};
 ghost use Rattle.str_indices.specs.declared.Scheme.TheVariants.{Crlf};
 ghost use Rattle.position_mapper.specs.Relations.{IsGreatestPlace};
 
-use position_mapper::{Position, byte_of, laws, line_end, position_of};
+use position_mapper::{Encoding, Position, byte_of, laws, line_end, position_of};
 use std::process::Abort;
 
 /// A line that ends in CRLF, one with a surrogate pair that ends in CR, one of a char of three bytes, an empty one, and
@@ -18,7 +18,7 @@ fn at(line: usize, character: usize) -> Position {
 fn there_and_back(text: &str, byte: usize) -> usize
     ensures { IsGreatestPlace (chars text.now) byte result }
 {
-    laws::round_trip(text, byte);
+    laws::round_trip(Encoding::Utf16, text, byte);
     byte_of(text, position_of(text, byte))
 }
 
@@ -26,7 +26,7 @@ fn there_and_back(text: &str, byte: usize) -> usize
 fn back_from_byte(text: &str, position: Position) -> Position
     ensures { result.line ≡ min position.line (count Crlf (chars text.now)) }
 {
-    laws::position_round_trip(text, position);
+    laws::position_round_trip(Encoding::Utf16, text, position);
     position_of(text, byte_of(text, position))
 }
 
@@ -141,4 +141,35 @@ fn the_empty_text_has_one_position(rt: HostRuntime) {
         let found = (position_of("", index), byte_of("", at(index, index)));
         assert_both(&rt, found, (at(0, 0), 0), index);
     }
+}
+
+/// Bytes, the offsets of their positions in bytes and in scalar values, and the bytes of those.
+const OFFSETS: [(usize, usize, usize, usize); 8] = [
+    (1, 1, 1, 1),
+    (3, 0, 0, 3),
+    (6, 0, 0, 3), // inside a char
+    (7, 4, 1, 7),
+    (8, 5, 2, 8),
+    (11, 0, 0, 9), // inside a char
+    (12, 3, 1, 12),
+    (15, 1, 1, 15),
+];
+
+#[test]
+fn an_offset_is_in_the_encoding(rt: HostRuntime) {
+    for i in 0..OFFSETS.len() {
+        let (byte, in_bytes, in_chars, back) = OFFSETS[i];
+        let position = Encoding::Utf8.position_of(TEXT, byte);
+        assert_both(&rt, (position, Encoding::Utf8.byte_of(TEXT, position)), (at(position.line, in_bytes), back), i);
+        let position = Encoding::Utf32.position_of(TEXT, byte);
+        assert_both(&rt, (position, Encoding::Utf32.byte_of(TEXT, position)), (at(position.line, in_chars), back), i);
+    }
+}
+
+/// Offsets in bytes that are inside a char, past the end of a line and past the last line, and their bytes.
+#[test]
+fn a_byte_inside_a_char_belongs_to_it(rt: HostRuntime) {
+    assert_byte(&rt, Encoding::Utf8.byte_of(TEXT, at(1, 3)), 3, 0);
+    assert_byte(&rt, Encoding::Utf8.byte_of(TEXT, at(1, 9)), 8, 1);
+    assert_byte(&rt, Encoding::Utf8.byte_of(TEXT, at(9, 0)), 15, 2);
 }

@@ -2,6 +2,7 @@
 ghost use Rattle.std.specs.Prelude.{◌≡◌, IsCharBoundary, IsUtf8, chars};
 ghost use Rattle.position_mapper.specs.Lines.{line_end};
 ghost use Rattle.position_mapper.specs.Positions.{byte_at, position_at};
+ghost use Rattle.position_mapper.specs.declared.encodings.Encoding.TheVariants.{Utf16};
 
 use crate::text_of;
 use position_mapper::{Position, byte_of, line_end, position_of};
@@ -10,7 +11,7 @@ use position_mapper::{Position, byte_of, line_end, position_of};
 #[unsafe(no_mangle)]
 pub extern "C" fn str_indices_position_of(text: &[u8], byte_idx: usize) -> Position
     requires { IsUtf8 text.now }
-    ensures { result ≡ position_at (chars text.now) byte_idx }
+    ensures { result ≡ position_at Utf16 (chars text.now) byte_idx }
 {
     position_of(text_of(text), byte_idx)
 }
@@ -19,7 +20,7 @@ pub extern "C" fn str_indices_position_of(text: &[u8], byte_idx: usize) -> Posit
 #[unsafe(no_mangle)]
 pub extern "C" fn str_indices_byte_of(text: &[u8], position: Position) -> usize
     requires { IsUtf8 text.now }
-    ensures answer { result ≡ byte_at (chars text.now) position }
+    ensures answer { result ≡ byte_at Utf16 (chars text.now) position }
     ensures boundary { IsCharBoundary text.now result }
 {
     byte_of(text_of(text), position)
