@@ -2,9 +2,11 @@
 --     units_on_line e text line byte    the units of a line's content up to a byte index
 --     position_at e text byte           the position of a byte index
 --     byte_at e text position           the byte index of a position
-use Rattle.std.specs.Prelude.{ℕ, ◌+◌, ◌-◌}
+--     is_exact e text position          whether the position names a place, and not one that is cut to another
+--     exact_byte_at e text position     the byte index of a position that names a place
+use Rattle.std.specs.Prelude.{ℕ, ◌+◌, ◌-◌, ◌&&◌, ◌==◌, Bool, Option, Some, None, if◌then◌else◌, nat_le}
 use Rattle.str_indices.specs.Text.{Text}
-use Rattle.str_indices.specs.Schemes.{from_byte_idx, to_byte_idx, weighed, boundary_weighed}
+use Rattle.str_indices.specs.Schemes.{count, from_byte_idx, to_byte_idx, weighed, boundary_weighed}
 use Rattle.str_indices.specs.declared.Scheme.TheVariants.{Crlf}
 use Rattle.position_mapper.specs.declared.Position.{Position}
 use Rattle.position_mapper.specs.declared.encodings.Encoding.{Encoding}
@@ -26,3 +28,13 @@ position_at e text byte = record {
 abbrev pub byte_at : Encoding → Text → Position → ℕ
 byte_at e text position = to_byte_idx Crlf text position.line
     + boundary_weighed (units_of e) (line_content text position.line) position.character
+
+-- whether the text has the line, and the offset is before or behind a character of that line's content
+abbrev pub is_exact : Encoding → Text → Position → Bool
+is_exact e text position = let content = line_content text position.line in
+    nat_le position.line (count Crlf text)
+    && (weighed (units_of e) content (boundary_weighed (units_of e) content position.character) == position.character)
+
+-- the byte index of a position that names a place
+abbrev pub exact_byte_at : Encoding → Text → Position → Option ℕ
+exact_byte_at e text position = if is_exact e text position then Some (byte_at e text position) else None

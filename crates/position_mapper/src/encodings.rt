@@ -1,11 +1,11 @@
 // Positions where offsets are counted in one of the protocol's encodings.
-ghost use Rattle.std.specs.Prelude.{◌≡◌, IsCharBoundary, chars};
+ghost use Rattle.std.specs.Prelude.{◌≡◌, IfSome, IsCharBoundary, chars};
 ghost use Rattle.str_indices.specs.Schemes.{boundary_weighed, weighed};
 ghost use Rattle.position_mapper.specs.Encodings.{units_of};
-ghost use Rattle.position_mapper.specs.Positions.{byte_at, position_at};
+ghost use Rattle.position_mapper.specs.Positions.{byte_at, exact_byte_at, position_at};
 
 use crate::look_back::line_start;
-use crate::{Position, line_at, line_of};
+use crate::{Position, has_line, line_at, line_of};
 use str_indices::laws::start_of_line;
 use str_indices::{chars, lines_crlf as lines, utf16};
 
@@ -52,6 +52,23 @@ impl Encoding {
     {
         let line = line_of(text, position.line);
         line.start + self.boundary_at(line.content, position.character)
+    }
+
+    /// The byte index of a position that names a place, or `None`: where the text has no such line, the offset is past
+    /// the end of the line, or the unit is inside a char. So a server notices a client that is out of step.
+    ///
+    /// The text may be sliced at the answer.
+    pub fn exact_byte_of(self, text: &str, position: Position) -> Option<usize>
+        ensures answer { result ≡ exact_byte_at self (chars text.now) position }
+        ensures boundary { IfSome result (λ byte. IsCharBoundary text.now byte) }
+    {
+        let Position { line: index, character } = position;
+        let line = line_of(text, index);
+        let offset = self.boundary_at(line.content, character);
+        if !has_line(text, index, line.start) || self.units_before(line.content, offset) != character {
+            return None;
+        }
+        Some(line.start + offset)
     }
 
     /// The units of the chars before the byte index.

@@ -7,9 +7,9 @@
 //! Every text, byte index and position has an answer: nothing panics, nothing allocates.
 #![tactic(auto)]
 
-ghost use Rattle.std.specs.Prelude.{◌≡◌, ◌+◌, ◌≤◌, IsCharBoundary, chars, drop, length};
+ghost use Rattle.std.specs.Prelude.{◌≡◌, ◌+◌, ◌≤◌, IsCharBoundary, chars, drop, length, nat_le};
 ghost use Rattle.std.specs.List.{before_first};
-ghost use Rattle.str_indices.specs.Schemes.{to_byte_idx};
+ghost use Rattle.str_indices.specs.Schemes.{count, to_byte_idx};
 ghost use Rattle.str_indices.specs.declared.Scheme.TheVariants.{Crlf};
 ghost use Rattle.position_mapper.specs.Lines.{is_break, line_content, line_end, IsWithoutLast};
 ghost use Rattle.position_mapper.specs.Positions.{byte_at, position_at};
@@ -77,6 +77,7 @@ struct Line<'t> {
 
 #[tactic(auto, using(crate::proofs::lemmas::LineBytes::line_in_bytes))]
 fn line_of(text: &str, index: usize) -> Line<'_>
+    ensures index { result.index ≡ index }
     ensures start { result.start ≡ to_byte_idx Crlf (chars text.now) index }
     ensures content { chars result.content.now ≡ line_content (chars text.now) index }
     ensures end { result.start + length result.content.now ≡ line_end (chars text.now) index }
@@ -102,6 +103,15 @@ fn line_at(text: &str, index: usize, start: usize) -> Line<'_>
         start,
         content,
     }
+}
+
+/// Whether the text has the line of this index, which would begin at `start`.
+fn has_line(text: &str, index: usize, start: usize) -> bool
+    requires { start ≡ to_byte_idx Crlf (chars text.now) index }
+    ensures { result ≡ nat_le index (count Crlf (chars text.now)) }
+{
+    // A line that begins before the end is there, so the breaks are counted at the end alone.
+    start < text.len() || index <= lines::count_breaks(text)
 }
 
 /// The text before its first LF or CR; all of it where it has none.

@@ -1,5 +1,5 @@
 -- The names that the proofs here cite most, passed on from one place. Declares nothing.
-pub use Rattle.std.proofs.Common.{◌≡◌, ℕ, ◌+◌, ◌-◌, ◌<◌, ◌≤◌, min, Bool, true, false, cond, not, ◌≢◌, ◌⊎◌, List, [], ◌∷◌, ◌++◌, reverse, length, get_or, take, drop, nat_le, IsUtf8, sum_by, count_by, chars, IsCharBoundary, sym, refl, ap, ◌∙◌, subst, inl, inr, append_assoc, append-nil, arith, take-append-drop, length-take-le}
+pub use Rattle.std.proofs.Common.{◌==◌, Some, None, ◌≡◌, ℕ, ◌+◌, ◌-◌, ◌<◌, ◌≤◌, min, Bool, true, false, cond, not, ◌≢◌, ◌⊎◌, List, [], ◌∷◌, ◌++◌, reverse, length, get_or, take, drop, nat_le, IsUtf8, sum_by, count_by, chars, IsCharBoundary, sym, refl, ap, ◌∙◌, subst, inl, inr, append_assoc, append-nil, arith, take-append-drop, length-take-le}
 pub use Rattle.std.proofs.Math.Seq.{drop-length, drop-append_seam}
 pub use Rattle.std.proofs.lemmas.Bool.{cases_lt, cases_Bool}
 pub use Rattle.std.proofs.lemmas.List.{append_cancel_left, append_cancel_right, reverse-append}
@@ -15,7 +15,7 @@ pub use Rattle.str_indices.specs.Text.{Text, size, line_feed, carriage_return, i
 pub use Rattle.str_indices.specs.declared.Scheme.TheVariants.{Chars, Crlf}
 pub use Rattle.position_mapper.specs.Encodings.{units_of}
 pub use Rattle.position_mapper.specs.Lines.{is_break, behind, line_content, line_end, IsWithoutLast}
-pub use Rattle.position_mapper.specs.Positions.{units_on_line, position_at, byte_at}
+pub use Rattle.position_mapper.specs.Positions.{units_on_line, position_at, byte_at, is_exact, exact_byte_at}
 pub use Rattle.position_mapper.specs.Relations.{IsBreakStart, IsLineEnd, IsGreatestPlace, IsAtOrBefore}
 pub use Rattle.position_mapper.specs.declared.Position.{Position}
 pub use Rattle.position_mapper.specs.declared.encodings.Encoding.{Encoding}

@@ -1,5 +1,7 @@
 -- What holds of the ends of lines, and of positions and their byte indices.
-use Rattle.position_mapper.proofs.lemmas.Common.{◌≡◌, ℕ, ◌+◌, ◌-◌, ◌<◌, ◌≤◌, ◌⊎◌, inl, inr, sym, ◌∙◌, ap, arith, min, sum_by, cases_lt, Text, size, from_byte_idx, to_byte_idx, weighed, boundary_weighed, count, Crlf, IsBoundary, IsInside, cut_all, end_at-past, from_byte_idx-le, to-from_is_greatest, weighed-le-weighed, boundary_weighed_is_greatest, boundary_weighed-le, weighed_is_greatest_boundary, weighed_or_inside, weighed_inside, Position, Encoding, units_of, line_content, line_end, units_on_line, position_at, byte_at, IsGreatestPlace, IsAtOrBefore}
+use Rattle.std.proofs.lemmas.Bool.{and_from, and_parts, eqb-true, false_from_ne_true}
+use Rattle.std.proofs.lemmas.Bool.Decides.{nat_tests}
+use Rattle.position_mapper.proofs.lemmas.Common.{Bool, true, false, ◌==◌, nat_le, Some, None, ◌≢◌, refl, is_exact, exact_byte_at, ◌≡◌, ℕ, ◌+◌, ◌-◌, ◌<◌, ◌≤◌, ◌⊎◌, inl, inr, sym, ◌∙◌, ap, arith, min, sum_by, cases_lt, Text, size, from_byte_idx, to_byte_idx, weighed, boundary_weighed, count, Crlf, IsBoundary, IsInside, cut_all, end_at-past, from_byte_idx-le, to-from_is_greatest, weighed-le-weighed, boundary_weighed_is_greatest, boundary_weighed-le, weighed_is_greatest_boundary, weighed_or_inside, weighed_inside, Position, Encoding, units_of, line_content, line_end, units_on_line, position_at, byte_at, IsGreatestPlace, IsAtOrBefore}
 use Rattle.position_mapper.proofs.lemmas.Encodings.{units_of-some}
 use Rattle.position_mapper.proofs.lemmas.Lines.{crlf_is_not_utf16, not_middle_at_end, boundary_within, line_of_place, line_end_le, not_middle_on_line, end_before, IsBoundary-from_content, IsBoundary-in_content, IsBoundary-line_end}
 
@@ -113,3 +115,27 @@ last_line_end e cs p past =
     omega (arith, end_at-past Crlf cs p.line past) in
     ap (λ line. units_on_line e cs line (byte_at e cs p)) same
     ∙ ap (sum_by (units_of e)) (cut_all content (byte_at e cs p - to_byte_idx Crlf cs last) behind)
+
+eqb-same : (n : ℕ) → (n == n) ≡ true
+eqb-same n = grind (arith, nat_tests)
+
+-- an offset that comes back stands for a place of the text, where that has the line; and another does not
+module _ (e : Encoding) (cs : Text) (p : Position) (offset : ℕ)
+    (place : offset ≡ boundary_weighed (units_of e) (line_content cs p.line) p.character) where
+  pub exact_some : nat_le p.line (count Crlf cs) ≡ true
+      → weighed (units_of e) (line_content cs p.line) offset ≡ p.character
+      → Some (to_byte_idx Crlf cs p.line + offset) ≡ exact_byte_at e cs p
+  exact_some has same =
+      let back = rw place at same in
+      let is : is_exact e cs p ≡ true = and_from _ _ has (rw back (eqb-same p.character)) in
+      rw is (ap (λ n. Some (to_byte_idx Crlf cs p.line + n)) place)
+
+  pub exact_none : (nat_le p.line (count Crlf cs) ≡ false)
+      ⊎ (weighed (units_of e) (line_content cs p.line) offset ≢ p.character) → None ≡ exact_byte_at e cs p
+  exact_none differs =
+      let back = λ (same : is_exact e cs p ≡ true). and_parts _ _ same in
+      let is : is_exact e cs p ≡ false = false_from_ne_true _ (λ same. elim differs [
+        | inl past ↦ let clash : true ≡ false = sym (back same).0 ∙ past in cc
+        | inr other ↦ other (rw place (eqb-true _ _ (back same).1))
+      ]) in
+      rw is refl
