@@ -166,6 +166,33 @@ fn an_offset_is_in_the_encoding(rt: HostRuntime) {
     }
 }
 
+/// Lines and offsets in UTF-16 code units, and the bytes of those that name a place.
+const EXACT: [(usize, usize, Option<usize>); 10] = [
+    (0, 0, Some(0)),
+    (0, 1, Some(1)),
+    (0, 2, None), // past the end of its line
+    (1, 1, None), // inside a char
+    (1, 2, Some(7)),
+    (2, 1, Some(12)),
+    (3, 0, Some(13)),
+    (4, 1, Some(15)),
+    (5, 0, None), // past the last line
+    (usize::MAX, usize::MAX, None),
+];
+
+#[test]
+fn an_exact_position_names_a_place(rt: HostRuntime) {
+    for i in 0..EXACT.len() {
+        let (line, character, byte) = EXACT[i];
+        let found = Encoding::Utf16.exact_byte_of(TEXT, at(line, character));
+        assert_eq!(&rt; found, byte, "row {i}");
+    }
+    // A last line that is empty is there, and the one after it is not.
+    assert_eq!(&rt; Encoding::Utf8.exact_byte_of("a\n", at(1, 0)), Some(2));
+    assert_eq!(&rt; Encoding::Utf8.exact_byte_of("a\n", at(2, 0)), None);
+    assert_eq!(&rt; Encoding::Utf32.exact_byte_of("", at(0, 0)), Some(0));
+}
+
 /// Offsets in bytes that are inside a char, past the end of a line and past the last line, and their bytes.
 #[test]
 fn a_byte_inside_a_char_belongs_to_it(rt: HostRuntime) {

@@ -1,12 +1,12 @@
 //! Laws of lines and positions. Each function does nothing: its contract is the law.
-ghost use Rattle.std.specs.Prelude.{◌≡◌, ◌+◌, ◌<◌, ◌≤◌, ◌⊎◌, chars, min, sum_by};
+ghost use Rattle.std.specs.Prelude.{◌≡◌, ◌+◌, ◌<◌, ◌≤◌, ◌⊎◌, IfSome, IsSome, chars, min, sum_by};
 ghost use Rattle.str_indices.specs.Relations.{IsBoundary, IsCrlfMiddle};
 ghost use Rattle.str_indices.specs.Schemes.{boundary_weighed, count, from_byte_idx, to_byte_idx, weighed};
 ghost use Rattle.str_indices.specs.declared.Scheme.TheVariants.{Crlf};
 ghost use Rattle.str_indices.specs.Starts.{IsInside};
 ghost use Rattle.position_mapper.specs.Encodings.{units_of};
 ghost use Rattle.position_mapper.specs.Lines.{line_content, line_end};
-ghost use Rattle.position_mapper.specs.Positions.{byte_at, position_at};
+ghost use Rattle.position_mapper.specs.Positions.{byte_at, exact_byte_at, position_at};
 ghost use Rattle.position_mapper.specs.Relations.{IsAtOrBefore, IsGreatestPlace, IsLineEnd};
 
 use crate::{Encoding, Position};
@@ -48,6 +48,14 @@ pub fn position_round_trip(encoding: Encoding, text: &str, position: Position)
     ensures past { let cs = chars text.now in count Crlf cs < position.line
         → (position_at encoding cs (byte_at encoding cs position)).character
         ≡ sum_by (units_of encoding) (line_content cs (count Crlf cs)) }
+{}
+
+/// A position names a place exactly where some byte has that position, and then the place's byte index does.
+pub fn exact_positions(encoding: Encoding, text: &str, position: Position, byte: usize)
+    ensures back { let cs = chars text.now in
+        IfSome (exact_byte_at encoding cs position) (λ place. position_at encoding cs place ≡ position) }
+    ensures only { let cs = chars text.now in
+        position_at encoding cs byte ≡ position → IsSome (exact_byte_at encoding cs position) }
 {}
 
 /// A greater byte index never has an earlier position.

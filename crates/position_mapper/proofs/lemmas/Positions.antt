@@ -80,7 +80,7 @@ line-position_at-byte_at e cs p =
 
 -- and the offset on a line that the text has
 module _ (e : Encoding) (cs : Text) (p : Position) (has : p.line ≤ count Crlf cs) where
-  character-position_at-byte_at : (position_at e cs (byte_at e cs p)).character
+  pub character-position_at-byte_at : (position_at e cs (byte_at e cs p)).character
       ≡ weighed (units_of e) (line_content cs p.line) (boundary_weighed (units_of e) (line_content cs p.line) p.character)
   character-position_at-byte_at =
       let w = units_of e in
@@ -116,7 +116,7 @@ last_line_end e cs p past =
     ap (λ line. units_on_line e cs line (byte_at e cs p)) same
     ∙ ap (sum_by (units_of e)) (cut_all content (byte_at e cs p - to_byte_idx Crlf cs last) behind)
 
-eqb-same : (n : ℕ) → (n == n) ≡ true
+pub eqb-same : (n : ℕ) → (n == n) ≡ true
 eqb-same n = grind (arith, nat_tests)
 
 -- an offset that comes back stands for a place of the text, where that has the line; and another does not

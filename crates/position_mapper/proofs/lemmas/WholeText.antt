@@ -1,5 +1,9 @@
 -- Positions by the units of the whole text, where a position's own are those of its line's content.
-use Rattle.position_mapper.proofs.lemmas.Common.{◌≡◌, ℕ, ◌+◌, ◌-◌, ◌≤◌, inl, inr, arith, refl, min, cases_lt, Text, size, cut, from_byte_idx, to_byte_idx, weighed, boundary_weighed, Crlf, IsBoundary, IsGreatestBoundary, cut_is_longest, weighed_at, weighed-le-weighed, boundary_weighed_is_greatest, boundary_weighed_iff, weighed_is_greatest_boundary, to-from_is_greatest, Position, Encoding, units_of, line_content, line_end, units_on_line, position_at, byte_at}
+use Rattle.std.specs.Prelude.{IfSome, IsSome}
+use Rattle.std.proofs.Common.{ap₂}
+use Rattle.std.proofs.lemmas.Bool.{and_from, and_parts, eqb-true, le-leb, leb-true}
+use Rattle.position_mapper.proofs.lemmas.Positions.{line-position_at-byte_at, character-position_at-byte_at, eqb-same}
+use Rattle.position_mapper.proofs.lemmas.Common.{true, sym, subst, ◌==◌, ◌∙◌, count, cases_Bool, from_byte_idx-le-count, is_exact, exact_byte_at, ◌≡◌, ℕ, ◌+◌, ◌-◌, ◌≤◌, inl, inr, arith, refl, min, cases_lt, Text, size, cut, from_byte_idx, to_byte_idx, weighed, boundary_weighed, Crlf, IsBoundary, IsGreatestBoundary, cut_is_longest, weighed_at, weighed-le-weighed, boundary_weighed_is_greatest, boundary_weighed_iff, weighed_is_greatest_boundary, to-from_is_greatest, Position, Encoding, units_of, line_content, line_end, units_on_line, position_at, byte_at}
 use Rattle.position_mapper.proofs.lemmas.Encodings.{units_of-some}
 use Rattle.position_mapper.proofs.lemmas.Lines.{crlf_is_not_utf16, boundary_within, IsBoundary-from_content, weighed-from_content, IsBoundary-line_end, IsBoundary-in_content}
 
@@ -90,3 +94,32 @@ byte_of_units e cs p =
           let ends = IsBoundary-line_end cs p.line in
           omega (arith, most (line_end cs p.line) ends (omega arith) (omega arith) (omega arith))
     ]
+
+-- a position that names a place is that of its byte index
+pub exact_goes_back : (e : Encoding) (cs : Text) (p : Position)
+    → IfSome (exact_byte_at e cs p) (λ place. position_at e cs place ≡ p)
+exact_goes_back e cs p = elim (cases_Bool (is_exact e cs p)) [
+  | inl exact ↦
+      let (has, same) = and_parts _ _ exact in
+      let within : p.line ≤ count Crlf cs = leb-true _ _ has in
+      let line : (position_at e cs (byte_at e cs p)).line ≡ p.line = omega (arith, line-position_at-byte_at e cs p) in
+      let character = character-position_at-byte_at e cs p within ∙ eqb-true _ _ same in
+      rw exact (ap₂ (λ l k. record { line = l; character = k }) line character)
+  | inr not_exact ↦ rw not_exact tt
+]
+
+-- and the position of a byte index names a place
+pub exact_of_byte : (e : Encoding) (cs : Text) (p : Position) (byte : ℕ) → position_at e cs byte ≡ p
+    → IsSome (exact_byte_at e cs p)
+exact_of_byte e cs p byte is =
+    let w = units_of e in
+    let line = from_byte_idx Crlf cs byte in
+    let content = line_content cs line in
+    let on_line = byte - to_byte_idx Crlf cs line in
+    let place = weighed_is_greatest_boundary w (units_of-some e) content on_line in
+    let same = weighed_at_greatest w content on_line (boundary_weighed w content (weighed w content on_line)) place in
+    let has = le-leb line (count Crlf cs) (from_byte_idx-le-count Crlf cs byte) in
+    let units : (weighed w content (boundary_weighed w content (weighed w content on_line)) == weighed w content on_line)
+        ≡ true = rw (sym same) (eqb-same (weighed w content on_line)) in
+    let exact : is_exact e cs (position_at e cs byte) ≡ true = and_from _ _ has units in
+    subst (λ q. IsSome (exact_byte_at e cs q)) is (rw exact refl)
