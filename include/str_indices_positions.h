@@ -1,11 +1,16 @@
 /*
  * Maps byte indices of a UTF-8 text to the positions of the Language Server
- * Protocol 3.17, and back, for a server whose position encoding is UTF-16.
+ * Protocol 3.17, and back.
  *
  * A line ends in LF, CR or CR LF, which is one break. A position is a line and
- * an offset on it in UTF-16 code units, both from 0. No position names a place
- * inside or behind a break on its line: an offset past the end of the line
- * means the line's end, before its break.
+ * an offset on it, both from 0. No position names a place inside or behind a
+ * break on its line: an offset past the end of the line means the line's end,
+ * before its break. An offset inside a char belongs to the char's start.
+ *
+ * The protocol knows three position encodings, which say what an offset counts.
+ * The first functions are for UTF-16, its default, and count UTF-16 code units.
+ * The others are for UTF-8, which counts bytes, and for UTF-32, which counts
+ * scalar values. The end of a line is the same in all three.
  *
  * The functions are in the library of str_indices.h, and each is proved to
  * answer by a definition of lines and positions. What is said there of a text
@@ -21,7 +26,7 @@ extern "C" {
 #endif
 
 /* A place in a text, as a language server names it: the line, and the offset
- * on that line in UTF-16 code units. */
+ * on that line in the units of the encoding. */
 typedef struct str_indices_position {
     size_t line;
     size_t character;
@@ -44,6 +49,38 @@ size_t str_indices_byte_of(const char *text, size_t len,
 /* The byte index where the content of a line ends: before its break, or `len`
  * where it is the last line or past it. */
 size_t str_indices_line_end(const char *text, size_t len, size_t line_idx);
+
+/*
+ * UTF-8: offsets in bytes.
+ */
+
+/* From a byte index to its position: the byte's line, and the bytes from that
+ * line's beginning to it. A byte inside a char, one between CR and LF and one
+ * past the end are answered as by str_indices_position_of. */
+str_indices_position str_indices_utf8_position_of(const char *text, size_t len,
+                                                  size_t byte_idx);
+
+/* From a position to the byte index where the char at it begins. An offset
+ * inside a char gives the byte where the char begins, one past the end of the
+ * line the line's end, before its break, and a line past the last one `len`. */
+size_t str_indices_utf8_byte_of(const char *text, size_t len,
+                                str_indices_position position);
+
+/*
+ * UTF-32: offsets in scalar values, of which each char is one.
+ */
+
+/* From a byte index to its position: the byte's line, and the scalar values
+ * from that line's beginning to it. A byte inside a char, one between CR and LF
+ * and one past the end are answered as by str_indices_position_of. */
+str_indices_position str_indices_utf32_position_of(const char *text, size_t len,
+                                                   size_t byte_idx);
+
+/* From a position to the byte index where the char at it begins. An offset past
+ * the end of the line gives the line's end, before its break, and a line past
+ * the last one gives `len`. */
+size_t str_indices_utf32_byte_of(const char *text, size_t len,
+                                 str_indices_position position);
 
 #ifdef __cplusplus
 }

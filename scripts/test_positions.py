@@ -1,10 +1,10 @@
 #!/usr/bin/env python3
 """Compares the positions of the library with a model of the Language Server Protocol, over random texts.
 
-The model is Python's: `str`, split at LF, CR and CR LF, and `encode("utf-16-le")`. The texts come from a fixed seed and
-are of the characters that matter; each is asked at every byte index and at every position, past the end of each line and
-of the text too. The static library is linked as a shared object, in a temporary folder. The last line printed is
-'N passed, M failed'.
+The model is Python's: `str`, split at LF, CR and CR LF, and `encode` in each of the protocol's encodings. The texts
+come from a fixed seed and are of the characters that matter; each is asked in each encoding at every byte index and at
+every position, past the end of each line and of the text too. The static library is linked as a shared object, in a
+temporary folder. The last line printed is 'N passed, M failed'.
 """
 import ctypes
 import pathlib
@@ -26,6 +26,13 @@ GREATEST = 2**64 - 1
 CHARACTERS = "\n\n\r\r\r\nab\0é\u0085\u00a0せ\u2028\u2029\ufeff🐸\U0010ffff\x0b\x0c"
 BREAK = re.compile("\r\n|\r|\n")
 
+# how the names of an encoding's functions begin, and in Python its codec and the bytes of a unit
+ENCODINGS = [
+    ("str_indices_utf8_", "utf-8", 1),
+    ("str_indices_", "utf-16-le", 2),
+    ("str_indices_utf32_", "utf-32-le", 4),
+]
+
 tally = Tally()
 
 
@@ -33,17 +40,17 @@ class Position(ctypes.Structure):
     _fields_ = [("line", ctypes.c_size_t), ("character", ctypes.c_size_t)]
 
 
-def units(text):
-    return len(text.encode("utf-16-le")) // 2
+def units(text, codec, size):
+    return len(text.encode(codec)) // size
 
 
-def position_of(data, byte):
-    """The position of a byte by the model: what stands before it, split into lines."""
+def line_before(data, byte):
+    """The line of a byte and that line's text before it by the model: what stands before the byte, split into lines."""
     before = data[:byte].decode("utf-8", "ignore")
     if data[byte - 1 : byte + 1] == b"\r\n" and byte > 0:
         before = before[:-1]
     lines = BREAK.split(before)
-    return len(lines) - 1, units(lines[-1])
+    return len(lines) - 1, lines[-1]
 
 
 def lines_of(text):
@@ -55,10 +62,14 @@ def lines_of(text):
     yield start, ""
 
 
-def byte_of(start, content, character):
-    """The byte of an offset on a line by the model: half a surrogate pair is left out."""
-    before = content.encode("utf-16-le")[: 2 * character].decode("utf-16-le", "ignore")
+def byte_at(start, content, character, codec, size):
+    """The byte of an offset on a line by the model: a part of a character is left out."""
+    before = content.encode(codec)[: size * character].decode(codec, "ignore")
     return start + len(before.encode())
+
+
+def functions(library, prefix):
+    return getattr(library, f"{prefix}position_of"), getattr(library, f"{prefix}byte_of")
 
 
 def link(library, folder):
@@ -71,10 +82,10 @@ def link(library, folder):
         return None
     loaded = ctypes.CDLL(str(shared))
     text = [ctypes.c_char_p, ctypes.c_size_t]
-    loaded.str_indices_position_of.argtypes = [*text, ctypes.c_size_t]
-    loaded.str_indices_position_of.restype = Position
-    loaded.str_indices_byte_of.argtypes = [*text, Position]
-    loaded.str_indices_byte_of.restype = ctypes.c_size_t
+    for prefix, _, _ in ENCODINGS:
+        position_of, byte_of = functions(loaded, prefix)
+        position_of.argtypes, position_of.restype = [*text, ctypes.c_size_t], Position
+        byte_of.argtypes, byte_of.restype = [*text, Position], ctypes.c_size_t
     loaded.str_indices_line_end.argtypes = [*text, ctypes.c_size_t]
     loaded.str_indices_line_end.restype = ctypes.c_size_t
     return loaded
@@ -92,16 +103,22 @@ def differences(library, text):
         if answer != expected:
             wrong.append(f"{call} of {text!r}: {answer}, not {expected}")
 
-    for byte in [*range(len(data) + 2), GREATEST]:
-        answer = library.str_indices_position_of(data, len(data), byte)
-        compare(f"position_of {byte}", (answer.line, answer.character), position_of(data, byte))
+    places = [(byte, *line_before(data, byte)) for byte in [*range(len(data) + 2), GREATEST]]
     lines = list(lines_of(text))
-    for index, (start, content) in [*enumerate(lines), (GREATEST, lines[-1])]:
+    lines = [*enumerate(lines), (GREATEST, lines[-1])]
+    for index, (start, content) in lines:
         answer = library.str_indices_line_end(data, len(data), index)
         compare(f"line_end {index}", answer, start + len(content.encode()))
-        for character in [*range(units(content) + 3), GREATEST]:
-            answer = library.str_indices_byte_of(data, len(data), Position(index, character))
-            compare(f"byte_of {index}:{character}", answer, byte_of(start, content, character))
+    for prefix, codec, size in ENCODINGS:
+        position_of, byte_of = functions(library, prefix)
+        for byte, line, before in places:
+            answer = position_of(data, len(data), byte)
+            compare(f"{codec} position_of {byte}", (answer.line, answer.character), (line, units(before, codec, size)))
+        for index, (start, content) in lines:
+            for character in [*range(units(content, codec, size) + 3), GREATEST]:
+                answer = byte_of(data, len(data), Position(index, character))
+                expected = byte_at(start, content, character, codec, size)
+                compare(f"{codec} byte_of {index}:{character}", answer, expected)
     return wrong, calls
 
 

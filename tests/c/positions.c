@@ -67,11 +67,50 @@ static void ends_of_lines(void)
     same(str_indices_line_end(text, len, SIZE_MAX) == len, "line_end", SIZE_MAX, 0);
 }
 
+static void positions_by_encoding(void)
+{
+    static const struct {
+        size_t byte, line, utf8, utf32;
+    } rows[] = {
+        {2, 0, 1, 1}, {6, 1, 0, 0}, {7, 1, 4, 1}, {8, 1, 5, 2}, {11, 2, 0, 0},
+        {12, 2, 3, 1}, {SIZE_MAX, 4, 1, 1},
+    };
+    for (size_t i = 0; i < sizeof rows / sizeof rows[0]; i++) {
+        str_indices_position utf8 = str_indices_utf8_position_of(text, len, rows[i].byte);
+        str_indices_position utf32 = str_indices_utf32_position_of(text, len, rows[i].byte);
+        same(utf8.line == rows[i].line && utf8.character == rows[i].utf8,
+             "utf8_position_of", rows[i].byte, 0);
+        same(utf32.line == rows[i].line && utf32.character == rows[i].utf32,
+             "utf32_position_of", rows[i].byte, 0);
+    }
+}
+
+static void bytes_by_encoding(void)
+{
+    static const struct {
+        str_indices_position position;
+        size_t utf8, utf32;
+    } rows[] = {
+        {{0, 2}, 1, 1}, {{1, 1}, 3, 7}, {{1, 3}, 3, 8}, {{1, 4}, 7, 8},
+        {{1, 9}, 8, 8}, {{2, 1}, 9, 12}, {{2, 3}, 12, 12}, {{5, 0}, 15, 15},
+        {{SIZE_MAX, SIZE_MAX}, 15, 15},
+    };
+    for (size_t i = 0; i < sizeof rows / sizeof rows[0]; i++) {
+        str_indices_position position = rows[i].position;
+        same(str_indices_utf8_byte_of(text, len, position) == rows[i].utf8, "utf8_byte_of",
+             position.line, position.character);
+        same(str_indices_utf32_byte_of(text, len, position) == rows[i].utf32, "utf32_byte_of",
+             position.line, position.character);
+    }
+}
+
 int main(void)
 {
     positions_of_bytes();
     bytes_of_positions();
     ends_of_lines();
+    positions_by_encoding();
+    bytes_by_encoding();
     printf("%d passed, %d failed\n", passed, failed);
     return failed != 0;
 }

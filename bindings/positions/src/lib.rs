@@ -1,8 +1,10 @@
-//! Maps byte indices of a text to the positions of the Language Server Protocol 3.17, and back, for a server whose
-//! position encoding is UTF-16.
+//! Maps byte indices of a text to the positions of the Language Server Protocol 3.17, and back.
 //!
 //! A line ends in LF, CR or CR LF, which is one break. No position names a place inside or behind a break on its line: an
 //! offset past the end of the line means the line's end, before its break.
+//!
+//! Offsets are counted in UTF-16 code units by the functions, as is the protocol's default, and by the methods of
+//! [`Encoding`] in bytes, UTF-16 code units or scalar values.
 //!
 //! The functions are proved to answer by a definition of lines and positions: each call here is one call into the static
 //! library of the crate `str_indices`. Every text, byte index and position has an answer: nothing panics, and nothing
@@ -28,6 +30,8 @@
 //! ```
 #![no_std]
 
+use core::num::TryFromIntError;
+
 // The static library is linked by this crate.
 use str_indices as _;
 
@@ -37,14 +41,117 @@ use str_indices as _;
 pub struct Position {
     /// The line, counted from 0.
     pub line: usize,
-    /// The offset on that line, in UTF-16 code units.
+    /// The offset on that line, in the units of an encoding.
     pub character: usize,
+}
+
+impl Position {
+    /// The position of these numbers, which the protocol has as `u32`.
+    ///
+    /// ```
+    /// use str_indices_positions::Position;
+    ///
+    /// assert_eq!(Position::from_u32(1, u32::MAX), Position { line: 1, character: 4_294_967_295 });
+    /// ```
+    #[inline]
+    pub fn from_u32(line: u32, character: u32) -> Position {
+        // No cut: the library is for x86-64 alone.
+        Position {
+            line: line as usize,
+            character: character as usize,
+        }
+    }
+
+    /// The line and the offset as the protocol's numbers; an error where one of them is past `u32::MAX`.
+    ///
+    /// ```
+    /// use str_indices_positions::Position;
+    ///
+    /// assert_eq!(Position { line: 1, character: 2 }.to_u32(), Ok((1, 2)));
+    /// assert!(Position { line: 0, character: 4_294_967_296 }.to_u32().is_err());
+    /// ```
+    #[inline]
+    pub fn to_u32(self) -> Result<(u32, u32), TryFromIntError> {
+        Ok((u32::try_from(self.line)?, u32::try_from(self.character)?))
+    }
+}
+
+/// How an offset on a line is counted, on which a server and its client agree: the protocol's `PositionEncodingKind`.
+#[derive(Clone, Copy, Debug, Default, PartialEq, Eq, Hash)]
+pub enum Encoding {
+    /// In bytes.
+    Utf8,
+    /// In UTF-16 code units, the protocol's default.
+    #[default]
+    Utf16,
+    /// In scalar values: each char is one.
+    Utf32,
+}
+
+impl Encoding {
+    /// The position of a byte: its line, and the units from that line's beginning to the byte.
+    ///
+    /// A byte inside a char has the position where the char begins, the byte between CR and LF that of the line's end,
+    /// and a byte past the end that of the text's end.
+    ///
+    /// ```
+    /// use str_indices_positions::{Encoding, Position};
+    ///
+    /// let text = "a\r\n🐸b";
+    /// assert_eq!(Encoding::Utf8.position_of(text, 7), Position { line: 1, character: 4 });
+    /// assert_eq!(Encoding::Utf16.position_of(text, 7), Position { line: 1, character: 2 });
+    /// assert_eq!(Encoding::Utf32.position_of(text, 7), Position { line: 1, character: 1 });
+    /// assert_eq!(Encoding::Utf8.position_of(text, 6), Position { line: 1, character: 0 });
+    /// ```
+    #[inline]
+    pub fn position_of(self, text: &str, byte_idx: usize) -> Position {
+        let (start, len) = (text.as_ptr(), text.len());
+        // SAFETY: as in the function `position_of`.
+        unsafe {
+            match self {
+                Encoding::Utf8 => str_indices_utf8_position_of(start, len, byte_idx),
+                Encoding::Utf16 => str_indices_position_of(start, len, byte_idx),
+                Encoding::Utf32 => str_indices_utf32_position_of(start, len, byte_idx),
+            }
+        }
+    }
+
+    /// The byte index where the char at a position begins.
+    ///
+    /// An offset inside a char belongs to its char. An offset past the end of the line gives the line's end, before its
+    /// break, and a line past the last one the length of the text in bytes.
+    ///
+    /// ```
+    /// use str_indices_positions::{Encoding, Position};
+    ///
+    /// let text = "a\r\n🐸b";
+    /// assert_eq!(Encoding::Utf8.byte_of(text, Position { line: 1, character: 4 }), 7);
+    /// assert_eq!(Encoding::Utf16.byte_of(text, Position { line: 1, character: 2 }), 7);
+    /// assert_eq!(Encoding::Utf32.byte_of(text, Position { line: 1, character: 1 }), 7);
+    /// assert_eq!(Encoding::Utf8.byte_of(text, Position { line: 1, character: 3 }), 3);
+    /// ```
+    #[inline]
+    pub fn byte_of(self, text: &str, position: Position) -> usize {
+        let (start, len) = (text.as_ptr(), text.len());
+        // SAFETY: as in the function `position_of`, and every position has an answer.
+        unsafe {
+            match self {
+                Encoding::Utf8 => str_indices_utf8_byte_of(start, len, position),
+                Encoding::Utf16 => str_indices_byte_of(start, len, position),
+                Encoding::Utf32 => str_indices_utf32_byte_of(start, len, position),
+            }
+        }
+    }
 }
 
 extern "C" {
     fn str_indices_position_of(text: *const u8, len: usize, byte_idx: usize) -> Position;
     fn str_indices_byte_of(text: *const u8, len: usize, position: Position) -> usize;
     fn str_indices_line_end(text: *const u8, len: usize, line_idx: usize) -> usize;
+    fn str_indices_utf8_position_of(text: *const u8, len: usize, byte_idx: usize) -> Position;
+    fn str_indices_utf8_byte_of(text: *const u8, len: usize, position: Position) -> usize;
+    fn str_indices_utf32_position_of(text: *const u8, len: usize, byte_idx: usize) -> Position;
+    fn str_indices_utf32_byte_of(text: *const u8, len: usize, position: Position) -> usize;
 }
 
 /// The position of a byte: its line, and the UTF-16 code units from that line's beginning to the byte.

@@ -1,5 +1,5 @@
 //! Positions of a text whose lines end in CR LF, in CR, in LF twice and in nothing, worked by the protocol's rules.
-use str_indices_positions::{byte_of, line_end, position_of, Position};
+use str_indices_positions::{byte_of, line_end, position_of, Encoding, Position};
 
 const TEXT: &str = "a\r\n🐸b\rせ\n\nx";
 
@@ -45,4 +45,42 @@ fn lines_end_before_their_breaks() {
         assert_eq!(line_end(TEXT, line), end, "{line}");
     }
     assert_eq!(line_end("", 0), 0);
+}
+
+#[test]
+fn offsets_are_counted_in_the_units_of_the_encoding() {
+    // a byte index, its line, and its offset in UTF-8, UTF-16 and UTF-32
+    let positions = [
+        (2, 0, [1, 1, 1]),
+        (6, 1, [0, 0, 0]),
+        (7, 1, [4, 2, 1]),
+        (8, 1, [5, 3, 2]),
+        (11, 2, [0, 0, 0]),
+        (12, 2, [3, 1, 1]),
+        (usize::MAX, 4, [1, 1, 1]),
+    ];
+    // a line, an offset on it, and the byte that these mean in UTF-8, UTF-16 and UTF-32
+    let bytes = [
+        (0, 2, [1, 1, 1]),
+        (1, 1, [3, 3, 7]),
+        (1, 2, [3, 7, 8]),
+        (1, 3, [3, 8, 8]),
+        (1, 4, [7, 8, 8]),
+        (1, 9, [8, 8, 8]),
+        (2, 1, [9, 12, 12]),
+        (2, 3, [12, 12, 12]),
+        (5, 0, [15, 15, 15]),
+    ];
+    let encodings = [Encoding::Utf8, Encoding::Utf16, Encoding::Utf32];
+    for (nth, encoding) in encodings.into_iter().enumerate() {
+        for (byte, line, characters) in positions {
+            let character = characters[nth];
+            let position = Position { line, character };
+            assert_eq!(encoding.position_of(TEXT, byte), position, "{encoding:?}");
+        }
+        for (line, character, places) in bytes {
+            let byte = encoding.byte_of(TEXT, Position { line, character });
+            assert_eq!(byte, places[nth], "{encoding:?} {line}:{character}");
+        }
+    }
 }
