@@ -62,10 +62,15 @@ impl Encoding {
         ensures answer { result ≡ exact_byte_at self (chars text.now) position }
         ensures boundary { IfSome result (λ byte. IsCharBoundary text.now byte) }
     {
-        let Position { line: index, character } = position;
+        let Position {
+            line: index,
+            character,
+        } = position;
         let line = line_of(text, index);
         let offset = self.boundary_at(line.content, character);
-        if !has_line(text, index, line.start) || self.units_before(line.content, offset) != character {
+        if !has_line(text, index, line.start)
+            || self.units_before(line.content, offset) != character
+        {
             return None;
         }
         Some(line.start + offset)

@@ -40,7 +40,7 @@ pub fn position_round_trip(encoding: Encoding, text: &str, position: Position)
     ensures cut { let cs = chars text.now in let content = line_content cs position.line in
         let units = units_of encoding in position.line ≤ count Crlf cs
         → ((position_at encoding cs (byte_at encoding cs position)).character
-            ≡ min position.character (sum_by units content))
+        ≡ min position.character (sum_by units content))
         ⊎ IsInside units content position.character }
     ensures inside { let cs = chars text.now in let units = units_of encoding in position.line ≤ count Crlf cs
         → (inside : IsInside units (line_content cs position.line) position.character)

@@ -1,5 +1,5 @@
 -- What an encoding counts before a byte index, and the place of so many units, by what computes each.
-use Rattle.position_mapper.proofs.lemmas.Common.{◌≡◌, ℕ, ◌<◌, ◌≤◌, List, inl, inr, refl, arith, sym, ◌∙◌, ap, sum_by, cases_lt, chars, IsUtf8, IsCharBoundary, len_utf8, len_utf8_bounds, Text, size, cut, weighed, boundary_weighed, count, from_byte_idx, to_byte_idx, Chars, IsBoundary, IsGreatestBoundary, IsBoundary-from_char_boundary, IsCharBoundary-from_boundary, cut_is_longest, weighed_at, weighed-le-weighed, weight-some, boundary_weighed_is_greatest, Encoding, Utf8, Utf16, Utf32, units_of}
+use Rattle.position_mapper.proofs.lemmas.Common.{◌≡◌, ℕ, ◌<◌, ◌≤◌, List, inl, inr, refl, arith, cases_lt, chars, IsUtf8, IsCharBoundary, len_utf8, len_utf8_bounds, Text, size, cut, weighed, boundary_weighed, IsBoundary, IsGreatestBoundary, IsBoundary-from_char_boundary, IsCharBoundary-from_boundary, cut_is_longest, weighed_at, weighed-le-weighed, weight-some, boundary_weighed_is_greatest, Encoding, Utf8, Utf16, Utf32, units_of}
 
 -- a character takes some
 pub units_of-some : (e : Encoding) (c : ℕ) → 0 < units_of e c

@@ -1,7 +1,7 @@
 -- What holds of the ends of lines, and of positions and their byte indices.
 use Rattle.std.proofs.lemmas.Bool.{and_from, and_parts, eqb-true, false_from_ne_true}
 use Rattle.std.proofs.lemmas.Bool.Decides.{nat_tests}
-use Rattle.position_mapper.proofs.lemmas.Common.{Bool, true, false, ◌==◌, nat_le, Some, None, ◌≢◌, refl, is_exact, exact_byte_at, ◌≡◌, ℕ, ◌+◌, ◌-◌, ◌<◌, ◌≤◌, ◌⊎◌, inl, inr, sym, ◌∙◌, ap, arith, min, sum_by, cases_lt, Text, size, from_byte_idx, to_byte_idx, weighed, boundary_weighed, count, Crlf, IsBoundary, IsInside, cut_all, end_at-past, from_byte_idx-le, to-from_is_greatest, weighed-le-weighed, boundary_weighed_is_greatest, boundary_weighed-le, weighed_is_greatest_boundary, weighed_or_inside, weighed_inside, Position, Encoding, units_of, line_content, line_end, units_on_line, position_at, byte_at, IsGreatestPlace, IsAtOrBefore}
+use Rattle.position_mapper.proofs.lemmas.Common.{true, false, ◌==◌, nat_le, Some, None, ◌≢◌, refl, is_exact, exact_byte_at, ◌≡◌, ℕ, ◌+◌, ◌-◌, ◌<◌, ◌≤◌, ◌⊎◌, inl, inr, sym, ◌∙◌, ap, arith, min, sum_by, cases_lt, Text, size, from_byte_idx, to_byte_idx, weighed, boundary_weighed, count, Crlf, IsBoundary, IsInside, cut_all, end_at-past, from_byte_idx-le, to-from_is_greatest, weighed-le-weighed, boundary_weighed_is_greatest, boundary_weighed-le, weighed_is_greatest_boundary, weighed_or_inside, weighed_inside, Position, Encoding, units_of, line_content, line_end, units_on_line, position_at, byte_at, IsGreatestPlace, IsAtOrBefore}
 use Rattle.position_mapper.proofs.lemmas.Encodings.{units_of-some}
 use Rattle.position_mapper.proofs.lemmas.Lines.{crlf_is_not_utf16, not_middle_at_end, boundary_within, line_of_place, line_end_le, not_middle_on_line, end_before, IsBoundary-from_content, IsBoundary-in_content, IsBoundary-line_end}
 

@@ -120,6 +120,6 @@ exact_of_byte e cs p byte is =
     let same = weighed_at_greatest w content on_line (boundary_weighed w content (weighed w content on_line)) place in
     let has = le-leb line (count Crlf cs) (from_byte_idx-le-count Crlf cs byte) in
     let units : (weighed w content (boundary_weighed w content (weighed w content on_line)) == weighed w content on_line)
-        ≡ true = rw (sym same) (eqb-same (weighed w content on_line)) in
+    ≡ true = rw (sym same) (eqb-same (weighed w content on_line)) in
     let exact : is_exact e cs (position_at e cs byte) ≡ true = and_from _ _ has units in
     subst (λ q. IsSome (exact_byte_at e cs q)) is (rw exact refl)

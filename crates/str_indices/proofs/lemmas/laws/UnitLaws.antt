@@ -110,11 +110,15 @@ units_or_second_unit cs k = elim (weighed_or_inside weight cs k) [
 
 -- the second unit of a pair has the byte index of the first
 pub units-second_unit : (cs : List ℕ) (k : ℕ) → IsSecondUnit cs k → units cs (boundary_at_units cs k) + 1 ≡ k
-units-second_unit cs k second = omega (arith, second.first_unit, weighed_inside weight cs k (record {
-  front = second.front;
-  character = second.character;
-  back = second.back;
-  split = second.split;
-  after = omega (arith, second.first_unit);
-  before = omega (arith, second.first_unit, second.pair);
-}))
+units-second_unit cs k second = omega (
+  arith,
+  second.first_unit,
+  weighed_inside weight cs k (record {
+    front = second.front;
+    character = second.character;
+    back = second.back;
+    split = second.split;
+    after = omega (arith, second.first_unit);
+    before = omega (arith, second.first_unit, second.pair);
+  }),
+)

@@ -7,7 +7,7 @@ returns-in-Utf8-clause-answer c =
     let floor = c.floor_char_boundary in
     boundary_of_bytes (chars text) c.args.units floor.result
     (nearest_is_greatest text c.utf8.text c.args.units floor.result floor.ensures.boundary floor.ensures.bound
-        floor.ensures.nearest)
+    floor.ensures.nearest)
     ∙ ap (λ e. boundary_weighed (units_of e) (chars text) c.args.units) (sym c.in-Utf8.is)
 
 pub returns-in-Utf16-clause-answer : goal.returns-in-Utf16-clause-answer

@@ -1,4 +1,4 @@
-use Rattle.position_mapper.proofs.lemmas.{◌≡◌, ◌≢◌, ◌∙◌, inl, inr, ap, sym, arith, ◌+◌, Some, chars, weighed, boundary_weighed, line_content, units_of, exact_some, exact_none, IsCharBoundary-byte_at}
+use Rattle.position_mapper.proofs.lemmas.{◌∙◌, inl, inr, ap, sym, arith, ◌+◌, Some, chars, weighed, boundary_weighed, units_of, exact_some, exact_none, IsCharBoundary-byte_at}
 use Rattle.position_mapper.proofs.encodings.Encoding.exact_byte_of.Goals as goal
 use Rattle.position_mapper.proofs.encodings.Encoding.exact_byte_of.Goals.{then-not-has_line-via-then-not-has_line, then-not-has_line-via-else-not-has_line+then-units_before-character}
 
@@ -13,7 +13,7 @@ returns-then-not-has_line-clause-answer c =
       | then-not-has_line-via-then-not-has_line v ↦ inl (sym c.has_line.ensures ∙ v.if-not-has_line.true)
       | then-not-has_line-via-else-not-has_line+then-units_before-character v ↦
           inr (λ same. v.if-units_before-character.true
-              (v.units_before.ensures ∙ ap (λ t. weighed w t offset.result) line.content ∙ same))
+          (v.units_before.ensures ∙ ap (λ t. weighed w t offset.result) line.content ∙ same))
     ])
 
 pub returns-clause-answer : goal.returns-clause-answer

@@ -7,7 +7,7 @@ returns-in-Utf8 c =
     let floor = c.floor_char_boundary in
     rw c.in-Utf8.is (weighed_bytes (chars text) c.args.byte floor.result
     (nearest_is_greatest text c.utf8.text c.args.byte floor.result floor.ensures.boundary floor.ensures.bound
-        floor.ensures.nearest))
+    floor.ensures.nearest))
 
 pub returns-in-Utf32 : goal.returns-in-Utf32
 returns-in-Utf32 c =
