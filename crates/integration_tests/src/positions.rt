@@ -160,9 +160,19 @@ fn an_offset_is_in_the_encoding(rt: HostRuntime) {
     for i in 0..OFFSETS.len() {
         let (byte, in_bytes, in_chars, back) = OFFSETS[i];
         let position = Encoding::Utf8.position_of(TEXT, byte);
-        assert_both(&rt, (position, Encoding::Utf8.byte_of(TEXT, position)), (at(position.line, in_bytes), back), i);
+        assert_both(
+            &rt,
+            (position, Encoding::Utf8.byte_of(TEXT, position)),
+            (at(position.line, in_bytes), back),
+            i,
+        );
         let position = Encoding::Utf32.position_of(TEXT, byte);
-        assert_both(&rt, (position, Encoding::Utf32.byte_of(TEXT, position)), (at(position.line, in_chars), back), i);
+        assert_both(
+            &rt,
+            (position, Encoding::Utf32.byte_of(TEXT, position)),
+            (at(position.line, in_chars), back),
+            i,
+        );
     }
 }
 
