@@ -1,8 +1,8 @@
-//! Maps byte indices of a UTF-8 text to the positions of the Language Server Protocol 3.17, and back.
+//! Maps byte indices of a text to positions of the Language Server Protocol 3.17, in UTF-16 code units, and back.
 //!
-//! A line ends in LF, CR or CRLF, and a position is a line and an offset on it. The offset is counted in UTF-16 code
-//! units, the protocol's default, or by the methods of [`Encoding`] in bytes or scalar values. No position names a place
-//! inside or behind a break on its line: an offset past the line's end means the line's end, before its break.
+//! A line ends in LF, CR or CRLF, and a position is a line and an offset on it. The functions count the offset in UTF-16
+//! code units, the protocol's default, and the methods of [`Encoding`] in bytes or scalar values too. No position names a
+//! place inside or behind a break on its line: an offset past the line's end means the line's end, before its break.
 //!
 //! Every text, byte index and position has an answer: nothing panics, nothing allocates.
 #![tactic(auto)]
