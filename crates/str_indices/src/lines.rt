@@ -241,7 +241,8 @@ fn starts_crlf<T: ByteChunk>(probe: &mut Probe<'_, T>, at: usize, end: usize) ->
 
 /// Adds the breaks of several bytes, each at its first byte, to the others of the chunk at `at`.
 ///
-/// Only where a lane is C2 or E2 it peeks: three times at most, and once where the last byte is CR.
+/// Only where a lane is C2 or E2, which differ in one bit alone, it peeks: three times at most, and once where the last byte
+/// is CR.
 fn add_wide_breaks<T: ByteChunk>(
     probe: &mut Probe<'_, T>,
     chunk: T,
@@ -257,11 +258,11 @@ fn add_wide_breaks<T: ByteChunk>(
     ensures reads { let last = slice_index probe.old.text (at + (T.SIZE - 1)) in
         Reads probe.old probe.new 0 0 0 (3 - 2 * flag (is_carriage_return last)) }
 {
-    let next_lines = chunk.cmp_eq_byte(0xC2);
-    let separators = chunk.cmp_eq_byte(0xE2);
-    if next_lines.add(separators).is_zero() {
+    let firsts = chunk.bitand(T::splat(0xDF)).cmp_eq_byte(0xC2);
+    if firsts.is_zero() {
         return narrow_breaks;
     }
+    let separators = chunk.cmp_eq_byte(0xE2);
     let with_next_lines = narrow_breaks.add(pair_starts(chunk, 0xC2, 0x85));
     let inside = add_separators(chunk, separators, with_next_lines);
     add_at_edge(probe, inside, at, end)

@@ -8,6 +8,13 @@ inside_at bytes at size j =
     narrow_break_at bytes (at + j) + next_line_at (take (at + size) bytes) (at + j) + separator_at
     (take (at + size) bytes) (at + j)
 
+-- C2 and E2 are the bytes that are C2 without the bit in which they differ
+begins_none : (b : ℕ) → is_byte 0xC2 (bit_and b 0xDF) ≡ 0 → ((b == 0xC2) ≡ false) × ((b == 0xE2) ≡ false)
+begins_none b none = (is_not 0xC2 refl, is_not 0xE2 refl)
+  where
+    is_not : (a : ℕ) → is_byte 0xC2 (bit_and a 0xDF) ≡ 1 → (b == a) ≡ false
+    is_not a one = grind (arith, nat_tests, none, one, λ (same : b ≡ a). ap (λ x. is_byte 0xC2 (bit_and x 0xDF)) same)
+
 module _ {bytes : List ℕ} {at size : ℕ} {chunk : List ℕ} (least : 4 ≤ size)
     (is_chunk : IsChunk bytes at size chunk) where
   -- without CR the ASCII breaks are the breaks of one byte
@@ -56,22 +63,20 @@ module _ {bytes : List ℕ} {at size : ℕ} {chunk : List ℕ} (least : 4 ≤ si
           (grind (arith, inside_lanes.each (size - 1), inside_same (size - 1), ap flag crosses))
           (λ j l other. grind (arith, inside_same j l, other))
 
-  module _ {next_lines separators : List ℕ} (is_next_lines : next_lines ≡ map (is_byte 0xC2) chunk)
-      (is_separators : separators ≡ map (is_byte 0xE2) chunk) where
-    -- no sum of the two passes a lane
-    pub firsts_fit : Each2 (λ a b. a + b ≤ 255) next_lines separators
-    firsts_fit = Each2-lanes (λ a b. a + b ≤ 255) (lanes_map (is_byte 0xC2) chunk is_chunk.long is_next_lines)
-        (lanes_map (is_byte 0xE2) chunk is_chunk.long is_separators) (λ j l. grind (arith, nat_tests))
-
-    -- where neither byte is found, the breaks of one byte are all
-    pub no_wide : {sums narrows : List ℕ} → sums ≡ zip2 (λ a b. a + b) next_lines separators → sums ≡ replicate size 0
-        → HasLanes size (λ j. narrow_break_at bytes (at + j)) narrows
-        → HasLanes size (λ j. break_at bytes (at + j)) narrows
-    no_wide summed none h =
-        let both = lanes_zip2 (λ a b. a + b) (lanes_map (is_byte 0xC2) chunk is_chunk.long is_next_lines)
-        (lanes_map (is_byte 0xE2) chunk is_chunk.long is_separators) summed in
-        let zeros = rw none at both in
-        lanes_same h (λ j l. grind (arith, nat_tests, is_chunk.each j l, zeros.each j l, get_or-replicate {A = ℕ}))
+  -- where no lane is C2 or E2, the breaks of one byte are all
+  pub no_wide : {firsts narrows : List ℕ} → firsts ≡ map (λ lane. is_byte 0xC2 (bit_and lane 0xDF)) chunk
+      → firsts ≡ replicate size 0 → HasLanes size (λ j. narrow_break_at bytes (at + j)) narrows
+      → HasLanes size (λ j. break_at bytes (at + j)) narrows
+  no_wide is_firsts none h =
+      let found = rw none at (lanes_map (λ lane. is_byte 0xC2 (bit_and lane 0xDF)) chunk is_chunk.long is_firsts) in
+      lanes_same h (λ j l. grind (
+        arith,
+        nat_tests,
+        is_chunk.each j l,
+        found.each j l,
+        get_or-replicate {A = ℕ} size j 0 0,
+        begins_none (get_or chunk j 0),
+      ))
 
   -- a lane and past the last lane nothing, as in bytes that are seen up to the chunk's end
   lane_alone : (j : ℕ) → get_or chunk j 0 ≡ get_or (take (at + size) bytes) (at + j) 0

@@ -1,17 +1,13 @@
-use Rattle.str_indices.proofs.lemmas.{firsts_fit, inside_counted, next_lines_fit, no_wide, sums_long, sums_small, room_exchanged, sums_exchanged}
+use Rattle.str_indices.proofs.lemmas.{bits_exchanged, inside_counted, masked_lanes, next_lines_fit, no_wide, sums_long, sums_small, room_exchanged, sums_exchanged}
 use Rattle.str_indices.proofs.lines.add_wide_breaks.Goals as goal
-
-pub add-requires : goal.add-requires
-add-requires g c = search (
-  firsts_fit g.met.T.ByteChunk.lawful.least c.requires.chunk
-      c.cmp_eq_byte-next_lines.ensures c.cmp_eq_byte-separators.ensures,
-  room_exchanged,
-)
 
 pub returns-then-is_zero-clause-lanes : goal.returns-then-is_zero-clause-lanes
 returns-then-is_zero-clause-lanes g c =
-    no_wide g.met.T.ByteChunk.lawful.least c.requires.chunk c.cmp_eq_byte-next_lines.ensures
-    c.cmp_eq_byte-separators.ensures (search (c.add.ensures, sums_exchanged)) (c.is_zero.ensures.0 c.if-is_zero.true) c.requires.counted
+    let chunk = g.T.ByteChunk in
+    let firsts = masked_lanes 0xDF 0xC2 chunk.SIZE (chunk.lanes c.args.chunk) _ _ _ c.requires.chunk.long c.splat.ensures
+    (search (c.bitand.ensures, bits_exchanged)) c.cmp_eq_byte-firsts.ensures in
+    no_wide g.met.T.ByteChunk.lawful.least c.requires.chunk firsts (c.is_zero.ensures.0 c.if-is_zero.true)
+    c.requires.counted
 
 pub add-with_next_lines-requires : goal.add-with_next_lines-requires
 add-with_next_lines-requires g c =
