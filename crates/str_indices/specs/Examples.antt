@@ -103,10 +103,10 @@ unit_past_the_last_is_at_the_size : map (to_byte_idx Utf16 letters_around_frog) 
     ≡ 7 ∷ 7 ∷ 11 ∷ 12 ∷ 12 ∷ []
 unit_past_the_last_is_at_the_size = refl
 
-many_frogs_have_twice_as_many_units : count Utf16 (replicate 1025 frog) ≡ 2050
+many_frogs_have_twice_as_many_units : count Utf16 (replicate 20 frog) ≡ 40
 many_frogs_have_twice_as_many_units = refl
 
-last_units_of_many_frogs : map (to_byte_idx Utf16 (replicate 1025 frog)) (2049 ∷ 2050 ∷ []) ≡ 4096 ∷ 4100 ∷ []
+last_units_of_many_frogs : map (to_byte_idx Utf16 (replicate 20 frog)) (39 ∷ 40 ∷ []) ≡ 76 ∷ 80 ∷ []
 last_units_of_many_frogs = refl
 
 -- Lines, by all three sets of breaks
@@ -119,12 +119,11 @@ crlf_counts_from_behind_its_line_feed = refl
 line_begins_after_crlf : map (λ s. to_byte_idx s letters_around_crlf 1) line_schemes ≡ replicate 3 3
 line_begins_after_crlf = refl
 
-many_line_feeds_are_as_many_breaks : map (λ s. count s (replicate 4097 line_feed)) line_schemes ≡ replicate 3 4097
+many_line_feeds_are_as_many_breaks : map (λ s. count s (replicate 20 line_feed)) line_schemes ≡ replicate 3 20
 many_line_feeds_are_as_many_breaks = refl
 
 line_past_the_last_is_at_the_size :
-    map (λ s. map (to_byte_idx s (replicate 4097 line_feed)) (4096 ∷ 4098 ∷ [])) line_schemes
-    ≡ replicate 3 (4096 ∷ 4097 ∷ [])
+    map (λ s. map (to_byte_idx s (replicate 20 line_feed)) (19 ∷ 21 ∷ [])) line_schemes ≡ replicate 3 (19 ∷ 20 ∷ [])
 line_past_the_last_is_at_the_size = refl
 
 -- Lines, by LF alone
