@@ -16,7 +16,7 @@ import sys
 import tempfile
 
 from halves import halves
-from tally import Tally
+from tally import Tally, least
 from test_c import ROWS, TEXT
 
 ROOT = pathlib.Path(__file__).resolve().parent.parent
@@ -113,7 +113,7 @@ def test_all(library):
 
 def main():
     if not shutil.which("cargo"):
-        print("not tried: cargo is not on the path")
+        tally.leave_out(least("test_rust.py"), "cargo is not on the path")
     else:
         library = build_library()
         if library:
