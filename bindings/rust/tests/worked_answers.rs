@@ -29,7 +29,9 @@ fn counts() {
     assert_eq!(utf16::count(FROGS), 27);
     assert_eq!(utf16::count_surrogates(FROGS), 4);
     assert_eq!(lines_lf::count_breaks(CRLF), 3);
+    assert_eq!(lines_lf::count_breaks("\r\r\n\n"), 2);
     assert_eq!(lines_crlf::count_breaks("\r\r\n\n"), 3);
+    assert_eq!(lines_crlf::count_breaks("a\u{2028}b"), 0);
     assert_eq!(lines::count_breaks(ALL_BREAKS), 8);
 }
 
