@@ -27,7 +27,8 @@ LATER = {name: 1536 for name in ["chars_to_byte_idx", "utf16_to_byte_idx", "line
 # of a processor by its name for qemu, whether it has the wide half's level
 PROCESSORS = {"Nehalem": False, "SandyBridge": False, "Haswell,-avx2": False, "Haswell": True, "max": True}
 EMULATOR = "qemu-x86_64"
-WHY_NOT = f"{EMULATOR} is not on the path (Debian's package qemu-user)"
+# the first version whose processors have AVX2
+LEAST_VERSION = (7, 2)
 
 # what the environment variable says, None where it is unset, and the texts that the wide half then answers for
 ASKED = {None: "texts from 256 bytes on", "narrow": "no text", "wide": "every text", "other": "texts from 256 bytes on"}
@@ -42,6 +43,17 @@ def environment(half):
 def on(processor):
     """The words before a program that runs on the processor; None is the one here."""
     return [EMULATOR, "-cpu", processor] if processor else []
+
+
+def why_no_emulator():
+    """Why other processors cannot be tried, or None where they can."""
+    if not shutil.which(EMULATOR):
+        return f"{EMULATOR} is not on the path (Debian's package qemu-user)"
+    told = subprocess.run([EMULATOR, "--version"], capture_output=True, text=True).stdout
+    version = re.search(r"version (\d+)\.(\d+)", told)
+    if not version or tuple(map(int, version.groups())) < LEAST_VERSION:
+        return f"{EMULATOR} is older than {LEAST_VERSION[0]}.{LEAST_VERSION[1]}"
+    return None
 
 
 def is_wide(name, length, half, may):
@@ -121,8 +133,8 @@ def try_halves(tally, library, narrow, worked_answers, folder):
     try_stand_ins(tally, library, program, names, None)
     program_without, names_without = link_stand_ins(tally, narrow, folder)
     try_stand_ins(tally, narrow, program_without, names_without, None)
-    if not shutil.which(EMULATOR):
-        tally.leave_out(2 * len(ASKED) * len(PROCESSORS), f"other processors, as {WHY_NOT}")
+    if why_no_emulator():
+        tally.leave_out(2 * len(ASKED) * len(PROCESSORS), f"other processors, as {why_no_emulator()}")
         return
     for processor in PROCESSORS:
         try_stand_ins(tally, library, program, names, processor)

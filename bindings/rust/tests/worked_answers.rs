@@ -26,6 +26,7 @@ fn assert_answers(convert: Convert, text: &str, rows: &[(usize, usize)]) {
 #[test]
 fn counts() {
     assert_eq!(chars::count(GREETING), 100);
+    assert_eq!(chars::count(FROGS), 23);
     assert_eq!(utf16::count(FROGS), 27);
     assert_eq!(utf16::count_surrogates(FROGS), 4);
     assert_eq!(lines_lf::count_breaks(CRLF), 3);
@@ -39,8 +40,14 @@ fn counts() {
 fn conversions_of_chars() {
     let rows = [(0, 0), (2, 0), (3, 1), (8, 2), (9, 3), (12, 3)];
     assert_answers(chars::from_byte_idx, "せかい", &rows);
+    assert_answers(chars::from_byte_idx, FROGS, &[(5, 3), (7, 4), (45, 23), (99, 23)]);
     let rows = [(0, 0), (87, 87), (88, 88), (99, 121), (100, 124), (109, 124)];
     assert_answers(chars::to_byte_idx, GREETING, &rows);
+    assert_answers(
+        chars::to_byte_idx,
+        FROGS,
+        &[(3, 3), (4, 7), (22, 44), (23, 45), (24, 45)],
+    );
 }
 
 #[test]
@@ -85,11 +92,13 @@ fn what_is_a_break_differs() {
         "\r\r\n\n",
         &[(0, 0), (1, 1), (2, 1), (3, 2), (4, 3)],
     );
+    assert_answers(lines_lf::to_byte_idx, "\r\r\n\n", &[(1, 3), (2, 4), (3, 4)]);
     assert_answers(
         lines_crlf::to_byte_idx,
         "\r\r\n\n",
         &[(0, 0), (1, 1), (2, 3), (3, 4), (4, 4)],
     );
+    assert_answers(lines_crlf::from_byte_idx, "a\u{2028}b", &[(4, 0), (5, 0)]);
     assert_answers(lines_crlf::to_byte_idx, "a\u{2028}b", &[(1, 5)]);
     assert_answers(lines::to_byte_idx, "a\u{2028}b", &[(1, 4)]);
     assert_answers(lines::from_byte_idx, "é\u{85}x", &[(2, 0), (3, 0), (4, 1)]);
