@@ -117,3 +117,30 @@ fn the_empty_text() {
         assert_answers(convert, "", &[(0, 0), (usize::MAX, 0)]);
     }
 }
+
+#[test]
+fn long_texts() {
+    // 4,500 bytes, 2,300 chars and 2,700 units
+    let frogs = FROGS.repeat(100);
+    assert_eq!(chars::count(&frogs), 2300);
+    assert_answers(chars::from_byte_idx, &frogs, &[(1000, 513), (4499, 2299), (4500, 2300)]);
+    assert_answers(chars::to_byte_idx, &frogs, &[(511, 998), (2299, 4499), (2300, 4500)]);
+    assert_eq!(utf16::count(&frogs), 2700);
+    assert_eq!(utf16::count_surrogates(&frogs), 400);
+    assert_answers(utf16::from_byte_idx, &frogs, &[(4482, 2692), (4500, 2700)]);
+    assert_answers(utf16::to_byte_idx, &frogs, &[(2691, 4478), (2692, 4482), (2700, 4500)]);
+
+    // 4,400 bytes and 600 breaks, the last of which ends at 4,395
+    let crlf = CRLF.repeat(200);
+    let from: [Convert; 3] = [lines_lf::from_byte_idx, lines_crlf::from_byte_idx, lines::from_byte_idx];
+    let to: [Convert; 3] = [lines_lf::to_byte_idx, lines_crlf::to_byte_idx, lines::to_byte_idx];
+    for count in [lines_lf::count_breaks, lines_crlf::count_breaks, lines::count_breaks] {
+        assert_eq!(count(&crlf), 600);
+    }
+    for convert in from {
+        assert_answers(convert, &crlf, &[(4394, 599), (4395, 600), (4400, 600)]);
+    }
+    for convert in to {
+        assert_answers(convert, &crlf, &[(599, 4389), (600, 4395), (601, 4400)]);
+    }
+}
