@@ -15,7 +15,7 @@ import shutil
 import subprocess
 
 from c_exports import HEADERS, PREFIX, ROOT, declared
-from halves import missing
+from halves import has_wide_half, missing
 
 NAMES = re.compile(rf"\bU {PREFIX}(narrow|wide)_(\w+)")
 LENGTHS = [0, 1, 255, 256, 257, 1535, 1536, 5000, 2**63 - 1]
@@ -107,11 +107,10 @@ def link_stand_ins(tally, library, folder):
 
 def try_stand_ins(tally, library, program, names, processor):
     """Each function, at each length, on the processor."""
-    may = PROCESSORS[processor] if processor else missing(library) is None
-    has_wide = "the library was built without it" != missing(library)
+    may = has_wide_half(library) and (PROCESSORS[processor] if processor else missing(library) is None)
     for half in ASKED:
         done = subprocess.run([*on(processor), program], env=environment(half), capture_output=True, text=True)
-        found, wanted = set(done.stdout.splitlines()), wanted_lines(names, half, may and has_wide)
+        found, wanted = set(done.stdout.splitlines()), wanted_lines(names, half, may)
         where = f"on {processor or 'this processor'}, asked for {half}"
         if not tally.result(found == wanted, f"of {len(found)} calls {where} each goes to the half that it should"):
             print(sorted(found - wanted), done.stderr)

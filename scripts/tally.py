@@ -13,7 +13,8 @@ SUMS = re.compile(r"([0-9]+) passed, ([0-9]+) failed(?:, ([0-9]+) skipped)?")
 def least(name):
     """The least number of what is tried under that name; a name that the table has not is an error."""
     lines = LEAST.read_text(encoding="utf-8").splitlines()
-    return int(next(line.split()[0] for line in lines if line.partition(" ")[2].strip() == name))
+    numbers = {line.partition(" ")[2]: line.partition(" ")[0] for line in lines if not line.startswith("#")}
+    return int(numbers[name])
 
 
 def sums_of(output):

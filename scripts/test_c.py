@@ -20,7 +20,7 @@ from c_exports import pairs
 from c_halves import try_builds, try_halves
 from c_headers import try_headers
 from exchanges import exchanging_library, try_exchanges
-from halves import ASKED, halves, missing
+from halves import ASKED, halves, has_wide_half, missing
 from tally import Tally, least, sums_of
 
 ROOT = pathlib.Path(__file__).resolve().parent.parent
@@ -153,6 +153,8 @@ def run_installed(folder):
     for name, umask, words in [("a prefix", "077", []), ("narrow", "022", ["--narrow"])]:
         library = install(folder / name, umask, *words)
         if library:
+            wide = not words and has_wide_half(ROOT / "out/libstr_indices.a")
+            tally.result(has_wide_half(library) == wide, f"it is installed {'with' if wide else 'without'} its wide half")
             compile_installed(folder / name, library, folder)
 
 
