@@ -12,13 +12,15 @@
 
 #include <str_indices.h>
 
-/* The least length of a text that goes to the wide half. No text is as long as
- * SIZE_MAX, since one has at most PTRDIFF_MAX bytes. */
-static size_t wide_from = SIZE_MAX;
+/* No text is as long, since one has at most PTRDIFF_MAX bytes. */
+#define NO_TEXT SIZE_MAX
+
+/* The least length of a text that goes to the wide half. */
+static size_t wide_from = NO_TEXT;
 
 bool str_indices_is_wide(size_t len)
 {
-    return len >= wide_from;
+    return wide_from != NO_TEXT && len >= wide_from;
 }
 
 #ifdef STR_INDICES_WIDE

@@ -10,10 +10,15 @@ WANTED = {"avx", "avx2", "bmi1", "bmi2", "f16c", "fma", "abm", "movbe"}
 ASKED = {"narrow": "no text", "": "texts from 256 bytes on", "wide": "every text"}
 
 
+def has_wide_half(library):
+    """Whether the wide half is in the library."""
+    members = subprocess.run(["ar", "t", library], capture_output=True, text=True).stdout.split()
+    return "str_indices_c_wide.o" in members
+
+
 def missing(library):
     """Why the wide half cannot answer, or None where it can."""
-    members = subprocess.run(["ar", "t", library], capture_output=True, text=True).stdout.split()
-    if "str_indices_c_wide.o" not in members:
+    if not has_wide_half(library):
         return "the library was built without it"
     told = pathlib.Path("/proc/cpuinfo").read_text(encoding="utf-8")
     flags = next((line for line in told.splitlines() if line.startswith("flags")), "")

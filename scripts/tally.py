@@ -1,10 +1,34 @@
-"""Counts what passed and what failed, for a script whose last line is 'N passed, M failed'."""
+"""Counts what passed, what failed and what was left out, for a script whose last line is 'N passed, M failed'.
+
+Where something was left out for want of a tool, the last line is 'N passed, M failed, K skipped'. A sum of nothing is a
+failure. scripts/least.txt has the least number of what is tried, of each script and of each table and folder of tests.
+"""
+import pathlib
+import re
+
+LEAST = pathlib.Path(__file__).resolve().parent / "least.txt"
+SUMS = re.compile(r"([0-9]+) passed, ([0-9]+) failed(?:, ([0-9]+) skipped)?")
+
+
+def least(name):
+    """The least number of what is tried under that name; a name that the table has not is an error."""
+    lines = LEAST.read_text(encoding="utf-8").splitlines()
+    numbers = {line.partition(" ")[2]: line.partition(" ")[0] for line in lines if not line.startswith("#")}
+    return int(numbers[name])
+
+
+def sums_of(output):
+    """What passed, failed and was left out, by the last line of an output; None where that says nothing of it."""
+    lines = output.rstrip().splitlines()
+    found = SUMS.fullmatch(lines[-1]) if lines else None
+    return tuple(int(number or 0) for number in found.groups()) if found else None
 
 
 class Tally:
     def __init__(self):
         self.passed = 0
         self.failed = 0
+        self.skipped = 0
 
     def result(self, right, line):
         """Tells and counts one result, and answers whether it is right."""
@@ -13,7 +37,17 @@ class Tally:
         print(f"{'ok' if right else 'FAILED'}: {line}", flush=True)
         return right
 
+    def enough(self, name, number, line):
+        """One result: whether as many were right as the table wants under that name."""
+        return self.result(number >= least(name), f"{line}: {number} of at least {least(name)}")
+
+    def leave_out(self, number, line):
+        """Tells and counts results that are left out, with the reason."""
+        self.skipped += number
+        print(f"skipped {number}: {line}", flush=True)
+
     def end(self):
         """The last line; the answer is the script's exit status."""
-        print(f"{self.passed} passed, {self.failed} failed")
-        return int(self.failed != 0)
+        left_out = f", {self.skipped} skipped" if self.skipped else ""
+        print(f"{self.passed} passed, {self.failed} failed{left_out}")
+        return int(self.failed != 0 or self.passed + self.skipped == 0)

@@ -3,23 +3,31 @@
 
 The tables of worked answers and of positions and the example, compiled as C and as C++ with every warning an error; the
 worked answers by each half of the library, and by the library without its wide half; the example's output; and the table
-of positions and the example once more from an installed prefix by pkg-config, where that command is there. The last line
-printed is 'N passed, M failed'.
+of positions and the example once more from installed prefixes by pkg-config, where that command is there. Texts of all
+lengths beside a plain model, which end and begin at pages that may not be read. Then the headers and the types of the
+functions, which half answers on which processor, and each function exchanged for each other of its shape, as the modules
+tell which try that. The last line printed is 'N passed, M failed', with what is left out.
 """
 import os
 import pathlib
 import shutil
+import signal
 import subprocess
 import sys
 import tempfile
 
-from halves import halves
-from tally import Tally
+from c_exports import pairs
+from c_halves import try_builds, try_halves
+from c_headers import try_headers
+from exchanges import exchanging_library, try_exchanges
+from halves import ASKED, halves, has_wide_half, missing
+from tally import Tally, least, sums_of
 
 ROOT = pathlib.Path(__file__).resolve().parent.parent
 EXAMPLE = ROOT / "examples/c/line_and_column.c"
 WORKED_ANSWERS = ROOT / "tests/c/worked_answers.c"
 POSITIONS = ROOT / "tests/c/positions.c"
+GUARDED = ROOT / "tests/c/guarded_texts.c"
 STRICT = ["-Wall", "-Wextra", "-Werror", "-pedantic", "-O2"]
 COMPILERS = {"C": ["cc", "-std=c99"], "C++": ["c++", "-std=c++11", "-x", "c++"]}
 
@@ -48,18 +56,37 @@ def check_example(program, how):
     tally.result(done.returncode == 1 and not done.stdout, f"example {how}, bytes that are not UTF-8: status {done.returncode}")
 
 
-def check_worked_answers(program, how, environment, texts):
-    """The worked answers, where the wide half is to answer for those texts."""
+def has_enough(output, source):
+    """Whether a program's own sum has no failure, and as many answers as there should be."""
+    passed, failed, _ = sums_of(output) or (0, 1, 0)
+    return failed == 0 and passed >= least(source.name)
+
+
+def check_table(program, source, how):
+    """A program that has a sum of its own."""
+    done = subprocess.run([program], capture_output=True, text=True)
+    if not tally.result(done.returncode == 0 and has_enough(done.stdout, source), f"{source.stem} {how}"):
+        print(done.returncode, done.stdout + done.stderr)
+
+
+def check_by_half(program, source, how, environment, texts):
+    """A program that tells which half answers, where the wide half is to answer for those texts."""
     done = subprocess.run([program], env=environment, capture_output=True, text=True)
     told = f"the wide half answers for {texts}\n" in done.stdout
-    what = f"worked answers {how}, where the wide half answers for {texts}"
-    if not tally.result(done.returncode == 0 and told, what):
-        print(done.stdout + done.stderr)
+    what = f"{source.stem} {how}, where the wide half answers for {texts}"
+    if not tally.result(done.returncode == 0 and told and has_enough(done.stdout, source), what):
+        print(done.returncode, done.stdout + done.stderr)
 
 
 def compile_with(command, source, library, program):
     link = [*command, *STRICT, f"-I{ROOT}/include", source, "-x", "none", library, "-o", program]
     return run(link, f"{program.name} compiles without a warning")
+
+
+def leave_out_the_wide_half(library, programs):
+    """Counts what the halves' environments are fewer by where there is no wide half to try."""
+    if missing(library):
+        tally.leave_out(programs * (len(ASKED) - 1), f"the wide half, as {missing(library)}")
 
 
 def compile_and_run(language, command, library, folder):
@@ -68,43 +95,79 @@ def compile_and_run(language, command, library, folder):
     program = folder / f"worked_answers_{ending}"
     if compile_with(command, WORKED_ANSWERS, library, program):
         for environment, texts in halves(library):
-            check_worked_answers(program, f"as {language}", environment, texts)
+            check_by_half(program, WORKED_ANSWERS, f"as {language}", environment, texts)
+        leave_out_the_wide_half(library, 1)
     program = folder / f"positions_{ending}"
     if compile_with(command, POSITIONS, library, program):
-        run([program], f"positions as {language}")
+        check_table(program, POSITIONS, f"as {language}")
     program = folder / f"line_and_column_{ending}"
     if compile_with(command, EXAMPLE, library, program):
         check_example(program, f"as {language}")
 
 
-def compile_narrow(folder):
-    """The table by the library without its wide half."""
-    built = build("build_library", "--narrow")
-    program = folder / "worked_answers_narrow"
-    if built and compile_with(COMPILERS["C"], WORKED_ANSWERS, built, program):
-        for environment, texts in halves(built):
-            check_worked_answers(program, "by --narrow", environment, texts)
-
-
-def compile_installed(folder):
-    """The table of positions and the example from an installed prefix, by pkg-config alone."""
-    prefix = folder / "prefix"
-    if not run([ROOT / "scripts/install_c", prefix], "install_c"):
+def run_guarded(library, folder):
+    """Texts at pages that may not be read, by each half; and a read past a text, which must end the program."""
+    program = folder / "guarded_texts"
+    if not compile_with(COMPILERS["C"], GUARDED, library, program):
         return
+    for environment, texts in halves(library):
+        check_by_half(program, GUARDED, "as C", environment, texts)
+    leave_out_the_wide_half(library, 1)
+    done = subprocess.run([program, "past"], capture_output=True)
+    tally.result(done.returncode == -signal.SIGSEGV, f"a read past a text ends guarded_texts: {done.returncode}")
+
+
+def install(prefix, umask, *words):
+    """The library below the prefix, by install_c under that umask, or None where that fails; all may read it."""
+    command = ["sh", "-c", f'umask {umask}; exec "$@"', "sh", ROOT / "scripts/install_c", prefix, *words]
+    if not run(command, " ".join(["install_c, umask", umask, f"'{prefix.name}'", *words])):
+        return None
+    modes = {path.stat().st_mode & 0o777 for path in prefix.rglob("*") if path.is_file()}
+    folders = {path.stat().st_mode & 0o777 for path in [prefix, *prefix.rglob("*")] if path.is_dir()}
+    tally.result(modes == {0o644} and folders == {0o755}, f"all may read what is installed, umask {umask}")
+    return prefix / "lib/libstr_indices.a"
+
+
+def compile_installed(prefix, library, folder):
+    """The tables and the example from an installed prefix, by pkg-config alone and outside the repository."""
     if not shutil.which("pkg-config"):
-        print("not tried: pkg-config is not on the path")
+        tally.leave_out(3 + 2 + len(ROWS) + 1, "the installed library, as pkg-config is not on the path")
         return
     search = dict(os.environ, PKG_CONFIG_PATH=str(prefix / "lib/pkgconfig"))
-    flags = "$(pkg-config --cflags --libs str_indices)"
-    for source in [POSITIONS, EXAMPLE]:
+    for source in [WORKED_ANSWERS, POSITIONS, EXAMPLE]:
         program = folder / f"installed_{source.stem}"
-        command = f"cc -std=c99 {' '.join(STRICT)} {source} {flags} -o {program}"
-        if not run(["sh", "-c", command], f"{source.stem} compiles by pkg-config", env=search):
+        command = f'eval "cc -std=c99 {" ".join(STRICT)} {source} $(pkg-config --cflags --libs str_indices) -o {program}"'
+        if not run(["sh", "-c", command], f"{source.stem} compiles by pkg-config, in '{prefix.name}'", env=search, cwd=folder):
             continue
         if source is EXAMPLE:
             check_example(program, "by pkg-config")
+        elif source is POSITIONS:
+            check_table(program, source, "by pkg-config")
         else:
-            run([program], f"{source.stem} by pkg-config")
+            environment, texts = halves(library)[-1]
+            check_by_half(program, source, "by pkg-config", environment, texts)
+
+
+def run_installed(folder):
+    """The library installed as it is and without its wide half, the first below a prefix with a blank."""
+    for name, umask, words in [("a prefix", "077", []), ("narrow", "022", ["--narrow"])]:
+        library = install(folder / name, umask, *words)
+        if library:
+            wide = not words and has_wide_half(ROOT / "out/libstr_indices.a")
+            tally.result(has_wide_half(library) == wide, f"it is installed {'with' if wide else 'without'} its wide half")
+            compile_installed(folder / name, library, folder)
+
+
+def run_exchanged(library, folder):
+    """Each function exchanged for each other one of its shape, by each half."""
+    copy = exchanging_library(library, folder)
+    programs = [folder / f"exchanged_{source.stem}" for source in [WORKED_ANSWERS, POSITIONS]]
+    if all([compile_with(COMPILERS["C"], source, copy, program) for source, program in zip([WORKED_ANSWERS, POSITIONS], programs)]):
+        try_exchanges(tally, programs, pairs(), "narrow", "C by the narrow half")
+        if missing(library):
+            tally.leave_out(2, f"exchanges by the wide half, as {missing(library)}")
+        else:
+            try_exchanges(tally, programs, pairs(), "wide", "C by the wide half")
 
 
 def build(script, *words):
@@ -115,15 +178,25 @@ def build(script, *words):
     return None
 
 
+def run_all(library, folder):
+    for language, command in COMPILERS.items():
+        compile_and_run(language, command, library, folder)
+    run_guarded(library, folder)
+    run_installed(folder)
+    try_headers(tally, library)
+    narrow = folder / "narrow/lib/libstr_indices.a"
+    try_halves(tally, library, narrow, folder / "worked_answers_c", folder)
+    (folder / "builds").mkdir()
+    try_builds(tally, folder / "builds")
+    run_exchanged(library, folder)
+
+
 def main():
-    example, library = build("build_c"), build("build_library")
-    if example and library:
+    example = build("build_c")
+    if example:
         check_example(example, "by build_c")
         with tempfile.TemporaryDirectory() as folder:
-            for language, command in COMPILERS.items():
-                compile_and_run(language, command, library, pathlib.Path(folder))
-            compile_narrow(pathlib.Path(folder))
-            compile_installed(pathlib.Path(folder))
+            run_all(example.parent / "libstr_indices.a", pathlib.Path(folder))
     return tally.end()
 
 

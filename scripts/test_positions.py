@@ -132,6 +132,7 @@ def compare(library):
         wrong += found
         calls += asked
     tally.result(not wrong, f"{calls} answers for {TEXTS} random texts, of which {len(wrong)} are not the model's")
+    tally.enough("answers of test_positions.py", calls, "answers of positions")
     for line in wrong[:10]:
         print(line)
 

@@ -2,11 +2,14 @@
 """Builds and runs what Rust has of the library, as a user would.
 
 The tests and the doc examples of bindings/rust, by each half of the library, and once over the library without its wide
-half, and the message where the library is missing; those of bindings/positions; the example of a project that uses
-bindings/rust; and the benchmark, one round over small texts, whose times nobody looks at. The original is compared where
-the environment variable STR_INDICES_ORIGINAL names its folder. Where cargo is not on the path nothing is tried. The
-last line printed is 'N passed, M failed'.
+half, and the message where the library is missing; outside the repository, over an installed library which pkg-config
+finds; those of bindings/positions, of bindings/original and of the benchmark; each function exchanged for each other one
+of its shape, which a worked answer must see; the example of a project that uses bindings/rust; and the benchmark, one
+round over small texts, whose times nobody looks at. The original is compared where the environment variable
+STR_INDICES_ORIGINAL names its folder. Where cargo is not on the path nothing is tried. The last line printed is
+'N passed, M failed', with what is left out.
 """
+import json
 import os
 import pathlib
 import re
@@ -15,8 +18,10 @@ import subprocess
 import sys
 import tempfile
 
-from halves import halves
-from tally import Tally
+from c_exports import declared, pairs
+from exchanges import exchanging_library, try_exchanges
+from halves import ASKED, halves, missing
+from tally import Tally, least
 from test_c import ROWS, TEXT
 
 ROOT = pathlib.Path(__file__).resolve().parent.parent
@@ -24,8 +29,12 @@ BINDINGS = ROOT / "bindings/rust"
 POSITIONS = ROOT / "bindings/positions"
 EXAMPLE = ROOT / "examples/rust"
 
+# each folder with tests of its own, beside that of the library's functions, which has them by each half
+OTHERS = [POSITIONS, ROOT / "bindings/original", ROOT / "bench"]
+
 TEST_RESULT = re.compile(r"^test result: \w+\. (\d+) passed; (\d+) failed", re.MULTILINE)
-COMPARED = re.compile(r"^random texts: .*(compared|differs).*", re.MULTILINE)
+COMPARED = re.compile(r"^random texts: .* (\d+) answers, none differs.*", re.MULTILINE)
+NOT_COMPARED = "STR_INDICES_ORIGINAL names no folder"
 
 tally = Tally()
 
@@ -39,18 +48,30 @@ def right_tests(output):
     return sum(int(right) for right, wrong in TEST_RESULT.findall(output))
 
 
+def enough_tests(folder, done, how):
+    """Whether as many tests and doc examples passed as the folder should have, and none failed."""
+    name = str(folder.relative_to(ROOT))
+    right = right_tests(done.stdout) if done.returncode == 0 else 0
+    if not tally.enough(f"tests of {name}", right, f"{name}{how}, tests and doc examples"):
+        print(done.stdout + done.stderr)
+
+
+def compare_with_original(output):
+    """The comparison with the original on random texts, which is left out where that is not at hand."""
+    if NOT_COMPARED in output:
+        tally.leave_out(1, f"the comparison with the original, as {NOT_COMPARED}")
+        return
+    compared = COMPARED.search(output)
+    tally.enough("answers of random_texts.rs", int(compared[1]) if compared else 0, "answers compared with the original's")
+
+
 def test_bindings(environment, texts):
     """The tests, where the wide half is to answer for those texts."""
     done = cargo(BINDINGS, "test", env=environment)
-    output = done.stdout + done.stderr
-    right = right_tests(output)
-    compared = COMPARED.search(output)
-    told = f"random texts: the wide half answers for {texts}" in output
-    what = f"bindings/rust, {right} tests and doc examples, where the wide half answers for {texts}"
-    if tally.result(done.returncode == 0 and compared is not None and told, what):
-        print(compared.group(0))
-    else:
-        print(output)
+    enough_tests(BINDINGS, done, f" where the wide half answers for {texts}")
+    told = f"random texts: the wide half answers for {texts}" in done.stdout
+    tally.result(told, f"the wide half answers for {texts}")
+    compare_with_original(done.stdout)
 
 
 def test_without_the_wide_half():
@@ -59,11 +80,55 @@ def test_without_the_wide_half():
         test_bindings(dict(os.environ, STR_INDICES_LIB_DIR=str(library.parent)), "no text")
 
 
-def test_positions():
-    done = cargo(POSITIONS, "test")
-    right = right_tests(done.stdout)
-    if not tally.result(done.returncode == 0 and right > 0, f"bindings/positions, {right} tests and doc examples"):
+def test_others():
+    for folder in OTHERS:
+        enough_tests(folder, cargo(folder, "test"), "")
+
+
+def install(library, prefix):
+    """The library below the prefix, with a file for pkg-config, as install_c has them."""
+    (prefix / "lib/pkgconfig").mkdir(parents=True)
+    shutil.copy(library, prefix / "lib")
+    told = f"libdir={prefix}/lib\nName: str_indices\nDescription: proved\nVersion: 0.4.4\nLibs: -L\"${{libdir}}\" -lstr_indices\n"
+    (prefix / "lib/pkgconfig/str_indices.pc").write_text(told, encoding="utf-8")
+
+
+def test_outside(library, folder):
+    """The crates in a folder where there is nothing else of the repository, over the installed library."""
+    if not shutil.which("pkg-config"):
+        tally.leave_out(1, "bindings/rust over an installed library, as pkg-config is not on the path")
+        return
+    bindings = folder / "bindings"
+    shutil.copytree(ROOT / "bindings", bindings, ignore=shutil.ignore_patterns("target", "Cargo.lock"))
+    install(library, folder / "a prefix")
+    named = dict(os.environ, PKG_CONFIG_PATH=str(folder / "a prefix/lib/pkgconfig"), CARGO_TARGET_DIR=str(folder / "target"))
+    done = cargo(bindings / "positions", "test", env=named)
+    right = right_tests(done.stdout) if done.returncode == 0 else 0
+    if not tally.enough("tests of bindings/positions", right, "bindings/positions outside the repository, by pkg-config"):
         print(done.stdout + done.stderr)
+
+
+def test_program(folder, name, environment):
+    """The program that cargo makes of a file of tests; None where it makes none."""
+    done = cargo(folder, "test", "--no-run", "--test", name, "--message-format", "json", env=environment)
+    made = [json.loads(line).get("executable") for line in done.stdout.splitlines() if line.startswith("{")]
+    programs = [program for program in made if program and pathlib.Path(program).name.startswith(f"{name}-")]
+    if not tally.result(bool(programs), f"the program of tests {name}, over a library that exchanges"):
+        print(done.stdout + done.stderr)
+    return programs[-1] if programs else None
+
+
+def test_exchanges(library, folder):
+    """Each function that the crates take exchanged for each other one of its shape."""
+    copy = exchanging_library(library, folder)
+    named = dict(os.environ, STR_INDICES_LIB_DIR=str(copy.parent))
+    sources = "".join(path.read_text(encoding="utf-8") for path in sorted(ROOT.glob("bindings/*/src/*.rs")))
+    taken = {name for name in declared() if re.search(rf"\bfn {name}\(", sources)}
+    missed = [name for name in declared() if name not in taken and not re.search("_is_(utf8|wide)$", name)]
+    tally.result(not missed, f"the crates take each function{''.join(f', but not {name}' for name in missed)}")
+    programs = [test_program(BINDINGS, "worked_answers", named), test_program(POSITIONS, "positions", named)]
+    if all(programs):
+        try_exchanges(tally, programs, [pair for pair in pairs() if {pair[0].name, pair[1].name} <= taken], "", "the Cargo crates")
 
 
 def test_missing_library(folder):
@@ -100,20 +165,24 @@ def build_library(*words):
 
 
 def test_all(library):
-    with tempfile.TemporaryDirectory() as target, tempfile.TemporaryDirectory() as empty:
+    with tempfile.TemporaryDirectory() as target, tempfile.TemporaryDirectory() as empty, tempfile.TemporaryDirectory() as folder:
         os.environ["CARGO_TARGET_DIR"] = target
         for environment, texts in halves(library):
             test_bindings(environment, texts)
+        if missing(library):
+            tally.leave_out(3 * (len(ASKED) - 1), f"the wide half, as {missing(library)}")
         test_without_the_wide_half()
         test_missing_library(empty)
-        test_positions()
+        test_others()
+        test_outside(library, pathlib.Path(folder))
+        test_exchanges(library, pathlib.Path(folder))
         test_example(target)
         test_benchmark()
 
 
 def main():
     if not shutil.which("cargo"):
-        print("not tried: cargo is not on the path")
+        tally.leave_out(least("test_rust.py"), "cargo is not on the path")
     else:
         library = build_library()
         if library:

@@ -22,10 +22,14 @@ static const char all_breaks[] =
 
 static const char crlf[] = "Here\r\nare\r\nsome\r\nwords";
 static const char crs[] = "\r\r\n\n";
+static const char separated[] = "a\342\200\250b";
 
-/* Ten and twelve times those texts, 450 and 264 bytes. */
+/* Ten and twelve times those texts, 450 and 264 bytes, and often enough for the
+ * functions that go to the wide half from 1,536 bytes on, 1,800 and 2,200. */
 static char ten_frogs[10 * (sizeof frogs - 1) + 1];
 static char twelve_crlf[12 * (sizeof crlf - 1) + 1];
+static char forty_frogs[40 * (sizeof frogs - 1) + 1];
+static char hundred_crlf[100 * (sizeof crlf - 1) + 1];
 
 static int passed, failed;
 
@@ -78,15 +82,20 @@ static void line_breaks(void)
     SAME(2, lines_lf_count_breaks, crs);
     SAME_AT(1, lines_lf_from_byte_idx, crs, 3);
     SAME_AT(6, lines_lf_to_byte_idx, crlf, 1);
+    SAME_AT(3, lines_lf_to_byte_idx, crs, 1);
 
     SAME(3, lines_crlf_count_breaks, crs);
+    SAME(0, lines_crlf_count_breaks, separated);
     SAME_AT(0, lines_crlf_from_byte_idx, crlf, 5);
     SAME_AT(1, lines_crlf_from_byte_idx, crlf, 6);
-    SAME_AT(5, lines_crlf_to_byte_idx, "a\342\200\250b", 1);
+    SAME_AT(2, lines_crlf_from_byte_idx, crs, 3);
+    SAME_AT(0, lines_crlf_from_byte_idx, separated, 5);
+    SAME_AT(1, lines_crlf_to_byte_idx, crs, 1);
+    SAME_AT(5, lines_crlf_to_byte_idx, separated, 1);
 
     SAME(8, lines_count_breaks, all_breaks);
     SAME_AT(8, lines_from_byte_idx, all_breaks, 48);
-    SAME_AT(4, lines_to_byte_idx, "a\342\200\250b", 1);
+    SAME_AT(4, lines_to_byte_idx, separated, 1);
     SAME_AT(22, lines_to_byte_idx, crlf, 4);
 }
 
@@ -127,6 +136,21 @@ static void long_texts(void)
     SAME_AT(264, lines_to_byte_idx, twelve_crlf, 37);
 }
 
+static void longer_texts(void)
+{
+    repeat(forty_frogs, sizeof forty_frogs, frogs, sizeof frogs - 1);
+    SAME_AT(1799, chars_to_byte_idx, forty_frogs, 919);
+    SAME_AT(1800, chars_to_byte_idx, forty_frogs, 920);
+    SAME_AT(1778, utf16_to_byte_idx, forty_frogs, 1071);
+    SAME_AT(1800, utf16_to_byte_idx, forty_frogs, 1080);
+
+    repeat(hundred_crlf, sizeof hundred_crlf, crlf, sizeof crlf - 1);
+    SAME_AT(2195, lines_lf_to_byte_idx, hundred_crlf, 300);
+    SAME_AT(2200, lines_lf_to_byte_idx, hundred_crlf, 301);
+    SAME_AT(2195, lines_crlf_to_byte_idx, hundred_crlf, 300);
+    SAME_AT(2200, lines_crlf_to_byte_idx, hundred_crlf, 301);
+}
+
 static const char *answered_by_the_wide_half(void)
 {
     if (str_indices_is_wide(0))
@@ -141,6 +165,7 @@ int main(void)
     line_breaks();
     the_empty_text();
     long_texts();
+    longer_texts();
     printf("the wide half answers for %s\n", answered_by_the_wide_half());
     printf("%d passed, %d failed\n", passed, failed);
     return failed != 0;

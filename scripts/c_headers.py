@@ -1,0 +1,55 @@
+"""Tries the headers of the library for C: each by itself and with the others, and the type of each function.
+
+The types are those of the exports in Rattle, which the compiler compares with the headers' by a pointer to each function:
+a call would convert a wrong one. That a fault is seen is tried on faults: a type of each function that it has not.
+"""
+import re
+import subprocess
+
+from c_exports import HEADERS, ROOT, declared, exported, symbols
+
+STRICT = ["-Wall", "-Wextra", "-Werror", "-pedantic", "-fsyntax-only", f"-I{ROOT}/include"]
+COMPILERS = {"C": ["cc", "-std=c99", "-x", "c"], "C++": ["c++", "-std=c++11", "-x", "c++"]}
+
+
+def compiles(language, text):
+    """Whether the compiler takes the text, and what it said."""
+    command = [*COMPILERS[language], *STRICT, "-"]
+    done = subprocess.run(command, input=text, capture_output=True, text=True)
+    return done.returncode == 0, done.stderr
+
+
+def includes(headers):
+    return "".join(f"#include <{header.name}>\n" for header in headers)
+
+
+def pointers(functions):
+    """A text with a pointer to each function, of the types that the exports have."""
+    lines = [f"extern {function.pointer(f'p_{name}')};\n{function.pointer(f'p_{name}')} = {name};\n"
+             for name, function in functions.items()]
+    return includes(HEADERS) + "".join(lines)
+
+
+def wrong_types(function):
+    """The function with another result, with a parameter of another sign, and with one parameter more."""
+    yield function._replace(result="int" if function.result != "int" else "long")
+    yield function._replace(parameters=re.sub(r"size_t", "long", function.parameters, count=1))
+    yield function._replace(parameters=f"{function.parameters}, size_t")
+
+
+def try_headers(tally, library):
+    """All of it; the library is asked for its symbols."""
+    functions, in_headers = exported(), declared()
+    names = set(functions)
+    tally.result(set(in_headers) == names == symbols(library), f"headers, exports and library have the same {len(names)} functions")
+    for language in COMPILERS:
+        for order in [*[[header] for header in HEADERS], HEADERS, HEADERS[::-1], [*HEADERS, *HEADERS]]:
+            right, said = compiles(language, includes(order) + "typedef int not_empty;\n")
+            if not tally.result(right, f"{language}: {', '.join(header.name for header in order)} compile"):
+                print(said)
+        right, said = compiles(language, pointers(functions))
+        if not tally.result(right, f"{language}: each function has the types of its export"):
+            print(said)
+        unseen = [f"{wrong.result} {name}({wrong.parameters})" for name, function in functions.items()
+                  for wrong in wrong_types(function) if compiles(language, pointers({name: wrong}))[0]]
+        tally.result(not unseen, f"{language}: a wrong type of each function is refused{''.join(f'; not {one}' for one in unseen)}")
