@@ -1,8 +1,8 @@
 // The page: what the text's indices are at the cursor, the text as cells, and a field for each conversion.
 import { load } from "./str_indices.mjs";
-
-// a field for text turns CR into LF, so a CR is shown as this, which is one UTF-16 code unit too
-const CR_SHOWN = "↵";
+import { LongText } from "./long_text.mjs";
+import { Field } from "./field.mjs";
+import { Cells, LINE_SETS } from "./cells.mjs";
 
 const EXAMPLES = [
   ["Lines of a hover request", "Zeile eins\r\n🐸 zwei\u2028drei\nせかい"],
@@ -14,245 +14,291 @@ const EXAMPLES = [
   ["Nothing", ""],
 ];
 
-// the modules, with what is shown of each
+// the modules, with what is shown of each: its heading, what its indices are of, and that it counts pairs
 const SCHEMES = [
-  ["chars", "chars", "count"],
-  ["utf16", "UTF-16 units", "count"],
-  ["linesLf", "lines by LF", "countBreaks"],
-  ["linesCrlf", "lines by LF, CR, CR LF", "countBreaks"],
-  ["lines", "lines by every break", "countBreaks"],
+  ["chars", "chars", "char"],
+  ["utf16", "UTF-16 units", "unit"],
+  ["linesLf", "lines by LF", "line"],
+  ["linesCrlf", "lines by LF, CR, CR LF", "line"],
+  ["lines", "lines by every break", "line"],
 ];
 
-const LINE_SETS = [
-  ["linesLf", "line : column, LF", "lf"],
-  ["linesCrlf", "line : column, LF, CR, CR LF", "crlf"],
-  ["lines", "line : column, every break", "lines"],
+const ENCODINGS = [
+  ["utf8", "position, UTF-8"],
+  ["utf16", "position, UTF-16"],
+  ["utf32", "position, UTF-32"],
 ];
 
-const NAMES = { 0x09: "TAB", 0x0a: "LF", 0x0b: "VT", 0x0c: "FF", 0x0d: "CR", 0x20: "SP", 0x85: "NEL", 0x2028: "LS", 0x2029: "PS" };
+// a reader is told the place once the cursor rests; the cells of a text that is typed follow the hands
+const REST = 300;
+const FOLLOW = 60;
 
-// more chars than these are not drawn: those round the cursor are
-const MOST_CHARS = 400;
+const byId = (id) => document.getElementById(id);
+const rowOf = (module) => document.querySelector(`#conversions tr[data-module=${module}]`);
 
-const field = document.getElementById("text");
-const shown = (text) => text.replaceAll("\r", CR_SHOWN);
-const meant = (value) => value.replaceAll(CR_SHOWN, "\r");
-
-let indices;
 let text;
-
-/** What the field's text and its selection mean now. */
-function readField() {
-  const value = meant(field.value);
-  text = indices.text(value);
-  return { value, start: field.selectionStart, end: field.selectionEnd };
-}
+let field;
+let cells;
+let drawing = null;
+let resting = null;
+let following = null;
+let shownAt = null;
 
 function cell(row, content, kind) {
   const made = row.appendChild(document.createElement("td"));
+  made.role = "cell";
   made.textContent = content;
   if (kind) made.className = kind;
   return made;
 }
 
-/** A row of the table of places: the heading, and a cell for each value. */
-function placeRow(body, heading, values) {
-  const row = body.insertRow();
-  const name = document.createElement("th");
+function headed(row, heading) {
+  const name = row.appendChild(document.createElement("th"));
   name.scope = "row";
+  name.role = "rowheader";
   name.textContent = heading;
-  row.append(name);
-  for (const value of values) cell(row, String(value), "number");
+  return name;
 }
 
 /** The line of a byte, and the units from where that line begins. */
 function lineAndColumn(set, byte) {
-  const line = text[set].fromByteIdx(byte);
-  const begins = text[set].toByteIdx(line);
-  return `${line} : ${text.utf16.fromByteIdx(byte) - text.utf16.fromByteIdx(begins)}`;
+  const line = text.fromByteIdx(set, byte);
+  const begins = text.toByteIdx(set, line);
+  return `${line} : ${text.fromByteIdx("utf16", byte) - text.fromByteIdx("utf16", begins)}`;
 }
 
-function showPlaces(selection) {
+function position(encoding, byte) {
+  const { line, character } = text.positionOf(encoding, byte);
+  return `${line} : ${character}`;
+}
+
+/** The rows of the table of places: a heading, what it says of a byte, and what of the whole text. */
+function placeRows() {
+  const lines = (set) => {
+    const number = text.count(set) + 1;
+    return `${number} ${number === 1 ? "line" : "lines"}`;
+  };
+  return [
+    ["byte", (byte) => byte, text.length],
+    ["char", (byte) => text.fromByteIdx("chars", byte), text.count("chars")],
+    ["UTF-16 unit", (byte) => text.fromByteIdx("utf16", byte), text.count("utf16")],
+    ...LINE_SETS.map(([set, heading]) => [`line : column, ${heading}`, (byte) => lineAndColumn(set, byte), lines(set)]),
+    ...ENCODINGS.map(([encoding, heading]) => [heading, (byte) => position(encoding, byte), position(encoding, text.length)]),
+  ];
+}
+
+function showPlaces(bytes) {
   const body = document.querySelector("#places tbody");
-  body.replaceChildren();
-  const bytes = [selection.start, selection.end].map((unit) => text.utf16.toByteIdx(unit));
-  placeRow(body, "byte", [...bytes, text.length]);
-  placeRow(body, "char", [...bytes.map((byte) => text.chars.fromByteIdx(byte)), text.chars.count()]);
-  placeRow(body, "UTF-16 unit", [...bytes.map((byte) => text.utf16.fromByteIdx(byte)), text.utf16.count()]);
-  for (const [set, heading] of LINE_SETS) {
-    const lines = text[set].countBreaks() + 1;
-    placeRow(body, heading, [...bytes.map((byte) => lineAndColumn(set, byte)), `${lines} ${lines === 1 ? "line" : "lines"}`]);
-  }
-  return bytes;
+  const [start, end] = bytes;
+  placeRows().forEach(([heading, at, whole], i) => {
+    const row = body.rows[i] ?? placeRow(body, heading);
+    const first = String(at(start));
+    const values = [first, end === start ? first : String(at(end)), String(whole)];
+    values.forEach((value, column) => {
+      const place = row.cells[column + 1];
+      if (place.textContent !== value) place.textContent = value;
+    });
+  });
 }
 
-function boxes(kind, contents) {
-  const row = document.createElement("span");
-  row.className = kind;
-  for (const content of contents) {
-    const box = row.appendChild(document.createElement("b"));
-    box.textContent = content;
-  }
+function placeRow(body, heading) {
+  const row = body.insertRow();
+  row.role = "row";
+  headed(row, heading);
+  for (let column = 0; column < 3; column++) cell(row, "", "number");
   return row;
 }
 
-const hex = (number, width) => number.toString(16).toUpperCase().padStart(width, "0");
-
-/** One char as a column: its bytes, itself, its units, and the sets of breaks by which a line ends behind it. */
-function drawChar(char, byte, bytes) {
-  const column = document.createElement("div");
-  column.className = "char";
-  const code = char.codePointAt(0);
-  const glyph = boxes("glyph", [NAMES[code] ?? char]);
-  glyph.firstChild.classList.toggle("name", code in NAMES);
-  const units = Array.from({ length: char.length }, (_, i) => hex(char.charCodeAt(i), 4));
-  column.append(boxes("bytes", Array.from(bytes, (one) => hex(one, 2))), glyph, boxes("units", units));
-  const marks = column.appendChild(document.createElement("span"));
-  marks.className = "marks";
-  const behind = byte + bytes.length;
-  for (const [set, heading, kind] of LINE_SETS) {
-    if (text[set].fromByteIdx(behind) > text[set].fromByteIdx(byte)) {
-      const mark = marks.appendChild(document.createElement("i"));
-      mark.className = `mark ${kind}`;
-      mark.title = `a line ends here: ${heading}`;
-    }
-  }
-  const unit = text.utf16.fromByteIdx(byte);
-  column.title = `byte ${byte}, char ${text.chars.fromByteIdx(byte)}, unit ${unit}, U+${hex(code, 4)}`;
-  return column;
-}
-
-/** The chars that are drawn: their places in the list of chars, round the cursor where there are too many. */
-function drawnRange(total, cursor) {
-  const first = Math.max(0, Math.min(cursor - MOST_CHARS / 2, total - MOST_CHARS));
-  return [first, Math.min(total, first + MOST_CHARS)];
-}
-
-function showCells([start, end]) {
-  const place = document.getElementById("cells");
-  place.replaceChildren();
-  const all = text.bytes();
-  const [first, last] = drawnRange(text.chars.count(), text.chars.fromByteIdx(start));
-  let block = null;
-  for (let i = first; i < last; i++) {
-    const byte = text.chars.toByteIdx(i);
-    const bytes = all.subarray(byte, text.chars.toByteIdx(i + 1));
-    const char = new TextDecoder("utf-8", { ignoreBOM: true }).decode(bytes);
-    const column = drawChar(char, byte, bytes);
-    column.classList.toggle("selected", byte >= start && byte < end);
-    column.classList.toggle("cursor", byte === start);
-    const secondOfCrlf = char === "\n" && all[byte - 1] === 0x0d && block !== null;
-    if (secondOfCrlf) {
-      block.classList.add("joined");
-    } else {
-      block = place.appendChild(document.createElement("div"));
-      block.className = "block";
-    }
-    block.append(column);
-  }
-  const leftOut = text.chars.count() - (last - first);
-  document.getElementById("left-out").textContent = leftOut > 0 ? `${leftOut} chars further off are not drawn.` : "";
-}
-
-/** The index that a field holds; `null` where it is none. */
+/** The index that a field holds; `null` where it is none, and one that no text reaches as `Infinity`. */
 function indexIn(input) {
-  return /^[0-9]+$/.test(input.value.trim()) ? BigInt(input.value.trim()) : null;
+  const written = input.value.trim();
+  const index = Number(written);
+  return /^[0-9]+$/.test(written) ? (Number.isSafeInteger(index) ? index : Infinity) : null;
 }
 
 function makeConversions() {
   const body = document.querySelector("#conversions tbody");
-  for (const [module, heading] of SCHEMES) {
+  for (const [module, heading, unit] of SCHEMES) {
     const row = body.insertRow();
+    row.role = "row";
     row.dataset.module = module;
-    placeHeading(row, heading);
-    cell(row, "", "number count");
-    for (const conversion of ["fromByteIdx", "toByteIdx"]) {
-      const input = cell(row, "").appendChild(document.createElement("input"));
+    headed(row, heading);
+    cell(row, "", "number count").dataset.label = "count";
+    for (const [conversion, from, to] of [["fromByteIdx", "byte", unit], ["toByteIdx", unit, "byte"]]) {
+      const asked = cell(row, "", "asked");
+      asked.dataset.label = conversion === "fromByteIdx" ? "from byte index" : "to byte index, from";
+      const input = asked.appendChild(document.createElement("input"));
       input.inputMode = "numeric";
+      input.autocomplete = "off";
       input.value = "0";
       input.dataset.conversion = conversion;
-      input.ariaLabel = `${heading}: index for ${conversion}`;
-      input.addEventListener("input", showConversions);
-      cell(row, "", `number ${conversion}`);
+      input.ariaLabel = `${heading}: ${from} index, to ${to} index`;
+      cell(row, "", `number ${conversion}`).dataset.label = "answer";
+      input.addEventListener("input", () => {
+        showConversions();
+        tell(`${input.ariaLabel}: ${row.querySelector(`.${conversion}`).textContent}`);
+      });
     }
   }
 }
 
-function placeHeading(row, heading) {
-  const name = document.createElement("th");
-  name.scope = "row";
-  name.textContent = heading;
-  row.append(name);
-}
-
 function showConversions() {
-  for (const [module, , count] of SCHEMES) {
-    const row = document.querySelector(`#conversions tr[data-module=${module}]`);
-    const pairs = module === "utf16" ? `, pairs: ${text.utf16.countSurrogates()}` : "";
-    row.querySelector(".count").textContent = `${text[module][count]()}${pairs}`;
+  for (const [module] of SCHEMES) {
+    const row = rowOf(module);
+    const pairs = module === "utf16" ? `, pairs: ${text.count("pairs")}` : "";
+    row.querySelector(".count").textContent = `${text.count(module)}${pairs}`;
     for (const input of row.querySelectorAll("input")) {
       const index = indexIn(input);
       input.ariaInvalid = String(index === null);
-      const answer = index === null ? "no index" : text[module][input.dataset.conversion](index);
+      const answer = index === null ? "no index" : text[input.dataset.conversion](module, index);
       row.querySelector(`.${input.dataset.conversion}`).textContent = answer;
     }
   }
 }
 
+/** Tells those who hear the page, once nothing else is to be told. */
+function tell(what) {
+  clearTimeout(resting);
+  resting = setTimeout(() => (byId("told").textContent = what), REST);
+}
+
+function place([start, end]) {
+  const of = (byte) => {
+    const [line, character] = position("utf16", byte).split(" : ");
+    return `line ${line}, character ${character}`;
+  };
+  const char = text.fromByteIdx("chars", start);
+  const unit = text.fromByteIdx("utf16", start);
+  return start === end
+    ? `At byte ${start}, char ${char}, unit ${unit}; ${of(start)}.`
+    : `Selected: bytes ${start} to ${end}, from ${of(start)}, to ${of(end)}.`;
+}
+
 function show() {
-  const bytes = showPlaces(readField());
-  showCells(bytes);
-  showConversions();
+  cancelAnimationFrame(drawing);
+  drawing = null;
+  const changed = field.read() || shownAt === null;
+  const selection = field.selection;
+  if (!changed && selection.join() === shownAt) {
+    return;
+  }
+  shownAt = selection.join();
+  const bytes = selection.map((unit) => text.toByteIdx("utf16", unit));
+  showPlaces(bytes);
+  if (changed) {
+    showConversions();
+    byId("arrow").hidden = !field.holdsArrow;
+  }
+  showCells(bytes, changed);
+  tell(place(bytes));
+}
+
+/** Draws the cells, after a change a little later: hundreds of them take longer than a letter in the field. */
+function showCells(bytes, changed) {
+  if (!changed && following === null) {
+    cells.show(...bytes, false);
+    return;
+  }
+  clearTimeout(following);
+  following = setTimeout(() => {
+    following = null;
+    show();
+    cells.show(...field.selection.map((unit) => text.toByteIdx("utf16", unit)), true);
+  }, FOLLOW);
+}
+
+/** Shows what changed with the next drawing, so that many changes are shown once. */
+function follow(now) {
+  if (now) {
+    shownAt = null;
+    show();
+  } else {
+    drawing ??= requestAnimationFrame(show);
+  }
+}
+
+function fail(message) {
+  const trouble = byId("trouble");
+  trouble.textContent = message;
+  trouble.hidden = message === "";
 }
 
 /** Puts an example in the field, with this range of units selected, and its first place in the fields for indices. */
 function choose(example, start, end) {
-  field.value = shown(EXAMPLES[example]?.[1] ?? "");
-  field.setSelectionRange(start, end);
-  readField();
-  const byte = text.utf16.toByteIdx(start);
+  byId("example").selectedIndex = example;
+  field.replaceAll(EXAMPLES[example][1]);
+  field.select(start, end);
+  const byte = text.toByteIdx("utf16", start);
   for (const [module] of SCHEMES) {
-    const [from, to] = document.querySelectorAll(`#conversions tr[data-module=${module}] input`);
+    const [from, to] = rowOf(module).querySelectorAll("input");
     from.value = byte;
-    to.value = module === "utf16" ? start : text[module].fromByteIdx(byte);
+    to.value = module === "utf16" ? start : text.fromByteIdx(module, byte);
   }
-  show();
+  follow(true);
 }
 
-function insert(characters) {
-  field.setRangeText(characters, field.selectionStart, field.selectionEnd, "end");
-  field.focus();
-  show();
+/** What an address names: an example and the units that are selected in it, as #2:3-5; or what is wrong with it. */
+function named(hash) {
+  const found = /^#([0-9]+):([0-9]+)-([0-9]+)$/.exec(hash);
+  if (!found) {
+    return { wrong: `“${hash}” names no place: one is an example, and the units that are selected, as #2:3-5.` };
+  }
+  const [example, start, end] = found.slice(1).map(Number);
+  if (example >= EXAMPLES.length) {
+    return { wrong: `“${hash}” names no place: there is no example ${example}, the last one is ${EXAMPLES.length - 1}.` };
+  }
+  const units = EXAMPLES[example][1].length;
+  if (start > end || end > units) {
+    return { wrong: `“${hash}” names no place: example ${example} has ${units} units, from 0 on, and a range ends after it begins.` };
+  }
+  return { example, start, end };
+}
+
+function goToAddress() {
+  if (location.hash === "") {
+    choose(0, 12, 14);
+    return;
+  }
+  const { wrong, example, start, end } = named(location.hash);
+  if (wrong) choose(0, 0, 0);
+  else choose(example, start, end);
+  fail(wrong ?? "");
 }
 
 function listen() {
-  const picker = document.getElementById("example");
+  const picker = byId("example");
   for (const [name] of EXAMPLES) picker.add(new Option(name));
-  picker.addEventListener("change", () => choose(picker.selectedIndex, 0, 0));
+  picker.addEventListener("change", () => {
+    fail("");
+    choose(picker.selectedIndex, 0, 0);
+    picker.focus();
+  });
   for (const button of document.querySelectorAll("[data-insert]")) {
-    button.addEventListener("click", () => insert(button.dataset.insert));
+    button.addEventListener("click", () => field.insert(JSON.parse(`"${button.dataset.insert}"`)));
   }
-  field.addEventListener("input", show);
-  document.addEventListener("selectionchange", show);
-  field.addEventListener("select", show);
-  // an address may name an example and the units that are selected in it, as #2:3-5
-  const [, example, start, end] = /^#([0-9]+):([0-9]+)-([0-9]+)$/.exec(location.hash) ?? [null, 0, 12, 14];
-  picker.selectedIndex = Number(example);
-  choose(Number(example), Number(start), Number(end));
+  byId("file").addEventListener("change", async (event) => {
+    fail("");
+    const [file] = event.target.files;
+    if (file) await field.open(file);
+    event.target.value = "";
+  });
+  window.addEventListener("hashchange", goToAddress);
 }
 
 /** The bytes of the functions, where the page holds them itself. */
 function inlineBytes() {
-  const held = document.getElementById("functions");
+  const held = byId("functions");
   return held === null ? undefined : Uint8Array.from(atob(held.textContent), (char) => char.charCodeAt(0));
 }
 
-try {
-  indices = await load(inlineBytes());
+async function begin() {
+  const indices = await load(inlineBytes());
+  text = new LongText(indices);
+  field = new Field(byId("text"), text, follow, fail);
+  cells = new Cells(indices, text, byId("cells"), byId("left-out"), (start, end) => field.select(start, end));
   makeConversions();
   listen();
-} catch (error) {
-  const trouble = document.getElementById("trouble");
-  trouble.textContent = error.message;
-  trouble.hidden = false;
+  goToAddress();
 }
+
+begin().catch((error) => fail(error.message));

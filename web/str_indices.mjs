@@ -1,32 +1,53 @@
-// Counts the chars, UTF-16 code units and line breaks of a text, and converts between those indices and byte indices of
-// its UTF-8 form, by the proved functions of `str_indices` as WebAssembly.
+// Counts the chars, UTF-16 code units and line breaks of a text, converts between those indices and byte indices of its
+// UTF-8 form, and maps byte indices to and from positions of a language server, by the proved functions of `str_indices`
+// and `position_mapper` as WebAssembly.
 //
 //     import { load } from "./str_indices.mjs";
 //
-//     const indices = await load();                   // fetches str_indices_web.wasm from beside this file
+//     const indices = await load();                   // reads str_indices_web.wasm from beside this file
 //     indices.utf16.toByteIdx("a🐸b", 3);             // 5
 //     const text = indices.text("one\r\ntwo");        // encoded once, for many questions
 //     text.linesCrlf.toByteIdx(1);                    // 5
+//     text.positions.utf16.positionOf(6);             // { line: 1, character: 1 }
 //
 // A text is a string, or its bytes as a `Uint8Array`. A string is encoded as UTF-8, where a lone surrogate becomes
 // U+FFFD; bytes that are not UTF-8 are a `TypeError`. An index is a number or a BigInt from 0 on, or `Infinity`, and
 // anything else a `RangeError`; each index past the end has an answer. Answers are numbers.
 
-const PAGE = 65536;
 const GREATEST = 2n ** 64n - 1n;
+
+// a position is two numbers of 64 bits
+const POSITION_SIZE = 16;
 
 // a module that has one page of memory with 64-bit addresses
 const WIDE_MEMORY = new Uint8Array([0, 0x61, 0x73, 0x6d, 1, 0, 0, 0, 5, 3, 1, 4, 1]);
 
-// the modules by their names here, their names in the exports, and their counting functions
-const MODULES = [
-  ["chars", "chars", ["count"]],
-  ["utf16", "utf16", ["count", "countSurrogates"]],
-  ["linesLf", "lines_lf", ["countBreaks"]],
-  ["linesCrlf", "lines_crlf", ["countBreaks"]],
-  ["lines", "lines", ["countBreaks"]],
+// each function by its name here, its name in the exports, and what it takes beside the text
+const FUNCTIONS = [
+  ["chars.count", "chars_count", askCount],
+  ["chars.fromByteIdx", "chars_from_byte_idx", askIndex],
+  ["chars.toByteIdx", "chars_to_byte_idx", askIndex],
+  ["utf16.count", "utf16_count", askCount],
+  ["utf16.countSurrogates", "utf16_count_surrogates", askCount],
+  ["utf16.fromByteIdx", "utf16_from_byte_idx", askIndex],
+  ["utf16.toByteIdx", "utf16_to_byte_idx", askIndex],
+  ["linesLf.countBreaks", "lines_lf_count_breaks", askCount],
+  ["linesLf.fromByteIdx", "lines_lf_from_byte_idx", askIndex],
+  ["linesLf.toByteIdx", "lines_lf_to_byte_idx", askIndex],
+  ["linesCrlf.countBreaks", "lines_crlf_count_breaks", askCount],
+  ["linesCrlf.fromByteIdx", "lines_crlf_from_byte_idx", askIndex],
+  ["linesCrlf.toByteIdx", "lines_crlf_to_byte_idx", askIndex],
+  ["lines.countBreaks", "lines_count_breaks", askCount],
+  ["lines.fromByteIdx", "lines_from_byte_idx", askIndex],
+  ["lines.toByteIdx", "lines_to_byte_idx", askIndex],
+  ["positions.lineEnd", "line_end", askIndex],
+  ["positions.utf8.positionOf", "utf8_position_of", askPositionOf],
+  ["positions.utf8.byteOf", "utf8_byte_of", askByteOf],
+  ["positions.utf16.positionOf", "position_of", askPositionOf],
+  ["positions.utf16.byteOf", "byte_of", askByteOf],
+  ["positions.utf32.positionOf", "utf32_position_of", askPositionOf],
+  ["positions.utf32.byteOf", "utf32_byte_of", askByteOf],
 ];
-const CONVERSIONS = ["fromByteIdx", "toByteIdx"];
 
 /** Whether this engine has WebAssembly with 64-bit memory, which the functions want. */
 export function isSupported() {
@@ -34,157 +55,246 @@ export function isSupported() {
 }
 
 /**
- * Loads the functions, from a URL or from the bytes of `str_indices_web.wasm`.
+ * Loads the functions, from a URL, in Node also from a path, or from the bytes of `str_indices_web.wasm`.
  *
  * @param {URL | string | ArrayBuffer | Uint8Array} [source]
  */
 export async function load(source = new URL("str_indices_web.wasm", import.meta.url)) {
   if (!isSupported()) {
-    throw new Error("this engine has no 64-bit WebAssembly memory; Chromium has it from 133 on, Firefox from 134 on");
+    throw new Error(unsupported());
   }
   const inHand = source instanceof ArrayBuffer || ArrayBuffer.isView(source);
-  const bytes = inHand ? source : await (await fetch(source)).arrayBuffer();
-  const { instance } = await WebAssembly.instantiate(bytes);
-  return indicesOver(new Machine(instance.exports));
+  const bytes = inHand ? source : await read(source);
+  try {
+    const { instance } = await WebAssembly.instantiate(bytes);
+    return indicesOver(new Machine(instance.exports));
+  } catch (error) {
+    const name = inHand ? "what was handed over" : source;
+    throw new Error(`${name} is not the WebAssembly of str_indices: ${error.message}`, { cause: error });
+  }
 }
 
-/** The exports, and their memory behind what they use of it themselves. */
+const nodeVersion = () => globalThis.process?.versions?.node;
+
+function unsupported() {
+  const missing = "this engine has no 64-bit WebAssembly memory";
+  return nodeVersion() === undefined
+    ? `${missing}; Chromium has it from 133 on, Firefox from 134 on`
+    : `${missing}; Node ${nodeVersion()} has it behind a flag or not at all: try node --experimental-wasm-memory64`;
+}
+
+/** The bytes at a URL, or in Node those of a file, which `fetch` does not read there. */
+async function read(source) {
+  try {
+    if (nodeVersion() !== undefined && !/^(https?|data|blob):/.test(source)) {
+      const files = await import(/* webpackIgnore: true */ /* @vite-ignore */ "node:fs/promises");
+      return await files.readFile(String(source).startsWith("file:") ? new URL(source) : source);
+    }
+    const response = await fetch(source);
+    if (!response.ok) {
+      throw new Error(`the server answers ${response.status}`);
+    }
+    return await response.arrayBuffer();
+  } catch (error) {
+    throw new Error(`${source} cannot be read: ${error.message}`, { cause: error });
+  }
+}
+
+/** The bytes of a text that is no string: they lie in the memory, or were saved when another text took their place. */
+class Kept {
+  saved = null;
+}
+
+/** The exports, and their memory: a place for one position, and after it one text at a time. */
 class Machine {
   #exports;
-  #base;
-  // the bytes that lie in the memory now, where they are those of a text object
+  #memory;
+  #place;
+  #start;
+  // the string or the kept bytes that lie in the memory now, where they are one of these, and how many bytes lie there
   #held = null;
+  #length = 0;
 
   constructor(exports) {
     this.#exports = exports;
-    this.#base = Number(exports.__heap_base.value);
+    this.#place = Number(exports.__heap_base.value);
+    this.#start = this.#place + POSITION_SIZE;
+    this.#memory = new Uint8Array(exports.memory.buffer);
   }
 
-  /** What the export answers for bytes that are UTF-8. */
-  call(name, bytes, index) {
-    this.#put(bytes, false);
-    return this.#answer(name, bytes.length, index);
-  }
-
-  /** The same for the bytes of a text object, which nobody else can change. */
-  callHeld(name, bytes, index) {
-    this.#put(bytes, true);
-    return this.#answer(name, bytes.length, index);
-  }
-
-  isUtf8(bytes) {
-    this.#put(bytes, false);
-    return Boolean(this.#exports.str_indices_is_utf8(BigInt(this.#base), BigInt(bytes.length)));
-  }
-
-  #answer(name, len, index) {
-    const text = [BigInt(this.#base), BigInt(len)];
-    const call = this.#exports[`str_indices_${name}`];
-    return Number(BigInt.asUintN(64, index === undefined ? call(...text) : call(...text, index)));
-  }
-
-  #put(bytes, hold) {
-    if (hold && this.#held === bytes) {
-      return;
+  /** Sees to it that the text lies in the memory, where it is checked; answers how many bytes it takes. */
+  put(text) {
+    if (text === this.#held) {
+      return this.#length;
     }
-    this.#makeRoom(bytes.length);
-    this.#held = hold ? bytes : null;
-    new Uint8Array(this.#exports.memory.buffer, this.#base, bytes.length).set(bytes);
+    if (this.#held instanceof Kept) {
+      this.#held.saved ??= this.bytes();
+    }
+    this.#held = null;
+    if (typeof text === "string") {
+      this.#length = this.#encode(text);
+      this.#held = text;
+    } else if (text instanceof Kept) {
+      this.#length = this.#copy(text.saved);
+      this.#held = text;
+    } else {
+      this.#length = this.#check(text);
+    }
+    return this.#length;
   }
 
-  #makeRoom(len) {
-    const memory = this.#exports.memory;
-    const missing = this.#base + len - memory.buffer.byteLength;
-    if (missing <= 0) {
-      return;
-    }
-    const pages = Math.ceil(missing / PAGE);
-    try {
-      // an engine may want the pages of a 64-bit memory as a BigInt or, in older ones, as a number
-      try {
-        memory.grow(BigInt(pages));
-      } catch (error) {
-        if (!(error instanceof TypeError)) throw error;
-        memory.grow(pages);
-      }
-    } catch {
-      throw new RangeError(`a text of ${len} bytes does not fit the memory`);
-    }
+  /** Puts the text into the memory, for many questions; answers by what it is found again. */
+  keep(text) {
+    this.put(text);
+    this.#held ??= new Kept();
+    return this.#held;
   }
+
+  /** The bytes that lie in the memory, as an array of the caller's own. */
+  bytes() {
+    return this.#memory.slice(this.#start, this.#start + this.#length);
+  }
+
+  /** The number that the export answers for a text, and what it takes beside that. */
+  number(name, text, ...more) {
+    return narrow(this.#call(name, text, ...more));
+  }
+
+  positionOf(name, text, byte) {
+    const length = this.put(text);
+    this.#exports[`str_indices_${name}`](BigInt(this.#place), BigInt(this.#start), BigInt(length), byte);
+    const place = new DataView(this.#memory.buffer, this.#place, POSITION_SIZE);
+    return { line: narrow(place.getBigUint64(0, true)), character: narrow(place.getBigUint64(8, true)) };
+  }
+
+  byteOf(name, text, line, character) {
+    const place = new DataView(this.#memory.buffer, this.#place, POSITION_SIZE);
+    place.setBigUint64(0, line, true);
+    place.setBigUint64(8, character, true);
+    return this.number(name, text, BigInt(this.#place));
+  }
+
+  #call(name, text, ...more) {
+    const length = this.put(text);
+    return this.#exports[`str_indices_${name}`](BigInt(this.#start), BigInt(length), ...more);
+  }
+
+  #encode(string) {
+    const { read, written } = new TextEncoder().encodeInto(string, this.#memory.subarray(this.#start));
+    if (read < string.length) {
+      throw this.#tooLong();
+    }
+    return written;
+  }
+
+  #copy(bytes) {
+    // one view for both, since an array over a buffer that grows may become longer at any time
+    const view = bytes.subarray(0, bytes.length);
+    if (view.length > this.#memory.length - this.#start) {
+      throw this.#tooLong();
+    }
+    this.#memory.set(view, this.#start);
+    return view.length;
+  }
+
+  /** Copies bytes that may be no UTF-8, or that others may change meanwhile: the copy is what is checked. */
+  #check(bytes) {
+    if (!(bytes instanceof Uint8Array)) {
+      throw new TypeError("a text is a string or a Uint8Array");
+    }
+    const length = this.#copy(bytes);
+    if (!this.#exports.str_indices_is_utf8(BigInt(this.#start), BigInt(length))) {
+      throw new TypeError("the bytes are not UTF-8");
+    }
+    return length;
+  }
+
+  #tooLong() {
+    return new RangeError(`the text does not fit the memory: at most ${this.#memory.length - this.#start} bytes do`);
+  }
+}
+
+function askCount(machine, name, text) {
+  return machine.number(name, text);
+}
+
+function askIndex(machine, name, text, index) {
+  return machine.number(name, text, wideIndex(index));
+}
+
+function askPositionOf(machine, name, text, byte) {
+  return machine.positionOf(name, text, wideIndex(byte));
+}
+
+function askByteOf(machine, name, text, position) {
+  if (typeof position !== "object" || position === null) {
+    throw new TypeError("a position is an object with a line and a character");
+  }
+  return machine.byteOf(name, text, wideIndex(position.line, "line"), wideIndex(position.character, "character"));
 }
 
 /** A text that keeps its bytes, for many questions. */
 class Text {
-  #bytes;
+  #machine;
+  #kept;
 
-  constructor(machine, bytes) {
-    this.#bytes = bytes;
-    for (const [name, functions] of functionsBy((exported, index) => machine.callHeld(exported, this.#bytes, index))) {
-      this[name] = functions;
-    }
+  constructor(machine, source) {
+    this.#machine = machine;
+    this.#kept = machine.keep(source);
+    this.length = machine.put(this.#kept);
+    Object.assign(this, functionsBy((ask, name, argument) => ask(machine, name, this.#kept, argument), false));
     Object.freeze(this);
-  }
-
-  /** How many bytes the text takes in UTF-8. */
-  get length() {
-    return this.#bytes.length;
   }
 
   /** The text's bytes, as an array of the caller's own. */
   bytes() {
-    return this.#bytes.slice();
+    this.#machine.put(this.#kept);
+    return this.#machine.bytes();
   }
 }
 
 function indicesOver(machine) {
-  const encoded = (text) => {
-    if (typeof text === "string") {
-      return new TextEncoder().encode(text);
-    }
-    if (!(text instanceof Uint8Array)) {
-      throw new TypeError("a text is a string or a Uint8Array");
-    }
-    if (!machine.isUtf8(text)) {
-      throw new TypeError("the bytes are not UTF-8");
-    }
-    return text;
-  };
-  const text = (source) => {
-    const bytes = encoded(source);
-    return new Text(machine, bytes === source ? bytes.slice() : bytes);
-  };
-  const call = (exported, index, source) => machine.call(exported, encoded(source), index);
-  const modules = functionsBy((exported, index, source) => call(exported, index, source), true);
-  return Object.freeze({ text, ...Object.fromEntries(modules) });
+  const functions = functionsBy((ask, name, text, argument) => ask(machine, name, text, argument), true);
+  return Object.freeze({ text: (source) => new Text(machine, source), ...functions });
 }
 
-/** Each module by its name, with its functions: over a text that is their first argument, or over one that is known. */
-function functionsBy(ask, takesText = false) {
-  return MODULES.map(([name, exported, counts]) => {
-    const functions = {};
-    for (const count of counts) {
-      const full = `${exported}_${snake(count)}`;
-      functions[count] = takesText ? (text) => ask(full, undefined, text) : () => ask(full);
-    }
-    for (const conversion of CONVERSIONS) {
-      const full = `${exported}_${snake(conversion)}`;
-      functions[conversion] = takesText
-        ? (text, index) => ask(full, wideIndex(index), text)
-        : (index) => ask(full, wideIndex(index));
-    }
-    return [name, Object.freeze(functions)];
-  });
+/** The functions by their names: over a text that is their first argument, or over one that is known. */
+function functionsBy(call, takesText) {
+  const all = {};
+  for (const [path, exported, ask] of FUNCTIONS) {
+    const names = path.split(".");
+    const last = names.pop();
+    const place = names.reduce((place, name) => (place[name] ??= {}), all);
+    place[last] = takesText
+      ? (text, argument) => call(ask, exported, text, argument)
+      : (argument) => call(ask, exported, argument);
+  }
+  return frozen(all);
 }
 
-function snake(name) {
-  return name.replace(/[A-Z]/g, (letter) => `_${letter.toLowerCase()}`);
+function frozen(functions) {
+  for (const inner of Object.values(functions)) {
+    if (typeof inner === "object") frozen(inner);
+  }
+  return Object.freeze(functions);
 }
+
+const narrow = (number) => Number(BigInt.asUintN(64, number));
 
 /** The index as the exports take it: one that 64 bits do not hold is past every text's end. */
-function wideIndex(index) {
+function wideIndex(index, what = "index") {
   const whole = typeof index === "bigint" || Number.isInteger(index);
   if ((!whole && index !== Infinity) || index < 0) {
-    throw new RangeError(`${String(index)} is no index`);
+    throw new RangeError(`${shown(index)} is no ${what}, which is a whole number or a BigInt from 0 on, or Infinity`);
   }
   return index > GREATEST ? GREATEST : BigInt(index);
+}
+
+/** What was handed over instead of an index, for a message. */
+function shown(value) {
+  const kind = value === null ? "null" : typeof value;
+  if (kind === "string") {
+    return `the string ${JSON.stringify(value)}`;
+  }
+  return kind === "number" ? String(value) : kind === "bigint" ? `${value}n` : kind;
 }
