@@ -6,6 +6,8 @@ pub mod LineBytes
 pub mod Positions
 pub mod WholeText
 pub mod FirstLines
+pub mod LineBreaks
+pub mod Callers
 pub use Common.*
 pub use Contents.*
 pub use Encodings.*
@@ -14,3 +16,4 @@ pub use LineBytes.*
 pub use Positions.*
 pub use WholeText.*
 pub use FirstLines.*
+pub use LineBreaks.*
