@@ -15,8 +15,9 @@ pub use Rattle.str_indices.specs.Text.{Text, size, line_feed, carriage_return, i
 pub use Rattle.str_indices.specs.declared.Scheme.TheVariants.{Chars, Crlf}
 pub use Rattle.position_mapper.specs.Encodings.{units_of}
 pub use Rattle.position_mapper.specs.Lines.{is_break, behind, line_content, line_end, IsWithoutLast}
-pub use Rattle.position_mapper.specs.Positions.{units_on_line, position_at, byte_at, is_exact, exact_byte_at}
+pub use Rattle.position_mapper.specs.Positions.{units_on_line, position_at, byte_at, is_exact, exact_byte_at, is_at_or_before, byte_range_at}
 pub use Rattle.position_mapper.specs.Relations.{IsBreakStart, IsLineEnd, IsGreatestPlace, IsAtOrBefore}
 pub use Rattle.position_mapper.specs.declared.Position.{Position}
+pub use Rattle.position_mapper.specs.declared.Range.{Range}
 pub use Rattle.position_mapper.specs.declared.encodings.Encoding.{Encoding}
 pub use Rattle.position_mapper.specs.declared.encodings.Encoding.TheVariants.{Utf8, Utf16, Utf32}
