@@ -5,7 +5,7 @@ ghost use Rattle.position_mapper.specs.Encodings.{units_of};
 ghost use Rattle.position_mapper.specs.Positions.{byte_at, byte_range_at, exact_byte_at, position_at};
 
 use crate::look_back::line_start;
-use crate::{Position, Range, has_line, line_at, line_of};
+use crate::{Position, Range, has_line, line_after, line_at, line_of};
 use std::ops;
 use str_indices::laws::start_of_line;
 use str_indices::{chars, lines_crlf as lines, utf16};
@@ -87,10 +87,15 @@ impl Encoding {
         ensures boundaries { IfSome result (λ bytes.
             IsCharBoundary text.now bytes.start × IsCharBoundary text.now bytes.end) }
     {
-        if !range.start.is_at_or_before(range.end) {
+        let Range { start, end } = range;
+        if !start.is_at_or_before(end) {
             return None;
         }
-        Some(self.byte_of(text, range.start)..self.byte_of(text, range.end))
+        let first = line_of(text, start.line);
+        let last = line_after(text, first.index, first.start, end.line);
+        let from = first.start + self.boundary_at(first.content, start.character);
+        let to = last.start + self.boundary_at(last.content, end.character);
+        Some(from..to)
     }
 
     /// The units of the chars before the byte index.

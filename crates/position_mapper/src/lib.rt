@@ -121,6 +121,21 @@ fn line_of(text: &str, index: usize) -> Line<'_>
     line_at(text, index, lines::to_byte_idx(text, index))
 }
 
+/// The line of this index, which is `first` or one after it, where `first` begins at `start`.
+fn line_after(text: &str, first: usize, start: usize, index: usize) -> Line<'_>
+    requires start { start ≡ to_byte_idx Crlf (chars text.now) first }
+    requires order { first ≤ index }
+    ensures index { result.index ≡ index }
+    ensures start { result.start ≡ to_byte_idx Crlf (chars text.now) index }
+    ensures content { chars result.content.now ≡ line_content (chars text.now) index }
+    ensures end { result.start + length result.content.now ≡ line_end (chars text.now) index }
+    ensures within { result.start + length result.content.now ≤ length text.now }
+{
+    // What is before `start` is not gone over again.
+    let rest = &text[start..];
+    line_at(text, index, start + lines::to_byte_idx(rest, index - first))
+}
+
 /// The line of this index, which begins at `start`.
 #[tactic(auto, using(crate::proofs::lemmas::LineBytes::line_in_bytes))]
 fn line_at(text: &str, index: usize, start: usize) -> Line<'_>

@@ -7,7 +7,8 @@ pub use Rattle.std.proofs.lemmas.List.Sums.{sum_by-cons, sum_by-append, count_by
 pub use Rattle.std.proofs.lemmas.Str.{IsUtf8-take, IsUtf8-drop, len_utf8_bounds, encodes-chars, chars_past_char, chars-nil, encodes-append}
 pub use Rattle.std.specs.Char.{len_utf8}
 pub use Rattle.std.specs.List.{before_first}
-pub use Rattle.str_indices.proofs.lemmas.Callers.{IsCharBoundary-from_boundary, chars-append, size-chars, size-cons, size-append, boundary_beside, cut_front, cut_goes_on, cut_all, cut_is_longest, IsBoundary-from_char_boundary, weighed_at, weighed-le-weighed, weight-some, boundary_weighed_is_greatest, boundary_weighed_iff, boundary_weighed-le, weighed_is_greatest_boundary, weighed_or_inside, weighed_inside, end_at-past, is_crlf_middle_iff, IsBoundary-to_byte_idx, from_byte_idx-le, to_byte_idx-le, characters_weighed, boundary_of_characters, from_byte_idx-le-count, from-to, to-from_is_greatest, is_joined}
+pub use Rattle.str_indices.proofs.lemmas.Callers.{IsCharBoundary-from_boundary, chars-append, size-chars, size-cons, size-append, boundary_beside, cut_front, cut_goes_on, cut_all, cut_is_longest, IsBoundary-from_char_boundary, weighed_at, weighed-le-weighed, weight-some, boundary_weighed_is_greatest, boundary_weighed_iff, boundary_weighed-le, weighed_is_greatest_boundary, weighed_or_inside, weighed_inside, end_at-past, to_byte_idx-le-size, is_crlf_middle_iff, IsBoundary-to_byte_idx, from_byte_idx-le, to_byte_idx-le, characters_weighed, boundary_of_characters, from_byte_idx-le-count, from-to, to-from_is_greatest, is_joined}
+pub use Rattle.str_indices.specs.Joins.{seam_loss}
 pub use Rattle.str_indices.specs.Relations.{IsBoundary, IsEndOf, IsCrlfMiddle, IsEnd}
 pub use Rattle.str_indices.specs.Schemes.{ends, count, from_byte_idx, to_byte_idx, weighed, boundary_weighed}
 pub use Rattle.str_indices.specs.Starts.{IsGreatestBoundary, IsInside}
