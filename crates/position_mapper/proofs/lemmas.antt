@@ -4,6 +4,7 @@ pub mod Encodings
 pub mod Lines
 pub mod LineBytes
 pub mod Positions
+pub mod Ranges
 pub mod WholeText
 pub mod FirstLines
 pub mod LineBreaks
@@ -14,6 +15,7 @@ pub use Encodings.*
 pub use Lines.*
 pub use LineBytes.*
 pub use Positions.*
+pub use Ranges.*
 pub use WholeText.*
 pub use FirstLines.*
 pub use LineBreaks.*
