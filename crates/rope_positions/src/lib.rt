@@ -5,9 +5,12 @@
 #![tactic(auto)]
 
 mod breaks;
+mod changes;
 mod questions;
+mod ropes;
 mod units;
 
-pub use position_mapper::{Encoding, Position};
-pub use questions::{byte_of_in, line_end_in, position_of_in};
-pub use text_rope::View;
+pub use changes::{Change, apply};
+pub use position_mapper::{Encoding, Position, Range};
+pub use questions::{byte_of_in, byte_range_in, exact_byte_of_in, line_end_in, position_of_in};
+pub use ropes::{byte_of, byte_range, exact_byte_of, line_end, position_of};

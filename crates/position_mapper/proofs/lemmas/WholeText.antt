@@ -126,7 +126,7 @@ exact_of_byte e cs p byte is =
 
 -- whether a position names a place, by the units of the whole text
 module _ (e : Encoding) (cs : Text) (p : Position) where
-  units_at_place : weighed (units_of e) cs (byte_at e cs p) ≡ weighed (units_of e) cs (to_byte_idx Crlf cs p.line)
+  pub units_at_place : weighed (units_of e) cs (byte_at e cs p) ≡ weighed (units_of e) cs (to_byte_idx Crlf cs p.line)
       + weighed (units_of e) (line_content cs p.line) (boundary_weighed (units_of e) (line_content cs p.line) p.character)
   units_at_place =
       let place = boundary_weighed_is_greatest (units_of e) (line_content cs p.line) p.character in
@@ -145,11 +145,6 @@ module _ (e : Encoding) (cs : Text) (p : Position) where
       exact_none e cs p _ refl (inl (false_from_ne_true _ (λ within. absurd (omega (arith, leb-true _ _ within, past)))))
   not_exact_by_units (inr not_reached) =
       exact_none e cs p _ refl (inr (λ same. not_reached (omega (arith, units_at_place, same))))
-
-  -- its byte index is between characters
-  pub IsBoundary-byte_at : IsBoundary cs (byte_at e cs p)
-  IsBoundary-byte_at = IsBoundary-from_content cs p.line _
-      (boundary_weighed_is_greatest (units_of e) (line_content cs p.line) p.character).boundary
 
 -- a text has no more units than bytes
 units_le_bytes : (e : Encoding) (cs : Text) → sum_by (units_of e) cs ≤ size cs

@@ -1,5 +1,5 @@
 use Rattle.std.proofs.Common.{true≢false}
-use Rattle.rope_positions.proofs.lemmas.{◌≡◌, ◌∙◌, ap, sym, arith, inl, inr, joined, line_end_past, break_of_line, none_asked, one_asked, asked_after, asked_within}
+use Rattle.rope_positions.proofs.lemmas.{subst, IsBoundary, IsBoundary-line_end, ◌≡◌, ◌∙◌, ap, sym, arith, inl, inr, joined, line_end_past, break_of_line, none_asked, one_asked, asked_after, asked_within}
 use Rattle.rope_positions.proofs.questions.line_end_in.Goals as goal
 
 pub returns-then-count_in-line-clause-answer : goal.returns-then-count_in-line-clause-answer
@@ -63,3 +63,7 @@ returns-else-is_crlf_middle_in-clause-cost c =
     let to = c.to_in-next.ensures in
     rw (sym c.count_in.ensures.state) (asked_after
     (one_asked _ _ to.texts to.looks to.looks_kept to.reads to.reads_kept) c.is_crlf_middle_in.ensures.cost)
+
+pub returns-else-is_crlf_middle_in-clause-boundary : goal.returns-else-is_crlf_middle_in-clause-boundary
+returns-else-is_crlf_middle_in-clause-boundary c = subst (IsBoundary (joined c.args.v.now.texts))
+    (sym (returns-else-is_crlf_middle_in-clause-answer c)) (IsBoundary-line_end (joined c.args.v.now.texts) c.args.line)
