@@ -1,11 +1,12 @@
 // Positions where offsets are counted in one of the protocol's encodings.
-ghost use Rattle.std.specs.Prelude.{◌≡◌, IfSome, IsCharBoundary, chars};
+ghost use Rattle.std.specs.Prelude.{◌≡◌, ◌≤◌, IfSome, IsCharBoundary, chars};
 ghost use Rattle.str_indices.specs.Schemes.{boundary_weighed, weighed};
 ghost use Rattle.position_mapper.specs.Encodings.{units_of};
-ghost use Rattle.position_mapper.specs.Positions.{byte_at, exact_byte_at, position_at};
+ghost use Rattle.position_mapper.specs.Positions.{byte_at, byte_range_at, exact_byte_at, position_at};
 
 use crate::look_back::line_start;
-use crate::{Position, has_line, line_at, line_of};
+use crate::{Position, Range, has_line, line_after, line_at, line_of};
+use std::ops;
 use str_indices::laws::start_of_line;
 use str_indices::{chars, lines_crlf as lines, utf16};
 
@@ -74,6 +75,27 @@ impl Encoding {
             return None;
         }
         Some(line.start + offset)
+    }
+
+    /// The byte indices of a range, or `None` where its end is before its start. Each is that of its position, as
+    /// `byte_of` answers it.
+    ///
+    /// The text may be sliced at the answer.
+    pub fn byte_range(self, text: &str, range: Range) -> Option<ops::Range<usize>>
+        ensures answer { result ≡ byte_range_at self (chars text.now) range }
+        ensures ordered { IfSome result (λ bytes. bytes.start ≤ bytes.end) }
+        ensures boundaries { IfSome result (λ bytes.
+            IsCharBoundary text.now bytes.start × IsCharBoundary text.now bytes.end) }
+    {
+        let Range { start, end } = range;
+        if !start.is_at_or_before(end) {
+            return None;
+        }
+        let first = line_of(text, start.line);
+        let last = line_after(text, first.index, first.start, end.line);
+        let from = first.start + self.boundary_at(first.content, start.character);
+        let to = last.start + self.boundary_at(last.content, end.character);
+        Some(from..to)
     }
 
     /// The units of the chars before the byte index.

@@ -1,15 +1,15 @@
 //! Laws of lines and positions. Each function does nothing: its contract is the law.
-ghost use Rattle.std.specs.Prelude.{◌≡◌, ◌+◌, ◌<◌, ◌≤◌, ◌⊎◌, IfSome, IsSome, chars, min, sum_by};
+ghost use Rattle.std.specs.Prelude.{◌≡◌, ◌+◌, ◌<◌, ◌≤◌, ◌⊎◌, ◌↔◌, IfSome, IsSome, chars, min, sum_by};
 ghost use Rattle.str_indices.specs.Relations.{IsBoundary, IsCrlfMiddle};
 ghost use Rattle.str_indices.specs.Schemes.{boundary_weighed, count, from_byte_idx, to_byte_idx, weighed};
 ghost use Rattle.str_indices.specs.declared.Scheme.TheVariants.{Crlf};
 ghost use Rattle.str_indices.specs.Starts.{IsInside};
 ghost use Rattle.position_mapper.specs.Encodings.{units_of};
 ghost use Rattle.position_mapper.specs.Lines.{line_content, line_end};
-ghost use Rattle.position_mapper.specs.Positions.{byte_at, exact_byte_at, position_at};
+ghost use Rattle.position_mapper.specs.Positions.{byte_at, byte_range_at, exact_byte_at, position_at};
 ghost use Rattle.position_mapper.specs.Relations.{IsAtOrBefore, IsGreatestPlace, IsLineEnd};
 
-use crate::{Encoding, Position};
+use crate::{Encoding, Position, Range};
 
 /// A line's content ends at the least place, from the line's beginning on, where an LF or a CR begins, or where there
 /// is none at the end of the text. That place is on the line, and no later line begins before it.
@@ -67,6 +67,14 @@ pub fn positions_in_order(encoding: Encoding, text: &str, i: usize, j: usize)
 /// A later position never has a lesser byte index.
 pub fn bytes_in_order(encoding: Encoding, text: &str, p: Position, q: Position)
     ensures { let cs = chars text.now in IsAtOrBefore p q → byte_at encoding cs p ≤ byte_at encoding cs q }
+{}
+
+/// A range has byte indices exactly where its end is not before its start, and then they are boundaries in order.
+pub fn byte_ranges(encoding: Encoding, text: &str, range: Range)
+    ensures some { IsSome (byte_range_at encoding (chars text.now) range) ↔ IsAtOrBefore range.start range.end }
+    ensures ordered { IfSome (byte_range_at encoding (chars text.now) range) (λ bytes. bytes.start ≤ bytes.end) }
+    ensures boundaries { let cs = chars text.now in
+        IfSome (byte_range_at encoding cs range) (λ bytes. IsBoundary cs bytes.start × IsBoundary cs bytes.end) }
 {}
 
 /// By the units of the whole text: a position's offset and the units before its line are the units before its byte, or

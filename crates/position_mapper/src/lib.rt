@@ -7,18 +7,20 @@
 //! Every text, byte index and position has an answer: nothing panics, nothing allocates.
 #![tactic(auto)]
 
-ghost use Rattle.std.specs.Prelude.{◌≡◌, ◌+◌, ◌≤◌, IsCharBoundary, chars, drop, length, nat_le};
+ghost use Rattle.std.specs.Prelude.{◌≡◌, ◌+◌, ◌≤◌, ◌↔◌, IfSome, IsCharBoundary, IsTrue, chars, drop, length, nat_le};
 ghost use Rattle.std.specs.List.{before_first};
 ghost use Rattle.str_indices.specs.Schemes.{count, to_byte_idx};
 ghost use Rattle.str_indices.specs.declared.Scheme.TheVariants.{Crlf};
 ghost use Rattle.position_mapper.specs.Lines.{is_break, line_content, line_end, IsWithoutLast};
-ghost use Rattle.position_mapper.specs.Positions.{byte_at, position_at};
+ghost use Rattle.position_mapper.specs.Positions.{byte_at, byte_range_at, is_at_or_before, position_at};
+ghost use Rattle.position_mapper.specs.Relations.{IsAtOrBefore};
 
 mod encodings;
 pub mod laws;
 mod look_back;
 
 pub use crate::encodings::Encoding;
+use std::ops;
 use str_indices::lines_crlf as lines;
 
 /// A place in a text, as a language server names it.
@@ -29,6 +31,26 @@ pub struct Position {
     pub line: usize,
     /// The offset on that line, in the units of an encoding.
     pub character: usize,
+}
+
+impl Position {
+    /// Whether it is on an earlier line, or on the same line and no further on it.
+    pub fn is_at_or_before(self, other: Position) -> bool
+        ensures answer { result ≡ is_at_or_before self other }
+        ensures order { IsTrue result ↔ IsAtOrBefore self other }
+    {
+        self.line < other.line || self.line == other.line && self.character <= other.character
+    }
+}
+
+/// A part of a text, as a language server names it: from its start up to its end.
+#[derive(Clone, Copy, PartialEq, Eq, Debug)]
+#[repr(C)]
+pub struct Range {
+    /// Where it begins.
+    pub start: Position,
+    /// Where it ends: what is at this position is no part of it.
+    pub end: Position,
 }
 
 /// The byte index where the content of a line ends, counted from 0: before its break, or the length of the text in
@@ -67,6 +89,19 @@ pub fn byte_of(text: &str, position: Position) -> usize
     Encoding::Utf16.byte_of(text, position)
 }
 
+/// The byte indices of a range whose offsets are UTF-16 code units, or `None` where its end is before its start. Each is
+/// that of its position, as `byte_of` answers it.
+///
+/// The text may be sliced at the answer.
+pub fn byte_range(text: &str, range: Range) -> Option<ops::Range<usize>>
+    ensures answer { result ≡ byte_range_at Encoding.Utf16 (chars text.now) range }
+    ensures ordered { IfSome result (λ bytes. bytes.start ≤ bytes.end) }
+    ensures boundaries { IfSome result (λ bytes.
+        IsCharBoundary text.now bytes.start × IsCharBoundary text.now bytes.end) }
+{
+    Encoding::Utf16.byte_range(text, range)
+}
+
 /// A line: its index, where it begins, and its text without its break.
 #[derive(Clone, Copy)]
 struct Line<'t> {
@@ -84,6 +119,21 @@ fn line_of(text: &str, index: usize) -> Line<'_>
     ensures within { result.start + length result.content.now ≤ length text.now }
 {
     line_at(text, index, lines::to_byte_idx(text, index))
+}
+
+/// The line of this index, which is `first` or one after it, where `first` begins at `start`.
+fn line_after(text: &str, first: usize, start: usize, index: usize) -> Line<'_>
+    requires start { start ≡ to_byte_idx Crlf (chars text.now) first }
+    requires order { first ≤ index }
+    ensures index { result.index ≡ index }
+    ensures start { result.start ≡ to_byte_idx Crlf (chars text.now) index }
+    ensures content { chars result.content.now ≡ line_content (chars text.now) index }
+    ensures end { result.start + length result.content.now ≡ line_end (chars text.now) index }
+    ensures within { result.start + length result.content.now ≤ length text.now }
+{
+    // What is before `start` is not gone over again.
+    let rest = &text[start..];
+    line_at(text, index, start + lines::to_byte_idx(rest, index - first))
 }
 
 /// The line of this index, which begins at `start`.

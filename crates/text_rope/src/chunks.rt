@@ -29,6 +29,7 @@ impl Tree {
         ensures piece { size (chars result.text.now) ≤ max_piece }
         ensures len { length result.text.now ≡ size (chars result.text.now) }
         ensures looks { looks.new ≤ looks.old + self.now.height }
+        ensures looks_kept { looks.old ≤ looks.new }
         ensures short { joined_size self.now.texts < 2 ^ 63 }
     {
         let Some(look) = self.look(looks) else {

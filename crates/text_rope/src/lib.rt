@@ -24,7 +24,7 @@ mod work;
 
 pub use chunks::{Chunk, Chunks};
 pub use piece_text::Scheme;
-pub use queries::{count_in, from_in, is_boundary_in, to_in};
+pub use queries::{chunk_in, count_in, from_in, is_boundary_in, to_in};
 pub use refusals::Refusal;
 pub use rope::Rope;
 pub use view::View;

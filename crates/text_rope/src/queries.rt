@@ -1,17 +1,19 @@
 //! The answers for the whole text, on one way down the tree.
-ghost use Rattle.std.specs.Prelude.{◌≡◌, ◌+◌, ◌-◌, ◌*◌, ◌^◌, ◌<◌, ◌≤◌, ◌↔◌, IsTrue, chars, length};
+ghost use Rattle.std.specs.Prelude.{◌≡◌, ◌+◌, ◌-◌, ◌*◌, ◌^◌, ◌<◌, ◌≤◌, ◌↔◌, IsTrue, IsSome, IfSome, chars, length};
 ghost use Rattle.str_indices.specs.Text.{Text, size};
 ghost use Rattle.str_indices.specs.Schemes.{count, from_byte_idx, to_byte_idx};
 ghost use Rattle.str_indices.specs.Joins.{seam_loss};
 ghost use Rattle.str_indices.specs.Relations.{IsBoundary};
 ghost use Rattle.piece_text.specs.Pieces.{PiecesState, joined, joined_size};
 ghost use Rattle.piece_text.specs.Summaries.{summary_of};
+ghost use Rattle.text_rope.specs.Edits.{IsChunkAt};
+ghost use Rattle.text_rope.specs.Pieces.{max_piece};
 ghost use Rattle.text_rope.specs.Shapes.{AreSummed};
 ghost use Rattle.text_rope.specs.Places.{Tells};
 
-use crate::View;
 use crate::piece::{Piece, is_boundary};
 use crate::tree::{Look, Tree};
+use crate::{Chunk, View};
 use byte_chunk::Counter;
 use piece_text::{Scheme, Summary};
 
@@ -62,6 +64,25 @@ pub fn is_boundary_in(v: &mut View, at: usize) -> bool
 {
     let _height = v.tree.height();
     v.tree.is_boundary(&mut v.looks, &mut v.reads, at)
+}
+
+/// The piece that a byte is in, and where it starts, none from the end of the text on; as many looks and reads at most.
+pub fn chunk_in<'a>(v: &mut View<'a>, at: usize) -> Option<Chunk<'a>>
+    ensures chunk { IfSome result (λ chunk. IsChunkAt (joined v.old.texts) (chars chunk.text.now) chunk.start at) }
+    ensures piece { IfSome result (λ chunk. size (chars chunk.text.now) ≤ max_piece) }
+    ensures some { IsSome result ↔ (at < joined_size v.old.texts) }
+    ensures texts { v.new.texts ≡ v.old.texts }
+    ensures looks { 2 ^ (v.new.looks - v.old.looks) ≤ (length v.old.texts + 1) * (length v.old.texts + 1) }
+    ensures looks_kept { v.old.looks ≤ v.new.looks }
+    ensures reads { v.new.reads ≤ v.old.reads + 1 }
+    ensures reads_kept { v.old.reads ≤ v.new.reads }
+{
+    if v.len() <= at {
+        return None;
+    }
+    let _height = v.tree.height();
+    v.reads.tick();
+    Some(v.tree.chunk_at(&mut v.looks, at))
 }
 
 /// Where the piece of a fork and its right tree begin, and how many ends are before them.

@@ -1,4 +1,5 @@
 -- What an encoding counts before a byte index, and the place of so many units, by what computes each.
+use Rattle.std.proofs.lemmas.Bool.Decides.{nat_tests}
 use Rattle.position_mapper.proofs.lemmas.Common.{◌≡◌, ℕ, ◌<◌, ◌≤◌, List, inl, inr, refl, arith, cases_lt, chars, IsUtf8, IsCharBoundary, len_utf8, len_utf8_bounds, Text, size, cut, weighed, boundary_weighed, IsBoundary, IsGreatestBoundary, IsBoundary-from_char_boundary, IsCharBoundary-from_boundary, cut_is_longest, weighed_at, weighed-le-weighed, weight-some, boundary_weighed_is_greatest, Encoding, Utf8, Utf16, Utf32, units_of}
 
 -- a character takes some
@@ -6,6 +7,12 @@ pub units_of-some : (e : Encoding) (c : ℕ) → 0 < units_of e c
 units_of-some Utf8 c = omega (arith, len_utf8_bounds c)
 units_of-some Utf16 c = weight-some c
 units_of-some Utf32 c = omega arith
+
+-- and no more than its bytes
+pub units_of-le : (e : Encoding) (c : ℕ) → units_of e c ≤ len_utf8 c
+units_of-le Utf8 c = omega arith
+units_of-le Utf16 c = grind (arith, nat_tests, len_utf8_bounds c)
+units_of-le Utf32 c = omega (arith, len_utf8_bounds c)
 
 -- the greatest boundary at or before a byte index has as many bytes before it
 pub weighed_bytes : (cs : Text) (byte p : ℕ) → IsGreatestBoundary cs byte p → p ≡ weighed len_utf8 cs byte

@@ -60,7 +60,7 @@ module _ (content : Text) (none : count_by is_break content ≡ 0) where
       takes_last carriage_return fed rest content return return_last
 
 -- a character of a break is LF or CR
-break_is : (c : ℕ) → is_break c ≡ true → (c ≡ line_feed) ⊎ (c ≡ carriage_return)
+pub break_is : (c : ℕ) → is_break c ≡ true → (c ≡ line_feed) ⊎ (c ≡ carriage_return)
 break_is c breaks = grind (arith, nat_tests)
 
 -- the second line begins at or before the end of each break

@@ -1,7 +1,7 @@
 -- The lines of a text in bytes, and where std lets it be sliced on them.
-use Rattle.position_mapper.proofs.lemmas.Common.{◌≡◌, ℕ, ◌+◌, ◌-◌, ◌<◌, ◌≤◌, ◌⊎◌, List, [], ◌∷◌, ◌++◌, inl, inr, length, refl, append-nil, take, drop, sym, ◌∙◌, subst, chars, IsUtf8, IsCharBoundary, ap, take-append-drop, length-take-le, ◌≢◌, drop-length, chars-append, chars-nil, chars_past_char, encodes-chars, encodes-append, IsUtf8-take, IsUtf8-drop, size, cut, from_byte_idx, to_byte_idx, Crlf, IsBoundary, boundary_weighed_is_greatest, Encoding, units_of, size-chars, cut_front, IsBoundary-to_byte_idx, IsCharBoundary-from_boundary, Position, behind, line_content, line_end, IsWithoutLast, byte_at}
+use Rattle.position_mapper.proofs.lemmas.Common.{arith, ◌≡◌, ℕ, ◌+◌, ◌-◌, ◌<◌, ◌≤◌, ◌⊎◌, List, [], ◌∷◌, ◌++◌, inl, inr, length, refl, append-nil, take, drop, sym, ◌∙◌, subst, chars, IsUtf8, IsCharBoundary, ap, take-append-drop, length-take-le, ◌≢◌, drop-length, chars-append, chars-nil, chars_past_char, encodes-chars, encodes-append, IsUtf8-take, IsUtf8-drop, size, cut, from_byte_idx, to_byte_idx, Crlf, IsBoundary, boundary_weighed_is_greatest, Encoding, units_of, size-chars, cut_front, IsBoundary-to_byte_idx, IsCharBoundary-from_boundary, Position, behind, line_content, line_end, IsWithoutLast, byte_at}
 use Rattle.std.proofs.Math.Utf8.{encode, encodes}
-use Rattle.position_mapper.proofs.lemmas.Lines.{behind_boundary, begins_behind, IsBoundary-from_content, IsBoundary-line_end}
+use Rattle.position_mapper.proofs.lemmas.Lines.{behind_boundary, later_line, begins_behind, IsBoundary-from_content, IsBoundary-line_end}
 
 module _ (bytes : List ℕ) (utf8 : IsUtf8 bytes) where
   -- the characters on both sides of a place where std lets a text be sliced
@@ -32,6 +32,21 @@ module _ (bytes : List ℕ) (utf8 : IsUtf8 bytes) where
       chars (drop start bytes) ≡ behind (chars bytes) start
   chars_from_line line = chars-drop _
       (IsCharBoundary-from_boundary bytes utf8 _ (IsBoundary-to_byte_idx Crlf (chars bytes) line))
+
+  -- where they have a line after it, the text has that
+  pub later_line_in_bytes : (line later p q : ℕ) (rest : List ℕ) → p ≡ to_byte_idx Crlf (chars bytes) line → line ≤ later
+      → rest ≡ drop p bytes → q ≡ to_byte_idx Crlf (chars rest) (later - line)
+      → p + q ≡ to_byte_idx Crlf (chars bytes) later
+  later_line_in_bytes line later p q rest begins le is_rest later_begins =
+      let start = to_byte_idx Crlf (chars bytes) line in
+      let is : chars rest ≡ behind (chars bytes) start =
+      ap chars (is_rest ∙ ap (λ n. drop n bytes) begins) ∙ chars_from_line line in
+      omega (
+        arith,
+        begins,
+        later_begins ∙ ap (λ t. to_byte_idx Crlf t (later - line)) is,
+        later_line (chars bytes) line later le,
+      )
 
   -- where the line of a byte index begins, by the part of the text behind a place: all of it, or one in which a break
   -- ends up to the byte index

@@ -1,5 +1,5 @@
 -- A text, split at one of its lines: what stands before it, its content, and what is behind that.
-use Rattle.position_mapper.proofs.lemmas.Common.{◌≡◌, ℕ, ◌+◌, ◌-◌, ◌<◌, ◌≤◌, true, [], ◌∷◌, ◌++◌, ◌⊎◌, inl, inr, length, drop, sym, ◌∙◌, ap, arith, cond, refl, min, append_assoc, append-nil, ◌≢◌, count_by, nat_le, len_utf8, drop-append_seam, cases_Bool, cases_lt, append_cancel_left, sum_by-append, count_by-le-length, len_utf8_bounds, Text, size, line_feed, carriage_return, is_crlf_middle, ends, from_byte_idx, to_byte_idx, count, weighed, Crlf, IsBoundary, IsEnd, IsEndOf, IsCrlfMiddle, size-append, size-cons, boundary_beside, cut_front, cut_goes_on, is_crlf_middle_iff, end_at-past, weighed_at, IsBoundary-to_byte_idx, from-to, to-from_is_greatest, from_byte_idx-le, is_joined, is_break, behind, line_content, line_end, IsBreakStart, IsLineEnd}
+use Rattle.position_mapper.proofs.lemmas.Common.{◌≡◌, ℕ, ◌+◌, ◌-◌, ◌<◌, ◌≤◌, true, [], ◌∷◌, ◌++◌, ◌⊎◌, inl, inr, length, drop, sym, ◌∙◌, ap, arith, cond, refl, min, append_assoc, append-nil, ◌≢◌, count_by, nat_le, len_utf8, drop-append_seam, cases_Bool, cases_lt, append_cancel_left, sum_by-append, count_by-le-length, len_utf8_bounds, Text, size, line_feed, carriage_return, is_crlf_middle, ends, from_byte_idx, to_byte_idx, count, weighed, Crlf, IsBoundary, IsEnd, IsEndOf, IsCrlfMiddle, size-append, size-cons, boundary_beside, cut_front, cut_goes_on, is_crlf_middle_iff, end_at-past, weighed_at, IsBoundary-to_byte_idx, from-to, to-from_is_greatest, from_byte_idx-le, is_joined, seam_loss, to_byte_idx-le-size, is_break, behind, line_content, line_end, IsBreakStart, IsLineEnd}
 use Rattle.position_mapper.proofs.lemmas.Contents.{split_at_first}
 use Rattle.str_indices.specs.declared.Scheme.TheVariants.{Utf16}
 
@@ -297,6 +297,49 @@ module _ (cs : Text) (line : ℕ) where
               begins.split begins.is_break (omega (arith, begins.place, len_utf8_bounds begins.character)),
         );
       }
+
+-- where the second of two joined texts begins with a line, it has each line after that
+later_of_second : (a b : Text) (line later : ℕ) → size a ≡ to_byte_idx Crlf (a ++ b) line → line ≤ later
+    → size a + to_byte_idx Crlf b (later - line) ≡ to_byte_idx Crlf (a ++ b) later
+later_of_second a b line later place le = elim (cases_lt (count Crlf (a ++ b)) line) [
+  | inl past ↦ omega (
+    arith,
+    end_at-past Crlf (a ++ b) line past,
+    end_at-past Crlf (a ++ b) later (omega arith),
+    size-append a b,
+    to_byte_idx-le-size Crlf b (later - line),
+  )
+  | inr listed ↦
+      elim (cases_lt line later) [
+        | inl above ↦
+            let joined = is_joined Crlf a b in
+            let there : size a + 0 ≡ to_byte_idx Crlf (a ++ b) line = omega (arith, place) in
+            let breaks : count Crlf a ≡ line + seam_loss Crlf a b = omega (
+              arith,
+              rw there at (joined.from_behind 0),
+              from-to Crlf crlf_is_not_utf16 (a ++ b) line,
+              from-to Crlf crlf_is_not_utf16 b 0,
+            ) in
+            sym (joined.to_behind later (later - line) (omega (arith, breaks)) (omega (arith, breaks)))
+        | inr same ↦
+            let is : line ≡ later = omega arith in
+            let none : later - line ≡ 0 = omega arith in
+            rw none (omega (arith, place, ap (to_byte_idx Crlf (a ++ b)) is))
+      ]
+]
+
+-- so from a line's beginning on, the rest of the text has each line after it
+pub later_line : (cs : Text) (line later : ℕ) → line ≤ later → let start = to_byte_idx Crlf cs line in
+    start + to_byte_idx Crlf (behind cs start) (later - line) ≡ to_byte_idx Crlf cs later
+later_line cs line later le =
+    let start = to_byte_idx Crlf cs line in
+    let at = IsBoundary-to_byte_idx Crlf cs line in
+    let place : size at.front ≡ to_byte_idx Crlf (at.front ++ at.back) line =
+    at.place ∙ ap (λ t. to_byte_idx Crlf t line) at.split in
+    let later_of = later_of_second at.front at.back line later place le in
+    ap (λ b. start + to_byte_idx Crlf b (later - line)) (behind_boundary cs start at)
+    ∙ ap (λ n. n + to_byte_idx Crlf at.back (later - line)) (sym at.place)
+    ∙ later_of ∙ ap (λ t. to_byte_idx Crlf t later) (sym at.split)
 
 -- of two joined texts, the line of a byte index behind their seam begins where the second has it, if a break ends there
 -- up to the byte index, or the first is empty

@@ -11,6 +11,9 @@ on_content : (w : ℕ → ℕ) (cs : Text) (line k : ℕ)
 on_content w cs line k =
     IsBoundary-from_content cs line _ (boundary_weighed_is_greatest w (line_content cs line) k).boundary
 
+pub IsBoundary-byte_at : (e : Encoding) (cs : Text) (p : Position) → IsBoundary cs (byte_at e cs p)
+IsBoundary-byte_at e cs p = on_content (units_of e) cs p.line p.character
+
 within_content : (w : ℕ → ℕ) (cs : Text) (line k : ℕ)
     → boundary_weighed w (line_content cs line) k ≤ size (line_content cs line)
 within_content w cs line k =

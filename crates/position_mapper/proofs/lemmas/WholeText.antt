@@ -1,10 +1,10 @@
 -- Positions by the units of the whole text, where a position's own are those of its line's content.
 use Rattle.std.specs.Prelude.{IfSome, IsSome}
-use Rattle.std.proofs.Common.{ap₂}
-use Rattle.std.proofs.lemmas.Bool.{and_from, and_parts, eqb-true, le-leb, leb-true}
-use Rattle.position_mapper.proofs.lemmas.Positions.{line-position_at-byte_at, character-position_at-byte_at, eqb-same}
-use Rattle.position_mapper.proofs.lemmas.Common.{true, sym, subst, ◌==◌, ◌∙◌, count, cases_Bool, from_byte_idx-le-count, is_exact, exact_byte_at, ◌≡◌, ℕ, ◌+◌, ◌-◌, ◌≤◌, inl, inr, arith, refl, min, cases_lt, Text, size, cut, from_byte_idx, to_byte_idx, weighed, boundary_weighed, Crlf, IsBoundary, IsGreatestBoundary, cut_is_longest, weighed_at, weighed-le-weighed, boundary_weighed_is_greatest, boundary_weighed_iff, weighed_is_greatest_boundary, to-from_is_greatest, Position, Encoding, units_of, line_content, line_end, units_on_line, position_at, byte_at}
-use Rattle.position_mapper.proofs.lemmas.Encodings.{units_of-some}
+use Rattle.std.proofs.Common.{ap, ap₂}
+use Rattle.std.proofs.lemmas.Bool.{and_from, and_parts, eqb-true, false_from_ne_true, le-leb, leb-true}
+use Rattle.position_mapper.proofs.lemmas.Positions.{line-position_at-byte_at, character-position_at-byte_at, eqb-same, exact_some, exact_none}
+use Rattle.position_mapper.proofs.lemmas.Common.{true, [], ◌∷◌, ◌⊎◌, ◌<◌, ◌≢◌, Some, None, append-nil, sum_by, sum_by-cons, size-cons, sym, subst, ◌==◌, ◌∙◌, count, cases_Bool, from_byte_idx-le-count, is_exact, exact_byte_at, ◌≡◌, ℕ, ◌+◌, ◌-◌, ◌≤◌, inl, inr, arith, refl, min, cases_lt, Text, size, cut, from_byte_idx, to_byte_idx, weighed, boundary_weighed, Crlf, IsBoundary, IsGreatestBoundary, cut_is_longest, weighed_at, weighed-le-weighed, boundary_weighed_is_greatest, boundary_weighed_iff, weighed_is_greatest_boundary, to-from_is_greatest, Position, Encoding, units_of, line_content, line_end, units_on_line, position_at, byte_at}
+use Rattle.position_mapper.proofs.lemmas.Encodings.{units_of-some, units_of-le}
 use Rattle.position_mapper.proofs.lemmas.Lines.{crlf_is_not_utf16, boundary_within, IsBoundary-from_content, weighed-from_content, IsBoundary-line_end, IsBoundary-in_content}
 
 -- before the greatest boundary at or before a byte index stand as many units as before the byte index
@@ -123,3 +123,51 @@ exact_of_byte e cs p byte is =
     ≡ true = rw (sym same) (eqb-same (weighed w content on_line)) in
     let exact : is_exact e cs (position_at e cs byte) ≡ true = and_from _ _ has units in
     subst (λ q. IsSome (exact_byte_at e cs q)) is (rw exact refl)
+
+-- whether a position names a place, by the units of the whole text
+module _ (e : Encoding) (cs : Text) (p : Position) where
+  pub units_at_place : weighed (units_of e) cs (byte_at e cs p) ≡ weighed (units_of e) cs (to_byte_idx Crlf cs p.line)
+      + weighed (units_of e) (line_content cs p.line) (boundary_weighed (units_of e) (line_content cs p.line) p.character)
+  units_at_place =
+      let place = boundary_weighed_is_greatest (units_of e) (line_content cs p.line) p.character in
+      weighed-from_content cs p.line (units_of e) _ place.boundary
+
+  pub exact_by_units : p.line ≤ count Crlf cs → weighed (units_of e) cs (byte_at e cs p)
+      ≡ weighed (units_of e) cs (to_byte_idx Crlf cs p.line) + p.character
+      → Some (byte_at e cs p) ≡ exact_byte_at e cs p
+  exact_by_units within reached =
+      exact_some e cs p _ refl (le-leb _ _ within) (omega (arith, units_at_place, reached))
+
+  pub not_exact_by_units : (count Crlf cs < p.line) ⊎ (weighed (units_of e) cs (byte_at e cs p)
+      ≢ weighed (units_of e) cs (to_byte_idx Crlf cs p.line) + p.character)
+      → None ≡ exact_byte_at e cs p
+  not_exact_by_units (inl past) =
+      exact_none e cs p _ refl (inl (false_from_ne_true _ (λ within. absurd (omega (arith, leb-true _ _ within, past)))))
+  not_exact_by_units (inr not_reached) =
+      exact_none e cs p _ refl (inr (λ same. not_reached (omega (arith, units_at_place, same))))
+
+-- a text has no more units than bytes
+units_le_bytes : (e : Encoding) (cs : Text) → sum_by (units_of e) cs ≤ size cs
+units_le_bytes e [] = omega arith
+units_le_bytes e (c ∷ cs) =
+    omega (arith, units_of-le e c, units_le_bytes e cs, sum_by-cons (units_of e) c cs, size-cons c cs)
+
+-- past them all is the text's end
+place_past : (e : Encoding) (cs : Text) (k : ℕ) → size cs ≤ k → boundary_weighed (units_of e) cs k ≡ size cs
+place_past e cs k past =
+    let w = units_of e in
+    let whole : IsBoundary cs (size cs) =
+    record { front = cs; back = []; split = sym (append-nil cs); place = refl } in
+    let all = weighed_at w cs (size cs) whole in
+    let reached = (boundary_weighed_iff w cs (size cs) k whole).1 (omega (arith, all, units_le_bytes e cs)) in
+    omega (arith, reached, boundary_within cs _ (boundary_weighed_is_greatest w cs k).boundary)
+
+-- so no number above that is another place
+pub place_of_least : (e : Encoding) (cs : Text) (k most : ℕ) → size cs ≤ most
+    → boundary_weighed (units_of e) cs (min k most) ≡ boundary_weighed (units_of e) cs k
+place_of_least e cs k most long = elim (cases_lt most k) [
+  | inl past ↦
+      let is : min k most ≡ most = omega arith in
+      ap (boundary_weighed (units_of e) cs) is ∙ place_past e cs most long ∙ sym (place_past e cs k (omega arith))
+  | inr within ↦ let is : min k most ≡ k = omega arith in ap (boundary_weighed (units_of e) cs) is
+]

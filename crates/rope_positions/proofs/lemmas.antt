@@ -1,0 +1,10 @@
+pub mod Common
+pub mod Asking
+pub mod Characters
+pub mod Answering
+pub mod Changing
+pub use Common.*
+pub use Asking.*
+pub use Characters.*
+pub use Answering.*
+pub use Changing.*
