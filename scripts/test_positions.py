@@ -1,71 +1,35 @@
 #!/usr/bin/env python3
 """Compares the positions of the library with a model of the Language Server Protocol, over random texts.
 
-The model is Python's: `str`, split at LF, CR and CR LF, and `encode` in each of the protocol's encodings. The texts
-come from a fixed seed and are of the characters that matter; each is asked in each encoding at every byte index and at
-every position, past the end of each line and of the text too. The static library is linked as a shared object, in a
-temporary folder. The last line printed is 'N passed, M failed'.
+position_model.py is the model. The texts come from a fixed seed and are of the characters that matter; each is asked in
+each encoding at every byte index and at every position, past the end of each line and of the text too. The static library
+is linked as a shared object, in a temporary folder. Then position_changes.py changes a rope by positions. The last line
+printed is 'N passed, M failed'.
 """
 import ctypes
 import pathlib
 import random
-import re
 import subprocess
 import sys
 import tempfile
 
+import position_changes
+from position_model import CHARACTERS, ENCODINGS, GREATEST, byte_at, line_before, lines_of, units
 from tally import Tally
 
 ROOT = pathlib.Path(__file__).resolve().parent.parent
 SEED = 317
 TEXTS = 4000
 MOST_CHARACTERS = 24
-GREATEST = 2**64 - 1
 
-# the three breaks of the protocol, the CR and the LF more often; characters of one to four bytes, and what is no break
-CHARACTERS = "\n\n\r\r\r\nab\0é\u0085\u00a0せ\u2028\u2029\ufeff🐸\U0010ffff\x0b\x0c"
-BREAK = re.compile("\r\n|\r|\n")
-
-# how the names of an encoding's functions begin, and in Python its codec and the bytes of a unit
-ENCODINGS = [
-    ("str_indices_utf8_", "utf-8", 1),
-    ("str_indices_", "utf-16-le", 2),
-    ("str_indices_utf32_", "utf-32-le", 4),
-]
+# how the names of an encoding's functions begin
+PREFIXES = {8: "str_indices_utf8_", 16: "str_indices_", 32: "str_indices_utf32_"}
 
 tally = Tally()
 
 
 class Position(ctypes.Structure):
     _fields_ = [("line", ctypes.c_size_t), ("character", ctypes.c_size_t)]
-
-
-def units(text, codec, size):
-    return len(text.encode(codec)) // size
-
-
-def line_before(data, byte):
-    """The line of a byte and that line's text before it by the model: what stands before the byte, split into lines."""
-    before = data[:byte].decode("utf-8", "ignore")
-    if data[byte - 1 : byte + 1] == b"\r\n" and byte > 0:
-        before = before[:-1]
-    lines = BREAK.split(before)
-    return len(lines) - 1, lines[-1]
-
-
-def lines_of(text):
-    """Each line's beginning and content, and behind the last one the text's end."""
-    start = 0
-    for content, end in zip(BREAK.split(text), BREAK.findall(text) + [""]):
-        yield start, content
-        start += len((content + end).encode())
-    yield start, ""
-
-
-def byte_at(start, content, character, codec, size):
-    """The byte of an offset on a line by the model: a part of a character is left out."""
-    before = content.encode(codec)[: size * character].decode(codec, "ignore")
-    return start + len(before.encode())
 
 
 def functions(library, prefix):
@@ -82,7 +46,7 @@ def link(library, folder):
         return None
     loaded = ctypes.CDLL(str(shared))
     text = [ctypes.c_char_p, ctypes.c_size_t]
-    for prefix, _, _ in ENCODINGS:
+    for prefix in PREFIXES.values():
         position_of, byte_of = functions(loaded, prefix)
         position_of.argtypes, position_of.restype = [*text, ctypes.c_size_t], Position
         byte_of.argtypes, byte_of.restype = [*text, Position], ctypes.c_size_t
@@ -109,8 +73,8 @@ def differences(library, text):
     for index, (start, content) in lines:
         answer = library.str_indices_line_end(data, len(data), index)
         compare(f"line_end {index}", answer, start + len(content.encode()))
-    for prefix, codec, size in ENCODINGS:
-        position_of, byte_of = functions(library, prefix)
+    for encoding, (codec, size) in ENCODINGS.items():
+        position_of, byte_of = functions(library, PREFIXES[encoding])
         for byte, line, before in places:
             answer = position_of(data, len(data), byte)
             compare(f"{codec} position_of {byte}", (answer.line, answer.character), (line, units(before, codec, size)))
@@ -144,6 +108,7 @@ def main():
             library = link(built.stdout.splitlines()[-1], pathlib.Path(folder))
             if library is not None:
                 compare(library)
+    position_changes.compare(tally)
     return tally.end()
 
 
