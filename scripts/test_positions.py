@@ -3,7 +3,7 @@
 
 The model is Python's: `str`, split at LF, CR and CR LF, and `encode` in each of the protocol's encodings. The texts
 come from a fixed seed and are of the characters that matter; each is asked in each encoding at every byte index and at
-every position, past the end of each line and of the text too. The static library is linked as a shared object, in a
+every position, past the end of each line and of the text too, and for ranges between such positions. The static library is linked as a shared object, in a
 temporary folder. The last line printed is 'N passed, M failed'.
 """
 import ctypes
@@ -20,7 +20,10 @@ ROOT = pathlib.Path(__file__).resolve().parent.parent
 SEED = 317
 TEXTS = 4000
 MOST_CHARACTERS = 24
+RANGES = 12
 GREATEST = 2**64 - 1
+# what C is answered where there is no byte
+NONE = GREATEST
 
 # the three breaks of the protocol, the CR and the LF more often; characters of one to four bytes, and what is no break
 CHARACTERS = "\n\n\r\r\r\nab\0é\u0085\u00a0せ\u2028\u2029\ufeff🐸\U0010ffff\x0b\x0c"
@@ -38,6 +41,14 @@ tally = Tally()
 
 class Position(ctypes.Structure):
     _fields_ = [("line", ctypes.c_size_t), ("character", ctypes.c_size_t)]
+
+
+class Range(ctypes.Structure):
+    _fields_ = [("start", Position), ("end", Position)]
+
+
+class Bytes(ctypes.Structure):
+    _fields_ = [("start", ctypes.c_size_t), ("end", ctypes.c_size_t)]
 
 
 def units(text, codec, size):
@@ -68,8 +79,26 @@ def byte_at(start, content, character, codec, size):
     return start + len(before.encode())
 
 
+def exact_byte_at(lines, index, character, codec, size):
+    """The byte of a position that names a place by the model, which is before or behind a whole character of a line."""
+    if index >= len(lines):
+        return NONE
+    start, content = lines[index]
+    edges = [content[:count] for count in range(len(content) + 1)]
+    return next((start + len(edge.encode()) for edge in edges if units(edge, codec, size) == character), NONE)
+
+
+def byte_range(lines, first, last, codec, size):
+    """The bytes of a range by the model, where the last position is not before the first."""
+    if last < first:
+        return NONE, NONE
+    past = lines[-1]
+    places = [(lines[index] if index < len(lines) else past, character) for index, character in (first, last)]
+    return tuple(byte_at(*line, character, codec, size) for line, character in places)
+
+
 def functions(library, prefix):
-    return getattr(library, f"{prefix}position_of"), getattr(library, f"{prefix}byte_of")
+    return [getattr(library, prefix + name) for name in ("position_of", "byte_of", "exact_byte_of", "byte_range")]
 
 
 def link(library, folder):
@@ -83,15 +112,17 @@ def link(library, folder):
     loaded = ctypes.CDLL(str(shared))
     text = [ctypes.c_char_p, ctypes.c_size_t]
     for prefix, _, _ in ENCODINGS:
-        position_of, byte_of = functions(loaded, prefix)
+        position_of, byte_of, exact_byte_of, range_of = functions(loaded, prefix)
         position_of.argtypes, position_of.restype = [*text, ctypes.c_size_t], Position
         byte_of.argtypes, byte_of.restype = [*text, Position], ctypes.c_size_t
+        exact_byte_of.argtypes, exact_byte_of.restype = [*text, Position], ctypes.c_size_t
+        range_of.argtypes, range_of.restype = [*text, Range], Bytes
     loaded.str_indices_line_end.argtypes = [*text, ctypes.c_size_t]
     loaded.str_indices_line_end.restype = ctypes.c_size_t
     return loaded
 
 
-def differences(library, text):
+def differences(library, text, source):
     """The calls for the text whose answer is not the model's, and how many calls there were."""
     data = text.encode()
     wrong = []
@@ -104,13 +135,14 @@ def differences(library, text):
             wrong.append(f"{call} of {text!r}: {answer}, not {expected}")
 
     places = [(byte, *line_before(data, byte)) for byte in [*range(len(data) + 2), GREATEST]]
-    lines = list(lines_of(text))
-    lines = [*enumerate(lines), (GREATEST, lines[-1])]
+    real = list(lines_of(text))
+    lines = [*enumerate(real), (GREATEST, real[-1])]
     for index, (start, content) in lines:
         answer = library.str_indices_line_end(data, len(data), index)
         compare(f"line_end {index}", answer, start + len(content.encode()))
     for prefix, codec, size in ENCODINGS:
-        position_of, byte_of = functions(library, prefix)
+        position_of, byte_of, exact_byte_of, range_of = functions(library, prefix)
+        positions = []
         for byte, line, before in places:
             answer = position_of(data, len(data), byte)
             compare(f"{codec} position_of {byte}", (answer.line, answer.character), (line, units(before, codec, size)))
@@ -119,6 +151,14 @@ def differences(library, text):
                 answer = byte_of(data, len(data), Position(index, character))
                 expected = byte_at(start, content, character, codec, size)
                 compare(f"{codec} byte_of {index}:{character}", answer, expected)
+                answer = exact_byte_of(data, len(data), Position(index, character))
+                expected = exact_byte_at(real[:-1], index, character, codec, size)
+                compare(f"{codec} exact_byte_of {index}:{character}", answer, expected)
+                positions.append((index, character))
+        for first, last in (source.choices(positions, k=2) for _ in range(RANGES)):
+            answer = range_of(data, len(data), Range(Position(*first), Position(*last)))
+            expected = byte_range(real, first, last, codec, size)
+            compare(f"{codec} byte_range {first} to {last}", (answer.start, answer.end), expected)
     return wrong, calls
 
 
@@ -128,7 +168,7 @@ def compare(library):
     calls = 0
     for _ in range(TEXTS):
         text = "".join(source.choices(CHARACTERS, k=source.randint(0, MOST_CHARACTERS)))
-        found, asked = differences(library, text)
+        found, asked = differences(library, text, source)
         wrong += found
         calls += asked
     tally.result(not wrong, f"{calls} answers for {TEXTS} random texts, of which {len(wrong)} are not the model's")
