@@ -12,6 +12,10 @@
  * The others are for UTF-8, which counts bytes, and for UTF-32, which counts
  * scalar values. The end of a line is the same in all three.
  *
+ * A position that names no place is cut to one that does: exact_byte_of tells
+ * whether it was, so that a server notices a client that is out of step. Where
+ * a function has no answer it gives SIZE_MAX, which is past every text.
+ *
  * The functions are in the library of str_indices.h, and each is proved to
  * answer by a definition of lines and positions. What is said there of a text
  * and of what the caller owes holds here too.
@@ -32,6 +36,19 @@ typedef struct str_indices_position {
     size_t character;
 } str_indices_position;
 
+/* A part of a text, as a language server names it: from its start up to its
+ * end. */
+typedef struct str_indices_range {
+    str_indices_position start;
+    str_indices_position end;
+} str_indices_range;
+
+/* A part of a text by byte indices, from `start` up to `end`. */
+typedef struct str_indices_bytes {
+    size_t start;
+    size_t end;
+} str_indices_bytes;
+
 /* From a byte index to its position: the byte's line, and the UTF-16 code
  * units from that line's beginning to the byte. A byte inside a char has the
  * position where the char begins, the byte between CR and LF that of the
@@ -45,6 +62,18 @@ str_indices_position str_indices_position_of(const char *text, size_t len,
  * gives `len`. */
 size_t str_indices_byte_of(const char *text, size_t len,
                            str_indices_position position);
+
+/* The byte index of a position that names a place: as str_indices_byte_of, but
+ * SIZE_MAX where the text has no such line, the offset is past the end of the
+ * line, or the unit is the second of a surrogate pair. */
+size_t str_indices_exact_byte_of(const char *text, size_t len,
+                                 str_indices_position position);
+
+/* The byte indices of a range, each as str_indices_byte_of answers it, so that
+ * `start` is at most `end`; SIZE_MAX twice where the range's end is before its
+ * start: on an earlier line, or on the same line and less far on it. */
+str_indices_bytes str_indices_byte_range(const char *text, size_t len,
+                                         str_indices_range range);
 
 /* The byte index where the content of a line ends: before its break, or `len`
  * where it is the last line or past it. */
@@ -66,6 +95,16 @@ str_indices_position str_indices_utf8_position_of(const char *text, size_t len,
 size_t str_indices_utf8_byte_of(const char *text, size_t len,
                                 str_indices_position position);
 
+/* The byte index of a position that names a place, or SIZE_MAX where the text
+ * has no such line, the offset is past the end of the line, or inside a char. */
+size_t str_indices_utf8_exact_byte_of(const char *text, size_t len,
+                                      str_indices_position position);
+
+/* The byte indices of a range, each as str_indices_utf8_byte_of answers it; one
+ * that ends before its start is answered as by str_indices_byte_range. */
+str_indices_bytes str_indices_utf8_byte_range(const char *text, size_t len,
+                                              str_indices_range range);
+
 /*
  * UTF-32: offsets in scalar values, of which each char is one.
  */
@@ -81,6 +120,16 @@ str_indices_position str_indices_utf32_position_of(const char *text, size_t len,
  * the last one gives `len`. */
 size_t str_indices_utf32_byte_of(const char *text, size_t len,
                                  str_indices_position position);
+
+/* The byte index of a position that names a place, or SIZE_MAX where the text
+ * has no such line, or the offset is past the end of the line. */
+size_t str_indices_utf32_exact_byte_of(const char *text, size_t len,
+                                       str_indices_position position);
+
+/* The byte indices of a range, each as str_indices_utf32_byte_of answers it; one
+ * that ends before its start is answered as by str_indices_byte_range. */
+str_indices_bytes str_indices_utf32_byte_range(const char *text, size_t len,
+                                               str_indices_range range);
 
 #ifdef __cplusplus
 }

@@ -2,9 +2,9 @@
 """Compares the positions of the library with a model of the Language Server Protocol, over random texts.
 
 position_model.py is the model. The texts come from a fixed seed and are of the characters that matter; each is asked in
-each encoding at every byte index and at every position, past the end of each line and of the text too. The static library
-is linked as a shared object, in a temporary folder. Then position_changes.py changes a rope by positions. The last line
-printed is 'N passed, M failed'.
+each encoding at every byte index and at every position, past the end of each line and of the text too, and for ranges
+between such positions. The static library is linked as a shared object, in a temporary folder. Then position_changes.py
+changes a rope by positions. The last line printed is 'N passed, M failed'.
 """
 import ctypes
 import pathlib
@@ -14,13 +14,16 @@ import sys
 import tempfile
 
 import position_changes
-from position_model import CHARACTERS, ENCODINGS, GREATEST, byte_at, line_before, lines_of, units
+from position_model import CHARACTERS, ENCODINGS, GREATEST, Lines, units
 from tally import Tally
 
 ROOT = pathlib.Path(__file__).resolve().parent.parent
 SEED = 317
 TEXTS = 4000
 MOST_CHARACTERS = 24
+RANGES = 12
+# what C is answered where there is no byte
+NONE = GREATEST
 
 # how the names of an encoding's functions begin
 PREFIXES = {8: "str_indices_utf8_", 16: "str_indices_", 32: "str_indices_utf32_"}
@@ -32,8 +35,17 @@ class Position(ctypes.Structure):
     _fields_ = [("line", ctypes.c_size_t), ("character", ctypes.c_size_t)]
 
 
-def functions(library, prefix):
-    return getattr(library, f"{prefix}position_of"), getattr(library, f"{prefix}byte_of")
+class Range(ctypes.Structure):
+    _fields_ = [("start", Position), ("end", Position)]
+
+
+class Bytes(ctypes.Structure):
+    _fields_ = [("start", ctypes.c_size_t), ("end", ctypes.c_size_t)]
+
+
+def functions(library, encoding):
+    names = ("position_of", "byte_of", "exact_byte_of", "byte_range")
+    return [getattr(library, PREFIXES[encoding] + name) for name in names]
 
 
 def link(library, folder):
@@ -46,44 +58,68 @@ def link(library, folder):
         return None
     loaded = ctypes.CDLL(str(shared))
     text = [ctypes.c_char_p, ctypes.c_size_t]
-    for prefix in PREFIXES.values():
-        position_of, byte_of = functions(loaded, prefix)
+    for encoding in ENCODINGS:
+        position_of, byte_of, exact_byte_of, range_of = functions(loaded, encoding)
         position_of.argtypes, position_of.restype = [*text, ctypes.c_size_t], Position
         byte_of.argtypes, byte_of.restype = [*text, Position], ctypes.c_size_t
+        exact_byte_of.argtypes, exact_byte_of.restype = [*text, Position], ctypes.c_size_t
+        range_of.argtypes, range_of.restype = [*text, Range], Bytes
     loaded.str_indices_line_end.argtypes = [*text, ctypes.c_size_t]
     loaded.str_indices_line_end.restype = ctypes.c_size_t
     return loaded
 
 
-def differences(library, text):
-    """The calls for the text whose answer is not the model's, and how many calls there were."""
-    data = text.encode()
-    wrong = []
-    calls = 0
+class Asked:
+    """The answers for a text that are not the model's, and how many there were in all."""
 
-    def compare(call, answer, expected):
-        nonlocal calls
-        calls += 1
+    def __init__(self, library, text):
+        self.library = library
+        self.model = Lines(text)
+        self.wrong = []
+        self.calls = 0
+
+    def compare(self, call, answer, expected):
+        self.calls += 1
         if answer != expected:
-            wrong.append(f"{call} of {text!r}: {answer}, not {expected}")
+            self.wrong.append(f"{call} of {self.model.data!r}: {answer}, not {expected}")
 
-    places = [(byte, *line_before(data, byte)) for byte in [*range(len(data) + 2), GREATEST]]
-    lines = list(lines_of(text))
-    lines = [*enumerate(lines), (GREATEST, lines[-1])]
-    for index, (start, content) in lines:
-        answer = library.str_indices_line_end(data, len(data), index)
-        compare(f"line_end {index}", answer, start + len(content.encode()))
-    for encoding, (codec, size) in ENCODINGS.items():
-        position_of, byte_of = functions(library, PREFIXES[encoding])
-        for byte, line, before in places:
-            answer = position_of(data, len(data), byte)
-            compare(f"{codec} position_of {byte}", (answer.line, answer.character), (line, units(before, codec, size)))
-        for index, (start, content) in lines:
-            for character in [*range(units(content, codec, size) + 3), GREATEST]:
-                answer = byte_of(data, len(data), Position(index, character))
-                expected = byte_at(start, content, character, codec, size)
-                compare(f"{codec} byte_of {index}:{character}", answer, expected)
-    return wrong, calls
+    def text(self):
+        return self.model.data, len(self.model.data)
+
+    def ends(self):
+        for index in [*range(len(self.model.lines) + 1), GREATEST]:
+            self.compare(f"line_end {index}", self.library.str_indices_line_end(*self.text(), index), self.model.end(index))
+
+    def places(self, encoding):
+        position_of, *_ = functions(self.library, encoding)
+        for byte in [*range(len(self.model.data) + 2), GREATEST]:
+            answer = position_of(*self.text(), byte)
+            expected = self.model.position(byte, encoding)
+            self.compare(f"{encoding}: position_of {byte}", (answer.line, answer.character), expected)
+
+    def positions(self, encoding):
+        """The positions of each line, up to three past its end, and past the last line."""
+        for index in [*range(len(self.model.lines) + 1), GREATEST]:
+            _, content = self.model.line(index)
+            for character in [*range(units(content, *ENCODINGS[encoding]) + 3), GREATEST]:
+                yield index, character
+
+    def bytes(self, encoding):
+        _, byte_of, exact_byte_of, _ = functions(self.library, encoding)
+        for position in self.positions(encoding):
+            answer = byte_of(*self.text(), Position(*position))
+            self.compare(f"{encoding}: byte_of {position}", answer, self.model.byte(position, encoding))
+            answer = exact_byte_of(*self.text(), Position(*position))
+            exact = self.model.exact_byte(position, encoding)
+            self.compare(f"{encoding}: exact_byte_of {position}", answer, NONE if exact is None else exact)
+
+    def ranges(self, encoding, source):
+        *_, range_of = functions(self.library, encoding)
+        positions = list(self.positions(encoding))
+        for start, end in (source.choices(positions, k=2) for _ in range(RANGES)):
+            answer = range_of(*self.text(), Range(Position(*start), Position(*end)))
+            expected = self.model.byte_range(start, end, encoding) or (NONE, NONE)
+            self.compare(f"{encoding}: byte_range {start} to {end}", (answer.start, answer.end), expected)
 
 
 def compare(library):
@@ -91,10 +127,14 @@ def compare(library):
     wrong = []
     calls = 0
     for _ in range(TEXTS):
-        text = "".join(source.choices(CHARACTERS, k=source.randint(0, MOST_CHARACTERS)))
-        found, asked = differences(library, text)
-        wrong += found
-        calls += asked
+        asked = Asked(library, "".join(source.choices(CHARACTERS, k=source.randint(0, MOST_CHARACTERS))))
+        asked.ends()
+        for encoding in ENCODINGS:
+            asked.places(encoding)
+            asked.bytes(encoding)
+            asked.ranges(encoding, source)
+        wrong += asked.wrong
+        calls += asked.calls
     tally.result(not wrong, f"{calls} answers for {TEXTS} random texts, of which {len(wrong)} are not the model's")
     tally.enough("answers of test_positions.py", calls, "answers of positions")
     for line in wrong[:10]:

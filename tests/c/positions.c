@@ -104,6 +104,59 @@ static void bytes_by_encoding(void)
     }
 }
 
+/* Where a position names no place. */
+#define NONE SIZE_MAX
+
+static void exact_bytes(void)
+{
+    static const struct {
+        str_indices_position position;
+        size_t utf8, utf16, utf32;
+    } rows[] = {
+        {{0, 0}, 0, 0, 0}, {{0, 1}, 1, 1, 1}, {{0, 2}, NONE, NONE, NONE},
+        {{1, 1}, NONE, NONE, 7}, {{1, 2}, NONE, 7, 8}, {{1, 3}, NONE, 8, NONE},
+        {{1, 4}, 7, NONE, NONE}, {{1, 5}, 8, NONE, NONE}, {{2, 1}, NONE, 12, 12},
+        {{2, 3}, 12, NONE, NONE}, {{3, 0}, 13, 13, 13}, {{4, 1}, 15, 15, 15},
+        {{5, 0}, NONE, NONE, NONE}, {{SIZE_MAX, SIZE_MAX}, NONE, NONE, NONE},
+    };
+    for (size_t i = 0; i < sizeof rows / sizeof rows[0]; i++) {
+        str_indices_position position = rows[i].position;
+        same(str_indices_utf8_exact_byte_of(text, len, position) == rows[i].utf8,
+             "utf8_exact_byte_of", position.line, position.character);
+        same(str_indices_exact_byte_of(text, len, position) == rows[i].utf16,
+             "exact_byte_of", position.line, position.character);
+        same(str_indices_utf32_exact_byte_of(text, len, position) == rows[i].utf32,
+             "utf32_exact_byte_of", position.line, position.character);
+    }
+}
+
+static void bytes_of_ranges(void)
+{
+    static const struct {
+        str_indices_range range;
+        str_indices_bytes utf8, utf16, utf32;
+    } rows[] = {
+        {{{0, 0}, {0, 9}}, {0, 1}, {0, 1}, {0, 1}},
+        {{{1, 1}, {2, 2}}, {3, 9}, {3, 12}, {7, 12}},
+        {{{1, 2}, {1, 4}}, {3, 7}, {7, 8}, {8, 8}},
+        {{{9, 9}, {SIZE_MAX, 0}}, {15, 15}, {15, 15}, {15, 15}},
+        {{{0, 2}, {0, 1}}, {NONE, NONE}, {NONE, NONE}, {NONE, NONE}},
+        {{{1, 0}, {0, 9}}, {NONE, NONE}, {NONE, NONE}, {NONE, NONE}},
+    };
+    for (size_t i = 0; i < sizeof rows / sizeof rows[0]; i++) {
+        str_indices_range range = rows[i].range;
+        str_indices_bytes utf8 = str_indices_utf8_byte_range(text, len, range);
+        str_indices_bytes utf16 = str_indices_byte_range(text, len, range);
+        str_indices_bytes utf32 = str_indices_utf32_byte_range(text, len, range);
+        same(utf8.start == rows[i].utf8.start && utf8.end == rows[i].utf8.end,
+             "utf8_byte_range from", range.start.line, range.start.character);
+        same(utf16.start == rows[i].utf16.start && utf16.end == rows[i].utf16.end,
+             "byte_range from", range.start.line, range.start.character);
+        same(utf32.start == rows[i].utf32.start && utf32.end == rows[i].utf32.end,
+             "utf32_byte_range from", range.start.line, range.start.character);
+    }
+}
+
 int main(void)
 {
     positions_of_bytes();
@@ -111,6 +164,8 @@ int main(void)
     ends_of_lines();
     positions_by_encoding();
     bytes_by_encoding();
+    exact_bytes();
+    bytes_of_ranges();
     printf("%d passed, %d failed\n", passed, failed);
     return failed != 0;
 }

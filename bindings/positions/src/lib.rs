@@ -31,6 +31,7 @@
 #![no_std]
 
 use core::num::TryFromIntError;
+use core::ops;
 
 // The static library is linked by this crate.
 use str_indices as _;
@@ -75,6 +76,26 @@ impl Position {
         Ok((u32::try_from(self.line)?, u32::try_from(self.character)?))
     }
 }
+
+/// A part of a text, as a language server names it: from its start up to its end.
+#[derive(Clone, Copy, Debug, Default, PartialEq, Eq, Hash)]
+#[repr(C)]
+pub struct Range {
+    /// Where it begins.
+    pub start: Position,
+    /// Where it ends: what is at this position is no part of it.
+    pub end: Position,
+}
+
+/// The byte indices of a range, as the library has them.
+#[repr(C)]
+struct Bytes {
+    start: usize,
+    end: usize,
+}
+
+/// What the library answers where it has none: no text is so long.
+const NONE: usize = usize::MAX;
 
 /// How an offset on a line is counted, on which a server and its client agree: the protocol's `PositionEncodingKind`.
 #[derive(Clone, Copy, Debug, Default, PartialEq, Eq, Hash)]
@@ -142,16 +163,73 @@ impl Encoding {
             }
         }
     }
+
+    /// The byte index of a position that names a place, or `None`: where the text has no such line, the offset is past
+    /// the end of the line, or the unit is inside a char. So a server notices a client that is out of step.
+    ///
+    /// ```
+    /// use str_indices_positions::{Encoding, Position};
+    ///
+    /// let text = "a\r\n🐸b";
+    /// assert_eq!(Encoding::Utf16.exact_byte_of(text, Position { line: 1, character: 2 }), Some(7));
+    /// assert_eq!(Encoding::Utf16.exact_byte_of(text, Position { line: 1, character: 1 }), None);
+    /// assert_eq!(Encoding::Utf16.exact_byte_of(text, Position { line: 0, character: 2 }), None);
+    /// assert_eq!(Encoding::Utf16.exact_byte_of(text, Position { line: 2, character: 0 }), None);
+    /// ```
+    #[inline]
+    pub fn exact_byte_of(self, text: &str, position: Position) -> Option<usize> {
+        let (start, len) = (text.as_ptr(), text.len());
+        // SAFETY: as in the function `position_of`, and every position has an answer.
+        let byte = unsafe {
+            match self {
+                Encoding::Utf8 => str_indices_utf8_exact_byte_of(start, len, position),
+                Encoding::Utf16 => str_indices_exact_byte_of(start, len, position),
+                Encoding::Utf32 => str_indices_utf32_exact_byte_of(start, len, position),
+            }
+        };
+        (byte != NONE).then_some(byte)
+    }
+
+    /// The byte indices of a range, or `None` where its end is before its start. Each is that of its position, as
+    /// `byte_of` answers it.
+    ///
+    /// ```
+    /// use str_indices_positions::{Encoding, Position, Range};
+    ///
+    /// let text = "a\r\n🐸b";
+    /// let frog = Range { start: Position { line: 1, character: 0 }, end: Position { line: 1, character: 2 } };
+    /// assert_eq!(&text[Encoding::Utf16.byte_range(text, frog).unwrap()], "🐸");
+    /// assert_eq!(Encoding::Utf16.byte_range(text, Range { start: frog.end, end: frog.start }), None);
+    /// ```
+    #[inline]
+    pub fn byte_range(self, text: &str, range: Range) -> Option<ops::Range<usize>> {
+        let (start, len) = (text.as_ptr(), text.len());
+        // SAFETY: as in the function `position_of`, and every range has an answer.
+        let bytes = unsafe {
+            match self {
+                Encoding::Utf8 => str_indices_utf8_byte_range(start, len, range),
+                Encoding::Utf16 => str_indices_byte_range(start, len, range),
+                Encoding::Utf32 => str_indices_utf32_byte_range(start, len, range),
+            }
+        };
+        (bytes.start != NONE).then_some(bytes.start..bytes.end)
+    }
 }
 
 extern "C" {
     fn str_indices_position_of(text: *const u8, len: usize, byte_idx: usize) -> Position;
     fn str_indices_byte_of(text: *const u8, len: usize, position: Position) -> usize;
+    fn str_indices_exact_byte_of(text: *const u8, len: usize, position: Position) -> usize;
+    fn str_indices_byte_range(text: *const u8, len: usize, range: Range) -> Bytes;
     fn str_indices_line_end(text: *const u8, len: usize, line_idx: usize) -> usize;
     fn str_indices_utf8_position_of(text: *const u8, len: usize, byte_idx: usize) -> Position;
     fn str_indices_utf8_byte_of(text: *const u8, len: usize, position: Position) -> usize;
+    fn str_indices_utf8_exact_byte_of(text: *const u8, len: usize, position: Position) -> usize;
+    fn str_indices_utf8_byte_range(text: *const u8, len: usize, range: Range) -> Bytes;
     fn str_indices_utf32_position_of(text: *const u8, len: usize, byte_idx: usize) -> Position;
     fn str_indices_utf32_byte_of(text: *const u8, len: usize, position: Position) -> usize;
+    fn str_indices_utf32_exact_byte_of(text: *const u8, len: usize, position: Position) -> usize;
+    fn str_indices_utf32_byte_range(text: *const u8, len: usize, range: Range) -> Bytes;
 }
 
 /// The position of a byte: its line, and the UTF-16 code units from that line's beginning to the byte.
@@ -192,6 +270,23 @@ pub fn position_of(text: &str, byte_idx: usize) -> Position {
 pub fn byte_of(text: &str, position: Position) -> usize {
     // SAFETY: as in `position_of`, and every position has an answer.
     unsafe { str_indices_byte_of(text.as_ptr(), text.len(), position) }
+}
+
+/// The byte indices of a range whose offsets are UTF-16 code units, or `None` where its end is before its start. Each is
+/// that of its position, as [`byte_of`] answers it.
+///
+/// ```
+/// use str_indices_positions::{byte_range, Position, Range};
+///
+/// let text = "one\r\ntwo\rmore";
+/// let start = Position { line: 0, character: 2 };
+/// let end = Position { line: 1, character: 100 };
+/// assert_eq!(&text[byte_range(text, Range { start, end }).unwrap()], "e\r\ntwo");
+/// assert_eq!(byte_range(text, Range { start: end, end: start }), None);
+/// ```
+#[inline]
+pub fn byte_range(text: &str, range: Range) -> Option<ops::Range<usize>> {
+    Encoding::Utf16.byte_range(text, range)
 }
 
 /// The byte index where the content of a line ends: before its break, or the length of the text in bytes where it is the

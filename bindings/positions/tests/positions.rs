@@ -1,5 +1,5 @@
 //! Positions of a text whose lines end in CR LF, in CR, in LF twice and in nothing, worked by the protocol's rules.
-use str_indices_positions::{byte_of, line_end, position_of, Encoding, Position};
+use str_indices_positions::{byte_of, byte_range, line_end, position_of, Encoding, Position, Range};
 
 const TEXT: &str = "a\r\n🐸b\rせ\n\nx";
 
@@ -83,4 +83,43 @@ fn offsets_are_counted_in_the_units_of_the_encoding() {
             assert_eq!(byte, places[nth], "{encoding:?} {line}:{character}");
         }
     }
+}
+
+#[test]
+fn a_position_that_names_no_place_has_no_exact_byte() {
+    // a line, an offset on it, and the byte that these name in UTF-8, UTF-16 and UTF-32
+    let bytes = [
+        (0, 1, [Some(1), Some(1), Some(1)]),
+        (0, 2, [None, None, None]),
+        (1, 1, [None, None, Some(7)]),
+        (1, 2, [None, Some(7), Some(8)]),
+        (1, 4, [Some(7), None, None]),
+        (2, 1, [None, Some(12), Some(12)]),
+        (3, 0, [Some(13), Some(13), Some(13)]),
+        (5, 0, [None, None, None]),
+        (usize::MAX, usize::MAX, [None, None, None]),
+    ];
+    let encodings = [Encoding::Utf8, Encoding::Utf16, Encoding::Utf32];
+    for (nth, encoding) in encodings.into_iter().enumerate() {
+        for (line, character, places) in bytes {
+            let byte = encoding.exact_byte_of(TEXT, Position { line, character });
+            assert_eq!(byte, places[nth], "{encoding:?} {line}:{character}");
+        }
+    }
+}
+
+#[test]
+fn a_range_has_the_bytes_of_its_ends_in_order() {
+    for (_, line, character) in PLACES {
+        for (_, next, offset) in PLACES {
+            let start = Position { line, character };
+            let end = Position { line: next, character: offset };
+            let bytes = (start <= end).then(|| byte_of(TEXT, start)..byte_of(TEXT, end));
+            assert_eq!(byte_range(TEXT, Range { start, end }), bytes, "{start:?} to {end:?}");
+        }
+    }
+    let inside = Range { start: Position { line: 1, character: 1 }, end: Position { line: 2, character: 2 } };
+    assert_eq!(Encoding::Utf8.byte_range(TEXT, inside), Some(3..9));
+    assert_eq!(Encoding::Utf16.byte_range(TEXT, inside), Some(3..12));
+    assert_eq!(Encoding::Utf32.byte_range(TEXT, inside), Some(7..12));
 }

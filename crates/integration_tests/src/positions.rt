@@ -3,7 +3,9 @@ ghost use Rattle.str_indices.specs.Schemes.{count};
 ghost use Rattle.str_indices.specs.declared.Scheme.TheVariants.{Crlf};
 ghost use Rattle.position_mapper.specs.Relations.{IsGreatestPlace};
 
-use position_mapper::{Encoding, Position, byte_of, laws, line_end, position_of};
+use position_mapper::{
+    Encoding, Position, Range, byte_of, byte_range, laws, line_end, position_of,
+};
 use std::process::Abort;
 
 /// A line that ends in CRLF, one with a surrogate pair that ends in CR, one of a char of three bytes, an empty one, and
@@ -209,4 +211,51 @@ fn a_byte_inside_a_char_belongs_to_it(rt: HostRuntime) {
     assert_byte(&rt, Encoding::Utf8.byte_of(TEXT, at(1, 3)), 3, 0);
     assert_byte(&rt, Encoding::Utf8.byte_of(TEXT, at(1, 9)), 8, 1);
     assert_byte(&rt, Encoding::Utf8.byte_of(TEXT, at(9, 0)), 15, 2);
+}
+
+/// The text of a range, which a caller may slice at the answer.
+fn text_of(encoding: Encoding, text: &str, range: Range) -> Option<&str> {
+    let bytes = encoding.byte_range(text, range)?;
+    Some(&text[bytes.start..bytes.end])
+}
+
+/// Lines and offsets in UTF-16 code units of the start and the end of a range, and its text.
+const RANGES: [((usize, usize), (usize, usize), Option<&str>); 10] = [
+    ((0, 0), (0, 0), Some("")),
+    ((0, 0), (0, 9), Some("a")), // to the end of the line, before its break
+    ((0, 1), (1, 0), Some("\r\n")),
+    ((1, 1), (1, 2), Some("🐸")), // from the second unit of a pair
+    ((1, 2), (3, 0), Some("b\rせ\n")),
+    ((2, 0), (9, 9), Some("せ\n\nx")),
+    ((9, 9), (9, 9), Some("")),
+    ((0, 2), (0, 1), None), // both are the same place, and still the end is before the start
+    ((1, 0), (0, 9), None),
+    ((usize::MAX, 0), (0, 0), None),
+];
+
+#[test]
+fn a_range_is_from_its_start_to_its_end(rt: HostRuntime) {
+    for i in 0..RANGES.len() {
+        let (start, end, part) = RANGES[i];
+        let range = Range {
+            start: at(start.0, start.1),
+            end: at(end.0, end.1),
+        };
+        assert_eq!(&rt; text_of(Encoding::Utf16, TEXT, range), part, "row {i}");
+        assert_eq!(&rt;
+            byte_range(TEXT, range).is_some(),
+            part.is_some(),
+            "row {i}"
+        );
+    }
+}
+
+#[test]
+fn a_range_is_in_the_encoding(rt: HostRuntime) {
+    let range = Range {
+        start: at(1, 1),
+        end: at(2, 2),
+    };
+    assert_eq!(&rt; text_of(Encoding::Utf8, TEXT, range), Some("🐸b\r"));
+    assert_eq!(&rt; text_of(Encoding::Utf32, TEXT, range), Some("b\rせ"));
 }
