@@ -38,7 +38,7 @@ class Function(NamedTuple):
 def types_of(parameters):
     """The types of parameters, without their names."""
     words = [" ".join(parameter.split()) for parameter in parameters.split(",")]
-    return ", ".join(re.sub(r"(?<=[ *])\w+$", "", word).rstrip() if " " in word else word for word in words)
+    return ", ".join(re.sub(r"(?<=[ *])\w+$", "", word).rstrip() for word in words)
 
 
 def declared():
@@ -55,7 +55,7 @@ def c_type(rattle):
 
 
 def exported():
-    """The functions that the exports in Rattle give to C, by name, and the one that the choice between the halves adds."""
+    """The functions that the exports in Rattle give to C, by name, and the one that the choice of a half adds."""
     name = f"{PREFIX}is_wide"
     functions = {name: Function(name, "bool", "size_t")}
     for path in sorted((ROOT / "crates/str_indices_c/src").glob("**/*.rt")):

@@ -1,7 +1,7 @@
 """Observes which half of the library for C answers, on this processor and on others.
 
-`choose_half.o` of the library is linked with stand-ins of both halves, which do nothing but tell their half: so it is seen
-of each function and length, and believed of nothing. That runs here and, where `qemu-x86_64` is on the path, on
+`choose_half.o` of the library is linked with stand-ins of both halves, which do nothing but tell their half. So it is
+seen of each function and length, and believed of none. That runs here and, where `qemu-x86_64` is on the path, on
 processors below, at and above the level of the wide half, as do the worked answers over the library itself. The
 environment variable that chooses is unset, `narrow`, `wide` and another word.
 
@@ -22,7 +22,7 @@ LENGTHS = [0, 1, 255, 256, 257, 1535, 1536, 5000, 2**63 - 1]
 
 # from how many bytes on the wide half answers where it may, and what takes it later than the others
 WORTH_WIDE = 256
-LATER = {name: 1536 for name in ["chars_to_byte_idx", "utf16_to_byte_idx", "lines_lf_to_byte_idx", "lines_crlf_to_byte_idx"]}
+LATER = {f"{module}_to_byte_idx": 1536 for module in ["chars", "utf16", "lines_lf", "lines_crlf"]}
 
 # of a processor by its name for qemu, whether it has the wide half's level
 PROCESSORS = {"Nehalem": False, "SandyBridge": False, "Haswell,-avx2": False, "Haswell": True, "max": True}
@@ -31,7 +31,8 @@ EMULATOR = "qemu-x86_64"
 LEAST_VERSION = (7, 2)
 
 # what the environment variable says, None where it is unset, and the texts that the wide half then answers for
-ASKED = {None: "texts from 256 bytes on", "narrow": "no text", "wide": "every text", "other": "texts from 256 bytes on"}
+LONGER = "texts from 256 bytes on"
+ASKED = {None: LONGER, "narrow": "no text", "wide": "every text", "other": LONGER}
 
 
 def environment(half):
@@ -74,7 +75,8 @@ def stand_ins(names):
             unused = " ".join(f"(void){word.split()[-1].lstrip('*')};" for word in given.split(", "))
             lines.append(f"{function.result} {PREFIX}{half}_{name}({given});")
             lines.append(f"{function.result} {PREFIX}{half}_{name}({given}) {{ {unused} return {answer}; }}")
-    lines.append("int main(void)\n{\n    static const size_t lengths[] = {" + ", ".join(f"{length}u" for length in LENGTHS) + "};")
+    lengths = ", ".join(f"{length}u" for length in LENGTHS)
+    lines.append(f"int main(void)\n{{\n    static const size_t lengths[] = {{{lengths}}};")
     lines.append("    for (size_t at = 0; at < sizeof lengths / sizeof lengths[0]; at++) {")
     for name, function in zip(names, functions):
         rest = ", 0" * (function.parameters.count("size_t") - 1)
@@ -100,7 +102,8 @@ def link_stand_ins(tally, library, folder):
     source.write_text(stand_ins(names), encoding="utf-8")
     command = ["cc", "-std=c99", "-Wall", "-Wextra", "-Werror", f"-I{ROOT}/include"]
     done = subprocess.run([*command, source, folder / "choose_half.o", "-o", program], capture_output=True, text=True)
-    if not tally.result(done.returncode == 0 and len(names) == 16, f"{len(names)} functions are linked with stand-ins of the halves"):
+    right = done.returncode == 0 and len(names) == 16
+    if not tally.result(right, f"{len(names)} functions are linked with stand-ins of the halves"):
         print(done.stdout + done.stderr)
     return program, names
 
@@ -121,8 +124,9 @@ def try_worked_answers(tally, library, program, processor):
     for half, texts in ASKED.items():
         done = subprocess.run([*on(processor), program], env=environment(half), capture_output=True, text=True)
         texts = texts if PROCESSORS[processor] else "no text"
-        right = done.returncode == 0 and f"the wide half answers for {texts}\n" in done.stdout
-        if not tally.result(right, f"worked answers on {processor}, asked for {half}, where the wide half answers for {texts}"):
+        told = f"the wide half answers for {texts}"
+        right = done.returncode == 0 and f"{told}\n" in done.stdout
+        if not tally.result(right, f"worked answers on {processor}, asked for {half}, where {told}"):
             print(done.returncode, done.stdout + done.stderr)
 
 
@@ -182,7 +186,8 @@ def try_builds(tally, folder):
     cannot_ask = "cannot ask a processor"
     try_build(tally, folder, commands, "cc", True, "", "as it stands")
     try_build(tally, folder, commands, "old_cc", True, cannot_ask, "a compiler that cannot ask: without the wide half")
-    try_build(tally, folder, commands, "no_such_compiler", False, "no_such_compiler", "a compiler that is not there: an error")
+    absent = "no_such_compiler"
+    try_build(tally, folder, commands, absent, False, absent, "a compiler that is not there: an error")
     with open(folder / "c/choose_half.c", "a", encoding="utf-8") as source:
         source.write("#ifdef STR_INDICES_WIDE\n#error a fault\n#endif\n")
     try_build(tally, folder, commands, "cc", False, "a fault", "a wide half that does not compile: an error")

@@ -1,7 +1,7 @@
 """Tries the headers of the library for C: each by itself and with the others, and the type of each function.
 
-The types are those of the exports in Rattle, which the compiler compares with the headers' by a pointer to each function:
-a call would convert a wrong one. That a fault is seen is tried on faults: a type of each function that it has not.
+The types are those of the exports in Rattle, which the compiler compares with the headers' by a pointer to each
+function: a call would convert a wrong one. That a fault is seen is tried on faults: types that a function has not.
 """
 import re
 import subprocess
@@ -41,7 +41,8 @@ def try_headers(tally, library):
     """All of it; the library is asked for its symbols."""
     functions, in_headers = exported(), declared()
     names = set(functions)
-    tally.result(set(in_headers) == names == symbols(library), f"headers, exports and library have the same {len(names)} functions")
+    same = set(in_headers) == names == symbols(library)
+    tally.result(same, f"headers, exports and library have the same {len(names)} functions")
     for language in COMPILERS:
         for order in [*[[header] for header in HEADERS], HEADERS, HEADERS[::-1], [*HEADERS, *HEADERS]]:
             right, said = compiles(language, includes(order) + "typedef int not_empty;\n")
@@ -52,4 +53,5 @@ def try_headers(tally, library):
             print(said)
         unseen = [f"{wrong.result} {name}({wrong.parameters})" for name, function in functions.items()
                   for wrong in wrong_types(function) if compiles(language, pointers({name: wrong}))[0]]
-        tally.result(not unseen, f"{language}: a wrong type of each function is refused{''.join(f'; not {one}' for one in unseen)}")
+        told = "".join(f"; not {one}" for one in unseen)
+        tally.result(not unseen, f"{language}: wrong types of each function are refused{told}")

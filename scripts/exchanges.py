@@ -1,8 +1,8 @@
 """Exchanges functions of the library for C, and wants the worked answers to see each exchange.
 
-In a copy of the library each function of the headers is hidden under another name, and a small file has the functions by
-their own names: each hands a call on to itself, or, where the environment says so, to another function of its shape. So
-nothing is linked again for an exchange, and whatever stands on the library is tried as it stands.
+In a copy of the library each function of the headers is hidden under another name, and a small file has the functions
+by their own names: each hands a call on to itself, or, where the environment says so, to another function of its shape.
+So nothing is linked again for an exchange, and whatever stands on the library is tried as it stands.
 """
 import os
 import subprocess
@@ -39,12 +39,14 @@ def exchange_file(functions):
     lines = [f"#include <{header.name}>" for header in HEADERS] + [HEAD]
     lines += [f"{function.result} itself_{function.name}({function.parameters});" for function in functions]
     rows = ", ".join(f'{{"{function.name}", (any)itself_{function.name}}}' for function in functions)
-    lines.append(f"static const struct {{ const char *name; any itself; }} functions[] = {{ {rows} }};{CHOOSE}")
+    lines.append(f"static const struct {{ const char *name; any itself; }} functions[] = {{ {rows} }};")
+    lines.append(CHOOSE)
     for at, function in enumerate(functions):
         types = function.parameters.split(", ")
-        given = ", ".join(f"{word}{'' if word.endswith('*') else ' '}word_{number}" for number, word in enumerate(types))
+        given = ", ".join(f"{word} word_{number}" for number, word in enumerate(types))
         words = ", ".join(f"word_{number}" for number in range(len(types)))
-        lines.append(f"{function.result} {function.name}({given}) {{ return (({function.pointer('')})answers[{at}])({words}); }}")
+        lines.append(f"{function.result} {function.name}({given})")
+        lines.append(f"{{ return (({function.pointer('')})answers[{at}])({words}); }}")
     return "\n".join(lines) + "\n"
 
 
@@ -69,11 +71,13 @@ def is_right(program, environment):
 def try_exchanges(tally, programs, pairs, half, name):
     """Each exchange by one half: one of the programs must fail; without any, none."""
     asked = dict(os.environ, STR_INDICES_HALF=half)
-    tally.result(all(is_right(program, asked) for program in programs), f"{name}: nothing fails where nothing is exchanged")
+    right = all(is_right(program, asked) for program in programs)
+    tally.result(right, f"{name}: nothing fails where nothing is exchanged")
     unseen = []
     for one, other in pairs:
         environment = dict(asked, EXCHANGED=one.name, ANSWERED_BY=other.name)
         if all(is_right(program, environment) for program in programs):
             unseen.append(f"{one.name} by {other.name}")
     told = "".join(f"; not {one}" for one in unseen)
-    tally.result(not unseen and len(pairs) >= least("exchanges"), f"{name}: each of {len(pairs)} exchanges is seen{told}")
+    right = not unseen and len(pairs) >= least("exchanges")
+    tally.result(right, f"{name}: each of {len(pairs)} exchanges is seen{told}")

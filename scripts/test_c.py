@@ -136,8 +136,10 @@ def compile_installed(prefix, library, folder):
     search = dict(os.environ, PKG_CONFIG_PATH=str(prefix / "lib/pkgconfig"))
     for source in [WORKED_ANSWERS, POSITIONS, EXAMPLE]:
         program = folder / f"installed_{source.stem}"
-        command = f'eval "cc -std=c99 {" ".join(STRICT)} {source} $(pkg-config --cflags --libs str_indices) -o {program}"'
-        if not run(["sh", "-c", command], f"{source.stem} compiles by pkg-config, in '{prefix.name}'", env=search, cwd=folder):
+        flags = "$(pkg-config --cflags --libs str_indices)"
+        command = f'eval "cc -std=c99 {" ".join(STRICT)} {source} {flags} -o {program}"'
+        what = f"{source.stem} compiles by pkg-config, in '{prefix.name}'"
+        if not run(["sh", "-c", command], what, env=search, cwd=folder):
             continue
         if source is EXAMPLE:
             check_example(program, "by pkg-config")
@@ -161,8 +163,8 @@ def run_installed(folder):
 def run_exchanged(library, folder):
     """Each function exchanged for each other one of its shape, by each half."""
     copy = exchanging_library(library, folder)
-    programs = [folder / f"exchanged_{source.stem}" for source in [WORKED_ANSWERS, POSITIONS]]
-    if all([compile_with(COMPILERS["C"], source, copy, program) for source, program in zip([WORKED_ANSWERS, POSITIONS], programs)]):
+    programs = {folder / f"exchanged_{source.stem}": source for source in [WORKED_ANSWERS, POSITIONS]}
+    if all([compile_with(COMPILERS["C"], source, copy, program) for program, source in programs.items()]):
         try_exchanges(tally, programs, pairs(), "narrow", "C by the narrow half")
         if missing(library):
             tally.leave_out(2, f"exchanges by the wide half, as {missing(library)}")

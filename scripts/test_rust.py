@@ -89,7 +89,7 @@ def install(library, prefix):
     """The library below the prefix, with a file for pkg-config, as install_c has them."""
     (prefix / "lib/pkgconfig").mkdir(parents=True)
     shutil.copy(library, prefix / "lib")
-    told = f"libdir={prefix}/lib\nName: str_indices\nDescription: proved\nVersion: 0.4.4\nLibs: -L\"${{libdir}}\" -lstr_indices\n"
+    told = f"libdir={prefix}/lib\nName: str_indices\nDescription: proved\nVersion: 0.4.4\nLibs: -lstr_indices\n"
     (prefix / "lib/pkgconfig/str_indices.pc").write_text(told, encoding="utf-8")
 
 
@@ -101,7 +101,8 @@ def test_outside(library, folder):
     bindings = folder / "bindings"
     shutil.copytree(ROOT / "bindings", bindings, ignore=shutil.ignore_patterns("target", "Cargo.lock"))
     install(library, folder / "a prefix")
-    named = dict(os.environ, PKG_CONFIG_PATH=str(folder / "a prefix/lib/pkgconfig"), CARGO_TARGET_DIR=str(folder / "target"))
+    search = str(folder / "a prefix/lib/pkgconfig")
+    named = dict(os.environ, PKG_CONFIG_PATH=search)
     done = cargo(bindings / "positions", "test", env=named)
     right = right_tests(done.stdout) if done.returncode == 0 else 0
     if not tally.enough("tests of bindings/positions", right, "bindings/positions outside the repository, by pkg-config"):
@@ -128,11 +129,12 @@ def test_exchanges(library, folder):
     tally.result(not missed, f"the crates take each function{''.join(f', but not {name}' for name in missed)}")
     programs = [test_program(BINDINGS, "worked_answers", named), test_program(POSITIONS, "positions", named)]
     if all(programs):
-        try_exchanges(tally, programs, [pair for pair in pairs() if {pair[0].name, pair[1].name} <= taken], "", "the Cargo crates")
+        of_both = [(one, other) for one, other in pairs() if {one.name, other.name} <= taken]
+        try_exchanges(tally, programs, of_both, "", "the Cargo crates")
 
 
 def test_missing_library(folder):
-    named = dict(os.environ, STR_INDICES_LIB_DIR=folder)
+    named = dict(os.environ, STR_INDICES_LIB_DIR=str(folder))
     done = cargo(BINDINGS, "build", env=named)
     said = f"STR_INDICES_LIB_DIR names {folder}, which has no libstr_indices.a" in done.stderr
     tally.result(done.returncode != 0 and said, "bindings/rust says what is missing")
@@ -143,7 +145,7 @@ def test_example(target):
     if not tally.result(done.returncode == 0, "examples/rust builds"):
         print(done.stderr)
         return
-    program = pathlib.Path(target) / "debug/line_and_column"
+    program = target / "debug/line_and_column"
     for byte, expected in ROWS.items():
         done = subprocess.run([program, str(byte)], input=TEXT, capture_output=True)
         printed = done.stdout.decode().strip()
@@ -164,20 +166,21 @@ def build_library(*words):
     return None
 
 
-def test_all(library):
-    with tempfile.TemporaryDirectory() as target, tempfile.TemporaryDirectory() as empty, tempfile.TemporaryDirectory() as folder:
-        os.environ["CARGO_TARGET_DIR"] = target
-        for environment, texts in halves(library):
-            test_bindings(environment, texts)
-        if missing(library):
-            tally.leave_out(3 * (len(ASKED) - 1), f"the wide half, as {missing(library)}")
-        test_without_the_wide_half()
-        test_missing_library(empty)
-        test_others()
-        test_outside(library, pathlib.Path(folder))
-        test_exchanges(library, pathlib.Path(folder))
-        test_example(target)
-        test_benchmark()
+def test_all(library, folder):
+    empty = folder / "empty"
+    empty.mkdir()
+    os.environ["CARGO_TARGET_DIR"] = str(folder / "target")
+    for environment, texts in halves(library):
+        test_bindings(environment, texts)
+    if missing(library):
+        tally.leave_out(3 * (len(ASKED) - 1), f"the wide half, as {missing(library)}")
+    test_without_the_wide_half()
+    test_missing_library(empty)
+    test_others()
+    test_outside(library, folder)
+    test_exchanges(library, folder)
+    test_example(folder / "target")
+    test_benchmark()
 
 
 def main():
@@ -186,7 +189,8 @@ def main():
     else:
         library = build_library()
         if library:
-            test_all(library)
+            with tempfile.TemporaryDirectory() as folder:
+                test_all(library, pathlib.Path(folder))
     return tally.end()
 
 

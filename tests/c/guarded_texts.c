@@ -2,9 +2,10 @@
  * The functions of str_indices.h beside a plain model, over texts that end, and
  * texts that begin, at a page that may not be read: a read past a text ends the
  * program by a signal. There is a text of each length to 5,000 bytes, and some
- * to 70,000. It tells for which texts the wide half answers, and the last line
- * printed is 'N passed, M failed'. With the word `past` it reads a byte past a
- * text itself, and must not come to an end.
+ * to 70,000. Of positions the line is compared, and that the way back leads to
+ * no later place. It tells for which texts the wide half answers, and the last
+ * line printed is 'N passed, M failed'. With the word `past` it reads a byte
+ * past a text itself, and must not come to an end.
  */
 #define _GNU_SOURCE
 #include <stdint.h>
@@ -14,6 +15,7 @@
 #include <unistd.h>
 
 #include <str_indices.h>
+#include <str_indices_positions.h>
 
 enum { EVERY_INDEX = 300, EVERY_LENGTH = 5000, LONGEST = 70000, SOME = 12 };
 
@@ -181,6 +183,29 @@ static const struct {
     {"lines", LINES, str_indices_lines_from_byte_idx, str_indices_lines_to_byte_idx},
 };
 
+static const struct {
+    const char *name;
+    str_indices_position (*position_of)(const char *, size_t, size_t);
+    size_t (*byte_of)(const char *, size_t, str_indices_position);
+} encodings[] = {
+    {"UTF-8 position", str_indices_utf8_position_of, str_indices_utf8_byte_of},
+    {"UTF-16 position", str_indices_position_of, str_indices_byte_of},
+    {"UTF-32 position", str_indices_utf32_position_of, str_indices_utf32_byte_of},
+};
+
+/* The line of a byte's position, and the way back by the position and its line. */
+static void place(const char *text, size_t len, size_t byte)
+{
+    for (size_t row = 0; row < sizeof encodings / sizeof encodings[0]; row++) {
+        str_indices_position position = encodings[row].position_of(text, len, byte);
+        size_t back = encodings[row].byte_of(text, len, position);
+        size_t end = str_indices_line_end(text, len, position.line);
+
+        same(encodings[row].name, len, byte, position.line, from_byte(CRLF, byte));
+        same("way back", len, byte, back <= byte && back <= end && end <= len, 1);
+    }
+}
+
 static void convert(size_t row, const char *text, size_t len, size_t byte, size_t index)
 {
     int kind = conversions[row].kind;
@@ -206,6 +231,9 @@ static void compare(const char *text, size_t len)
             for (int some = 0; some < SOME; some++)
                 convert(row, text, len, below(len), below(most + 1));
     }
+    place(text, len, len);
+    place(text, len, below(len + 1));
+    place(text, len, SIZE_MAX);
 }
 
 /* Memory between two pages that may not be read; the answer is its first byte. */

@@ -1,7 +1,4 @@
 //! The kernels over `Wide` beside the public functions, wherever chunks and leading bytes may end.
-ghost use Rattle.std.specs.Prelude.{◌≤◌, chars, length, IsTrue};
-ghost use Rattle.str_indices.specs.Relations.{IsBoundary};
-
 use super::assert_same;
 use crate::calls::Call;
 use crate::kernels::{ChunkType, Kernel};
@@ -12,8 +9,14 @@ use std::process::Abort;
 use std::test::Fail;
 use str_indices::{Scheme, chars, laws, lines, lines_crlf, lines_lf, utf16};
 
-/// Numbers of leading bytes at which a chunk begins or ends elsewhere.
-const LEADS: [usize; 12] = [0, 1, 2, 3, 5, 7, 8, 15, 16, 31, 32, 40];
+/// Numbers of leading bytes, up to more than a chunk and the longest character have.
+const LEADS: [usize; 41] = [
+    0, 1, 2, 3, 4, 5, 6, 7, 8, 9, 10, 11, 12, 13, 14, 15, 16, 17, 18, 19, 20, 21, 22, 23, 24, 25,
+    26, 27, 28, 29, 30, 31, 32, 33, 34, 35, 36, 37, 38, 39, 40,
+];
+
+/// Those at which a chunk begins or ends elsewhere.
+const FEW_LEADS: [usize; 12] = [0, 1, 2, 3, 5, 7, 8, 15, 16, 31, 32, 40];
 
 const TEXTS: [&str; 6] = [
     "Hel🐸lo world! こん🐸にち🐸🐸は!",
@@ -52,87 +55,104 @@ const SCHEMES: [Scheme; 5] = [
     Scheme::Lines,
 ];
 
-/// What the counting kernel of the call answers for the text before `end`, or `None` where the call is a conversion.
-fn count_before(call: Call, text: &str, end: usize, lead: usize) -> Option<usize>
-    requires within { end ≤ length text.now }
-    requires boundary { IsBoundary (chars text.now) end }
-{
+/// Characters, and how often each is repeated, so that they fill all lanes of many rounds.
+const REPEATED: [(&str, usize); 6] = [
+    ("\n", 4097),
+    ("\r", 4097),
+    ("\r\n", 4097),
+    ("é", 4097),
+    ("\u{2028}", 4097),
+    ("\u{1F438}", 1025),
+];
+
+/// What the counting kernel of the call answers for the text before `end`, or `None` where it does not take that end.
+fn count_before(call: Call, text: &str, end: usize, lead: usize) -> Option<usize> {
+    match call {
+        Call::Count(Scheme::Lf | Scheme::Crlf) => count_at_byte(call, text, end, lead),
+        _ => count_at_boundary(call, text, end, lead),
+    }
+}
+
+/// The count of a kernel that takes any byte as an end.
+fn count_at_byte(call: Call, text: &str, end: usize, lead: usize) -> Option<usize> {
+    let probe = &mut Probe::<Wide>::of(text);
+    if end > probe.len() {
+        return None;
+    }
+    match call {
+        Call::Count(Scheme::Lf) => Some(lines_lf::count_breaks_impl(probe, end, lead)),
+        _ => Some(lines_crlf::count_breaks_impl(probe, end, lead)),
+    }
+}
+
+/// The count of a kernel that takes an end at a character alone.
+fn count_at_boundary(call: Call, text: &str, end: usize, lead: usize) -> Option<usize> {
+    if !text.is_char_boundary(end) {
+        return None;
+    }
+    laws::boundaries(text, end);
     let probe = &mut Probe::<Wide>::of(text);
     match call {
         Call::Count(Scheme::Chars) => Some(chars::count_impl(probe, end, lead)),
         Call::Count(Scheme::Utf16) => Some(utf16::count_impl(probe, end, lead)),
         Call::Surrogates => Some(utf16::count_surrogates_impl(probe, end, lead)),
-        Call::Count(Scheme::Lf) => Some(lines_lf::count_breaks_impl(probe, end, lead)),
-        Call::Count(Scheme::Crlf) => Some(lines_crlf::count_breaks_impl(probe, end, lead)),
         Call::Count(Scheme::Lines) => Some(lines::count_breaks_impl(probe, end, lead)),
         _ => None,
     }
 }
 
-/// Whether a byte index of a text is between its characters, or at its beginning or end.
-fn is_boundary(text: &str, at: usize) -> bool
-    ensures within { IsTrue result → at ≤ length text.now }
-    ensures boundary { IsTrue result → IsBoundary (chars text.now) at }
-{
-    laws::boundaries(text, at);
-    text.is_char_boundary(at)
-}
-
 /// Compares the kernel of the call with its public function for all of the text.
-fn compare_whole(rt: &impl Abort, call: Call, text: &str, index: usize) {
+fn compare_whole(rt: &impl Abort, call: Call, text: &str, index: usize, leads: &[usize]) {
     let wanted = call.answer(text);
-    for lead in LEADS {
+    for &lead in leads {
         let chunk = ChunkType::Wide;
         let found = Kernel { chunk, lead }.answer(call, text);
-        assert_same(rt, found, wanted, &(text, index, lead));
+        assert_same(rt, found, wanted, &(text.len(), index, lead));
     }
 }
 
-/// Compares the kernel of the call, where it counts, with its public function for the text before `end`, where that is
-/// not inside a character.
-fn compare_front(rt: &impl Abort, call: Call, text: &str, end: usize) {
-    let Some(front) = text.get(..end) else {
+/// Compares the kernel of the call, where it counts, with its public function for the characters before `end`.
+fn compare_front(rt: &impl Abort, call: Call, text: &str, end: usize, leads: &[usize]) {
+    let Some(front) = text.get(..text.floor_char_boundary(end)) else {
         return;
     };
-    if !is_boundary(text, end) {
-        return;
-    }
     let wanted = call.answer(front);
-    for lead in LEADS {
+    for &lead in leads {
         if let Some(found) = count_before(call, text, end, lead) {
-            assert_same(rt, found, wanted, &(front, end, lead));
+            assert_same(rt, found, wanted, &(front.len(), end, lead));
         }
     }
 }
 
-fn compare_call(rt: &impl Abort, call: Call, text: &str, index: usize) {
-    compare_whole(rt, call, text, index);
-    compare_front(rt, call, text, index);
+fn compare_call(rt: &impl Abort, call: Call, text: &str, index: usize, leads: &[usize]) {
+    compare_whole(rt, call, text, index, leads);
+    compare_front(rt, call, text, index, leads);
 }
 
-fn compare(rt: &impl Abort, text: &str, index: usize) {
-    compare_call(rt, Call::Surrogates, text, index);
+fn compare(rt: &impl Abort, text: &str, index: usize, leads: &[usize]) {
+    compare_call(rt, Call::Surrogates, text, index, leads);
     for scheme in SCHEMES {
-        compare_call(rt, Call::Count(scheme), text, index);
-        compare_call(rt, Call::From(scheme, index), text, index);
-        compare_call(rt, Call::To(scheme, index), text, index);
+        compare_call(rt, Call::Count(scheme), text, index, leads);
+        compare_call(rt, Call::From(scheme, index), text, index, leads);
+        compare_call(rt, Call::To(scheme, index), text, index, leads);
     }
 }
 
 /// Compares the kernels with the public functions at the least indices, and from `first` to past the text's end.
-fn compare_from(rt: &impl Abort, text: &str, first: usize) {
+fn compare_from(rt: &impl Abort, text: &str, first: usize, leads: &[usize]) {
     for index in 0..4 {
-        compare(rt, text, index);
+        compare(rt, text, index, leads);
     }
     for index in first..text.len() + 2 {
-        compare(rt, text, index);
+        compare(rt, text, index, leads);
     }
+    compare(rt, text, usize::MAX, leads);
 }
 
 #[test]
 fn thirty_two_lanes_answer_as_the_public_functions(rt: HostRuntime) {
     for text in TEXTS {
-        compare_from(&rt, text, 4);
+        compare_from(&rt, text, 4, &LEADS);
     }
 }
 
@@ -146,7 +166,7 @@ fn compare_around(
     let mut text = "a".repeat(alloc, letters)?;
     text.push_str(middle)?;
     text.push('b')?;
-    compare_from(rt, &text, letters.saturating_sub(2));
+    compare_from(rt, &text, letters.saturating_sub(2), &FEW_LEADS);
     Ok(())
 }
 
@@ -156,6 +176,23 @@ fn thirty_two_lanes_see_each_break_at_every_edge(rt: HostRuntime) -> Result<(), 
         for middle in MIDDLES {
             compare_around(&rt, rt.alloc(), letters, middle)?;
         }
+    }
+    Ok(())
+}
+
+/// Compares them for a character repeated, at its last places.
+fn compare_repeated(rt: &impl Abort, alloc: Global, unit: &str, times: usize) -> Result<(), Fail> {
+    let text = unit.repeat(alloc, times)?;
+    for index in [times.saturating_sub(1), times, text.len(), usize::MAX] {
+        compare(rt, &text, index, &FEW_LEADS);
+    }
+    Ok(())
+}
+
+#[test]
+fn thirty_two_lanes_are_filled(rt: HostRuntime) -> Result<(), Fail> {
+    for (unit, times) in REPEATED {
+        compare_repeated(&rt, rt.alloc(), unit, times)?;
     }
     Ok(())
 }

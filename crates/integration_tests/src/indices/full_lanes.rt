@@ -10,8 +10,10 @@ use std::test::Fail;
 use str_indices::Scheme;
 
 /// A character repeated, and its count in each scheme, in the order of `SCHEMES`.
-const REPEATED: [(&str, usize, [usize; 5]); 5] = [
+const REPEATED: [(&str, usize, [usize; 5]); 7] = [
+    ("", 1, [0, 0, 0, 0, 0]),
     ("é", 4097, [4097, 4097, 0, 0, 0]),
+    ("\n", 4097, [4097, 4097, 4097, 4097, 4097]),
     ("\r", 4097, [4097, 4097, 0, 4097, 4097]),
     ("\r\n", 4097, [8194, 8194, 4097, 4097, 4097]),
     ("\u{2028}", 4097, [4097, 4097, 0, 0, 4097]),
@@ -25,6 +27,7 @@ type Row = (&'static str, usize, Scheme, usize, usize);
 const FROM: &[Row] = &[
     ("é", 4097, Scheme::Chars, 8193, 4096),
     ("é", 4097, Scheme::Utf16, 8193, 4096),
+    ("\n", 4097, Scheme::Lf, 4097, 4097),
     ("\r\n", 4097, Scheme::Lf, 8193, 4096),
     ("\r\n", 4097, Scheme::Crlf, 8193, 4096),
     ("\r\n", 4097, Scheme::Lines, 8193, 4096),
@@ -37,6 +40,7 @@ const TO: &[Row] = &[
     ("é", 4097, Scheme::Chars, 4096, 8192),
     ("é", 4097, Scheme::Utf16, 4096, 8192),
     ("\r", 4097, Scheme::Crlf, 4096, 4096),
+    ("\n", 4097, Scheme::Lf, 4096, 4096),
     ("\r\n", 4097, Scheme::Lf, 4096, 8192),
     ("\r\n", 4097, Scheme::Lf, 4097, 8194),
     ("\r\n", 4097, Scheme::Crlf, 4096, 8192),
