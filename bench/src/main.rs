@@ -1,6 +1,7 @@
 //! Times the library beside the original crate `str_indices`, and beside what else counts characters.
 
 mod options;
+mod positions;
 mod ratios;
 mod table;
 mod texts;
@@ -31,6 +32,7 @@ fn main() -> ExitCode {
         eprintln!("bench: {difference}");
         return ExitCode::FAILURE;
     }
+    println!("{}", positions::table(library(), &scale, options.rounds));
     print!("{}", throughput::table(&scale, options.rounds));
     ExitCode::SUCCESS
 }

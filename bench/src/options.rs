@@ -48,6 +48,8 @@ pub struct Scale {
     pub short_texts: usize,
     /// The bytes of the texts of the table of throughput.
     pub throughput: [usize; 4],
+    /// The bytes of the texts of the table of positions, at most.
+    pub positions: [usize; 2],
     /// What a timing of the original takes at least, and at most about twice that where nothing disturbs it.
     pub timing: Duration,
 }
@@ -62,6 +64,7 @@ impl Scale {
             middling: 1_000,
             short_texts: if small { 20 } else { 2_000 },
             throughput: [43, 1_000, long, huge],
+            positions: if small { [4_096, 8_192] } else { [1 << 20, 10 << 20] },
             timing: Duration::from_micros(if small { 10 } else { 1_000 }),
         }
     }

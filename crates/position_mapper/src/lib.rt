@@ -17,11 +17,14 @@ ghost use Rattle.position_mapper.specs.Relations.{IsAtOrBefore};
 
 mod encodings;
 pub mod laws;
+mod lines;
 mod look_back;
+mod scalars;
+mod units;
 
 pub use crate::encodings::Encoding;
+use byte_chunk::{ByteChunk, Chunk};
 use std::ops;
-use str_indices::lines_crlf as lines;
 
 /// A place in a text, as a language server names it.
 #[derive(Clone, Copy, PartialEq, Eq, Debug)]
@@ -57,12 +60,20 @@ pub struct Range {
 /// bytes where it is the last line or past it.
 ///
 /// The text may be sliced at the answer.
-#[tactic(auto, using(crate::proofs::lemmas::LineBytes::line_in_bytes))]
 pub fn line_end(text: &str, line: usize) -> usize
     ensures answer { result ≡ line_end (chars text.now) line }
     ensures boundary { IsCharBoundary text.now result }
 {
-    let line = line_of(text, line);
+    line_end_impl::<Chunk>(text, line)
+}
+
+/// The byte index where the content of a line ends, as [`line_end`], over chunks of any type.
+#[tactic(auto, using(crate::proofs::lemmas::LineBytes::line_in_bytes))]
+pub fn line_end_impl<T: ByteChunk>(text: &str, line: usize) -> usize
+    ensures answer { result ≡ line_end (chars text.now) line }
+    ensures boundary { IsCharBoundary text.now result }
+{
+    let line = line_of::<T>(text, line);
     line.start + line.content.len()
 }
 
@@ -111,18 +122,18 @@ struct Line<'t> {
 }
 
 #[tactic(auto, using(crate::proofs::lemmas::LineBytes::line_in_bytes))]
-fn line_of(text: &str, index: usize) -> Line<'_>
+fn line_of<T: ByteChunk>(text: &str, index: usize) -> Line<'_>
     ensures index { result.index ≡ index }
     ensures start { result.start ≡ to_byte_idx Crlf (chars text.now) index }
     ensures content { chars result.content.now ≡ line_content (chars text.now) index }
     ensures end { result.start + length result.content.now ≡ line_end (chars text.now) index }
     ensures within { result.start + length result.content.now ≤ length text.now }
 {
-    line_at(text, index, lines::to_byte_idx(text, index))
+    line_at::<T>(text, index, lines::to_byte_idx::<T>(text, index))
 }
 
 /// The line of this index, which is `first` or one after it, where `first` begins at `start`.
-fn line_after(text: &str, first: usize, start: usize, index: usize) -> Line<'_>
+fn line_after<T: ByteChunk>(text: &str, first: usize, start: usize, index: usize) -> Line<'_>
     requires start { start ≡ to_byte_idx Crlf (chars text.now) first }
     requires order { first ≤ index }
     ensures index { result.index ≡ index }
@@ -133,12 +144,16 @@ fn line_after(text: &str, first: usize, start: usize, index: usize) -> Line<'_>
 {
     // What is before `start` is not gone over again.
     let rest = &text[start..];
-    line_at(text, index, start + lines::to_byte_idx(rest, index - first))
+    line_at::<T>(
+        text,
+        index,
+        start + lines::to_byte_idx::<T>(rest, index - first),
+    )
 }
 
 /// The line of this index, which begins at `start`.
 #[tactic(auto, using(crate::proofs::lemmas::LineBytes::line_in_bytes))]
-fn line_at(text: &str, index: usize, start: usize) -> Line<'_>
+fn line_at<T: ByteChunk>(text: &str, index: usize, start: usize) -> Line<'_>
     requires start { start ≡ to_byte_idx Crlf (chars text.now) index }
     requires boundary { IsCharBoundary text.now start }
     ensures index { result.index ≡ index }
@@ -147,7 +162,7 @@ fn line_at(text: &str, index: usize, start: usize) -> Line<'_>
     ensures end { result.start + length result.content.now ≡ line_end (chars text.now) index }
     ensures within { result.start + length result.content.now ≤ length text.now }
 {
-    let content = before_break(&text[start..]);
+    let content = before_break::<T>(&text[start..]);
     Line {
         index,
         start,
@@ -156,20 +171,20 @@ fn line_at(text: &str, index: usize, start: usize) -> Line<'_>
 }
 
 /// Whether the text has the line of this index, which would begin at `start`.
-fn has_line(text: &str, index: usize, start: usize) -> bool
+fn has_line<T: ByteChunk>(text: &str, index: usize, start: usize) -> bool
     requires { start ≡ to_byte_idx Crlf (chars text.now) index }
     ensures { result ≡ nat_le index (count Crlf (chars text.now)) }
 {
     // A line that begins before the end is there, so the breaks are counted at the end alone.
-    start < text.len() || index <= lines::count_breaks(text)
+    start < text.len() || index <= lines::count_breaks::<T>(text)
 }
 
 /// The text before its first LF or CR; all of it where it has none.
-fn before_break(text: &str) -> &str
+fn before_break<T: ByteChunk>(text: &str) -> &str
     ensures content { chars result.now ≡ before_first is_break (chars text.now) }
     ensures within { length result.now ≤ length text.now }
 {
-    let with_break = &text[..lines::to_byte_idx(text, 1)];
+    let with_break = &text[..lines::to_byte_idx::<T>(text, 1)];
     without_last(without_last(with_break, '\n'), '\r')
 }
 

@@ -2,7 +2,7 @@ use Rattle.position_mapper.proofs.lemmas.{◌≡◌, ◌-◌, ◌++◌, arith, c
 use Rattle.position_mapper.proofs.before_break.Goals as goal
 
 pub returns-clause-content : goal.returns-clause-content
-returns-clause-content c =
+returns-clause-content g c =
     let text = c.args.text.now in
     let cs = chars text in
     let next = c.to_byte_idx.ensures in

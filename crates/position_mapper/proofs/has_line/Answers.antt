@@ -3,7 +3,7 @@ use Rattle.position_mapper.proofs.lemmas.{◌≤◌, ◌∙◌, sym, arith, inl,
 use Rattle.position_mapper.proofs.has_line.Goals as goal
 
 pub returns-then-start-text : goal.returns-then-start-text
-returns-then-start-text c =
+returns-then-start-text g c =
     let text = c.args.text.now in
     let has : c.args.index ≤ count Crlf (chars text) =
     elim (cases_lt (count Crlf (chars text)) c.args.index) [

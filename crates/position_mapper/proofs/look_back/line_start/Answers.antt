@@ -2,7 +2,7 @@ use Rattle.position_mapper.proofs.lemmas.{◌<◌, ◌≡◌, ◌⊎◌, inl, in
 use Rattle.position_mapper.proofs.look_back.line_start.Goals as goal
 
 pub returns-then-from-eq0-clause-start : goal.returns-then-from-eq0-clause-start
-returns-then-from-eq0-clause-start c =
+returns-then-from-eq0-clause-start g c =
     let from = c.floor_char_boundary-from in
     let part = c.range_from-behind.ensures.value in
     let breaks = c.from_byte_idx-breaks in
@@ -16,5 +16,5 @@ returns-then-from-eq0-clause-start c =
     )
 
 pub returns-then-from-eq0-clause-boundary : goal.returns-then-from-eq0-clause-boundary
-returns-then-from-eq0-clause-boundary c =
-    IsCharBoundary-line_start c.args.text.now c.utf8.text _ _ (returns-then-from-eq0-clause-start c)
+returns-then-from-eq0-clause-boundary g c =
+    IsCharBoundary-line_start c.args.text.now c.utf8.text _ _ (returns-then-from-eq0-clause-start g c)

@@ -2,7 +2,7 @@ use Rattle.position_mapper.proofs.lemmas.{◌∙◌, ap, sym, chars, boundary_we
 use Rattle.position_mapper.proofs.encodings.Encoding.boundary_at.Goals as goal
 
 pub returns-in-Utf8-clause-answer : goal.returns-in-Utf8-clause-answer
-returns-in-Utf8-clause-answer c =
+returns-in-Utf8-clause-answer g c =
     let text = c.args.text.now in
     let floor = c.floor_char_boundary in
     boundary_of_bytes (chars text) c.args.units floor.result
@@ -11,10 +11,10 @@ returns-in-Utf8-clause-answer c =
     ∙ ap (λ e. boundary_weighed (units_of e) (chars text) c.args.units) (sym c.in-Utf8.is)
 
 pub returns-in-Utf16-clause-answer : goal.returns-in-Utf16-clause-answer
-returns-in-Utf16-clause-answer c = c.to_byte_idx.ensures.answer
+returns-in-Utf16-clause-answer g c = c.to_byte_idx.ensures.answer
     ∙ ap (λ e. boundary_weighed (units_of e) (chars c.args.text.now) c.args.units) (sym c.in-Utf16.is)
 
 pub returns-in-Utf32-clause-answer : goal.returns-in-Utf32-clause-answer
-returns-in-Utf32-clause-answer c = c.to_byte_idx-in-Utf32.ensures.answer
+returns-in-Utf32-clause-answer g c = c.to_byte_idx-in-Utf32.ensures.answer
     ∙ sym (boundary_of_characters (chars c.args.text.now) c.args.units)
     ∙ ap (λ e. boundary_weighed (units_of e) (chars c.args.text.now) c.args.units) (sym c.in-Utf32.is)

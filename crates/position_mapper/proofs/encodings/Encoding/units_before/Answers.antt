@@ -2,7 +2,7 @@ use Rattle.position_mapper.proofs.lemmas.{◌∙◌, sym, chars, characters_weig
 use Rattle.position_mapper.proofs.encodings.Encoding.units_before.Goals as goal
 
 pub returns-in-Utf8 : goal.returns-in-Utf8
-returns-in-Utf8 c =
+returns-in-Utf8 g c =
     let text = c.args.text.now in
     let floor = c.floor_char_boundary in
     rw c.in-Utf8.is (weighed_bytes (chars text) c.args.byte floor.result
@@ -10,5 +10,5 @@ returns-in-Utf8 c =
     floor.ensures.nearest))
 
 pub returns-in-Utf32 : goal.returns-in-Utf32
-returns-in-Utf32 c =
+returns-in-Utf32 g c =
     rw c.in-Utf32.is (c.from_byte_idx-in-Utf32.ensures ∙ sym (characters_weighed (chars c.args.text.now) c.args.byte))

@@ -1,8 +1,8 @@
 use Rattle.position_mapper.proofs.lemmas.{◌∙◌, ap, arith, chars, boundary_weighed, units_of, byte_at-le, IsCharBoundary-byte_at}
-use Rattle.position_mapper.proofs.encodings.Encoding.byte_range.Goals as goal
+use Rattle.position_mapper.proofs.encodings.Encoding.byte_range_impl.Goals as goal
 
 pub returns-clause-ordered : goal.returns-clause-ordered
-returns-clause-ordered c =
+returns-clause-ordered g c =
     let e = c.args.self in
     let range = c.args.range in
     let first = c.line_of-first.ensures in
@@ -18,7 +18,7 @@ returns-clause-ordered c =
     )
 
 pub returns-clause-boundaries : goal.returns-clause-boundaries
-returns-clause-boundaries c =
+returns-clause-boundaries g c =
     let e = c.args.self in
     let range = c.args.range in
     let from = c.boundary_at.ensures.answer

@@ -1,9 +1,9 @@
 use Rattle.position_mapper.proofs.lemmas.{◌∙◌, inl, inr, ap, sym, arith, ◌+◌, Some, chars, weighed, boundary_weighed, units_of, exact_some, exact_none, IsCharBoundary-byte_at}
-use Rattle.position_mapper.proofs.encodings.Encoding.exact_byte_of.Goals as goal
-use Rattle.position_mapper.proofs.encodings.Encoding.exact_byte_of.Goals.{then-not-has_line-via-then-not-has_line, then-not-has_line-via-else-not-has_line+then-units_before-character}
+use Rattle.position_mapper.proofs.encodings.Encoding.exact_byte_of_impl.Goals as goal
+use Rattle.position_mapper.proofs.encodings.Encoding.exact_byte_of_impl.Goals.{then-not-has_line-via-then-not-has_line, then-not-has_line-via-else-not-has_line+then-units_before-character}
 
 pub returns-then-not-has_line-clause-answer : goal.returns-then-not-has_line-clause-answer
-returns-then-not-has_line-clause-answer c =
+returns-then-not-has_line-clause-answer g c =
     let line = c.line_of-line.ensures in
     let offset = c.boundary_at-offset in
     let w = units_of c.args.self in
@@ -17,7 +17,7 @@ returns-then-not-has_line-clause-answer c =
     ])
 
 pub returns-clause-answer : goal.returns-clause-answer
-returns-clause-answer c =
+returns-clause-answer g c =
     let line = c.line_of-line.ensures in
     let offset = c.boundary_at-offset in
     let w = units_of c.args.self in
@@ -28,7 +28,7 @@ returns-clause-answer c =
     ∙ exact_some c.args.self (chars c.args.text.now) c.args.position offset.result place has same
 
 pub returns-clause-boundary : goal.returns-clause-boundary
-returns-clause-boundary c =
+returns-clause-boundary g c =
     let line = c.line_of-line.ensures in
     let w = units_of c.args.self in
     let place = c.boundary_at-offset.ensures.answer
