@@ -8,7 +8,7 @@ import tempfile
 import time
 
 # what a browser is asked has an answer within these, also on a slow machine
-SECONDS = 120
+SECONDS = 60
 KEYS = {"ArrowRight": 39, "ArrowLeft": 37, "ArrowUp": 38, "ArrowDown": 40, "Home": 36, "End": 35, "Enter": 13, "Tab": 9}
 
 
@@ -112,7 +112,8 @@ class Page:
             self.wait(f"location.href === {json.dumps(place)} && document.readyState === 'complete'")
 
     def resize(self, width, height):
-        self.ask("Emulation.setDeviceMetricsOverride", width=width, height=height, deviceScaleFactor=1, mobile=False)
+        narrow = width < 600
+        self.ask("Emulation.setDeviceMetricsOverride", width=width, height=height, deviceScaleFactor=1, mobile=narrow)
 
     def dark(self, dark):
         scheme = {"name": "prefers-color-scheme", "value": "dark" if dark else "light"}
@@ -172,6 +173,8 @@ class Page:
         nodes = self.ask("Accessibility.getFullAXTree")["nodes"]
         return [node for node in nodes if not node.get("ignored")]
 
-    def picture(self, path, whole=True):
-        shot = self.ask("Page.captureScreenshot", format="png", captureBeyondViewport=whole)
+    def picture(self, path, width):
+        """A picture of the whole page, so wide, into a file."""
+        clip = {"x": 0, "y": 0, "width": width, "height": self.value("document.documentElement.scrollHeight"), "scale": 1}
+        shot = self.ask("Page.captureScreenshot", format="png", captureBeyondViewport=True, clip=clip)
         path.write_bytes(base64.b64decode(shot["data"]))

@@ -1,62 +1,63 @@
 #!/usr/bin/env python3
-"""Proves and builds the functions for a browser, and runs them and the page in Chromium.
+"""Proves and builds the functions for a browser, and runs them and the page in Chromium and Node.
 
-Every function on worked answers and on random texts beside the browser's own strings; then what the page shows at some
-cursors. Where no Chromium is on the path, it says so and only proves and builds. The last line printed is
+Every function on worked answers and on random texts beside the engine's own strings, served as a site serves them; then
+the page as it is opened from the disk, driven by the browser's own protocol: what it shows at some cursors, what goes
+into its field, and what those have of it who hear it, or use a phone. Where no Chromium is on the path, it says so and
+only proves and builds. With `--pictures` it makes those of the page in docs/ anew. The last line printed is
 'N passed, M failed', with what is left out.
 """
-import html
+import functools
+import http.server
 import importlib.machinery
 import importlib.util
+import json
 import pathlib
-import re
 import shutil
 import subprocess
 import sys
 import tempfile
+import threading
 
-from tally import Tally, sums_of
+import page_tests
+from devtools import Browser
+from tally import Tally
 
 ROOT = pathlib.Path(__file__).resolve().parent.parent
 NAMES = ["chromium", "chromium-browser", "google-chrome"]
-# no time is judged: a browser that hangs ends the script, also on a slow machine
+# how many results there are of what Node and of what a Chromium is asked
+IN_NODE = 5
+IN_BROWSER = 103
+# no time is judged: an engine that hangs ends the script, also on a slow machine
 SECONDS = 600
-# how often a page is opened whose scripts had not ended when the browser told its document
-TIMES = 5
+PICTURES = {"page.png": 1280, "page-390.png": 390}
 
-# where the page is opened: an example and the units that are selected, and what the rows of its table then say
-PAGES = {
-    "0:12-14": [
-        ["byte", "12", "16", "38"],
-        ["char", "12", "13", "27"],
-        ["UTF-16 unit", "12", "14", "28"],
-        ["line : column, LF", "1 : 0", "1 : 2", "3 lines"],
-        ["line : column, LF, CR, CR LF", "1 : 0", "1 : 2", "3 lines"],
-        ["line : column, every break", "1 : 0", "1 : 2", "4 lines"],
-    ],
-    "1:8-9": [
-        ["byte", "7", "11", "12"],
-        ["char", "7", "8", "9"],
-        ["UTF-16 unit", "7", "9", "10"],
-        ["line : column, LF", "0 : 7", "0 : 9", "1 line"],
-        ["line : column, LF, CR, CR LF", "0 : 7", "0 : 9", "1 line"],
-        ["line : column, every break", "0 : 7", "0 : 9", "1 line"],
-    ],
-    "4:1-3": [
-        ["byte", "1", "3", "4"],
-        ["char", "1", "3", "4"],
-        ["UTF-16 unit", "1", "3", "4"],
-        ["line : column, LF", "0 : 1", "1 : 0", "3 lines"],
-        ["line : column, LF, CR, CR LF", "1 : 0", "2 : 0", "4 lines"],
-        ["line : column, every break", "1 : 0", "2 : 0", "4 lines"],
-    ],
-}
-
-# what the comparison writes at its end, and the page; while the scripts run both are empty
-PRINTED = re.compile(r"<pre>([^<]+)</pre>")
-ROWS = re.compile(r'<table id="places">.*?<tbody>\s*(<tr>.*?)</tbody>', re.S)
+COMPARE = 'import("./compare.mjs").then((module) => module.compareAll()).then(JSON.stringify)'
+# 64-bit memory is there without a flag in a Node of this version, or this flag asks for it
+FLAG = "--experimental-wasm-memory64"
 
 tally = Tally()
+
+
+class Site(http.server.SimpleHTTPRequestHandler):
+    """Serves a folder to a page that may share memory."""
+
+    extensions_map = {**http.server.SimpleHTTPRequestHandler.extensions_map, ".mjs": "text/javascript"}
+
+    def end_headers(self):
+        self.send_header("Cross-Origin-Opener-Policy", "same-origin")
+        self.send_header("Cross-Origin-Embedder-Policy", "require-corp")
+        super().end_headers()
+
+    def log_message(self, *_):
+        pass
+
+
+def serve(folder):
+    """A server of the folder; answers it, and its address."""
+    server = http.server.ThreadingHTTPServer(("127.0.0.1", 0), functools.partial(Site, directory=folder))
+    threading.Thread(target=server.serve_forever, daemon=True).start()
+    return server, f"http://127.0.0.1:{server.server_address[1]}"
 
 
 def build_web():
@@ -67,66 +68,115 @@ def build_web():
     return module
 
 
-def document(browser, address):
-    """The document that the browser has once the page's scripts have run."""
-    with tempfile.TemporaryDirectory() as profile:
-        command = [
-            browser, "--headless", "--no-sandbox", "--disable-gpu", f"--user-data-dir={profile}",
-            "--virtual-time-budget=60000", "--dump-dom", address,
-        ]
-        done = subprocess.run(command, capture_output=True, text=True, timeout=SECONDS)
-    return done.stdout
+def fill(folder, built, modules):
+    """What a site has, with the comparison beside it."""
+    for name in ["str_indices_web.wasm", "package.json"]:
+        shutil.copy(built / name, folder)
+    for name in modules:
+        shutil.copy(ROOT / "web" / name, folder)
+    shutil.copy(ROOT / "tests/web/compare.mjs", folder)
+    (folder / "site.html").write_text("<!doctype html><title>A site</title>")
 
 
-def ended_document(browser, address, ended):
-    """The document, once what the page's scripts write at their end is there."""
-    for _ in range(TIMES):
-        text = document(browser, address)
-        if ended.search(text):
-            break
-    return text
-
-
-def compare(browser, builder, folder):
-    """Every function beside the browser's strings."""
-    functions = builder.FUNCTIONS.read_bytes()
-    script = builder.inlined((ROOT / "web/str_indices.mjs").read_text(), (ROOT / "tests/web/compare.mjs").read_text())
-    page = folder / "compare.html"
-    page.write_text(builder.with_functions(functions, script))
-    printed = PRINTED.search(ended_document(browser, page.as_uri(), PRINTED))
-    lines = html.unescape(printed.group(1)).splitlines() if printed else ["nothing was printed"]
-    for line in lines[:-1]:
+def judge(where, printed):
+    """Counts what the comparison found."""
+    found = json.loads(printed)
+    for line in found["told"]:
         print(line)
-    passed, failed, _ = sums_of(lines[-1]) or (0, 1, 0)
-    tally.enough("compare.mjs", 0 if failed else passed, f"every function in the browser, {lines[-1]}")
+    passed = 0 if found["failed"] else found["passed"]
+    tally.enough("compare.mjs", passed, f"every function {where}, {found['failed']} failed")
 
 
-def shown_rows(text):
-    """The rows of the page's table of places."""
-    table = ROWS.search(text)
-    rows = re.findall(r"<tr>(.*?)</tr>", table.group(1), re.S) if table else []
-    return [[html.unescape(cell) for cell in re.findall(r"<t[hd][^>]*>(.*?)</t[hd]>", row, re.S)] for row in rows]
+def compare_in_browser(browser, address):
+    page = browser.open(f"{address}/site.html")
+    judge("in the browser", page.value(COMPARE))
+    tally.result(page.value("crossOriginIsolated"), "the site shares memory")
 
 
-def check_page(browser, page):
-    """What the page shows at each of the cursors."""
-    for place, expected in PAGES.items():
-        rows = shown_rows(ended_document(browser, f"{page.as_uri()}#{place}", ROWS))
-        if not tally.result(rows == expected, f"the page at {place}"):
-            print(rows)
+def node_answer(folder, script, *flags):
+    command = ["node", *flags, "--input-type=module", "-e", script]
+    return subprocess.run(command, cwd=folder, capture_output=True, text=True, timeout=SECONDS)
+
+
+def compare_in_node(folder):
+    """The module as a package of Node's, and what it says where 64-bit memory is behind a flag."""
+    package = folder / "project/node_modules/str_indices"
+    package.mkdir(parents=True)
+    for path in folder.glob("*.*"):
+        shutil.copy(path, package)
+    use = (
+        'import { load, isSupported } from "str_indices";'
+        "try { const { positions } = await load();"
+        ' console.log(isSupported(), positions.utf16.positionOf("one\\r\\ntwo", 6).line);'
+        "} catch (error) { console.log(isSupported(), error.message); }"
+    )
+    without = node_answer(folder / "project", use).stdout
+    said = "true 1" in without or ("false" in without and FLAG in without)
+    tally.result(said, f"Node without a flag: {without.strip()}")
+    flags = [] if without.startswith("true") else [FLAG]
+    done = node_answer(folder / "project", use, *flags)
+    tally.result(done.stdout == "true 1\n", f"a package of Node's: {done.stdout.strip()}{done.stderr[-200:]}")
+    done = node_answer(folder, f"console.log(await {COMPARE})", *flags)
+    if tally.result(done.returncode == 0, "the comparison runs in Node"):
+        judge("in Node", done.stdout)
+    by_path = 'import { load } from "str_indices"; try { await load("/nowhere/a.wasm"); } catch (e) { console.log(e.message); }'
+    done = node_answer(folder / "project", by_path, *flags)
+    tally.result("/nowhere/a.wasm cannot be read" in done.stdout, f"a file that is missing: {done.stdout.strip()}")
+
+
+def check_types():
+    """The types name what the module has."""
+    types = (ROOT / "web/str_indices.d.ts").read_text()
+    module = (ROOT / "web/str_indices.mjs").read_text()
+    names = {name for path in page_tests.functions_of(module) for name in path.split(".")}
+    missing = sorted(name for name in names if f"readonly {name}:" not in types)
+    tally.result(len(names) == 16 and not missing, f"the types name the module's functions; missing: {missing}")
+
+
+def take_pictures(browser, page_file, folder):
+    """A picture of the page at each width."""
+    for name, width in PICTURES.items():
+        page = page_tests.opened(browser, page_file.as_uri(), width)
+        page.value("document.activeElement.blur()")
+        page.settle()
+        page.picture(folder / name, width)
+        header = (folder / name).read_bytes()[:24]
+        size = [int.from_bytes(header[16:20], "big"), int.from_bytes(header[20:24], "big")]
+        tally.result(size[0] == width and size[1] > 400, f"a picture of the page, {size[0]} by {size[1]}")
+
+
+def try_in_browser(program, built, pictures):
+    modules = build_web().MODULES
+    with tempfile.TemporaryDirectory() as folder, Browser(program) as browser:
+        folder = pathlib.Path(folder)
+        fill(folder, built, modules)
+        server, address = serve(folder)
+        compare_in_browser(browser, address)
+        server.shutdown()
+        page_tests.try_all(browser, built / "index.html", tally, folder)
+        take_pictures(browser, built / "index.html", ROOT / "docs" if pictures else folder)
+
+
+def try_in_node(built):
+    if shutil.which("node") is None:
+        tally.leave_out(IN_NODE, "no node is on the path (Debian's package nodejs)")
+        return
+    with tempfile.TemporaryDirectory() as folder:
+        fill(pathlib.Path(folder), built, build_web().MODULES)
+        compare_in_node(pathlib.Path(folder))
 
 
 def main():
     browser = next(filter(None, map(shutil.which, NAMES)), None)
     built = subprocess.run([ROOT / "scripts/build_web"], stdout=subprocess.PIPE, text=True)
     right = tally.result(built.returncode == 0, "build_web, which proves the exports")
+    check_types()
+    if right:
+        try_in_node(pathlib.Path(built.stdout.splitlines()[-1]))
     if browser is None:
-        tally.leave_out(1 + len(PAGES), "no Chromium is on the path (Debian's package chromium)")
+        tally.leave_out(IN_BROWSER, "no Chromium is on the path (Debian's package chromium)")
     elif right:
-        builder = build_web()
-        with tempfile.TemporaryDirectory() as folder:
-            compare(browser, builder, pathlib.Path(folder))
-        check_page(browser, pathlib.Path(built.stdout.splitlines()[-1]) / "index.html")
+        try_in_browser(browser, pathlib.Path(built.stdout.splitlines()[-1]), "--pictures" in sys.argv)
     return tally.end()
 
 

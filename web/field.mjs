@@ -167,11 +167,12 @@ export class Field {
     return document.execCommand(value === "" ? "delete" : "insertText", false, value);
   }
 
-  /** The range without a half of a pair. */
+  /** The range with whole pairs; where nothing is selected, the place before a pair that it is in. */
   #whole(start, end) {
     const value = this.#place.value;
     const splits = (unit) => isHigh(value.charCodeAt(unit - 1)) && /[\udc00-\udfff]/.test(value[unit] ?? "");
-    return [start - splits(start), end + splits(end)];
+    const from = start - splits(start);
+    return [from, start === end ? from : end + splits(end)];
   }
 
   #listen() {

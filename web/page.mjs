@@ -175,7 +175,7 @@ function place([start, end]) {
 }
 
 function show() {
-  cancelAnimationFrame(drawing);
+  clearTimeout(drawing);
   drawing = null;
   const changed = field.read() || shownAt === null;
   const selection = field.selection;
@@ -207,13 +207,13 @@ function showCells(bytes, changed) {
   }, FOLLOW);
 }
 
-/** Shows what changed with the next drawing, so that many changes are shown once. */
+/** Shows what changed once the browser has done its part of it, in the time that is left until the next drawing. */
 function follow(now) {
   if (now) {
     shownAt = null;
     show();
   } else {
-    drawing ??= requestAnimationFrame(show);
+    drawing ??= setTimeout(show);
   }
 }
 

@@ -1,51 +1,81 @@
-// Compares every function with worked answers and with the browser's own strings. The last line is 'N passed, M failed'.
+// Compares every function with worked answers and with the engine's own strings. `compareAll` answers what passed, what
+// failed, and what is to be told of that; a browser runs it, and Node.
 import { load } from "./str_indices.mjs";
+import { LongText } from "./long_text.mjs";
+import { inField, ofField } from "./field.mjs";
 
 const FROGS = "Hel🐸lo world! こん🐸にち🐸🐸は!";
 const EVERY_BREAK = "\nHello\r\n\rせ\vか\fい\u0085. There\u2028is something.\u2029";
-const PAST = 18446744073709551615n;
+const LARGE = [2n ** 32n - 1n, 2n ** 32n, 2n ** 32n + 1n, 2n ** 53n, 2n ** 63n - 1n, 2n ** 63n, 2n ** 64n - 1n, 2n ** 64n, 2n ** 70n];
 
-// a module, a function, a text, an index where the function takes one, and the answer
+// a function, a text, what it takes beside that, and the answer; no two functions have the same answers throughout
 const WORKED = [
-  ["chars", "count", FROGS, null, 23],
-  ["chars", "fromByteIdx", "せかい", 8, 2],
-  ["chars", "fromByteIdx", "せかい", Infinity, 3],
-  ["chars", "toByteIdx", "せかい", 2, 6],
-  ["chars", "toByteIdx", "せかい", PAST, 9],
-  ["utf16", "count", FROGS, null, 27],
-  ["utf16", "countSurrogates", FROGS, null, 4],
-  ["utf16", "fromByteIdx", FROGS, 26, 17],
-  ["utf16", "toByteIdx", FROGS, 18, 23],
-  ["utf16", "toByteIdx", FROGS, 28, 45],
-  ["linesLf", "countBreaks", "\r\r\n\n", null, 2],
-  ["linesLf", "fromByteIdx", "a\r\nb", 2, 0],
-  ["linesLf", "toByteIdx", "a\r\nb", 1, 3],
-  ["linesCrlf", "countBreaks", "\r\r\n\n", null, 3],
-  ["linesCrlf", "fromByteIdx", "\r\r\n\n", 3, 2],
-  ["linesCrlf", "toByteIdx", "a\u2028b", 1, 5],
-  ["lines", "countBreaks", EVERY_BREAK, null, 8],
-  ["lines", "fromByteIdx", "é\u0085x", 4, 1],
-  ["lines", "toByteIdx", "a\u2028b", 1, 4],
-  ["chars", "count", "\ud83d", null, 1],
-  ["utf16", "toByteIdx", "\ud83d", 1, 3],
+  ["chars.count", FROGS, null, 23],
+  ["chars.fromByteIdx", "せかい", 8, 2],
+  ["chars.fromByteIdx", "せかい", Infinity, 3],
+  ["chars.fromByteIdx", "🐸a\n", 4, 1],
+  ["chars.toByteIdx", "せかい", 2, 6],
+  ["chars.toByteIdx", "せかい", 2n ** 64n - 1n, 9],
+  ["chars.toByteIdx", "🐸a\n", 2, 5],
+  ["utf16.count", FROGS, null, 27],
+  ["utf16.countSurrogates", FROGS, null, 4],
+  ["utf16.fromByteIdx", FROGS, 26, 17],
+  ["utf16.fromByteIdx", "🐸a\n", 4, 2],
+  ["utf16.toByteIdx", FROGS, 18, 23],
+  ["utf16.toByteIdx", FROGS, 28, 45],
+  ["utf16.toByteIdx", "🐸a\n", 2, 4],
+  ["linesLf.countBreaks", "\r\r\n\n", null, 2],
+  ["linesLf.fromByteIdx", "a\r\nb", 2, 0],
+  ["linesLf.fromByteIdx", "\r\r\n\n", 3, 1],
+  ["linesLf.toByteIdx", "a\r\nb", 1, 3],
+  ["linesLf.toByteIdx", "\r\r\n\n", 1, 3],
+  ["linesCrlf.countBreaks", "\r\r\n\n", null, 3],
+  ["linesCrlf.countBreaks", "a\u2028b", null, 0],
+  ["linesCrlf.fromByteIdx", "\r\r\n\n", 3, 2],
+  ["linesCrlf.fromByteIdx", "a\u2028b", 4, 0],
+  ["linesCrlf.toByteIdx", "\r\r\n\n", 1, 1],
+  ["linesCrlf.toByteIdx", "a\u2028b", 1, 5],
+  ["lines.countBreaks", EVERY_BREAK, null, 8],
+  ["lines.countBreaks", "a\u2028b", null, 1],
+  ["lines.fromByteIdx", "é\u0085x", 4, 1],
+  ["lines.fromByteIdx", "a\u2028b", 4, 1],
+  ["lines.toByteIdx", "a\u2028b", 1, 4],
+  ["chars.count", "\ud83d", null, 1],
+  ["utf16.toByteIdx", "\ud83d", 1, 3],
+  ["positions.lineEnd", "a\r\nbé\n", 0, 1],
+  ["positions.lineEnd", "a\r\nbé\n", 1, 6],
+  ["positions.lineEnd", "a\r\nbé\n", 9, 7],
+  ["positions.utf8.positionOf", "a\ré🐸b", 8, "1:6"],
+  ["positions.utf16.positionOf", "a\ré🐸b", 8, "1:3"],
+  ["positions.utf32.positionOf", "a\ré🐸b", 8, "1:2"],
+  ["positions.utf8.byteOf", "a\ré🐸b", { line: 1, character: 6 }, 8],
+  ["positions.utf16.byteOf", "a\ré🐸b", { line: 1, character: 3 }, 8],
+  ["positions.utf32.byteOf", "a\ré🐸b", { line: 1, character: 2 }, 8],
+  ["positions.utf16.byteOf", "ab\r\nc", { line: 0, character: 99 }, 2],
+  ["positions.utf16.byteOf", "ab\r\nc", { line: 2n ** 64n, character: 0 }, 5],
+  ["positions.utf16.byteOf", "ab\r\nc", { line: 1n, character: 2n ** 63n }, 5],
 ];
 
 const CHARACTERS = ["a", "b", " ", "é", "せ", "🐸", "\n", "\r", "\r\n", "\v", "\f", "\u0085", "\u2028", "\u2029", "\u0084", "\u2027", "\ud83d"];
-const TEXTS = 400;
+const TEXTS = 250;
 const LONGEST = 60;
+const LONG_SIZES = [255, 1535, 1537, 5000, 65536, 1048576];
 
 const BREAKS = {
   linesLf: /\n/g,
   linesCrlf: /\r\n|\n|\r/g,
   lines: /\r\n|[\n\v\f\r\u0085\u2028\u2029]/g,
 };
+const MODULES = ["chars", "utf16", ...Object.keys(BREAKS)];
+const ENCODINGS = { utf8: (char) => sizeOf(char), utf16: (char) => char.length, utf32: () => 1 };
 
 const encoder = new TextEncoder();
 const sizeOf = (string) => encoder.encode(string).length;
+const countOf = (module) => (module in BREAKS ? "countBreaks" : "count");
 
 let passed = 0;
 let failed = 0;
-const told = [];
+let told = [];
 
 function same(answer, expected, what) {
   if (answer === expected) {
@@ -57,99 +87,236 @@ function same(answer, expected, what) {
 }
 
 /** Numbers that look random and are the same in each run. */
-function* randomNumbers(seed) {
+function numbersFrom(seed) {
   let state = seed;
-  for (;;) {
+  return (below) => {
     state = (Math.imul(state, 1664525) + 1013904223) >>> 0;
-    yield state >>> 8;
-  }
+    return (state >>> 8) % below;
+  };
 }
 
-function randomText(numbers) {
-  const next = (below) => numbers.next().value % below;
-  return Array.from({ length: next(LONGEST) }, () => CHARACTERS[next(CHARACTERS.length)]).join("");
+function randomText(next, most) {
+  return Array.from({ length: next(most + 1) }, () => CHARACTERS[next(CHARACTERS.length)]).join("");
 }
 
-/** The bytes where something ends, and how much: a char, the units of a char, or a line. */
-function endsIn(module, string) {
-  if (module in BREAKS) {
-    return Array.from(string.matchAll(BREAKS[module]), (found) => [sizeOf(string.slice(0, found.index + found[0].length)), 1]);
-  }
-  let byte = 0;
-  return Array.from(string, (char) => [(byte += sizeOf(char)), module === "utf16" ? char.length : 1]);
+/** At each byte of the text and one past it, what is there: chars, units and breaks, from one walk over its chars. */
+function walk(string) {
+  const chars = Array.from(string);
+  const at = { chars: [], utf16: [], linesLf: [], linesCrlf: [], lines: [] };
+  const now = { chars: 0, utf16: 0, linesLf: 0, linesCrlf: 0, lines: 0 };
+  const begins = [];
+  chars.forEach((char, i) => {
+    begins.push(at.chars.length);
+    for (let byte = sizeOf(char); byte > 0; byte--) for (const module of MODULES) at[module].push(now[module]);
+    now.chars += 1;
+    now.utf16 += char.length;
+    const inPair = char === "\r" && chars[i + 1] === "\n";
+    now.linesLf += char === "\n" ? 1 : 0;
+    now.linesCrlf += (char === "\n" || char === "\r") && !inPair ? 1 : 0;
+    now.lines += /[\n\v\f\r\u0085\u2028\u2029]/.test(char) && !inPair ? 1 : 0;
+  });
+  begins.push(at.chars.length);
+  for (const module of MODULES) at[module].push(now[module]);
+  return { at, begins, size: at.chars.length - 1 };
 }
 
-function fromByteIdx(ends, byte) {
-  return ends.filter(([end]) => end <= byte).reduce((sum, [, weight]) => sum + weight, 0);
+/** The byte of an index by the walk: where the char begins that has it, or where the line begins. */
+function byteAt({ at, begins, size }, module, index) {
+  const all = at[module];
+  if (index > all[size]) return size;
+  if (module in BREAKS) return index === 0 ? 0 : all.indexOf(index);
+  const last = begins.findLastIndex((byte) => all[byte] <= index);
+  return begins[last];
 }
 
-function toByteIdx(ends, index, size) {
-  if (index >= fromByteIdx(ends, size) + 1) return size;
-  const reached = [[0, 0], ...ends].filter(([end]) => end === 0 || fromByteIdx(ends, end) <= index);
-  return reached.at(-1)[0];
-}
-
-function compareText(indices, module, count, string) {
-  const ends = endsIn(module, string);
-  const size = sizeOf(string);
+function compareText(indices, string, places) {
+  const model = walk(string);
+  const bytes = encoder.encode(string);
   const text = indices.text(string);
-  const what = (call) => `${module} ${call} of ${JSON.stringify(string)}`;
-  same(text[module][count](), fromByteIdx(ends, size), what(count));
-  for (let index = 0; index <= size + 2; index++) {
-    same(text[module].fromByteIdx(index), fromByteIdx(ends, index), what(`from ${index}`));
-    same(indices[module].toByteIdx(string, index), toByteIdx(ends, index, size), what(`to ${index}`));
+  const what = (call) => `${call} of ${JSON.stringify(string.slice(0, 80))} (${bytes.length} bytes)`;
+  same(text.length, bytes.length, what("length"));
+  for (const module of MODULES) {
+    const total = model.at[module][model.size];
+    same(text[module][countOf(module)](), total, what(`${module} count`));
+    for (const place of places(model.size)) {
+      // strings and bytes in turn, and a text that is known
+      const source = place % 2 ? bytes : string;
+      same(indices[module].fromByteIdx(source, place), model.at[module][Math.min(place, model.size)], what(`${module} from ${place}`));
+      const index = Math.min(place, total + 2);
+      same(text[module].toByteIdx(index), byteAt(model, module, index), what(`${module} to ${index}`));
+    }
+    for (const large of LARGE) {
+      for (const index of [large, Number(large)]) {
+        same(text[module].fromByteIdx(index), total, what(`${module} from ${index}`));
+        same(text[module].toByteIdx(index), bytes.length, what(`${module} to ${index}`));
+      }
+    }
+  }
+  same(text.utf16.countSurrogates(), model.at.utf16[model.size] - model.at.chars[model.size], what("pairs"));
+}
+
+/** The positions of a text's chars, from its lines as the engine splits them. */
+function comparePositions(indices, string) {
+  const text = indices.text(string);
+  const parts = string.split(/(\r\n|\n|\r)/);
+  let byte = 0;
+  for (let line = 0; line * 2 < parts.length; line++) {
+    const content = parts[line * 2];
+    for (const [encoding, unitsOf] of Object.entries(ENCODINGS)) {
+      let [at, character] = [byte, 0];
+      for (const char of [...Array.from(content), ""]) {
+        const place = text.positions[encoding].positionOf(at);
+        same(`${place.line}:${place.character}`, `${line}:${character}`, `${encoding} position of ${at} in ${JSON.stringify(string)}`);
+        same(text.positions[encoding].byteOf({ line, character: BigInt(character) }), at, `${encoding} byte of ${line}:${character} in ${JSON.stringify(string)}`);
+        at += sizeOf(char);
+        character += unitsOf(char);
+      }
+    }
+    byte += sizeOf(content);
+    same(text.positions.lineEnd(line), byte, `the end of line ${line} of ${JSON.stringify(string)}`);
+    byte += sizeOf(parts[line * 2 + 1] ?? "");
   }
 }
 
-function compareAll(indices) {
-  for (const [module, name, text, index, answer] of WORKED) {
-    const found = index === null ? indices[module][name](text) : indices[module][name](text, index);
-    same(found, answer, `${module}.${name} of ${JSON.stringify(text)} at ${index}`);
+function compareWorked(indices) {
+  for (const [path, text, argument, answer] of WORKED) {
+    const call = path.split(".").reduce((place, name) => place[name], indices);
+    const known = path.split(".").reduce((place, name) => place[name], indices.text(text));
+    for (const found of argument === null ? [call(text), known()] : [call(text, argument), known(argument)]) {
+      const shown = typeof found === "object" ? `${found.line}:${found.character}` : found;
+      same(shown, answer, `${path} of ${JSON.stringify(text)}`);
+    }
   }
-  const numbers = randomNumbers(20111);
+}
+
+function compareTexts(indices) {
+  const next = numbersFrom(20111);
   for (let i = 0; i < TEXTS; i++) {
-    const string = randomText(numbers);
-    for (const module of ["chars", "utf16"]) compareText(indices, module, "count", string);
-    for (const module of Object.keys(BREAKS)) compareText(indices, module, "countBreaks", string);
-    const pairs = Array.from(string).filter((char) => char.length === 2).length;
-    same(indices.utf16.countSurrogates(string), pairs, `pairs of ${JSON.stringify(string)}`);
+    const string = randomText(next, LONGEST).toWellFormed();
+    compareText(indices, string, (size) => Array.from({ length: size + 3 }, (_, place) => place));
+    comparePositions(indices, string);
+  }
+  for (const size of LONG_SIZES) {
+    const part = randomText(next, 4000).toWellFormed();
+    let string = part;
+    while (sizeOf(string) < size) string += string.length < size / 8 ? string : part;
+    compareText(indices, string, (bytes) => Array.from({ length: 6 }, () => next(bytes + 2)));
   }
 }
 
-/** What is no text or no index is refused, by the kind of error that is said. */
-function compareRefusals(indices) {
+/** Each is refused by this kind of error, with a message that says what is wrong. */
+async function compareRefusals(indices) {
+  const missing = async () => load(new URL("missing.wasm", import.meta.url));
   const refused = [
-    [TypeError, () => indices.chars.count(new Uint8Array([0xe3, 0x81]))],
-    [TypeError, () => indices.chars.count(7)],
-    [RangeError, () => indices.chars.toByteIdx("a", -1)],
-    [RangeError, () => indices.chars.toByteIdx("a", 0.5)],
-    [RangeError, () => indices.chars.toByteIdx("a")],
-    [RangeError, () => indices.chars.count(new Uint8Array(2 ** 29))],
+    [TypeError, /not UTF-8/, () => indices.chars.count(new Uint8Array([0xe3, 0x81]))],
+    [TypeError, /not UTF-8/, () => indices.text(new Uint8Array([0x61, 0xff]))],
+    [TypeError, /a string or a Uint8Array/, () => indices.chars.count(7)],
+    [TypeError, /a line and a character/, () => indices.positions.utf16.byteOf("a", 3)],
+    [RangeError, /^-1 is no index/, () => indices.chars.toByteIdx("a", -1)],
+    [RangeError, /^-1n is no index/, () => indices.chars.toByteIdx("a", -1n)],
+    [RangeError, /^0.5 is no index/, () => indices.chars.toByteIdx("a", 0.5)],
+    [RangeError, /^NaN is no index/, () => indices.lines.fromByteIdx("a", NaN)],
+    [RangeError, /^the string "3" is no index/, () => indices.chars.toByteIdx("a", "3")],
+    [RangeError, /^undefined is no index/, () => indices.chars.toByteIdx("a")],
+    [RangeError, /^the string "1" is no line/, () => indices.positions.utf8.byteOf("a", { line: "1", character: 0 })],
+    [RangeError, /^undefined is no character/, () => indices.positions.utf8.byteOf("a", { line: 1 })],
+    [RangeError, /does not fit the memory: at most 267386736 bytes/, () => indices.chars.count(new Uint8Array(267386737))],
+    [RangeError, /does not fit the memory/, () => indices.chars.count("é".repeat(133693369))],
+    [Error, /missing\.wasm cannot be read/, missing],
+    [Error, /compare\.mjs is not the WebAssembly of str_indices/, () => load(new URL("compare.mjs", import.meta.url))],
+    [Error, /handed over is not the WebAssembly/, () => load(new Uint8Array(8))],
   ];
-  for (const [kind, call] of refused) {
+  for (const [kind, message, call] of refused) {
     let thrown = null;
     try {
-      call();
+      await call();
     } catch (error) {
       thrown = error;
     }
-    same(thrown instanceof kind, true, `${call} throws ${kind.name}`);
+    same(thrown instanceof kind && message.test(thrown.message), true, `${call} throws ${kind.name}, ${thrown}`);
   }
+  same(indices.chars.count(new Uint8Array(267386736)), 267386736, "the longest text");
+  same(indices.chars.count("a"), 1, "after what was refused");
+}
+
+/** A text keeps its bytes, whatever else is asked meanwhile, and in whatever array they came. */
+function compareKept(indices) {
   const bytes = encoder.encode("せか");
   const text = indices.text(bytes);
   bytes.fill(0x61);
   same(text.chars.count(), 2, "a text keeps its own bytes");
   same(indices.chars.count(bytes), 6, "bytes that changed are read anew");
+  const texts = ["せか", "abcdef", "ab\ncd\n"].map((string, i) => indices.text(i % 2 ? string : encoder.encode(string)));
+  for (let round = 0; round < 3; round++) {
+    same(texts.map((one) => one.chars.count()).join(), "2,6,6", "texts of one length in turn");
+    same(texts.map((one) => one.linesLf.countBreaks()).join(), "0,0,2", "lines of these");
+    same(indices.utf16.count("🐸"), 2, "a string between them");
+  }
+  same(new TextDecoder().decode(texts[0].bytes()), "せか", "the bytes of a text");
+  texts[0].bytes().fill(0);
+  same(texts[0].chars.count(), 2, "these are the caller's own");
+  if (typeof SharedArrayBuffer === "function") {
+    const shared = new Uint8Array(new SharedArrayBuffer(4));
+    shared.set(encoder.encode("🐸"));
+    same(indices.utf16.count(shared), 2, "bytes over shared memory");
+    const kept = indices.text(shared);
+    shared.fill(0xff);
+    same(kept.chars.count(), 1, "a text of these");
+  }
 }
 
-const place = document.body.appendChild(document.createElement("pre"));
-try {
-  const held = document.getElementById("functions").textContent;
-  const indices = await load(Uint8Array.from(atob(held), (char) => char.charCodeAt(0)));
-  compareAll(indices);
-  compareRefusals(indices);
-} catch (error) {
-  failed += 1;
-  told.push(`FAILED: ${error}`);
+/** A text in blocks answers as a text in one, after any edits. */
+function compareLongText(indices) {
+  const next = numbersFrom(7);
+  const long = new LongText(indices);
+  let string = "";
+  for (let round = 0; round < 120; round++) {
+    const start = next(string.length + 1);
+    const end = round % 40 === 39 ? string.length : Math.min(string.length, start + next(round % 7 ? 40 : 20000));
+    const before = string;
+    string = (string.slice(0, start) + randomText(next, round % 5 ? 20 : 30000) + string.slice(end)).toWellFormed();
+    const change = long.change(string);
+    if (change !== null) {
+      const { at, removed, inserted } = change;
+      same(before.slice(0, at) + inserted + before.slice(at + removed.length) === string, true, `the change of round ${round}`);
+    }
+    const text = indices.text(string);
+    same(long.length, text.length, `the length after round ${round}`);
+    for (const module of MODULES) {
+      const total = text[module][countOf(module)]();
+      same(long.count(module), total, `${module} in blocks after round ${round}`);
+      for (const index of [0, next(total + 2), total, Infinity]) {
+        same(long.toByteIdx(module, index), text[module].toByteIdx(index), `${module} to ${index} in blocks, round ${round}`);
+      }
+      const byte = next(text.length + 2);
+      same(long.fromByteIdx(module, byte), text[module].fromByteIdx(byte), `${module} from ${byte} in blocks, round ${round}`);
+    }
+    for (const encoding of Object.keys(ENCODINGS)) {
+      const byte = next(text.length + 2);
+      const [ours, theirs] = [long.positionOf(encoding, byte), text.positions[encoding].positionOf(byte)];
+      same(`${ours.line}:${ours.character}`, `${theirs.line}:${theirs.character}`, `${encoding} position of ${byte}, round ${round}`);
+    }
+  }
 }
-place.textContent = [...told.slice(0, 20), `${passed} passed, ${failed} failed`].join("\n");
+
+/** What a field shows of a text stands for that text. */
+function compareShown() {
+  for (const text of ["a\rb", "a\r\nb\n", "↵", "\r↵\r", "🏿", "\u{103ff}\r", "\ufffd↵"]) {
+    same(ofField(inField(text)), text, `${JSON.stringify(text)} in the field`);
+    same(inField(text).length, text.length, `the units of ${JSON.stringify(text)} in the field`);
+    same(inField(text).includes("\r"), false, `no CR in the field for ${JSON.stringify(text)}`);
+  }
+  same(ofField(inField("a\udfff\ud83d")), "a\ufffd\ufffd", "surrogates that stand alone");
+}
+
+export async function compareAll() {
+  [passed, failed, told] = [0, 0, []];
+  const indices = await load();
+  compareWorked(indices);
+  compareTexts(indices);
+  compareKept(indices);
+  compareLongText(indices);
+  compareShown();
+  await compareRefusals(indices);
+  return { passed, failed, told: told.slice(0, 20) };
+}

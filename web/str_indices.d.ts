@@ -1,0 +1,93 @@
+/** A string, or the bytes of its UTF-8 form; bytes that are not UTF-8 are a `TypeError`. */
+export type Source = string | Uint8Array;
+
+/** A whole number from 0 on, or `Infinity`; anything else is a `RangeError`. */
+export type Index = number | bigint;
+
+/** A position of a language server: a line, by LF, CR or CR LF, and the units on it before the place. */
+export interface Position {
+  readonly line: number;
+  readonly character: number;
+}
+
+/** The same as an argument, where each number may be any index. */
+export interface Place {
+  readonly line: Index;
+  readonly character: Index;
+}
+
+/** What each function takes first: the text, or nothing on a text that is known. */
+type First = [text: Source] | [];
+
+export interface Conversions<Text extends First> {
+  /** The index that a byte belongs to; past the end, that of the end. */
+  readonly fromByteIdx: (...args: [...Text, byteIndex: Index]) => number;
+  /** The byte where what has this index begins; past the last one, the length of the text in bytes. */
+  readonly toByteIdx: (...args: [...Text, index: Index]) => number;
+}
+
+export interface Chars<Text extends First> extends Conversions<Text> {
+  /** How many chars the text has. */
+  readonly count: (...args: Text) => number;
+}
+
+export interface Utf16<Text extends First> extends Conversions<Text> {
+  /** How many UTF-16 code units the text takes. */
+  readonly count: (...args: Text) => number;
+  /** How many surrogate pairs these have. */
+  readonly countSurrogates: (...args: Text) => number;
+}
+
+export interface Lines<Text extends First> extends Conversions<Text> {
+  /** How many line breaks the text has; it has one line more. */
+  readonly countBreaks: (...args: Text) => number;
+}
+
+export interface Encoding<Text extends First> {
+  /** The position of a byte; past the end, that of the end. */
+  readonly positionOf: (...args: [...Text, byteIndex: Index]) => Position;
+  /** The byte of a position; past the end of its line, the line's end, before its break. */
+  readonly byteOf: (...args: [...Text, position: Place]) => number;
+}
+
+export interface Positions<Text extends First> {
+  /** The byte where the content of a line ends, before its break. */
+  readonly lineEnd: (...args: [...Text, line: Index]) => number;
+  /** Offsets on a line in bytes. */
+  readonly utf8: Encoding<Text>;
+  /** Offsets on a line in UTF-16 code units, as a language server has them by default. */
+  readonly utf16: Encoding<Text>;
+  /** Offsets on a line in chars. */
+  readonly utf32: Encoding<Text>;
+}
+
+export interface Functions<Text extends First> {
+  readonly chars: Chars<Text>;
+  readonly utf16: Utf16<Text>;
+  /** Lines that end in LF. */
+  readonly linesLf: Lines<Text>;
+  /** Lines that end in LF, CR or CR LF. */
+  readonly linesCrlf: Lines<Text>;
+  /** Lines that end in any line break of Unicode. */
+  readonly lines: Lines<Text>;
+  readonly positions: Positions<Text>;
+}
+
+/** A text that is encoded once, for many questions. */
+export interface KnownText extends Functions<[]> {
+  /** How many bytes the text takes in UTF-8. */
+  readonly length: number;
+  /** These bytes, as an array of the caller's own. */
+  bytes(): Uint8Array;
+}
+
+export interface Indices extends Functions<[text: Source]> {
+  /** Keeps a text, for many questions. */
+  text(source: Source): KnownText;
+}
+
+/** Whether this engine has WebAssembly with 64-bit memory, which the functions want. */
+export function isSupported(): boolean;
+
+/** Loads the functions, by default from `str_indices_web.wasm` beside the module; in Node a path is taken too. */
+export function load(source?: URL | string | ArrayBuffer | Uint8Array): Promise<Indices>;
