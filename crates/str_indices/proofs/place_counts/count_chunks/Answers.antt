@@ -1,4 +1,4 @@
-use Rattle.str_indices.proofs.lemmas.{◌-◌, ◌+◌, ◌*◌, arith, counted_there, Each1-weaker, group_joined, round_fits, subst, sum_below, div-mul-le_self}
+use Rattle.str_indices.proofs.lemmas.{◌-◌, ◌+◌, ◌*◌, arith, counted_there, Each1-weaker, group_joined, round_fits, subst, sum_below}
 use Rattle.str_indices.proofs.place_counts.count_chunks.Goals as goal
 
 pub rounds-preserved : goal.rounds-preserved
@@ -32,25 +32,3 @@ returns-clause-reads g c =
     let so_far = c.rounds.invariant in
     let last = c.add_in_groups-last.ensures.reads in
     rw c.SIZE-size.ensures (group_joined (omega arith) g.met.T.ByteChunk.lawful.least so_far.from_low so_far.reads (rw c.SIZE-size.ensures at last))
-
-pub add_in_groups-last-requires-clause-room : goal.add_in_groups-last-requires-clause-room
-add_in_groups-last-requires-clause-room g c =
-    let least = g.met.T.ByteChunk.lawful.least in
-    let few = round_fits (c.args.to - c.rounds.at.byte) g.T.ByteChunk.SIZE c.chunks_of_round-most.result g.C.PlaceCounts.MOST
-    g.T.ByteChunk.MAX_ACC least (rw c.SIZE-size.ensures at c.rounds-test.false) c.chunks_of_round-most.ensures.summable in
-    rw c.SIZE-size.ensures (omega (arith, few, g.met.T.ByteChunk.lawful.fits))
-
-pub add_in_groups-last-requires-clause-seen : goal.add_in_groups-last-requires-clause-seen
-add_in_groups-last-requires-clause-seen g c =
-    let whole = div-mul-le_self (c.args.to - c.rounds.at.byte) g.T.ByteChunk.SIZE in
-    rw (c.rounds.invariant.reads.text_kept, c.SIZE-size.ensures) (omega (arith, whole, c.requires.seen), c.requires.seen.1)
-
-pub add_in_groups-round-requires-clause-seen : goal.add_in_groups-round-requires-clause-seen
-add_in_groups-round-requires-clause-seen g c =
-    let here = rw c.SIZE-size.ensures at c.rounds-test.true in
-    rw c.rounds.invariant.reads.text_kept (omega (arith, here, c.requires.seen), c.requires.seen.1)
-
-pub returns-clause-carried : goal.returns-clause-carried
-returns-clause-carried g c =
-    rw c.SIZE-size.ensures (rw (c.rounds.invariant.reads.text_kept, c.SIZE-size.ensures) at
-    c.add_in_groups-last.ensures.carried)
