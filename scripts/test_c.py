@@ -2,7 +2,7 @@
 """Builds and runs what C and C++ have of the library, as a user would.
 
 The tables of worked answers and of positions and the example, compiled as C and as C++ with every warning an error; the
-worked answers by each half of the library, and by the library without its wide half; the example's output; and the table
+tables by each half of the library, and the worked answers by the library without its wide half; the example's output; and the table
 of positions and the example once more from an installed prefix by pkg-config, where that command is there. The last line
 printed is 'N passed, M failed'.
 """
@@ -63,7 +63,7 @@ def compile_with(command, source, library, program):
 
 
 def compile_and_run(language, command, library, folder):
-    """The tables, that of worked answers by each half of the library, and the example, by one compiler."""
+    """The tables, by each half of the library, and the example, by one compiler."""
     ending = "cpp" if language == "C++" else "c"
     program = folder / f"worked_answers_{ending}"
     if compile_with(command, WORKED_ANSWERS, library, program):
@@ -71,7 +71,9 @@ def compile_and_run(language, command, library, folder):
             check_worked_answers(program, f"as {language}", environment, texts)
     program = folder / f"positions_{ending}"
     if compile_with(command, POSITIONS, library, program):
-        run([program], f"positions as {language}")
+        for environment, texts in halves(library):
+            what = f"positions as {language}, where the wide half answers for {texts}"
+            run([program], what, env=environment)
     program = folder / f"line_and_column_{ending}"
     if compile_with(command, EXAMPLE, library, program):
         check_example(program, f"as {language}")
