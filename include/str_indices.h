@@ -9,13 +9,14 @@
  *
  * The library has each function twice, proved twice: over vectors of sixteen
  * bytes, its narrow half, and over vectors of thirty-two, its wide half. Which
- * one answers is chosen once, before main runs: for texts from 256 bytes on the
- * wide half, where the processor has what x86-64-v3 asks for (AVX2 and more),
- * and else the narrow half. In chars, utf16, lines_lf and lines_crlf the
- * conversion to a byte index goes to the wide half from 1,536 bytes on. The
- * environment variable STR_INDICES_HALF, set to "narrow", leaves all texts to
- * the narrow half, and set to "wide" gives all of them to the wide half where
- * the processor has it. The answers are the same.
+ * one answers is chosen once, before main runs: for texts from 256 bytes on
+ * the wide half, where the processor has what x86-64-v3 asks for (AVX2 and
+ * more), and else the narrow half. In chars, utf16, lines_lf and lines_crlf
+ * the conversion to a byte index goes to the wide half from 1,536 bytes on, as
+ * do the positions of str_indices_positions.h. The environment variable
+ * STR_INDICES_HALF, set to "narrow", leaves all texts to the narrow half, and
+ * set to "wide" gives all of them to the wide half where the processor has it.
+ * The answers are the same.
  *
  * A text is handed over as the address of its first byte and its length in
  * bytes. What the caller owes, in every call, and what nothing checks:

@@ -22,7 +22,13 @@ LENGTHS = [0, 1, 255, 256, 257, 1535, 1536, 5000, 2**63 - 1]
 
 # from how many bytes on the wide half answers where it may, and what takes it later than the others
 WORTH_WIDE = 256
-LATER = {f"{module}_to_byte_idx": 1536 for module in ["chars", "utf16", "lines_lf", "lines_crlf"]}
+WORTH_WIDE_LATER = 1536
+LATER = re.compile(r"(chars|utf16|lines_lf|lines_crlf)_to_byte_idx|.*(position_of|byte_of|byte_range|line_end)")
+
+# what has no half: the choice itself, and what is asked once for a text
+WITHOUT = {f"{PREFIX}is_wide", f"{PREFIX}is_utf8"}
+# the first field of a struct that is answered; both its fields are numbers
+FIRST = {"str_indices_position": ".line", "str_indices_bytes": ".start"}
 
 # of a processor by its name for qemu, whether it has the wide half's level
 PROCESSORS = {"Nehalem": False, "SandyBridge": False, "Haswell,-avx2": False, "Haswell": True, "max": True}
@@ -61,7 +67,12 @@ def is_wide(name, length, half, may):
     """Whether the wide half is to answer."""
     if not may or half == "narrow":
         return False
-    return half == "wide" or length >= LATER.get(name, WORTH_WIDE)
+    return half == "wide" or length >= (WORTH_WIDE_LATER if LATER.fullmatch(name) else WORTH_WIDE)
+
+
+def zero(kind):
+    """A value of a type, as C."""
+    return "0" if kind == "size_t" else f"({kind}){{{{0, 0}}, {{0, 0}}}}" if kind.endswith("range") else f"({kind}){{0, 0}}"
 
 
 def stand_ins(names):
@@ -74,13 +85,15 @@ def stand_ins(names):
             given = ", ".join(word if "*" in word else f"{word} number_{at}" for at, word in enumerate(words))
             unused = " ".join(f"(void){word.split()[-1].lstrip('*')};" for word in given.split(", "))
             lines.append(f"{function.result} {PREFIX}{half}_{name}({given});")
-            lines.append(f"{function.result} {PREFIX}{half}_{name}({given}) {{ {unused} return {answer}; }}")
+            told = f"({function.result}){{{answer}, 0}}" if function.result in FIRST else answer
+            lines.append(f"{function.result} {PREFIX}{half}_{name}({given}) {{ {unused} return {told}; }}")
     lengths = ", ".join(f"{length}u" for length in LENGTHS)
     lines.append(f"int main(void)\n{{\n    static const size_t lengths[] = {{{lengths}}};")
     lines.append("    for (size_t at = 0; at < sizeof lengths / sizeof lengths[0]; at++) {")
     for name, function in zip(names, functions):
-        rest = ", 0" * (function.parameters.count("size_t") - 1)
-        lines.append(f'        printf("{name} %zu %d\\n", lengths[at], (int){PREFIX}{name}("", lengths[at]{rest}));')
+        rest = "".join(f", {zero(kind)}" for kind in function.parameters.split(", ")[2:])
+        told = f'(int){PREFIX}{name}("", lengths[at]{rest}){FIRST.get(function.result, "")}'
+        lines.append(f'        printf("{name} %zu %d\\n", lengths[at], {told});')
     lines.append(f'        printf("is_wide %zu %d\\n", lengths[at], {PREFIX}is_wide(lengths[at]));\n    }}')
     lines.append(f'    printf("is_wide %zu %d\\n", (size_t)-1, {PREFIX}is_wide((size_t)-1));\n    return 0;\n}}\n')
     return "\n".join(lines)
@@ -102,7 +115,7 @@ def link_stand_ins(tally, library, folder):
     source.write_text(stand_ins(names), encoding="utf-8")
     command = ["cc", "-std=c99", "-Wall", "-Wextra", "-Werror", f"-I{ROOT}/include"]
     done = subprocess.run([*command, source, folder / "choose_half.o", "-o", program], capture_output=True, text=True)
-    right = done.returncode == 0 and len(names) == 16
+    right = done.returncode == 0 and {PREFIX + name for name in names} == set(declared()) - WITHOUT
     if not tally.result(right, f"{len(names)} functions are linked with stand-ins of the halves"):
         print(done.stdout + done.stderr)
     return program, names

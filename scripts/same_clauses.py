@@ -19,6 +19,9 @@ OTHERS = {
     ROOT / "crates/str_indices_c_wide/src/lib.rt": "wide",
     ROOT / "web/exports.txt": "browser",
 }
+# the positions, which the browser does not have
+NARROW_POSITIONS = ROOT / "crates/str_indices_c/src/positions.rt"
+WIDE_POSITIONS = ROOT / "crates/str_indices_c_wide/src/positions.rt"
 # the narrow half alone has it, and the browser; no half of sixteen lanes or thirty-two is concerned
 WITHOUT_CHUNKS = {"wide": {"is_utf8"}, "browser": set()}
 
@@ -60,10 +63,21 @@ def try_exports(tally):
             tally.result(edited != text and exports(edited) != wanted, f"{path.relative_to(ROOT)} with {new.strip()} is refused")
 
 
+def try_positions(tally):
+    wanted = exports(NARROW_POSITIONS.read_text(encoding="utf-8"))
+    tally.result(len(wanted) == 13, f"the narrow half has {len(wanted)} exports of positions")
+    text = WIDE_POSITIONS.read_text(encoding="utf-8")
+    tally.result(exports(text) == wanted, f"{WIDE_POSITIONS.relative_to(ROOT)} has the clauses of the narrow half")
+    for old, new in [("position_at Utf8 ", "position_at Utf16 "), ("    ensures boundary", "    ensures limits")]:
+        edited = text.replace(old, new, 1)
+        tally.result(edited != text and exports(edited) != wanted, f"{WIDE_POSITIONS.relative_to(ROOT)} with {new.strip()} is refused")
+
+
 def main():
     tally = Tally()
     try_chunks(tally)
     try_exports(tally)
+    try_positions(tally)
     return tally.end()
 
 

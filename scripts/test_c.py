@@ -2,11 +2,11 @@
 """Builds and runs what C and C++ have of the library, as a user would.
 
 The tables of worked answers and of positions and the example, compiled as C and as C++ with every warning an error; the
-worked answers by each half of the library, and by the library without its wide half; the example's output; and the table
-of positions and the example once more from installed prefixes by pkg-config, where that command is there. Texts of all
-lengths beside a plain model, which end and begin at pages that may not be read. Then the headers and the types of the
-functions, which half answers on which processor, and each function exchanged for each other of its shape, as the modules
-tell which try that. The last line printed is 'N passed, M failed', with what is left out.
+tables by each half of the library, and the worked answers by the library without its wide half; the example's output; and
+the table of positions and the example once more from installed prefixes by pkg-config, where that command is there. Texts
+of all lengths beside a plain model, which end and begin at pages that may not be read. Then the headers and the types of
+the functions, which half answers on which processor, and each function exchanged for each other of its shape, as the
+modules tell which try that. The last line printed is 'N passed, M failed', with what is left out.
 """
 import os
 import pathlib
@@ -62,9 +62,9 @@ def has_enough(output, source):
     return failed == 0 and passed >= least(source.name)
 
 
-def check_table(program, source, how):
+def check_table(program, source, how, environment=None):
     """A program that has a sum of its own."""
-    done = subprocess.run([program], capture_output=True, text=True)
+    done = subprocess.run([program], env=environment, capture_output=True, text=True)
     if not tally.result(done.returncode == 0 and has_enough(done.stdout, source), f"{source.stem} {how}"):
         print(done.returncode, done.stdout + done.stderr)
 
@@ -90,7 +90,7 @@ def leave_out_the_wide_half(library, programs):
 
 
 def compile_and_run(language, command, library, folder):
-    """The tables, that of worked answers by each half of the library, and the example, by one compiler."""
+    """The tables, by each half of the library, and the example, by one compiler."""
     ending = "cpp" if language == "C++" else "c"
     program = folder / f"worked_answers_{ending}"
     if compile_with(command, WORKED_ANSWERS, library, program):
@@ -99,7 +99,9 @@ def compile_and_run(language, command, library, folder):
         leave_out_the_wide_half(library, 1)
     program = folder / f"positions_{ending}"
     if compile_with(command, POSITIONS, library, program):
-        check_table(program, POSITIONS, f"as {language}")
+        for environment, texts in halves(library):
+            check_table(program, POSITIONS, f"as {language}, where the wide half answers for {texts}", environment)
+        leave_out_the_wide_half(library, 1)
     program = folder / f"line_and_column_{ending}"
     if compile_with(command, EXAMPLE, library, program):
         check_example(program, f"as {language}")

@@ -1,4 +1,5 @@
-//! The functions of `position_mapper` for C. `include/str_indices_positions.h` declares them.
+//! The functions of `position_mapper` for C. `include/str_indices_positions.h` declares them without the word `narrow`, as
+//! the header beside it does those of `str_indices`.
 ghost use Rattle.std.specs.Prelude.{◌≡◌, ◌^◌, ◌-◌, IfNone, IfSome, IsCharBoundary, IsUtf8, chars, unwrap_or};
 ghost use Rattle.position_mapper.specs.Lines.{line_end};
 ghost use Rattle.position_mapper.specs.Positions.{byte_at, byte_range_at, exact_byte_at, position_at};
@@ -18,7 +19,7 @@ pub struct Bytes {
 
 /// The position of a byte: its line, and the UTF-16 code units on that line before it.
 #[unsafe(no_mangle)]
-pub extern "C" fn str_indices_position_of(text: &[u8], byte_idx: usize) -> Position
+pub extern "C" fn str_indices_narrow_position_of(text: &[u8], byte_idx: usize) -> Position
     requires { IsUtf8 text.now }
     ensures { result ≡ position_at Utf16 (chars text.now) byte_idx }
 {
@@ -27,7 +28,7 @@ pub extern "C" fn str_indices_position_of(text: &[u8], byte_idx: usize) -> Posit
 
 /// The byte where the char at a position begins; past the end of its line, the line's end.
 #[unsafe(no_mangle)]
-pub extern "C" fn str_indices_byte_of(text: &[u8], position: Position) -> usize
+pub extern "C" fn str_indices_narrow_byte_of(text: &[u8], position: Position) -> usize
     requires { IsUtf8 text.now }
     ensures answer { result ≡ byte_at Utf16 (chars text.now) position }
     ensures boundary { IsCharBoundary text.now result }
@@ -37,7 +38,7 @@ pub extern "C" fn str_indices_byte_of(text: &[u8], position: Position) -> usize
 
 /// The byte of a position that names a place, whose offset is in UTF-16 code units; `usize::MAX` where it names none.
 #[unsafe(no_mangle)]
-pub extern "C" fn str_indices_exact_byte_of(text: &[u8], position: Position) -> usize
+pub extern "C" fn str_indices_narrow_exact_byte_of(text: &[u8], position: Position) -> usize
     requires { IsUtf8 text.now }
     ensures { result ≡ unwrap_or (exact_byte_at Utf16 (chars text.now) position) (2 ^ 64 - 1) }
 {
@@ -46,7 +47,7 @@ pub extern "C" fn str_indices_exact_byte_of(text: &[u8], position: Position) -> 
 
 /// The bytes of a range, whose offsets are in UTF-16 code units; `usize::MAX` twice where its end is before its start.
 #[unsafe(no_mangle)]
-pub extern "C" fn str_indices_byte_range(text: &[u8], range: Range) -> Bytes
+pub extern "C" fn str_indices_narrow_byte_range(text: &[u8], range: Range) -> Bytes
     requires { IsUtf8 text.now }
     ensures some { IfSome (byte_range_at Utf16 (chars text.now) range)
         (λ bytes. result ≡ record { start = bytes.start; end = bytes.end }) }
@@ -58,7 +59,7 @@ pub extern "C" fn str_indices_byte_range(text: &[u8], range: Range) -> Bytes
 
 /// The byte where the content of a line ends, before its break.
 #[unsafe(no_mangle)]
-pub extern "C" fn str_indices_line_end(text: &[u8], line_idx: usize) -> usize
+pub extern "C" fn str_indices_narrow_line_end(text: &[u8], line_idx: usize) -> usize
     requires { IsUtf8 text.now }
     ensures answer { result ≡ line_end (chars text.now) line_idx }
     ensures boundary { IsCharBoundary text.now result }
@@ -68,7 +69,7 @@ pub extern "C" fn str_indices_line_end(text: &[u8], line_idx: usize) -> usize
 
 /// The position of a byte: its line, and the bytes on that line before it, or before the char that it is in.
 #[unsafe(no_mangle)]
-pub extern "C" fn str_indices_utf8_position_of(text: &[u8], byte_idx: usize) -> Position
+pub extern "C" fn str_indices_narrow_utf8_position_of(text: &[u8], byte_idx: usize) -> Position
     requires { IsUtf8 text.now }
     ensures { result ≡ position_at Utf8 (chars text.now) byte_idx }
 {
@@ -77,7 +78,7 @@ pub extern "C" fn str_indices_utf8_position_of(text: &[u8], byte_idx: usize) -> 
 
 /// The byte where the char at a position begins, whose offset is in bytes; past the end of its line, the line's end.
 #[unsafe(no_mangle)]
-pub extern "C" fn str_indices_utf8_byte_of(text: &[u8], position: Position) -> usize
+pub extern "C" fn str_indices_narrow_utf8_byte_of(text: &[u8], position: Position) -> usize
     requires { IsUtf8 text.now }
     ensures answer { result ≡ byte_at Utf8 (chars text.now) position }
     ensures boundary { IsCharBoundary text.now result }
@@ -87,7 +88,7 @@ pub extern "C" fn str_indices_utf8_byte_of(text: &[u8], position: Position) -> u
 
 /// The byte of a position that names a place, whose offset is in bytes; `usize::MAX` where it names none.
 #[unsafe(no_mangle)]
-pub extern "C" fn str_indices_utf8_exact_byte_of(text: &[u8], position: Position) -> usize
+pub extern "C" fn str_indices_narrow_utf8_exact_byte_of(text: &[u8], position: Position) -> usize
     requires { IsUtf8 text.now }
     ensures { result ≡ unwrap_or (exact_byte_at Utf8 (chars text.now) position) (2 ^ 64 - 1) }
 {
@@ -96,7 +97,7 @@ pub extern "C" fn str_indices_utf8_exact_byte_of(text: &[u8], position: Position
 
 /// The bytes of a range, whose offsets are in bytes; `usize::MAX` twice where its end is before its start.
 #[unsafe(no_mangle)]
-pub extern "C" fn str_indices_utf8_byte_range(text: &[u8], range: Range) -> Bytes
+pub extern "C" fn str_indices_narrow_utf8_byte_range(text: &[u8], range: Range) -> Bytes
     requires { IsUtf8 text.now }
     ensures some { IfSome (byte_range_at Utf8 (chars text.now) range)
         (λ bytes. result ≡ record { start = bytes.start; end = bytes.end }) }
@@ -108,7 +109,7 @@ pub extern "C" fn str_indices_utf8_byte_range(text: &[u8], range: Range) -> Byte
 
 /// The position of a byte: its line, and the scalar values on that line before it.
 #[unsafe(no_mangle)]
-pub extern "C" fn str_indices_utf32_position_of(text: &[u8], byte_idx: usize) -> Position
+pub extern "C" fn str_indices_narrow_utf32_position_of(text: &[u8], byte_idx: usize) -> Position
     requires { IsUtf8 text.now }
     ensures { result ≡ position_at Utf32 (chars text.now) byte_idx }
 {
@@ -118,7 +119,7 @@ pub extern "C" fn str_indices_utf32_position_of(text: &[u8], byte_idx: usize) ->
 /// The byte where the char at a position begins, whose offset is in scalar values; past the end of its line, the line's
 /// end.
 #[unsafe(no_mangle)]
-pub extern "C" fn str_indices_utf32_byte_of(text: &[u8], position: Position) -> usize
+pub extern "C" fn str_indices_narrow_utf32_byte_of(text: &[u8], position: Position) -> usize
     requires { IsUtf8 text.now }
     ensures answer { result ≡ byte_at Utf32 (chars text.now) position }
     ensures boundary { IsCharBoundary text.now result }
@@ -128,7 +129,7 @@ pub extern "C" fn str_indices_utf32_byte_of(text: &[u8], position: Position) -> 
 
 /// The byte of a position that names a place, whose offset is in scalar values; `usize::MAX` where it names none.
 #[unsafe(no_mangle)]
-pub extern "C" fn str_indices_utf32_exact_byte_of(text: &[u8], position: Position) -> usize
+pub extern "C" fn str_indices_narrow_utf32_exact_byte_of(text: &[u8], position: Position) -> usize
     requires { IsUtf8 text.now }
     ensures { result ≡ unwrap_or (exact_byte_at Utf32 (chars text.now) position) (2 ^ 64 - 1) }
 {
@@ -137,7 +138,7 @@ pub extern "C" fn str_indices_utf32_exact_byte_of(text: &[u8], position: Positio
 
 /// The bytes of a range, whose offsets are in scalar values; `usize::MAX` twice where its end is before its start.
 #[unsafe(no_mangle)]
-pub extern "C" fn str_indices_utf32_byte_range(text: &[u8], range: Range) -> Bytes
+pub extern "C" fn str_indices_narrow_utf32_byte_range(text: &[u8], range: Range) -> Bytes
     requires { IsUtf8 text.now }
     ensures some { IfSome (byte_range_at Utf32 (chars text.now) range)
         (λ bytes. result ≡ record { start = bytes.start; end = bytes.end }) }

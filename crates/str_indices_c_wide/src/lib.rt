@@ -1,4 +1,5 @@
-//! The functions of `str_indices` for C once more, over chunks of thirty-two lanes: one export for each of them.
+//! The functions of `str_indices` for C once more, over chunks of thirty-two lanes: one export for each of them; and those
+//! of `position_mapper`, in `positions`.
 //!
 //! They promise what those of `str_indices_c` do, for a processor of the level x86-64-v3, where such a chunk is one
 //! vector. So this crate is checked and built for that level, by `scripts/build_library` at the top of the repository.
@@ -8,6 +9,8 @@
 ghost use Rattle.std.specs.Prelude.{◌≡◌, IsCharBoundary, IsUtf8, chars};
 ghost use Rattle.str_indices.specs.Schemes.{count, from_byte_idx, surrogates, to_byte_idx};
 ghost use Rattle.str_indices.specs.declared.Scheme.TheVariants.{Chars, Crlf, Lf, Lines, Utf16};
+
+mod positions;
 
 use byte_chunk::Probe;
 use std::simd::u8x32;
@@ -172,6 +175,13 @@ fn probe_of(bytes: &[u8]) -> Probe<'_, u8x32>
     requires { IsUtf8 bytes.now }
     ensures { result.text ≡ bytes.now }
 {
+    Probe::of(text_of(bytes))
+}
+
+fn text_of(bytes: &[u8]) -> &str
+    requires { IsUtf8 bytes.now }
+    ensures { result.now ≡ bytes.now }
+{
     // Checking the bytes here would be a second pass over the text.
-    Probe::of(unsafe { str::from_utf8_unchecked(bytes) })
+    unsafe { str::from_utf8_unchecked(bytes) }
 }

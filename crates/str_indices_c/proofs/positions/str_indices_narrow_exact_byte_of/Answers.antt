@@ -2,7 +2,7 @@ use Rattle.std.proofs.Common.{◌∙◌, ap, ◌^◌, ◌-◌, chars}
 use Rattle.std.specs.Prelude.{unwrap_or}
 use Rattle.position_mapper.specs.Positions.{exact_byte_at}
 use Rattle.position_mapper.specs.declared.encodings.Encoding.TheVariants.{Utf16}
-use Rattle.str_indices_c.proofs.positions.str_indices_exact_byte_of.Goals as goal
+use Rattle.str_indices_c.proofs.positions.str_indices_narrow_exact_byte_of.Goals as goal
 
 pub returns : goal.returns
 returns c =
