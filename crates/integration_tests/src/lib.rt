@@ -13,6 +13,8 @@ mod pieces;
 #[cfg(test)]
 mod positions;
 #[cfg(test)]
+mod positions_in_ropes;
+#[cfg(test)]
 mod random;
 #[cfg(test)]
 mod ropes;
