@@ -34,6 +34,7 @@ PROMISES = [
     ("A text in pieces answers as the joined text, and a refusal changes nothing", "piece_text", r".*", r".*", ""),
     ("A rope answers as its text, changes it as asked, and a refusal changes nothing", "text_rope", r".*", r".*", ""),
     ("A position is a line and an offset on it, and back", "position_mapper", r".*", r".*", ""),
+    ("Positions in a rope are those in its text, and a change by positions is made or refused", "rope_positions", r".*", r".*", ""),
     ("A slice is what stands between two places", "text_slices", r".*", r".*", ""),
     ("Each export for C answers as the function that it calls", "str_indices_c", r".*", r".*", ""),
 ]
