@@ -26,13 +26,14 @@ from tally import Tally
 ROOT = pathlib.Path(__file__).resolve().parent.parent
 NAMES = ["chromium", "chromium-browser", "google-chrome"]
 # how many results there are of what Node and of what a Chromium is asked
-IN_NODE = 5
+IN_NODE = 6
 IN_BROWSER = 103
 # no time is judged: an engine that hangs ends the script, also on a slow machine
 SECONDS = 600
 PICTURES = {"page.png": 1280, "page-390.png": 390}
 
 COMPARE = 'import("./compare.mjs").then((module) => module.compareAll()).then(JSON.stringify)'
+EXCHANGE = 'import("./exchanges.mjs").then((module) => module.tryExchanges()).then(JSON.stringify)'
 # 64-bit memory is there without a flag in a Node of this version, or this flag asks for it
 FLAG = "--experimental-wasm-memory64"
 
@@ -74,7 +75,8 @@ def fill(folder, built, modules):
         shutil.copy(built / name, folder)
     for name in modules:
         shutil.copy(ROOT / "web" / name, folder)
-    shutil.copy(ROOT / "tests/web/compare.mjs", folder)
+    for name in ["compare.mjs", "exchanges.mjs"]:
+        shutil.copy(ROOT / "tests/web" / name, folder)
     (folder / "site.html").write_text("<!doctype html><title>A site</title>")
 
 
@@ -98,6 +100,15 @@ def node_answer(folder, script, *flags):
     return subprocess.run(command, cwd=folder, capture_output=True, text=True, timeout=SECONDS)
 
 
+def try_exchanges(folder, flags):
+    """Each two functions of the module that are asked alike, exchanged: the worked answers must see it."""
+    done = node_answer(folder, f"console.log(await {EXCHANGE})", *flags)
+    found = json.loads(done.stdout) if done.returncode == 0 else {"right": False, "tried": 0, "unseen": [done.stderr[-200:]]}
+    seen = found["tried"] if found["right"] and not found["unseen"] else 0
+    told = "".join(f"; not {one}" for one in found["unseen"])
+    tally.enough("exchanges of the module", seen, f"each of {found['tried']} exchanges of the module is seen{told}")
+
+
 def compare_in_node(folder):
     """The module as a package of Node's, and what it says where 64-bit memory is behind a flag."""
     package = folder / "project/node_modules/str_indices"
@@ -119,6 +130,7 @@ def compare_in_node(folder):
     done = node_answer(folder, f"console.log(await {COMPARE})", *flags)
     if tally.result(done.returncode == 0, "the comparison runs in Node"):
         judge("in Node", done.stdout)
+    try_exchanges(folder, flags)
     by_path = 'import { load } from "str_indices"; try { await load("/nowhere/a.wasm"); } catch (e) { console.log(e.message); }'
     done = node_answer(folder / "project", by_path, *flags)
     tally.result("/nowhere/a.wasm cannot be read" in done.stdout, f"a file that is missing: {done.stdout.strip()}")
