@@ -16,33 +16,75 @@
 /* No text is as long, since one has at most PTRDIFF_MAX bytes. */
 #define NO_TEXT SIZE_MAX
 
-/* The least length of a text that goes to the wide half. */
+/* The least length of a text that goes to the wide half. A thread that an
+ * earlier constructor began may read it while it is written. */
 static size_t wide_from = NO_TEXT;
+
+static size_t least_wide(void)
+{
+    return __atomic_load_n(&wide_from, __ATOMIC_RELAXED);
+}
 
 bool str_indices_is_wide(size_t len)
 {
-    return wide_from != NO_TEXT && len >= wide_from;
+    size_t least = least_wide();
+    return least != NO_TEXT && len >= least;
 }
 
 #ifdef STR_INDICES_WIDE
+#include <cpuid.h>
 
 /* The length from which on most functions take the wide half less time. */
 enum { WORTH_WIDE = 256 };
+
+/* What x86-64-v3 has that x86-64-v2 has not, by the bits of the cpuid
+ * instruction. A processor below x86-64-v2 runs no half. */
+enum {
+    FMA = 1 << 12, MOVBE = 1 << 22, OSXSAVE = 1 << 27, AVX = 1 << 28, F16C = 1 << 29, /* leaf 1, ecx */
+    BMI1 = 1 << 3, AVX2 = 1 << 5, BMI2 = 1 << 8, /* leaf 7, ebx */
+    LZCNT = 1 << 5, /* leaf 0x80000001, ecx */
+    SAVED_VECTORS = 1 << 1 | 1 << 2 /* register 0 of xgetbv */
+};
+
+static bool has_all(unsigned bits, unsigned wanted)
+{
+    return (bits & wanted) == wanted;
+}
+
+/* Whether the system keeps vectors of sixteen and of thirty-two bytes for each
+ * thread. The instruction is there where OSXSAVE is. */
+static bool keeps_vectors(void)
+{
+    unsigned low, high;
+    __asm__ volatile("xgetbv" : "=a"(low), "=d"(high) : "c"(0));
+    (void)high;
+    return has_all(low, SAVED_VECTORS);
+}
+
+/* Asks by instructions alone, so that no function of the compiler's library is
+ * wanted, which not every program is linked with. */
+static bool is_x86_64_v3(void)
+{
+    unsigned a, b, c, d;
+    if (!__get_cpuid(1, &a, &b, &c, &d) || !has_all(c, FMA | MOVBE | OSXSAVE | AVX | F16C) || !keeps_vectors())
+        return false;
+    if (!__get_cpuid_count(7, 0, &a, &b, &c, &d) || !has_all(b, BMI1 | AVX2 | BMI2))
+        return false;
+    return __get_cpuid(0x80000001, &a, &b, &c, &d) && has_all(c, LZCNT);
+}
 
 /* Asks the processor, once, before main runs. */
 __attribute__((constructor)) static void choose_half(void)
 {
     const char *half = getenv("STR_INDICES_HALF");
+    bool always = half != NULL && strcmp(half, "wide") == 0;
 
-    __builtin_cpu_init();
-    if (!__builtin_cpu_supports("x86-64-v3"))
+    if (!is_x86_64_v3() || (half != NULL && strcmp(half, "narrow") == 0))
         return;
-    if (half != NULL && strcmp(half, "narrow") == 0)
-        return;
-    wide_from = half != NULL && strcmp(half, "wide") == 0 ? 0 : WORTH_WIDE;
+    __atomic_store_n(&wide_from, always ? 0 : WORTH_WIDE, __ATOMIC_RELAXED);
 }
 
-#define WHERE_WIDE(times, answer) if (len / (times) >= wide_from) return answer;
+#define WHERE_WIDE(times, answer) if (len / (times) >= least_wide()) return answer;
 #else
 #define WHERE_WIDE(times, answer)
 #endif

@@ -5,8 +5,8 @@ seen of each function and length, and believed of none. That runs here and, wher
 processors below, at and above the level of the wide half, as do the worked answers over the library itself. The
 environment variable that chooses is unset, `narrow`, `wide` and another word.
 
-Beside that, how `build_library` answers a compiler that is not there, one that cannot ask a processor, and a wide half
-that does not compile: in a copy with a stand-in of `rt`, since nothing of it has to be proved.
+Beside that, how `build_library` answers a compiler that is not there, one that has no `cpuid.h` to ask a processor by,
+and a wide half that does not compile: in a copy with a stand-in of `rt`, since nothing of it has to be proved.
 """
 import os
 import pathlib
@@ -30,8 +30,14 @@ WITHOUT = {f"{PREFIX}is_wide", f"{PREFIX}is_utf8"}
 # the first field of a struct that is answered; both its fields are numbers
 FIRST = {"str_indices_position": ".line", "str_indices_bytes": ".start"}
 
+# what the level of the wide half has and the one below it has not, as qemu names it; and xsave, by which a system keeps
+# the vectors
+LEVEL = ["avx", "avx2", "bmi1", "bmi2", "f16c", "fma", "abm", "movbe", "xsave"]
 # of a processor by its name for qemu, whether it has the wide half's level
-PROCESSORS = {"Nehalem": False, "SandyBridge": False, "Haswell,-avx2": False, "Haswell": True, "max": True}
+PROCESSORS = {
+    "Nehalem": False, "SandyBridge": False, "Haswell": True, "max": True,
+    **{f"Haswell,-{feature}": False for feature in LEVEL},
+}
 EMULATOR = "qemu-x86_64"
 # the first version whose processors have AVX2
 LEAST_VERSION = (7, 2)
@@ -41,10 +47,14 @@ LONGER = "texts from 256 bytes on"
 ASKED = {None: LONGER, "narrow": "no text", "wide": "every text", "other": LONGER}
 
 
+# glibc's own functions over AVX2 take instructions of BMI1 without asking for it, so they are not to be taken
+WITHOUT_AVX2 = {"GLIBC_TUNABLES": "glibc.cpu.hwcaps=-AVX2,-AVX2_Usable"}
+
+
 def environment(half):
     """This environment, with the variable that chooses a half."""
     others = {name: value for name, value in os.environ.items() if name != "STR_INDICES_HALF"}
-    return others if half is None else dict(others, STR_INDICES_HALF=half)
+    return dict(others, **WITHOUT_AVX2, **({} if half is None else {"STR_INDICES_HALF": half}))
 
 
 def on(processor):
@@ -172,10 +182,10 @@ def copy_for_builds(folder):
     return commands
 
 
-# a compiler that does not know the level: it refuses a text that names it
+# a compiler without the header: it refuses a text that names it
 CANNOT_ASK = """for word; do
     case $word in
-        -) text=$(cat); case $text in *x86-64-v3*) exit 1;; esac; printf '%s\\n' "$text" | exec cc "$@" ;;
+        -) text=$(cat); case $text in *cpuid.h*) exit 1;; esac; printf '%s\\n' "$text" | exec cc "$@" ;;
         -DSTR_INDICES_WIDE) exit 1 ;;
     esac
 done
@@ -193,12 +203,11 @@ def try_build(tally, folder, commands, compiler, right, said, what):
         print(done.returncode, done.stdout + done.stderr)
 
 
-def try_builds(tally, folder):
-    """Compilers that cannot do all, and a wide half that does not compile."""
-    commands = copy_for_builds(folder)
-    cannot_ask = "cannot ask a processor"
+def try_builds(tally, folder, commands):
+    """Compilers that cannot do all, and a wide half that does not compile, in the copy in that folder."""
+    cannot_ask = "has no cpuid.h to ask a processor by"
     try_build(tally, folder, commands, "cc", True, "", "as it stands")
-    try_build(tally, folder, commands, "old_cc", True, cannot_ask, "a compiler that cannot ask: without the wide half")
+    try_build(tally, folder, commands, "old_cc", True, cannot_ask, "a compiler without cpuid.h: without the wide half")
     absent = "no_such_compiler"
     try_build(tally, folder, commands, absent, False, absent, "a compiler that is not there: an error")
     with open(folder / "c/choose_half.c", "a", encoding="utf-8") as source:

@@ -4,8 +4,8 @@
 The tests and the doc examples of bindings/rust, by each half of the library, and once over the library without its wide
 half, and the message where the library is missing; outside the repository, over an installed library which pkg-config
 finds; those of bindings/positions, of bindings/original and of the benchmark; each function exchanged for each other one
-of its shape, which a worked answer must see; the example of a project that uses bindings/rust; and the benchmark, one
-round over small texts, whose times nobody looks at. The original is compared where the environment variable
+of its shape, which a worked answer must see; the example of a project that uses bindings/rust; a program without std; and
+the benchmark, one round over small texts, whose times nobody looks at. The original is compared where the environment variable
 STR_INDICES_ORIGINAL names its folder. Where cargo is not on the path nothing is tried. The last line printed is
 'N passed, M failed', with what is left out.
 """
@@ -28,6 +28,7 @@ ROOT = pathlib.Path(__file__).resolve().parent.parent
 BINDINGS = ROOT / "bindings/rust"
 POSITIONS = ROOT / "bindings/positions"
 EXAMPLE = ROOT / "examples/rust"
+NO_STD = BINDINGS / "tests/no_std"
 
 # each folder with tests of its own, beside that of the library's functions, which has them by each half
 OTHERS = [POSITIONS, ROOT / "bindings/original", ROOT / "bench"]
@@ -152,6 +153,16 @@ def test_example(target):
         tally.result(printed == expected, f"examples/rust, byte {byte}: {printed}")
 
 
+def test_no_std(target):
+    """A program without std: nothing of the compiler's library is linked, which only std asks for."""
+    for profile, words in [("debug", []), ("release", ["--release"])]:
+        done = cargo(NO_STD, "build", *words)
+        built = done.returncode == 0
+        status = subprocess.run([target / profile / "no_std"]).returncode if built else None
+        if not tally.result(status == 0, f"a program without std, {profile}: status {status}"):
+            print(done.stderr)
+
+
 def test_benchmark():
     done = subprocess.run([ROOT / "bench/run", "--small", "--rounds", "1"], capture_output=True, text=True)
     if not tally.result(done.returncode == 0 and "chars::count" in done.stdout, "bench/run, one round over small texts"):
@@ -180,6 +191,7 @@ def test_all(library, folder):
     test_outside(library, folder)
     test_exchanges(library, folder)
     test_example(folder / "target")
+    test_no_std(folder / "target")
     test_benchmark()
 
 
