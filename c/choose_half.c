@@ -89,9 +89,12 @@ __attribute__((constructor)) static void choose_half(void)
 #define WHERE_WIDE(times, answer)
 #endif
 
+/* No program sees a half, also in a shared object. */
+#define HALF __attribute__((visibility("hidden")))
+
 #define HAND_ON(type, times, name, parameters, arguments)       \
-    type str_indices_narrow_##name parameters;                  \
-    type str_indices_wide_##name parameters;                    \
+    HALF type str_indices_narrow_##name parameters;             \
+    HALF type str_indices_wide_##name parameters;               \
     type str_indices_##name parameters                          \
     {                                                           \
         WHERE_WIDE(times, str_indices_wide_##name arguments)    \

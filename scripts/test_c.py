@@ -3,22 +3,25 @@
 
 The tables of worked answers and of positions and the example, compiled as C and as C++ with every warning an error; the
 tables by each half of the library, and the worked answers by the library without its wide half; the example's output; and
-the table of positions and the example once more from installed prefixes by pkg-config, where that command is there. Texts
-of all lengths beside a plain model, which end and begin at pages that may not be read. Then the headers and the types of
-the functions, which half answers on which processor, and each function exchanged for each other of its shape, as the
-modules tell which try that. The last line printed is 'N passed, M failed', with what is left out.
+all of these once more from installed prefixes by pkg-config, over the shared object and the archive, and the example by
+CMake, where these commands are there. Texts of all lengths beside a plain model, which end and begin at pages that may
+not be read. Then the headers and the types of the functions, which half answers on which processor, what install_c does,
+and each function exchanged for each other of its shape, as the modules tell which try that. The last line printed is
+'N passed, M failed', with what is left out.
 """
 import os
 import pathlib
+import re
 import shutil
 import signal
 import subprocess
 import sys
 import tempfile
 
-from c_exports import pairs
-from c_halves import try_builds, try_halves
+from c_exports import declared, pairs
+from c_halves import copy_for_builds, try_builds, try_halves
 from c_headers import try_headers
+from c_install import try_install
 from exchanges import exchanging_library, try_exchanges
 from halves import ASKED, halves, has_wide_half, missing
 from tally import Tally, least, sums_of
@@ -46,13 +49,13 @@ def run(command, what, **options):
     return done.returncode == 0
 
 
-def check_example(program, how):
+def check_example(program, how, environment=None):
     """The example's answers at some bytes of the text."""
     for byte, expected in ROWS.items():
-        done = subprocess.run([program, str(byte)], input=TEXT, capture_output=True)
+        done = subprocess.run([program, str(byte)], input=TEXT, env=environment, capture_output=True)
         printed = done.stdout.decode().strip()
         tally.result(printed == expected, f"example {how}, byte {byte}: {printed}")
-    done = subprocess.run([program, "0"], input=b"\xe3\x81", capture_output=True)
+    done = subprocess.run([program, "0"], input=b"\xe3\x81", env=environment, capture_output=True)
     tally.result(done.returncode == 1 and not done.stdout, f"example {how}, bytes that are not UTF-8: status {done.returncode}")
 
 
@@ -81,6 +84,14 @@ def check_by_half(program, source, how, environment, texts):
 def compile_with(command, source, library, program):
     link = [*command, *STRICT, f"-I{ROOT}/include", source, "-x", "none", library, "-o", program]
     return run(link, f"{program.name} compiles without a warning")
+
+
+def link_with_the_c_library_alone(library, folder):
+    """The library wants nothing of the compiler's own library, which a program without Rust's std is not linked with."""
+    program = folder / "with_the_c_library_alone"
+    link = [*COMPILERS["C"], f"-I{ROOT}/include", WORKED_ANSWERS, library, "-nodefaultlibs", "-lc", "-o", program]
+    if run(link, "worked_answers is linked with the C library and no other"):
+        check_table(program, WORKED_ANSWERS, "with the C library and no other")
 
 
 def leave_out_the_wide_half(library, programs):
@@ -130,26 +141,87 @@ def install(prefix, umask, *words):
     return prefix / "lib/libstr_indices.a"
 
 
-def compile_installed(prefix, library, folder):
+def told_by(*command):
+    return subprocess.run(command, capture_output=True, text=True, check=True).stdout
+
+
+def needed(program):
+    """The libraries of ours that the program wants when it starts."""
+    return re.findall(r"\(NEEDED\).*\[(libstr_.*)\]", told_by("readelf", "-d", program))
+
+
+def check_shared_object(prefix):
+    """The shared object by its three names, the name that programs ask for, and the functions that it has for them."""
+    shared = prefix / "lib/libstr_indices.so"
+    links = [shared.readlink().name, (prefix / "lib/libstr_indices.so.0").readlink().name]
+    named = re.findall(r"\(SONAME\).*\[(.*)\]", told_by("readelf", "-d", shared))
+    right = links == ["libstr_indices.so.0", "libstr_indices.so.0.4.4"] and named == ["libstr_indices.so.0"]
+    tally.result(right, "the shared object has its name and its links")
+    names = {line.split()[-1] for line in told_by("nm", "-D", "--defined-only", shared).splitlines()}
+    tally.result(names == set(declared()), f"the shared object has the {len(names)} functions of the headers alone")
+
+
+# how a program is linked with the library of each kind: the words for pkg-config, those for the compiler, and what it wants
+# of ours when it starts
+LINKED = {"shared": ("", "", ["libstr_indices.so.0"]), "static": ("--static", "-static", [])}
+
+
+def compile_installed(prefix, kind, folder, environment):
     """The tables and the example from an installed prefix, by pkg-config alone and outside the repository."""
-    if not shutil.which("pkg-config"):
-        tally.leave_out(3 + 2 + len(ROWS) + 1, "the installed library, as pkg-config is not on the path")
-        return
-    search = dict(os.environ, PKG_CONFIG_PATH=str(prefix / "lib/pkgconfig"))
+    words, flags, wanted = LINKED[kind]
     for source in [WORKED_ANSWERS, POSITIONS, EXAMPLE]:
-        program = folder / f"installed_{source.stem}"
-        flags = "$(pkg-config --cflags --libs str_indices)"
-        command = f'eval "cc -std=c99 {" ".join(STRICT)} {source} {flags} -o {program}"'
-        what = f"{source.stem} compiles by pkg-config, in '{prefix.name}'"
-        if not run(["sh", "-c", command], what, env=search, cwd=folder):
+        program = folder / f"installed_{kind}_{source.stem}"
+        found = f"$(pkg-config {words} --cflags --libs str_indices)"
+        command = f'eval "cc -std=c99 {" ".join(STRICT)} {source} {flags} {found} -o {program}"'
+        what = f"{source.stem} compiles by pkg-config over the {kind} library, in '{prefix.name}'"
+        if not run(["sh", "-c", command], what, env=environment, cwd=folder):
             continue
+        tally.result(needed(program) == wanted, f"{source.stem} wants {wanted or 'no library of ours'} when it starts")
         if source is EXAMPLE:
-            check_example(program, "by pkg-config")
+            check_example(program, f"over the {kind} library", environment)
         elif source is POSITIONS:
-            check_table(program, source, "by pkg-config")
+            check_table(program, source, f"over the {kind} library", environment)
         else:
-            environment, texts = halves(library)[-1]
-            check_by_half(program, source, "by pkg-config", environment, texts)
+            half, texts = halves(prefix / "lib/libstr_indices.a")[-1]
+            asked = dict(environment, STR_INDICES_HALF=half["STR_INDICES_HALF"])
+            check_by_half(program, source, f"over the {kind} library", asked, texts)
+
+
+# what compile_installed tries of the library of one kind
+INSTALLED = 2 * 3 + 2 + len(ROWS) + 1
+
+
+def links_statically(folder):
+    """Whether there is a C library to link a program with that starts alone."""
+    source = folder / "empty.c"
+    source.write_text("int main(void) { return 0; }\n", encoding="utf-8")
+    return subprocess.run(["cc", "-static", source, "-o", folder / "empty"], capture_output=True).returncode == 0
+
+
+def use_installed(prefix, folder):
+    """What is installed, as programs use it."""
+    check_shared_object(prefix)
+    if not shutil.which("pkg-config"):
+        tally.leave_out(2 * INSTALLED, "the installed library, as pkg-config is not on the path")
+        return
+    environment = dict(os.environ, PKG_CONFIG_PATH=str(prefix / "lib/pkgconfig"), LD_LIBRARY_PATH=str(prefix / "lib"))
+    compile_installed(prefix, "shared", folder, environment)
+    if links_statically(folder):
+        compile_installed(prefix, "static", folder, environment)
+    else:
+        tally.leave_out(INSTALLED, "programs that start alone, as there is no static C library")
+
+
+def use_by_cmake(prefix, folder):
+    """The example as a project of CMake, which finds the library by pkg-config."""
+    for command in ["cmake", "pkg-config"]:
+        if not shutil.which(command):
+            tally.leave_out(2 + len(ROWS) + 1, f"a project of CMake, as {command} is not on the path")
+            return
+    environment, built = dict(os.environ, PKG_CONFIG_PATH=str(prefix / "lib/pkgconfig")), folder / "by cmake"
+    commands = [["cmake", "-S", EXAMPLE.parent, "-B", built], ["cmake", "--build", built]]
+    if all([run(command, " ".join(map(str, command[:2])), env=environment) for command in commands]):
+        check_example(built / EXAMPLE.stem, "by CMake")
 
 
 def run_installed(folder):
@@ -159,7 +231,8 @@ def run_installed(folder):
         if library:
             wide = not words and has_wide_half(ROOT / "out/libstr_indices.a")
             tally.result(has_wide_half(library) == wide, f"it is installed {'with' if wide else 'without'} its wide half")
-            compile_installed(folder / name, library, folder)
+            use_installed(folder / name, folder)
+    use_by_cmake(folder / "narrow", folder)
 
 
 def run_exchanged(library, folder):
@@ -186,12 +259,15 @@ def run_all(library, folder):
     for language, command in COMPILERS.items():
         compile_and_run(language, command, library, folder)
     run_guarded(library, folder)
+    link_with_the_c_library_alone(library, folder)
     run_installed(folder)
     try_headers(tally, library)
     narrow = folder / "narrow/lib/libstr_indices.a"
     try_halves(tally, library, narrow, folder / "worked_answers_c", folder)
     (folder / "builds").mkdir()
-    try_builds(tally, folder / "builds")
+    commands = copy_for_builds(folder / "builds")
+    try_install(tally, folder / "builds", commands)
+    try_builds(tally, folder / "builds", commands)
     run_exchanged(library, folder)
 
 
