@@ -1,4 +1,4 @@
-"""What the library for C declares, by its headers, and what it has, by the exports in Rattle and by its symbols.
+"""What the libraries for C declare, by their headers, and what they have, by the exports in Rattle and by their symbols.
 
 The headers are read and not listed, so what is added to them is tried by itself.
 """
@@ -8,16 +8,18 @@ import subprocess
 from typing import NamedTuple
 
 ROOT = pathlib.Path(__file__).resolve().parent.parent
-HEADERS = sorted((ROOT / "include").glob("*.h"))
-PREFIX = "str_indices_"
 
 COMMENT = re.compile(r"/\*.*?\*/|^#.*?$", re.MULTILINE | re.DOTALL)
-DECLARED = re.compile(r"^([a-z][\w ]*?[ *]+)(str_indices_\w+)\(([^)]*)\);", re.MULTILINE)
-EXPORTED = re.compile(r'^pub extern "C" fn str_indices_(?:narrow_)?(\w+)\(([^)]*)\)(?: -> (.*?))?$', re.MULTILINE)
-PARAMETER = re.compile(r"\w+: ([^,]+)")
+PARAMETER = re.compile(r"(\w+): ([^,]+)")
 
-# how C says a type of Rattle's; a struct has its name in C after the library's
-C_TYPES = {"&[u8]": "const char *, size_t", "usize": "size_t", "bool": "bool"}
+# how C says a type of Rattle's; a struct has its name in C after the library's, and the allocator takes no bytes
+C_TYPES = {
+    "&[u8]": "const char *, size_t", "&mut [u8]": "char *, size_t", "usize": "size_t", "bool": "bool", "()": "void",
+    "&mut Slot": "str_rope *",
+}
+ALLOCATOR = "Global"
+# a number of 32 bits is an enum in C: by the parameter's name, and of a result
+ENUMS = {"scheme": "str_rope_scheme", "encoding": "str_rope_encoding", "result": "str_rope_status"}
 
 
 class Function(NamedTuple):
@@ -35,44 +37,81 @@ class Function(NamedTuple):
         return self.result, self.parameters
 
 
+class Library(NamedTuple):
+    """A library for C: its name, with which its headers and functions begin, the crate of its exports, the script that
+    builds it, and the functions that it has besides.
+    """
+
+    name: str
+    crate: str
+    script: str
+    added: tuple
+
+    def headers(self):
+        return sorted((ROOT / "include").glob(f"{self.name}*.h"))
+
+    def is_here(self):
+        return (ROOT / "scripts" / self.script).is_file()
+
+
+STR_INDICES = Library(
+    "str_indices", "str_indices_c", "build_library", (Function("str_indices_is_wide", "bool", "size_t"),))
+STR_ROPE = Library("str_rope", "text_rope_c", "build_rope", ())
+
+# those that are built here
+LIBRARIES = [library for library in [STR_INDICES, STR_ROPE] if library.is_here()]
+HEADERS = STR_INDICES.headers()
+PREFIX = "str_indices_"
+
+
 def types_of(parameters):
     """The types of parameters, without their names."""
     words = [" ".join(parameter.split()) for parameter in parameters.split(",")]
     return ", ".join(re.sub(r"(?<=[ *])\w+$", "", word).rstrip() for word in words)
 
 
-def declared():
-    """The functions of the headers, by name."""
-    texts = [COMMENT.sub("", header.read_text(encoding="utf-8")) for header in HEADERS]
-    found = [match for text in texts for match in DECLARED.findall(text)]
+def declared(library=STR_INDICES):
+    """The functions of the library's headers, by name."""
+    texts = [COMMENT.sub("", header.read_text(encoding="utf-8")) for header in library.headers()]
+    function = re.compile(rf"^([a-z][\w ]*?[ *]+)({library.name}_\w+)\(([^)]*)\);", re.MULTILINE)
+    found = [match for text in texts for match in function.findall(text)]
     return {name: Function(name, result.strip(), types_of(parameters)) for result, name, parameters in found}
 
 
-def c_type(rattle):
-    """How C says a type of Rattle's."""
-    snake = re.sub(r"(?<!^)(?=[A-Z])", "_", rattle.strip()).lower()
-    return C_TYPES.get(rattle.strip(), PREFIX + snake)
+def c_type(name, rattle):
+    """How C says a type of Rattle's, of a parameter of that name or of the result."""
+    if rattle == "u32":
+        return ENUMS[name]
+    return C_TYPES.get(rattle, "str_indices_" + re.sub(r"(?<!^)(?=[A-Z])", "_", rattle).lower())
 
 
-def exported():
-    """The functions that the exports in Rattle give to C, by name, and the one that the choice of a half adds."""
-    name = f"{PREFIX}is_wide"
-    functions = {name: Function(name, "bool", "size_t")}
-    for path in sorted((ROOT / "crates/str_indices_c/src").glob("**/*.rt")):
-        for word, parameters, result in EXPORTED.findall(path.read_text(encoding="utf-8")):
-            types = ", ".join(map(c_type, PARAMETER.findall(parameters)))
-            functions[PREFIX + word] = Function(PREFIX + word, c_type(result or "()"), types)
+def c_types(parameters):
+    """How C says the types of an export's parameters."""
+    named = [(name, rattle.strip()) for name, rattle in PARAMETER.findall(parameters)]
+    return ", ".join(c_type(name, rattle) for name, rattle in named if rattle != ALLOCATOR)
+
+
+def exported(library=STR_INDICES):
+    """The functions that the exports in Rattle give to C, by name, and what is added to them in C."""
+    functions = {function.name: function for function in library.added}
+    export = re.compile(
+        rf'^pub extern "C" fn {library.name}_(?:narrow_)?(\w+)\(([^)]*)\)(?: -> (.*?))?$', re.MULTILINE)
+    for path in sorted((ROOT / "crates" / library.crate / "src").glob("**/*.rt")):
+        for word, parameters, result in export.findall(path.read_text(encoding="utf-8")):
+            name = f"{library.name}_{word}"
+            functions[name] = Function(name, c_type("result", result.strip() or "()"), c_types(parameters))
     return functions
 
 
-def symbols(library):
+def symbols(archive, library=STR_INDICES):
     """The names that a library gives to a linker, but for those of its two halves."""
-    told = subprocess.run(["nm", "-g", "--defined-only", library], capture_output=True, text=True, check=True).stdout
+    prefix = library.name
+    told = subprocess.run(["nm", "-g", "--defined-only", archive], capture_output=True, text=True, check=True).stdout
     names = {line.split()[-1] for line in told.splitlines() if " T " in line}
-    return {name for name in names if name.startswith(PREFIX) and not re.match(f"{PREFIX}(narrow|wide)_", name)}
+    return {name for name in names if name.startswith(prefix) and not re.match(f"{prefix}_(narrow|wide)_", name)}
 
 
-def pairs():
+def pairs(library=STR_INDICES):
     """Each function with each other one of its shape."""
-    functions = declared().values()
+    functions = declared(library).values()
     return [(one, other) for one in functions for other in functions if one != other and one.shape() == other.shape()]

@@ -14,7 +14,7 @@ import re
 import shutil
 import subprocess
 
-from c_exports import HEADERS, PREFIX, ROOT, declared
+from c_exports import HEADERS, LIBRARIES, PREFIX, ROOT, declared
 from halves import has_wide_half, missing
 
 NAMES = re.compile(rf"\bU {PREFIX}(narrow|wide)_(\w+)")
@@ -171,7 +171,7 @@ def copy_for_builds(folder):
     """What build_library needs, with the halves as they are built, and a folder with a stand-in of rt."""
     for part in ["scripts", "c", "include"]:
         shutil.copytree(ROOT / part, folder / part)
-    for crate in ["str_indices_c", "str_indices_c_wide"]:
+    for crate in ["str_indices_c_wide", *[library.crate for library in LIBRARIES]]:
         (folder / "crates" / crate / "out").mkdir(parents=True)
         shutil.copy(ROOT / "crates" / crate / f"out/lib{crate}.a", folder / "crates" / crate / "out")
     commands = folder / "commands"

@@ -1,4 +1,4 @@
-"""Tries the headers of the library for C: each by itself and with the others, and the type of each function.
+"""Tries the headers of the libraries for C: each by itself and with the others, and the type of each function.
 
 The types are those of the exports in Rattle, which the compiler compares with the headers' by a pointer to each
 function: a call would convert a wrong one. That a fault is seen is tried on faults: types that a function has not.
@@ -6,9 +6,10 @@ function: a call would convert a wrong one. That a fault is seen is tried on fau
 import re
 import subprocess
 
-from c_exports import HEADERS, ROOT, declared, exported, symbols
+from c_exports import LIBRARIES, ROOT, declared, exported, symbols
 
 STRICT = ["-Wall", "-Wextra", "-Werror", "-pedantic", "-fsyntax-only", f"-I{ROOT}/include"]
+HEADERS = [header for library in LIBRARIES for header in library.headers()]
 COMPILERS = {"C": ["cc", "-std=c99", "-x", "c"], "C++": ["c++", "-std=c++11", "-x", "c++"]}
 
 
@@ -33,25 +34,33 @@ def pointers(functions):
 def wrong_types(function):
     """The function with another result, with a parameter of another sign, and with one parameter more."""
     yield function._replace(result="int" if function.result != "int" else "long")
-    yield function._replace(parameters=re.sub(r"size_t", "long", function.parameters, count=1))
+    place = "size_t" if "size_t" in function.parameters else r"[^,]+$"
+    yield function._replace(parameters=re.sub(place, " long", function.parameters, count=1))
     yield function._replace(parameters=f"{function.parameters}, size_t")
 
 
-def try_headers(tally, library):
-    """All of it; the library is asked for its symbols."""
-    functions, in_headers = exported(), declared()
-    names = set(functions)
-    same = set(in_headers) == names == symbols(library)
-    tally.result(same, f"headers, exports and library have the same {len(names)} functions")
+def try_types(tally, language, functions):
+    """The functions have the types of their exports, and each wrong type is seen."""
+    right, said = compiles(language, pointers(functions))
+    if not tally.result(right, f"{language}: each of {len(functions)} functions has the types of its export"):
+        print(said)
+    unseen = [f"{wrong.result} {name}({wrong.parameters})" for name, function in functions.items()
+              for wrong in wrong_types(function) if compiles(language, pointers({name: wrong}))[0]]
+    told = "".join(f"; not {one}" for one in unseen)
+    tally.result(not unseen, f"{language}: wrong types of each function are refused{told}")
+
+
+def try_headers(tally, archives):
+    """All of it; the archives, each with its library, are asked for their symbols."""
     for language in COMPILERS:
         for order in [*[[header] for header in HEADERS], HEADERS, HEADERS[::-1], [*HEADERS, *HEADERS]]:
             right, said = compiles(language, includes(order) + "typedef int not_empty;\n")
             if not tally.result(right, f"{language}: {', '.join(header.name for header in order)} compile"):
                 print(said)
-        right, said = compiles(language, pointers(functions))
-        if not tally.result(right, f"{language}: each function has the types of its export"):
-            print(said)
-        unseen = [f"{wrong.result} {name}({wrong.parameters})" for name, function in functions.items()
-                  for wrong in wrong_types(function) if compiles(language, pointers({name: wrong}))[0]]
-        told = "".join(f"; not {one}" for one in unseen)
-        tally.result(not unseen, f"{language}: wrong types of each function are refused{told}")
+    for library, archive in archives.items():
+        functions, in_headers = exported(library), declared(library)
+        names = set(functions)
+        same = set(in_headers) == names == symbols(archive, library)
+        tally.result(same, f"headers, exports and {library.name} have the same {len(names)} functions")
+        for language in COMPILERS:
+            try_types(tally, language, functions)

@@ -1,4 +1,4 @@
-"""Exchanges functions of the library for C, and wants the worked answers to see each exchange.
+"""Exchanges functions of a library for C, and wants the worked answers to see each exchange.
 
 In a copy of the library each function of the headers is hidden under another name, and a small file has the functions
 by their own names: each hands a call on to itself, or, where the environment says so, to another function of its shape.
@@ -7,7 +7,7 @@ So nothing is linked again for an exchange, and whatever stands on the library i
 import os
 import subprocess
 
-from c_exports import HEADERS, ROOT, declared
+from c_exports import ROOT, STR_INDICES, declared
 from tally import least
 
 COMPILER = ["cc", "-std=c99", "-Wall", "-Wextra", "-Werror", "-O1", "-fPIC", f"-I{ROOT}/include"]
@@ -34,9 +34,10 @@ __attribute__((constructor)) static void choose(void)
 """
 
 
-def exchange_file(functions):
+def exchange_file(library):
     """The small file, as C."""
-    lines = [f"#include <{header.name}>" for header in HEADERS] + [HEAD]
+    functions = list(declared(library).values())
+    lines = [f"#include <{header.name}>" for header in library.headers()] + [HEAD]
     lines += [f"{function.result} itself_{function.name}({function.parameters});" for function in functions]
     rows = ", ".join(f'{{"{function.name}", (any)itself_{function.name}}}' for function in functions)
     lines.append(f"static const struct {{ const char *name; any itself; }} functions[] = {{ {rows} }};")
@@ -50,16 +51,15 @@ def exchange_file(functions):
     return "\n".join(lines) + "\n"
 
 
-def exchanging_library(library, folder):
+def exchanging_library(archive, folder, library=STR_INDICES):
     """A copy of the library that can exchange its functions; raises where a tool refuses."""
-    functions = list(declared().values())
-    copy = folder / "libstr_indices.a"
-    renamed = [f"--redefine-sym={function.name}=itself_{function.name}" for function in functions]
-    subprocess.run(["objcopy", *renamed, library, copy], check=True)
-    source = folder / "exchange.c"
-    source.write_text(exchange_file(functions), encoding="utf-8")
-    subprocess.run([*COMPILER, "-c", source, "-o", folder / "exchange.o"], check=True)
-    subprocess.run(["ar", "rs", copy, folder / "exchange.o"], check=True, capture_output=True)
+    copy, name = folder / f"lib{library.name}.a", f"exchange_{library.name}"
+    renamed = [f"--redefine-sym={function}=itself_{function}" for function in declared(library)]
+    subprocess.run(["objcopy", *renamed, archive, copy], check=True)
+    source = folder / f"{name}.c"
+    source.write_text(exchange_file(library), encoding="utf-8")
+    subprocess.run([*COMPILER, "-c", source, "-o", folder / f"{name}.o"], check=True)
+    subprocess.run(["ar", "rs", copy, folder / f"{name}.o"], check=True, capture_output=True)
     return copy
 
 
@@ -68,8 +68,8 @@ def is_right(program, environment):
     return subprocess.run([program], env=environment, capture_output=True).returncode == 0
 
 
-def try_exchanges(tally, programs, pairs, half, name):
-    """Each exchange by one half: one of the programs must fail; without any, none."""
+def try_exchanges(tally, programs, pairs, half, name, wanted="exchanges"):
+    """Each exchange by one half: one of the programs must fail; without any, none. There are as many as are wanted."""
     asked = dict(os.environ, STR_INDICES_HALF=half)
     right = all(is_right(program, asked) for program in programs)
     tally.result(right, f"{name}: nothing fails where nothing is exchanged")
@@ -79,5 +79,5 @@ def try_exchanges(tally, programs, pairs, half, name):
         if all(is_right(program, environment) for program in programs):
             unseen.append(f"{one.name} by {other.name}")
     told = "".join(f"; not {one}" for one in unseen)
-    right = not unseen and len(pairs) >= least("exchanges")
+    right = not unseen and len(pairs) >= least(wanted)
     tally.result(right, f"{name}: each of {len(pairs)} exchanges is seen{told}")

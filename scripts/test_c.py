@@ -6,8 +6,8 @@ tables by each half of the library, and the worked answers by the library withou
 all of these once more from installed prefixes by pkg-config, over the shared object and the archive, and the example by
 CMake, where these commands are there. Texts of all lengths beside a plain model, which end and begin at pages that may
 not be read. Then the headers and the types of the functions, which half answers on which processor, what install_c does,
-and each function exchanged for each other of its shape, as the modules tell which try that. The last line printed is
-'N passed, M failed', with what is left out.
+each function exchanged for each other of its shape, and the rope, as the modules tell which try that. With --large the
+rope has texts of 100 MB. The last line printed is 'N passed, M failed', with what is left out.
 """
 import os
 import pathlib
@@ -18,10 +18,11 @@ import subprocess
 import sys
 import tempfile
 
-from c_exports import declared, pairs
+from c_exports import LIBRARIES, STR_INDICES, STR_ROPE, declared, pairs
 from c_halves import copy_for_builds, try_builds, try_halves
 from c_headers import try_headers
 from c_install import try_install
+from c_ropes import ROPES, try_ropes
 from exchanges import exchanging_library, try_exchanges
 from halves import ASKED, halves, has_wide_half, missing
 from tally import Tally, least, sums_of
@@ -150,45 +151,47 @@ def needed(program):
     return re.findall(r"\(NEEDED\).*\[(libstr_.*)\]", told_by("readelf", "-d", program))
 
 
-def check_shared_object(prefix):
+def check_shared_object(prefix, library):
     """The shared object by its three names, the name that programs ask for, and the functions that it has for them."""
-    shared = prefix / "lib/libstr_indices.so"
-    links = [shared.readlink().name, (prefix / "lib/libstr_indices.so.0").readlink().name]
+    shared, asked = prefix / f"lib/lib{library.name}.so", f"lib{library.name}.so.0"
     named = re.findall(r"\(SONAME\).*\[(.*)\]", told_by("readelf", "-d", shared))
-    right = links == ["libstr_indices.so.0", "libstr_indices.so.0.4.4"] and named == ["libstr_indices.so.0"]
-    tally.result(right, "the shared object has its name and its links")
+    of_version = re.fullmatch(rf"lib{library.name}\.so\.0\.\d+\.\d+", (prefix / "lib" / asked).readlink().name)
+    right = named == [asked] == [shared.readlink().name] and of_version
+    tally.result(bool(right), f"the shared object of {library.name} has its name and its links")
     names = {line.split()[-1] for line in told_by("nm", "-D", "--defined-only", shared).splitlines()}
-    tally.result(names == set(declared()), f"the shared object has the {len(names)} functions of the headers alone")
+    tally.result(names == set(declared(library)), f"it has the {len(names)} functions of the headers and no other")
 
 
-# how a program is linked with the library of each kind: the words for pkg-config, those for the compiler, and what it wants
-# of ours when it starts
-LINKED = {"shared": ("", "", ["libstr_indices.so.0"]), "static": ("--static", "-static", [])}
+# how a program is linked with the library of each kind: the words for pkg-config, and those for the compiler
+LINKED = {"shared": ("", ""), "static": ("--static", "-static")}
+# the programs over what is installed, and the library of each
+INSTALLED = {WORKED_ANSWERS: STR_INDICES, POSITIONS: STR_INDICES, EXAMPLE: STR_INDICES, ROPES: STR_ROPE}
 
 
-def compile_installed(prefix, kind, folder, environment):
-    """The tables and the example from an installed prefix, by pkg-config alone and outside the repository."""
-    words, flags, wanted = LINKED[kind]
-    for source in [WORKED_ANSWERS, POSITIONS, EXAMPLE]:
-        program = folder / f"installed_{kind}_{source.stem}"
-        found = f"$(pkg-config {words} --cflags --libs str_indices)"
-        command = f'eval "cc -std=c99 {" ".join(STRICT)} {source} {flags} {found} -o {program}"'
-        what = f"{source.stem} compiles by pkg-config over the {kind} library, in '{prefix.name}'"
-        if not run(["sh", "-c", command], what, env=environment, cwd=folder):
-            continue
+def run_as_installed(prefix, source, program, kind, environment):
+    """The program, with the library of that kind below the prefix."""
+    if source is EXAMPLE:
+        check_example(program, f"over the {kind} library", environment)
+    elif source is WORKED_ANSWERS:
+        half, texts = halves(prefix / "lib/libstr_indices.a")[-1]
+        asked = dict(environment, STR_INDICES_HALF=half["STR_INDICES_HALF"])
+        check_by_half(program, source, f"over the {kind} library", asked, texts)
+    else:
+        check_table(program, source, f"over the {kind} library", environment)
+
+
+def compile_installed(prefix, source, kind, folder, environment):
+    """A program from an installed prefix, by pkg-config alone and outside the repository."""
+    name = INSTALLED[source].name
+    for_pkg_config, for_compiler = LINKED[kind]
+    program = folder / f"installed_{kind}_{source.stem}"
+    found = f"$(pkg-config {for_pkg_config} --cflags --libs {name})"
+    command = f'eval "cc -std=c99 {" ".join(STRICT)} {source} {for_compiler} {found} -o {program}"'
+    what = f"{source.stem} compiles by pkg-config over the {kind} library, in '{prefix.name}'"
+    if run(["sh", "-c", command], what, env=environment, cwd=folder):
+        wanted = [f"lib{name}.so.0"] if kind == "shared" else []
         tally.result(needed(program) == wanted, f"{source.stem} wants {wanted or 'no library of ours'} when it starts")
-        if source is EXAMPLE:
-            check_example(program, f"over the {kind} library", environment)
-        elif source is POSITIONS:
-            check_table(program, source, f"over the {kind} library", environment)
-        else:
-            half, texts = halves(prefix / "lib/libstr_indices.a")[-1]
-            asked = dict(environment, STR_INDICES_HALF=half["STR_INDICES_HALF"])
-            check_by_half(program, source, f"over the {kind} library", asked, texts)
-
-
-# what compile_installed tries of the library of one kind
-INSTALLED = 2 * 3 + 2 + len(ROWS) + 1
+        run_as_installed(prefix, source, program, kind, environment)
 
 
 def links_statically(folder):
@@ -198,18 +201,28 @@ def links_statically(folder):
     return subprocess.run(["cc", "-static", source, "-o", folder / "empty"], capture_output=True).returncode == 0
 
 
+def why_not(kind, folder):
+    """Why no program is linked with an installed library of the kind, or None where one can be."""
+    if not shutil.which("pkg-config"):
+        return "pkg-config is not on the path"
+    if kind == "static" and not links_statically(folder):
+        return "there is no static C library"
+    return None
+
+
 def use_installed(prefix, folder):
     """What is installed, as programs use it."""
-    check_shared_object(prefix)
-    if not shutil.which("pkg-config"):
-        tally.leave_out(2 * INSTALLED, "the installed library, as pkg-config is not on the path")
-        return
+    for library in LIBRARIES:
+        check_shared_object(prefix, library)
     environment = dict(os.environ, PKG_CONFIG_PATH=str(prefix / "lib/pkgconfig"), LD_LIBRARY_PATH=str(prefix / "lib"))
-    compile_installed(prefix, "shared", folder, environment)
-    if links_statically(folder):
-        compile_installed(prefix, "static", folder, environment)
-    else:
-        tally.leave_out(INSTALLED, "programs that start alone, as there is no static C library")
+    sources = [source for source, library in INSTALLED.items() if library in LIBRARIES]
+    for kind in LINKED:
+        why = why_not(kind, folder)
+        if why:
+            tally.leave_out(3 * len(sources) + len(ROWS), f"programs over the {kind} library as it is installed, as {why}")
+        else:
+            for source in sources:
+                compile_installed(prefix, source, kind, folder, environment)
 
 
 def use_by_cmake(prefix, folder):
@@ -255,13 +268,14 @@ def build(script, *words):
     return None
 
 
-def run_all(library, folder):
+def run_all(library, rope, folder, size):
     for language, command in COMPILERS.items():
         compile_and_run(language, command, library, folder)
     run_guarded(library, folder)
     link_with_the_c_library_alone(library, folder)
     run_installed(folder)
-    try_headers(tally, library)
+    archives = {STR_INDICES: library, STR_ROPE: rope}
+    try_headers(tally, {library: archives[library] for library in LIBRARIES if archives[library]})
     narrow = folder / "narrow/lib/libstr_indices.a"
     try_halves(tally, library, narrow, folder / "worked_answers_c", folder)
     (folder / "builds").mkdir()
@@ -269,14 +283,18 @@ def run_all(library, folder):
     try_install(tally, folder / "builds", commands)
     try_builds(tally, folder / "builds", commands)
     run_exchanged(library, folder)
+    if rope:
+        try_ropes(tally, rope, folder / "ropes", size)
 
 
 def main():
+    size = "large" if sys.argv[1:] == ["--large"] else "usual"
     example = build("build_c")
+    rope = build(STR_ROPE.script) if STR_ROPE in LIBRARIES else None
     if example:
         check_example(example, "by build_c")
         with tempfile.TemporaryDirectory() as folder:
-            run_all(example.parent / "libstr_indices.a", pathlib.Path(folder))
+            run_all(example.parent / "libstr_indices.a", rope, pathlib.Path(folder), size)
     return tally.end()
 
 

@@ -1,0 +1,250 @@
+/*
+ * A rope whose memory is refused. For each call that takes memory, and each k,
+ * the k-th allocation of the call is refused: the call says so, the text is as
+ * it was, and the same call does what it should when it is made again. Where
+ * all memory is refused, the calls that take none succeed. In the end nothing
+ * that was allocated is left.
+ *
+ * It is linked with -Wl,--wrap= of each function of the C library below. The
+ * last line printed is 'N passed, M failed'.
+ */
+#include <errno.h>
+#include <stdint.h>
+#include <stdio.h>
+#include <stdlib.h>
+#include <string.h>
+
+#include <str_rope.h>
+
+/* Which allocation is refused, from 1; NEVER and none is, ALWAYS and each is. */
+enum { NEVER = -1, ALWAYS = 0, MOST_ALLOCATIONS = 1000 };
+
+static long refused = NEVER, allocations, living;
+
+void *__real_malloc(size_t size);
+void *__real_calloc(size_t number, size_t size);
+void *__real_realloc(void *block, size_t size);
+void *__real_aligned_alloc(size_t alignment, size_t size);
+int __real_posix_memalign(void **block, size_t alignment, size_t size);
+void __real_free(void *block);
+
+void *__wrap_malloc(size_t size);
+void *__wrap_calloc(size_t number, size_t size);
+void *__wrap_realloc(void *block, size_t size);
+void *__wrap_aligned_alloc(size_t alignment, size_t size);
+int __wrap_posix_memalign(void **block, size_t alignment, size_t size);
+void __wrap_free(void *block);
+
+static int is_refused(void)
+{
+    allocations++;
+    return refused == ALWAYS || refused == allocations;
+}
+
+/* Counts a block that is new. */
+static void *counted(void *block)
+{
+    living += block != NULL;
+    return block;
+}
+
+void *__wrap_malloc(size_t size)
+{
+    return is_refused() ? NULL : counted(__real_malloc(size));
+}
+
+void *__wrap_calloc(size_t number, size_t size)
+{
+    return is_refused() ? NULL : counted(__real_calloc(number, size));
+}
+
+void *__wrap_realloc(void *block, size_t size)
+{
+    if (is_refused())
+        return NULL;
+    return block == NULL ? counted(__real_realloc(block, size)) : __real_realloc(block, size);
+}
+
+void *__wrap_aligned_alloc(size_t alignment, size_t size)
+{
+    return is_refused() ? NULL : counted(__real_aligned_alloc(alignment, size));
+}
+
+int __wrap_posix_memalign(void **block, size_t alignment, size_t size)
+{
+    int error = is_refused() ? ENOMEM : __real_posix_memalign(block, alignment, size);
+    living += error == 0;
+    return error;
+}
+
+void __wrap_free(void *block)
+{
+    living -= block != NULL;
+    __real_free(block);
+}
+
+static int passed, failed;
+
+static int same(int right, const char *call, long number)
+{
+    passed += right;
+    failed += !right;
+    if (!right)
+        printf("%s, allocation %ld\n", call, number);
+    return right;
+}
+
+/*
+ * The texts: what a rope has before a call, what is put in, and what it has after.
+ */
+
+enum { WHOLE = 40000, MOST_PUT = 6000, LINE = 20 };
+
+static char whole[WHOLE], put[MOST_PUT], after[WHOLE + MOST_PUT], copy[WHOLE + MOST_PUT];
+static const char line[LINE + 1] = "line of text \360\237\220\270b\r\n";
+
+static void make_texts(void)
+{
+    for (size_t at = 0; at < WHOLE; at += LINE)
+        memcpy(whole + at, line, LINE);
+    for (size_t at = 0; at < MOST_PUT; at += 3)
+        memcpy(put + at, "\343\201\233", 3);
+}
+
+static int has(str_rope *rope, const char *text, size_t len)
+{
+    return str_rope_len(rope) == len && str_rope_copy_to(rope, 0, len, copy, sizeof copy) == STR_ROPE_OK &&
+           memcmp(copy, text, len) == 0;
+}
+
+/* Whether a rope has the text of `whole`, by its bytes and by some answers. */
+static int has_whole(str_rope *rope)
+{
+    size_t number = WHOLE / LINE;
+    return has(rope, whole, WHOLE) && str_rope_count(rope, STR_ROPE_CRLF) == number &&
+           str_rope_count(rope, STR_ROPE_CHARS) == 17 * number && str_rope_count(rope, STR_ROPE_UTF16) == 18 * number &&
+           str_rope_to_byte_idx(rope, STR_ROPE_LF, 1000) == 1000 * LINE;
+}
+
+/*
+ * The calls.
+ */
+
+typedef enum kind { ASSIGN, INSERT, REPLACE, CHANGE, SPLIT_OFF } kind;
+
+typedef struct call {
+    const char *name;
+    kind is;
+    size_t before, from, to, len; /* how much of `whole` is there before, the part that goes, how much of `put` comes */
+} call;
+
+static const call calls[] = {
+    {"assign", ASSIGN, WHOLE, 0, WHOLE, MOST_PUT},
+    {"assign to no text", ASSIGN, 0, 0, 0, MOST_PUT},
+    {"insert into no text", INSERT, 0, 0, 0, 3},
+    {"insert into a piece", INSERT, WHOLE, 20000, 20000, 3},
+    {"insert of half a piece", INSERT, WHOLE, 20000, 20000, 600},
+    {"insert of many pieces", INSERT, WHOLE, 20000, 20000, MOST_PUT},
+    {"insert at the end", INSERT, WHOLE, WHOLE, WHOLE, 3000},
+    {"replace", REPLACE, WHOLE, 10000, 13000, MOST_PUT},
+    {"replace in a piece", REPLACE, WHOLE, 10000, 10001, 900},
+    {"change", CHANGE, WHOLE, 20 * LINE, 200 * LINE, MOST_PUT},
+    {"change of nothing", CHANGE, WHOLE, 20 * LINE, 20 * LINE, 900},
+    {"split_off", SPLIT_OFF, WHOLE, 20001, WHOLE, 0},
+};
+
+static str_rope_status make(const call *one, str_rope *rope, str_rope *rest)
+{
+    str_indices_range range = {{one->from / LINE, 0}, {one->to / LINE, 0}};
+    switch (one->is) {
+    case ASSIGN: return str_rope_assign(rope, put, one->len);
+    case INSERT: return str_rope_insert(rope, one->from, put, one->len);
+    case REPLACE: return str_rope_replace(rope, one->from, one->to, put, one->len);
+    case CHANGE: return str_rope_change(rope, STR_ROPE_ENCODING_UTF8, range, put, one->len);
+    default: return str_rope_split_off(rope, one->from, rest);
+    }
+}
+
+/* Whether the rope has what the call should leave. */
+static int is_made(const call *one, str_rope *rope, str_rope *rest)
+{
+    size_t back = one->before - one->to;
+    memcpy(after, whole, one->from);
+    memcpy(after + one->from, put, one->len);
+    memcpy(after + one->from + one->len, whole + one->to, back);
+    return has(rope, after, one->from + one->len + back) &&
+           (one->is != SPLIT_OFF || has(rest, whole + one->from, one->to - one->from));
+}
+
+static void prepare(const call *one, str_rope *rope, str_rope *rest)
+{
+    same(str_rope_assign(rope, whole, one->before) == STR_ROPE_OK, "assign before", 0);
+    same(str_rope_assign(rest, "rest", 4) == STR_ROPE_OK, "assign before", 0);
+}
+
+static int is_as_before(const call *one, str_rope *rope, str_rope *rest)
+{
+    return (one->before == 0 ? has(rope, "", 0) : has_whole(rope)) && has(rest, "rest", 4);
+}
+
+/* The call with its k-th allocation refused, and again; whether it came as far as that allocation. */
+static int try_refused(const call *one, long k)
+{
+    str_rope rope = STR_ROPE_EMPTY, rest = STR_ROPE_EMPTY;
+    prepare(one, &rope, &rest);
+    allocations = 0;
+    refused = k;
+    str_rope_status status = make(one, &rope, &rest);
+    int came = allocations >= k;
+    refused = NEVER;
+    if (came) {
+        same(status == STR_ROPE_NO_MEMORY, one->name, k);
+        same(is_as_before(one, &rope, &rest), "the text after a refusal", k);
+        status = make(one, &rope, &rest);
+    }
+    same(status == STR_ROPE_OK && is_made(one, &rope, &rest), one->name, k);
+    str_rope_free(&rope);
+    str_rope_free(&rest);
+    return came;
+}
+
+static void try_each(const call *one)
+{
+    long k = 1;
+    while (k < MOST_ALLOCATIONS && failed == 0 && try_refused(one, k))
+        k++;
+    same(k > 1 && k < MOST_ALLOCATIONS, "how many allocations there are", k - 1);
+    printf("%s: %ld allocations\n", one->name, k - 1);
+}
+
+/* What takes no memory, where there is none. */
+static void without_memory(void)
+{
+    str_rope rope = STR_ROPE_EMPTY, rest = STR_ROPE_EMPTY;
+    prepare(&calls[0], &rope, &rest);
+    refused = ALWAYS;
+    same(has_whole(&rope), "questions", 0);
+    same(str_rope_append(&rope, &rest) == STR_ROPE_OK && str_rope_len(&rest) == 0, "append", 0);
+    same(str_rope_remove(&rope, WHOLE, WHOLE + 4) == STR_ROPE_OK && has_whole(&rope), "remove", 0);
+    same(str_rope_remove(&rope, 777, 39001) == STR_ROPE_OK && str_rope_len(&rope) == WHOLE - 39001 + 777, "remove", 0);
+    str_rope_free(&rope);
+    str_rope_free(&rest);
+    refused = NEVER;
+}
+
+int main(void)
+{
+    make_texts();
+    /* standard output takes its memory now */
+    printf("\n");
+    for (size_t i = 0; i < sizeof calls / sizeof calls[0]; i++) {
+        long before = living;
+        try_each(&calls[i]);
+        same(living == before, "what is left over", living - before);
+    }
+    long before = living;
+    without_memory();
+    same(living == before, "what is left over", living - before);
+    printf("%d passed, %d failed\n", passed, failed);
+    return failed != 0;
+}

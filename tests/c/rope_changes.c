@@ -1,0 +1,433 @@
+/*
+ * Random changes of a rope beside a plain model, a text in blocks of bytes.
+ * After each change the rope has the model's length and, from the place of the
+ * change on, its bytes. At checkpoints it has all of its bytes, and answers as a
+ * plain walk over them does, at random bytes.
+ *
+ * rope_changes BYTES CHANGES says how long the text is at first, and how many
+ * changes there are. It is compiled as C and as C++. The last line printed is
+ * 'N passed, M failed'.
+ */
+#include <stdint.h>
+#include <stdio.h>
+#include <stdlib.h>
+#include <string.h>
+
+#include <str_rope.h>
+
+enum { BLOCK = 1 << 16, CHECKPOINTS = 5, SAMPLES = 400, SCHEMES = 5, ENCODINGS = 3, LONGEST = 3000 };
+
+static long passed, failed;
+
+static int same(int right, const char *what, size_t at)
+{
+    passed += right;
+    failed += !right;
+    if (!right && failed < 20)
+        printf("%s at %zu\n", what, at);
+    return right;
+}
+
+/* A program that has no memory for its own model has nothing to tell. */
+static void *memory(void *block, size_t size)
+{
+    void *grown = realloc(block, size);
+    if (grown == NULL) {
+        printf("no memory for the model\n0 passed, 1 failed\n");
+        exit(1);
+    }
+    return grown;
+}
+
+static uint64_t state = 20261125;
+
+/* A number below `below`, by xorshift. */
+static size_t pick(size_t below)
+{
+    state ^= state << 13;
+    state ^= state >> 7;
+    state ^= state << 17;
+    return below == 0 ? 0 : (size_t)(state >> 11) % below;
+}
+
+/* What texts are made of: each length of a char, each break, a combining char. */
+static const char *const parts[] = {
+    "\r\n", "\r", "\n", "\v", "\f", "\302\205", "\342\200\250", "\342\200\251",
+    "\303\251", "e\314\201", "\343\201\233", "\360\237\220\270",
+    "a", "b", " ", "word ", "line ", "text ", "long ", "of letters ",
+};
+enum { PARTS = sizeof parts / sizeof parts[0], OTHERS = 12 };
+
+/* Fills the room with a random text, and answers its length: a few bytes less at most. */
+static size_t random_text(char *text, size_t room)
+{
+    size_t len = 0;
+    for (;;) {
+        const char *part = parts[pick(4) == 0 ? pick(PARTS) : OTHERS + pick(PARTS - OTHERS)];
+        size_t size = strlen(part);
+        if (size > room - len)
+            return len;
+        memcpy(text + len, part, size);
+        len += size;
+    }
+}
+
+/*
+ * The model.
+ */
+
+typedef struct block {
+    size_t len;
+    char bytes[BLOCK];
+} block;
+
+typedef struct model {
+    block **blocks;
+    size_t number, len;
+} model;
+
+/* A new block at that place of the list. */
+static block *new_block(model *text, size_t place)
+{
+    text->blocks = (block **)memory(text->blocks, (text->number + 1) * sizeof *text->blocks);
+    memmove(text->blocks + place + 1, text->blocks + place, (text->number - place) * sizeof *text->blocks);
+    text->number++;
+    text->blocks[place] = (block *)memory(NULL, sizeof(block));
+    text->blocks[place]->len = 0;
+    return text->blocks[place];
+}
+
+/* The block of a byte, and the byte's index in it; the last block for the end. */
+static size_t find(const model *text, size_t *at)
+{
+    size_t place = 0;
+    while (place + 1 < text->number && *at >= text->blocks[place]->len)
+        *at -= text->blocks[place++]->len;
+    return place;
+}
+
+static void split(model *text, size_t place)
+{
+    block *next = new_block(text, place + 1), *whole = text->blocks[place];
+    next->len = whole->len / 2;
+    whole->len -= next->len;
+    memcpy(next->bytes, whole->bytes + whole->len, next->len);
+}
+
+/* Puts in bytes that fit into half a block. */
+static void put(model *text, size_t at, const char *bytes, size_t len)
+{
+    size_t inside = at, place = find(text, &inside);
+    if (text->blocks[place]->len + len > BLOCK) {
+        split(text, place);
+        inside = at;
+        place = find(text, &inside);
+    }
+    block *one = text->blocks[place];
+    memmove(one->bytes + inside + len, one->bytes + inside, one->len - inside);
+    memcpy(one->bytes + inside, bytes, len);
+    one->len += len;
+    text->len += len;
+}
+
+static void take(model *text, size_t from, size_t to)
+{
+    while (from < to) {
+        size_t inside = from, place = find(text, &inside);
+        block *one = text->blocks[place];
+        size_t len = one->len - inside < to - from ? one->len - inside : to - from;
+        memmove(one->bytes + inside, one->bytes + inside + len, one->len - inside - len);
+        one->len -= len;
+        text->len -= len;
+        to -= len;
+    }
+}
+
+/* The bytes from one on, as far as there are so many in its block. */
+static size_t peek(const model *text, size_t at, char *bytes, size_t len)
+{
+    size_t inside = at, place = find(text, &inside);
+    const block *one = text->blocks[place];
+    if (len > one->len - inside)
+        len = one->len - inside;
+    memcpy(bytes, one->bytes + inside, len);
+    return len;
+}
+
+static int is_continuation(char byte)
+{
+    return ((unsigned char)byte & 0xC0) == 0x80;
+}
+
+static int is_boundary(const model *text, size_t at)
+{
+    char byte;
+    return at == text->len || (at < text->len && peek(text, at, &byte, 1) == 1 && !is_continuation(byte));
+}
+
+static size_t boundary_before(const model *text, size_t at)
+{
+    while (!is_boundary(text, at))
+        at--;
+    return at;
+}
+
+static char *flat(const model *text)
+{
+    char *bytes = (char *)memory(NULL, text->len + 1);
+    size_t len = 0;
+    for (size_t place = 0; place < text->number; place++) {
+        memcpy(bytes + len, text->blocks[place]->bytes, text->blocks[place]->len);
+        len += text->blocks[place]->len;
+    }
+    return bytes;
+}
+
+/*
+ * A plain walk over all bytes.
+ */
+
+typedef struct walk {
+    const char *text;
+    size_t len, at;
+    size_t counts[SCHEMES], starts[SCHEMES]; /* by scheme, what ended up to `at`, and where the last one did */
+    size_t chars_at_line, units_at_line;     /* these counts where the line of `at` begins */
+} walk;
+
+static int ends_with(const walk *on, const char *bytes)
+{
+    size_t len = strlen(bytes);
+    return on->at >= len && memcmp(on->text + on->at - len, bytes, len) == 0;
+}
+
+static int is_followed_by(const walk *on, char byte)
+{
+    return on->at < on->len && on->text[on->at] == byte;
+}
+
+/* How much of a scheme ends right at the byte where the walk is. */
+static size_t weight(const walk *on, int scheme)
+{
+    int crlf = ends_with(on, "\n") || (ends_with(on, "\r") && !is_followed_by(on, '\n'));
+    if (scheme == STR_ROPE_LF)
+        return ends_with(on, "\n");
+    if (scheme == STR_ROPE_CRLF)
+        return crlf;
+    if (scheme == STR_ROPE_LINES)
+        return crlf || ends_with(on, "\v") || ends_with(on, "\f") || ends_with(on, "\302\205") ||
+               ends_with(on, "\342\200\250") || ends_with(on, "\342\200\251");
+    if (on->at < on->len && is_continuation(on->text[on->at]))
+        return 0;
+    return scheme == STR_ROPE_UTF16 && on->at >= 4 && (unsigned char)on->text[on->at - 4] >= 0xF0 ? 2 : 1;
+}
+
+static void step(walk *on)
+{
+    on->at++;
+    for (int scheme = 0; scheme < SCHEMES; scheme++) {
+        size_t more = weight(on, scheme);
+        on->counts[scheme] += more;
+        if (more > 0)
+            on->starts[scheme] = on->at;
+    }
+    if (on->starts[STR_ROPE_CRLF] == on->at) {
+        on->chars_at_line = on->counts[STR_ROPE_CHARS];
+        on->units_at_line = on->counts[STR_ROPE_UTF16];
+    }
+}
+
+/* The position where the walk is: in a CR LF, that of its beginning. */
+static str_indices_position position(const walk *on, int encoding)
+{
+    size_t less = ends_with(on, "\r") && is_followed_by(on, '\n');
+    size_t chars = on->counts[STR_ROPE_CHARS] - on->chars_at_line;
+    size_t units = on->counts[STR_ROPE_UTF16] - on->units_at_line;
+    size_t bytes = on->starts[STR_ROPE_CHARS] - on->starts[STR_ROPE_CRLF];
+    str_indices_position here = {on->counts[STR_ROPE_CRLF], units - less};
+    if (encoding == STR_ROPE_ENCODING_UTF8)
+        here.character = bytes - less;
+    if (encoding == STR_ROPE_ENCODING_UTF32)
+        here.character = chars - less;
+    return here;
+}
+
+static size_t content_end(const walk *on)
+{
+    size_t end = on->starts[STR_ROPE_CRLF];
+    while (end < on->len && on->text[end] != '\r' && on->text[end] != '\n')
+        end++;
+    return end;
+}
+
+static void ask_positions(str_rope *rope, const walk *on)
+{
+    size_t less = ends_with(on, "\r") && is_followed_by(on, '\n'), begin = on->starts[STR_ROPE_CHARS] - less;
+    for (int number = 0; number < ENCODINGS; number++) {
+        str_rope_encoding encoding = (str_rope_encoding)number;
+        str_indices_position right = position(on, number), answer = str_rope_position_of(rope, encoding, on->at);
+        str_indices_range range = {right, right};
+        str_indices_bytes bytes = str_rope_byte_range(rope, encoding, range);
+        same(answer.line == right.line && answer.character == right.character, "position_of", on->at);
+        same(str_rope_byte_of(rope, encoding, right) == begin, "byte_of", on->at);
+        same(str_rope_exact_byte_of(rope, encoding, right) == begin, "exact_byte_of", on->at);
+        same(bytes.start == begin && bytes.end == begin, "byte_range", on->at);
+    }
+    same(str_rope_line_end(rope, on->counts[STR_ROPE_CRLF]) == content_end(on), "line_end", on->at);
+}
+
+static void ask(str_rope *rope, const walk *on)
+{
+    for (int number = 0; number < SCHEMES; number++) {
+        str_rope_scheme scheme = (str_rope_scheme)number;
+        size_t count = on->counts[number];
+        same(str_rope_from_byte_idx(rope, scheme, on->at) == count, "from_byte_idx", on->at);
+        same(str_rope_to_byte_idx(rope, scheme, count) == on->starts[number], "to_byte_idx", on->at);
+    }
+    same(str_rope_is_char_boundary(rope, on->at) == (on->starts[STR_ROPE_CHARS] == on->at), "is_char_boundary", on->at);
+    ask_positions(rope, on);
+}
+
+static int by_size(const void *one, const void *other)
+{
+    size_t a = *(const size_t *)one, b = *(const size_t *)other;
+    return a < b ? -1 : a > b;
+}
+
+/* Asks at random bytes and at the end, and in the end for each count. */
+static void ask_all(str_rope *rope, const char *text, size_t len)
+{
+    walk on = {text, len, 0, {0}, {0}, 0, 0};
+    size_t samples[SAMPLES];
+    for (size_t i = 0; i + 1 < SAMPLES; i++)
+        samples[i] = pick(len);
+    samples[SAMPLES - 1] = len;
+    qsort(samples, SAMPLES, sizeof samples[0], by_size);
+    for (size_t i = 0; i < SAMPLES; i++) {
+        while (on.at < samples[i])
+            step(&on);
+        ask(rope, &on);
+    }
+    for (int scheme = 0; scheme < SCHEMES; scheme++)
+        same(str_rope_count(rope, (str_rope_scheme)scheme) == on.counts[scheme], "count", (size_t)scheme);
+}
+
+/* The rope's bytes, written out at once and piece by piece. */
+static void read_all(str_rope *rope, const char *text, size_t len)
+{
+    char *copy = (char *)memory(NULL, len + 1);
+    same(str_rope_copy_to(rope, 0, len, copy, len) == STR_ROPE_OK && memcmp(copy, text, len) == 0, "copy_to", len);
+    memset(copy, 0, len);
+    for (size_t at = 0, read = 1; read > 0 && at <= len; at += read) {
+        read = str_rope_read(rope, at, copy + at, len - at);
+        same(read <= STR_ROPE_MAX_PIECE && (read > 0) == (at < len), "read", at);
+    }
+    same(memcmp(copy, text, len) == 0, "pieces", len);
+    free(copy);
+}
+
+static void checkpoint(str_rope *rope, const model *text)
+{
+    char *bytes = flat(text);
+    same(str_rope_len(rope) == text->len, "len", text->len);
+    read_all(rope, bytes, text->len);
+    ask_all(rope, bytes, text->len);
+    free(bytes);
+}
+
+/*
+ * Changes.
+ */
+
+/* The part's bytes go and the text comes, in the rope by one call of three, and in the model. */
+static void replace(str_rope *rope, model *text, size_t from, size_t to, const char *bytes, size_t len)
+{
+    str_rope_encoding encoding = (str_rope_encoding)pick(ENCODINGS);
+    str_indices_range range = {str_rope_position_of(rope, encoding, from), str_rope_position_of(rope, encoding, to)};
+    str_indices_bytes meant = str_rope_byte_range(rope, encoding, range);
+    str_rope_status status;
+    if (from == to && pick(2) == 0)
+        status = str_rope_insert(rope, from, bytes, len);
+    else if (len == 0)
+        status = str_rope_remove(rope, from, to);
+    else if (meant.start == from && meant.end == to && pick(2) == 0)
+        status = str_rope_change(rope, encoding, range, bytes, len);
+    else
+        status = str_rope_replace(rope, from, to, bytes, len);
+    same(status == STR_ROPE_OK, "a change", from);
+    take(text, from, to);
+    put(text, from, bytes, len);
+}
+
+/* Cuts the rope and puts it together. */
+static void cut(str_rope *rope, const model *text, size_t at)
+{
+    str_rope rest = STR_ROPE_EMPTY;
+    same(str_rope_split_off(rope, at, &rest) == STR_ROPE_OK, "split_off", at);
+    same(str_rope_len(rope) == at && str_rope_len(&rest) == text->len - at, "both parts", at);
+    same(str_rope_append(rope, &rest) == STR_ROPE_OK && str_rope_len(&rest) == 0, "append", at);
+    str_rope_free(&rest);
+}
+
+static void refuse(str_rope *rope, const model *text, size_t at)
+{
+    str_rope_status wanted = is_boundary(text, at) ? STR_ROPE_OK : STR_ROPE_NOT_BOUNDARY;
+    same(str_rope_remove(rope, at, at) == wanted, "remove of nothing", at);
+    same(str_rope_insert(rope, at, "\200", 1) == STR_ROPE_NOT_UTF8, "insert", at);
+    same(str_rope_remove(rope, at + 1, at) == STR_ROPE_NOT_ORDERED, "remove", at);
+}
+
+static void change(str_rope *rope, model *text)
+{
+    static char bytes[LONGEST], seen[64], wanted[64];
+    size_t from = pick(text->len + 1), to = from + pick(pick(20) == 0 ? LONGEST : 40);
+    size_t kind = pick(10), len = kind < 3 ? 0 : random_text(bytes, pick(pick(20) == 0 ? LONGEST : 40));
+    refuse(rope, text, from);
+    from = boundary_before(text, from);
+    to = boundary_before(text, kind > 6 || to > text->len ? from : to);
+    replace(rope, text, from, to, bytes, len);
+    if (kind == 9)
+        cut(rope, text, from);
+    same(str_rope_len(rope) == text->len, "len", from);
+    len = str_rope_read(rope, from, seen, sizeof seen);
+    len = len < sizeof wanted ? len : sizeof wanted;
+    len = peek(text, from, wanted, len);
+    same(memcmp(seen, wanted, len) == 0, "read", from);
+}
+
+static void fill(str_rope *rope, model *text, size_t size)
+{
+    char *bytes = (char *)memory(NULL, size + 1);
+    size_t len = random_text(bytes, size);
+    new_block(text, 0);
+    for (size_t at = 0; at < len; at += BLOCK / 2) {
+        size_t part = len - at < BLOCK / 2 ? len - at : BLOCK / 2;
+        if (at > 0)
+            new_block(text, text->number);
+        memcpy(text->blocks[text->number - 1]->bytes, bytes + at, part);
+        text->blocks[text->number - 1]->len = part;
+    }
+    text->len = len;
+    same(str_rope_assign(rope, bytes, len) == STR_ROPE_OK, "assign", len);
+    free(bytes);
+}
+
+int main(int number, char **words)
+{
+    size_t bytes = number > 1 ? (size_t)atoll(words[1]) : 100000, changes = number > 2 ? (size_t)atoll(words[2]) : 10000;
+    str_rope rope = STR_ROPE_EMPTY;
+    model text = {NULL, 0, 0};
+    fill(&rope, &text, bytes);
+    for (size_t at = 0; at < changes && failed == 0; at++) {
+        if (at % (changes / CHECKPOINTS + 1) == 0)
+            checkpoint(&rope, &text);
+        change(&rope, &text);
+    }
+    checkpoint(&rope, &text);
+    str_rope_free(&rope);
+    same(str_rope_len(&rope) == 0, "len after free", 0);
+    while (text.number > 0)
+        free(text.blocks[--text.number]);
+    free(text.blocks);
+    printf("%ld passed, %ld failed\n", passed, failed);
+    return failed != 0;
+}

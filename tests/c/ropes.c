@@ -1,0 +1,411 @@
+/*
+ * Worked answers of a rope, with each function of the header called and each
+ * refusal in its order. It is compiled as C and as C++. The last line printed
+ * is 'N passed, M failed'.
+ */
+#include <stdint.h>
+#include <stdio.h>
+#include <string.h>
+
+#include <str_rope.h>
+
+/* 17 bytes, 10 chars, 11 UTF-16 code units: CR LF, a surrogate pair, CR, a char
+ * of three bytes, LF and LS. */
+static const char breaks[] = "a\r\n\360\237\220\270b\r\343\201\233\n\342\200\250x";
+
+/* A line that ends in CR LF, one with a surrogate pair that ends in CR, one of
+ * a char of three bytes, an empty one, and one that no break ends. */
+static const char lines[] = "a\r\n\360\237\220\270b\r\343\201\233\n\nx";
+
+/* Two UTF-16 code units, four bytes. */
+#define FROG "\360\237\220\270"
+
+/* No index is as great; and the answer where a position names no place. */
+#define MOST SIZE_MAX
+#define NONE SIZE_MAX
+
+enum { SCHEMES = 5, ENCODINGS = 3, ROOM = 8 * STR_ROPE_MAX_PIECE };
+#define NUMBER_OF(rows) (sizeof rows / sizeof rows[0])
+
+static int passed, failed;
+
+static void same(int right, const char *call, size_t first, size_t second)
+{
+    if (right) {
+        passed++;
+        return;
+    }
+    failed++;
+    printf("%s of %zu, %zu\n", call, first, second);
+}
+
+static void has(str_rope *rope, const char *text, size_t len, const char *call)
+{
+    static char copy[ROOM];
+    int right = str_rope_len(rope) == len && str_rope_copy_to(rope, 0, len, copy, len) == STR_ROPE_OK;
+    same(right && memcmp(copy, text, len) == 0, call, len, str_rope_len(rope));
+}
+
+/* Each HAS is one comparison with a text which is an array. */
+#define HAS(rope, text, call) has(rope, text, sizeof text - 1, call)
+
+static str_rope with(const char *text, size_t len)
+{
+    str_rope rope = STR_ROPE_EMPTY;
+    same(str_rope_assign(&rope, text, len) == STR_ROPE_OK, "assign", len, 0);
+    return rope;
+}
+
+#define WITH(text) with(text, sizeof text - 1)
+
+static void counts(void)
+{
+    static const size_t wanted[] = {10, 11, 2, 3, 4, 4};
+    str_rope rope = WITH(breaks);
+    for (size_t i = 0; i < NUMBER_OF(wanted); i++)
+        same(str_rope_count(&rope, (str_rope_scheme)i) == wanted[i], "count", i, 0);
+    same(str_rope_count(&rope, (str_rope_scheme)7) == 4, "count", 7, 0);
+    same(str_rope_len(&rope) == 17, "len", 17, 0);
+    str_rope_free(&rope);
+}
+
+static void from_bytes(void)
+{
+    static const struct {
+        size_t byte, by_scheme[SCHEMES + 1];
+    } rows[] = {
+        {0, {0, 0, 0, 0, 0, 0}},     {2, {2, 2, 0, 0, 0, 0}},     {3, {3, 3, 1, 1, 1, 1}},
+        {5, {3, 3, 1, 1, 1, 1}},     {7, {4, 5, 1, 1, 1, 1}},     {9, {6, 7, 1, 2, 2, 2}},
+        {13, {8, 9, 2, 3, 3, 3}},    {15, {8, 9, 2, 3, 3, 3}},    {16, {9, 10, 2, 3, 4, 4}},
+        {17, {10, 11, 2, 3, 4, 4}},  {18, {10, 11, 2, 3, 4, 4}},  {MOST, {10, 11, 2, 3, 4, 4}},
+    };
+    str_rope rope = WITH(breaks);
+    for (size_t i = 0; i < NUMBER_OF(rows); i++)
+        for (size_t scheme = 0; scheme <= SCHEMES; scheme++)
+            same(str_rope_from_byte_idx(&rope, (str_rope_scheme)scheme, rows[i].byte) == rows[i].by_scheme[scheme],
+                 "from_byte_idx", scheme, rows[i].byte);
+    str_rope_free(&rope);
+}
+
+static void to_bytes(void)
+{
+    static const struct {
+        size_t index, by_scheme[SCHEMES + 1];
+    } rows[] = {
+        {0, {0, 0, 0, 0, 0, 0}},       {1, {1, 1, 3, 3, 3, 3}},        {2, {2, 2, 13, 9, 9, 9}},
+        {3, {3, 3, 17, 13, 13, 13}},   {4, {7, 3, 17, 17, 16, 16}},    {5, {8, 7, 17, 17, 17, 17}},
+        {9, {16, 13, 17, 17, 17, 17}}, {10, {17, 16, 17, 17, 17, 17}}, {MOST, {17, 17, 17, 17, 17, 17}},
+    };
+    str_rope rope = WITH(breaks);
+    for (size_t i = 0; i < NUMBER_OF(rows); i++)
+        for (size_t scheme = 0; scheme <= SCHEMES; scheme++)
+            same(str_rope_to_byte_idx(&rope, (str_rope_scheme)scheme, rows[i].index) == rows[i].by_scheme[scheme],
+                 "to_byte_idx", scheme, rows[i].index);
+    str_rope_free(&rope);
+}
+
+static void boundaries(void)
+{
+    static const char marks[] = "1111000111001100110"; /* by byte, with the end and one past it */
+    str_rope rope = WITH(breaks);
+    for (size_t at = 0; at < sizeof marks - 1; at++)
+        same(str_rope_is_char_boundary(&rope, at) == (marks[at] == '1'), "is_char_boundary", at, 0);
+    same(!str_rope_is_char_boundary(&rope, MOST), "is_char_boundary", MOST, 0);
+    str_rope_free(&rope);
+}
+
+/* The empty text, which is a handle of zeros. */
+static void ask_the_empty_text(str_rope *rope)
+{
+    str_indices_position begin = {0, 0}, behind = {0, 1};
+    for (size_t i = 0; i < SCHEMES; i++) {
+        str_rope_scheme scheme = (str_rope_scheme)i;
+        same(str_rope_count(rope, scheme) == 0 && str_rope_from_byte_idx(rope, scheme, 9) == 0 &&
+                 str_rope_to_byte_idx(rope, scheme, 9) == 0, "no text, by scheme", i, 0);
+    }
+    for (size_t i = 0; i < ENCODINGS; i++) {
+        str_rope_encoding encoding = (str_rope_encoding)i;
+        str_indices_position end = str_rope_position_of(rope, encoding, 9);
+        same(end.line == 0 && end.character == 0 && str_rope_byte_of(rope, encoding, behind) == 0 &&
+                 str_rope_exact_byte_of(rope, encoding, begin) == 0 &&
+                 str_rope_exact_byte_of(rope, encoding, behind) == NONE, "no text, by encoding", i, 0);
+    }
+    same(str_rope_len(rope) == 0 && str_rope_line_end(rope, 9) == 0, "no text, len and line_end", 0, 0);
+    same(str_rope_is_char_boundary(rope, 0) && !str_rope_is_char_boundary(rope, 1), "no text, is_char_boundary", 0, 0);
+}
+
+static void change_the_empty_text(str_rope *rope)
+{
+    char byte = '?';
+    same(str_rope_read(rope, 0, &byte, 1) == 0 && byte == '?', "no text, read", 0, 0);
+    same(str_rope_copy_to(rope, 0, 0, &byte, 0) == STR_ROPE_OK, "no text, copy_to", 0, 0);
+    same(str_rope_copy_to(rope, 0, 1, &byte, 1) == STR_ROPE_NOT_BOUNDARY && byte == '?', "no text, copy_to", 0, 1);
+    same(str_rope_insert(rope, 0, "", 0) == STR_ROPE_OK, "no text, insert", 0, 0);
+    same(str_rope_insert(rope, 1, "", 0) == STR_ROPE_NOT_BOUNDARY, "no text, insert", 1, 0);
+    same(str_rope_remove(rope, 0, 0) == STR_ROPE_OK, "no text, remove", 0, 0);
+    same(str_rope_remove(rope, 0, 1) == STR_ROPE_NOT_BOUNDARY, "no text, remove", 0, 1);
+    same(str_rope_remove(rope, 1, 0) == STR_ROPE_NOT_ORDERED, "no text, remove", 1, 0);
+    same(str_rope_replace(rope, 0, 0, "", 0) == STR_ROPE_OK, "no text, replace", 0, 0);
+    same(str_rope_assign(rope, "", 0) == STR_ROPE_OK, "no text, assign", 0, 0);
+    HAS(rope, "", "no text");
+}
+
+static void the_empty_text(void)
+{
+    str_rope rope = STR_ROPE_EMPTY, other = STR_ROPE_EMPTY, zeroed;
+    memset(&zeroed, 0, sizeof zeroed);
+    ask_the_empty_text(&rope);
+    ask_the_empty_text(&zeroed);
+    change_the_empty_text(&rope);
+    same(str_rope_append(&rope, &other) == STR_ROPE_OK, "no text, append", 0, 0);
+    same(str_rope_split_off(&rope, 0, &other) == STR_ROPE_OK, "no text, split_off", 0, 0);
+    same(str_rope_split_off(&rope, 1, &other) == STR_ROPE_NOT_BOUNDARY, "no text, split_off", 1, 0);
+    same(rope.hidden == NULL && other.hidden == NULL, "no text takes no memory", 0, 0);
+    str_rope_free(&rope);
+    str_rope_free(&rope);
+    rope = WITH(breaks);
+    str_rope_free(&rope);
+    ask_the_empty_text(&rope);
+}
+
+static void changes(void)
+{
+    str_rope rope = STR_ROPE_EMPTY, rest = STR_ROPE_EMPTY;
+    same(str_rope_insert(&rope, 0, "ad", 2) == STR_ROPE_OK, "insert", 0, 2);
+    same(str_rope_insert(&rope, 1, "b\0c", 3) == STR_ROPE_OK, "insert", 1, 3);
+    HAS(&rope, "ab\0cd", "insert");
+    same(str_rope_insert(&rope, 5, "e\314\201", 3) == STR_ROPE_OK, "insert", 5, 3);
+    same(str_rope_insert(&rope, 6, "\360\237\220\270", 4) == STR_ROPE_OK, "insert between e and its accent", 6, 4);
+    HAS(&rope, "ab\0cde\360\237\220\270\314\201", "insert");
+    same(str_rope_remove(&rope, 2, 3) == STR_ROPE_OK, "remove", 2, 3);
+    same(str_rope_replace(&rope, 5, 9, "\r\n", 2) == STR_ROPE_OK, "replace", 5, 9);
+    HAS(&rope, "abcde\r\n\314\201", "replace");
+    same(str_rope_split_off(&rope, 6, &rest) == STR_ROPE_OK, "split_off", 6, 0);
+    HAS(&rope, "abcde\r", "split_off");
+    HAS(&rest, "\n\314\201", "split_off's rest");
+    same(str_rope_append(&rest, &rope) == STR_ROPE_OK, "append", 3, 6);
+    HAS(&rest, "\n\314\201abcde\r", "append");
+    HAS(&rope, "", "append's other");
+    same(str_rope_split_off(&rest, 3, &rope) == STR_ROPE_OK && str_rope_split_off(&rest, 1, &rope) == STR_ROPE_OK,
+         "split_off into a text", 3, 1);
+    HAS(&rope, "\314\201", "split_off into a text");
+    same(str_rope_assign(&rope, "new", 3) == STR_ROPE_OK, "assign", 3, 0);
+    HAS(&rope, "new", "assign");
+    str_rope_free(&rope);
+    str_rope_free(&rest);
+}
+
+/* Each refusal where what would be refused later is wrong too, and what it leaves. */
+static void refusals_of_changes(void)
+{
+    static const char text[] = "a\360\237\220\270b";
+    str_rope rope = WITH(text), rest = WITH("rest");
+    same(str_rope_assign(&rope, "\355\240\200", 3) == STR_ROPE_NOT_UTF8, "assign", 3, 0);
+    same(str_rope_insert(&rope, 2, "\343\201", 2) == STR_ROPE_NOT_UTF8, "insert", 2, 2);
+    same(str_rope_insert(&rope, 99, "\200", 1) == STR_ROPE_NOT_UTF8, "insert", 99, 1);
+    same(str_rope_insert(&rope, 2, "x", 1) == STR_ROPE_NOT_BOUNDARY, "insert", 2, 1);
+    same(str_rope_insert(&rope, 2, "", 0) == STR_ROPE_NOT_BOUNDARY, "insert of nothing", 2, 0);
+    same(str_rope_insert(&rope, 7, "x", 1) == STR_ROPE_NOT_BOUNDARY, "insert", 7, 1);
+    same(str_rope_remove(&rope, 3, 2) == STR_ROPE_NOT_ORDERED, "remove", 3, 2);
+    same(str_rope_remove(&rope, 3, 5) == STR_ROPE_NOT_BOUNDARY, "remove", 3, 5);
+    same(str_rope_remove(&rope, 1, 7) == STR_ROPE_NOT_BOUNDARY, "remove", 1, 7);
+    same(str_rope_remove(&rope, 3, 3) == STR_ROPE_NOT_BOUNDARY, "remove of nothing", 3, 3);
+    same(str_rope_replace(&rope, 3, 2, "\300\200", 2) == STR_ROPE_NOT_UTF8, "replace", 3, 2);
+    same(str_rope_replace(&rope, MOST, 2, "x", 1) == STR_ROPE_NOT_ORDERED, "replace", MOST, 2);
+    same(str_rope_replace(&rope, 1, 4, "x", 1) == STR_ROPE_NOT_BOUNDARY, "replace", 1, 4);
+    same(str_rope_replace(&rope, 0, MOST, "x", 1) == STR_ROPE_NOT_BOUNDARY, "replace", 0, MOST);
+    same(str_rope_split_off(&rope, 4, &rest) == STR_ROPE_NOT_BOUNDARY, "split_off", 4, 0);
+    same(str_rope_split_off(&rope, 7, &rest) == STR_ROPE_NOT_BOUNDARY, "split_off", 7, 0);
+    HAS(&rope, text, "what refusals leave");
+    HAS(&rest, "rest", "what a refusal leaves of the rest");
+    str_rope_free(&rope);
+    str_rope_free(&rest);
+}
+
+static void reading(void)
+{
+    static const char text[] = "a\360\237\220\270b";
+    char out[8] = "???????";
+    str_rope rope = WITH(text);
+    same(str_rope_read(&rope, 1, out, 8) == 5 && memcmp(out, "\360\237\220\270b??", 8) == 0, "read", 1, 8);
+    same(str_rope_read(&rope, 0, out, 1) == 1 && memcmp(out, "a\237\220\270b??", 8) == 0, "read", 0, 1);
+    same(str_rope_read(&rope, 0, out, 0) == 0 && str_rope_read(&rope, 6, out, 8) == 0, "read", 6, 8);
+    same(str_rope_read(&rope, MOST, out, 8) == 0 && memcmp(out, "a\237\220\270b??", 8) == 0, "read", MOST, 8);
+    memcpy(out, "???????", 8);
+    same(str_rope_copy_to(&rope, 5, 1, out, 0) == STR_ROPE_NOT_ORDERED, "copy_to", 5, 1);
+    same(str_rope_copy_to(&rope, 1, 4, out, 0) == STR_ROPE_NOT_BOUNDARY, "copy_to", 1, 4);
+    same(str_rope_copy_to(&rope, 1, 7, out, 8) == STR_ROPE_NOT_BOUNDARY, "copy_to", 1, 7);
+    same(str_rope_copy_to(&rope, 1, 5, out, 3) == STR_ROPE_TOO_LONG, "copy_to", 1, 5);
+    same(memcmp(out, "???????", 8) == 0, "what refusals leave of the room", 0, 0);
+    same(str_rope_copy_to(&rope, 1, 5, out, 4) == STR_ROPE_OK, "copy_to", 1, 5);
+    same(memcmp(out, "\360\237\220\270???", 8) == 0, "copy_to", 1, 5);
+    same(str_rope_copy_to(&rope, 5, 6, out, 8) == STR_ROPE_OK && memcmp(out, "b\237\220\270???", 8) == 0, "copy_to", 5, 6);
+    str_rope_free(&rope);
+}
+
+/* Two texts that do not fit into one piece, the first ends in CR and the second begins with LF. */
+static void a_break_over_two_pieces(void)
+{
+    enum { HALF = STR_ROPE_MAX_PIECE };
+    static char front[HALF], back[HALF], whole[2 * HALF];
+    str_rope rope, rest;
+    memset(front, 'a', HALF);
+    memset(back, 'b', HALF);
+    front[HALF - 1] = '\r';
+    back[0] = '\n';
+    memcpy(whole, front, HALF);
+    memcpy(whole + HALF, back, HALF);
+    rope = with(front, HALF);
+    rest = with(back, HALF);
+    same(str_rope_append(&rope, &rest) == STR_ROPE_OK, "append", HALF, HALF);
+    has(&rope, whole, 2 * HALF, "append");
+    same(str_rope_count(&rope, STR_ROPE_CRLF) == 1 && str_rope_count(&rope, STR_ROPE_LF) == 1, "count", 1, 1);
+    same(str_rope_count(&rope, STR_ROPE_LINES) == 1 && str_rope_count(&rope, STR_ROPE_CHARS) == 2 * HALF, "count", 1, 0);
+    same(str_rope_from_byte_idx(&rope, STR_ROPE_CRLF, HALF) == 0, "from_byte_idx", HALF, 0);
+    same(str_rope_from_byte_idx(&rope, STR_ROPE_CRLF, HALF + 1) == 1, "from_byte_idx", HALF + 1, 1);
+    same(str_rope_to_byte_idx(&rope, STR_ROPE_CRLF, 1) == HALF + 1, "to_byte_idx", 1, HALF + 1);
+    same(str_rope_line_end(&rope, 0) == HALF - 1, "line_end", 0, HALF - 1);
+    same(str_rope_insert(&rope, HALF, "x", 1) == STR_ROPE_OK && str_rope_count(&rope, STR_ROPE_CRLF) == 2, "insert", 1, 2);
+    same(str_rope_remove(&rope, HALF, HALF + 1) == STR_ROPE_OK && str_rope_count(&rope, STR_ROPE_CRLF) == 1, "remove", 1, 1);
+    same(str_rope_split_off(&rope, HALF, &rest) == STR_ROPE_OK, "split_off", HALF, 0);
+    same(str_rope_count(&rope, STR_ROPE_CRLF) == 1 && str_rope_count(&rest, STR_ROPE_CRLF) == 1, "count", 1, 1);
+    str_rope_free(&rope);
+    str_rope_free(&rest);
+}
+
+/*
+ * Positions; by encoding, in the order of the header: UTF-16, UTF-8, UTF-32.
+ */
+
+static void positions_of_bytes(void)
+{
+    static const struct {
+        size_t byte, line, character[ENCODINGS + 1];
+    } rows[] = {
+        {0, 0, {0, 0, 0, 0}},  {2, 0, {1, 1, 1, 1}},  {3, 1, {0, 0, 0, 0}},  {6, 1, {0, 0, 0, 0}},
+        {7, 1, {2, 4, 1, 1}},  {8, 1, {3, 5, 2, 2}},  {11, 2, {0, 0, 0, 0}}, {12, 2, {1, 3, 1, 1}},
+        {13, 3, {0, 0, 0, 0}}, {15, 4, {1, 1, 1, 1}}, {MOST, 4, {1, 1, 1, 1}},
+    };
+    str_rope rope = WITH(lines);
+    for (size_t i = 0; i < NUMBER_OF(rows); i++)
+        for (size_t encoding = 0; encoding <= ENCODINGS; encoding++) {
+            str_indices_position here = str_rope_position_of(&rope, (str_rope_encoding)encoding, rows[i].byte);
+            same(here.line == rows[i].line && here.character == rows[i].character[encoding], "position_of", encoding,
+                 rows[i].byte);
+        }
+    str_rope_free(&rope);
+}
+
+static void bytes_of_positions(void)
+{
+    static const struct {
+        str_indices_position position;
+        size_t byte[ENCODINGS + 1], exact[ENCODINGS + 1];
+    } rows[] = {
+        {{0, 1}, {1, 1, 1, 1}, {1, 1, 1, 1}},
+        {{0, 2}, {1, 1, 1, 1}, {NONE, NONE, NONE, NONE}},
+        {{0, MOST}, {1, 1, 1, 1}, {NONE, NONE, NONE, NONE}},
+        {{1, 1}, {3, 3, 7, 7}, {NONE, NONE, 7, 7}},
+        {{1, 2}, {7, 3, 8, 8}, {7, NONE, 8, 8}},
+        {{1, 3}, {8, 3, 8, 8}, {8, NONE, NONE, NONE}},
+        {{1, 4}, {8, 7, 8, 8}, {NONE, 7, NONE, NONE}},
+        {{2, 1}, {12, 9, 12, 12}, {12, NONE, 12, 12}},
+        {{3, 0}, {13, 13, 13, 13}, {13, 13, 13, 13}},
+        {{4, 1}, {15, 15, 15, 15}, {15, 15, 15, 15}},
+        {{5, 0}, {15, 15, 15, 15}, {NONE, NONE, NONE, NONE}},
+        {{MOST, MOST}, {15, 15, 15, 15}, {NONE, NONE, NONE, NONE}},
+    };
+    str_rope rope = WITH(lines);
+    for (size_t i = 0; i < NUMBER_OF(rows); i++)
+        for (size_t number = 0; number <= ENCODINGS; number++) {
+            str_rope_encoding encoding = (str_rope_encoding)number;
+            str_indices_position position = rows[i].position;
+            same(str_rope_byte_of(&rope, encoding, position) == rows[i].byte[number], "byte_of", number, i);
+            same(str_rope_exact_byte_of(&rope, encoding, position) == rows[i].exact[number], "exact_byte_of", number, i);
+        }
+    str_rope_free(&rope);
+}
+
+static void ranges_and_lines(void)
+{
+    static const struct {
+        str_indices_range range;
+        str_indices_bytes bytes[ENCODINGS + 1];
+    } rows[] = {
+        {{{0, 0}, {0, 9}}, {{0, 1}, {0, 1}, {0, 1}, {0, 1}}},
+        {{{1, 1}, {2, 2}}, {{3, 12}, {3, 9}, {7, 12}, {7, 12}}},
+        {{{1, 2}, {1, 4}}, {{7, 8}, {3, 7}, {8, 8}, {8, 8}}},
+        {{{9, 9}, {MOST, 0}}, {{15, 15}, {15, 15}, {15, 15}, {15, 15}}},
+        {{{0, 2}, {0, 1}}, {{NONE, NONE}, {NONE, NONE}, {NONE, NONE}, {NONE, NONE}}},
+        {{{1, 0}, {0, 9}}, {{NONE, NONE}, {NONE, NONE}, {NONE, NONE}, {NONE, NONE}}},
+    };
+    static const size_t ends[] = {1, 8, 12, 13, 15, 15};
+    str_rope rope = WITH(lines);
+    for (size_t i = 0; i < NUMBER_OF(rows); i++)
+        for (size_t encoding = 0; encoding <= ENCODINGS; encoding++) {
+            str_indices_bytes bytes = str_rope_byte_range(&rope, (str_rope_encoding)encoding, rows[i].range);
+            str_indices_bytes wanted = rows[i].bytes[encoding];
+            same(bytes.start == wanted.start && bytes.end == wanted.end, "byte_range", encoding, i);
+        }
+    for (size_t line = 0; line < NUMBER_OF(ends); line++)
+        same(str_rope_line_end(&rope, line) == ends[line], "line_end", line, ends[line]);
+    same(str_rope_line_end(&rope, MOST) == 15, "line_end", MOST, 15);
+    str_rope_free(&rope);
+}
+
+static void changes_by_positions(void)
+{
+    static const char text[] = "ab\r\n" FROG "c";
+    static const struct {
+        str_indices_range range;
+        const char *text, *left[ENCODINGS + 1];
+    } rows[] = {
+        {{{1, 0}, {1, 2}}, "X", {"ab\r\nXc", "ab\r\nX" FROG "c", "ab\r\nX", "ab\r\nX"}},
+        {{{1, 2}, {1, 4}}, "", {"ab\r\n" FROG, "ab\r\nc", text, text}},
+        {{{1, 1}, {1, 1}}, "x", {"ab\r\nx" FROG "c", "ab\r\nx" FROG "c", "ab\r\n" FROG "xc", "ab\r\n" FROG "xc"}},
+        {{{0, 9}, {0, 9}}, "!", {"ab!\r\n" FROG "c", "ab!\r\n" FROG "c", "ab!\r\n" FROG "c", "ab!\r\n" FROG "c"}},
+        {{{0, 2}, {1, 0}}, "", {"ab" FROG "c", "ab" FROG "c", "ab" FROG "c", "ab" FROG "c"}},
+        {{{7, 0}, {9, 9}}, "\n",
+         {"ab\r\n" FROG "c\n", "ab\r\n" FROG "c\n", "ab\r\n" FROG "c\n", "ab\r\n" FROG "c\n"}},
+    };
+    for (size_t i = 0; i < NUMBER_OF(rows); i++)
+        for (size_t encoding = 0; encoding <= ENCODINGS; encoding++) {
+            const char *put = rows[i].text, *left = rows[i].left[encoding];
+            str_rope rope = WITH(text);
+            same(str_rope_change(&rope, (str_rope_encoding)encoding, rows[i].range, put, strlen(put)) == STR_ROPE_OK,
+                 "change", encoding, i);
+            has(&rope, left, strlen(left), "change");
+            str_rope_free(&rope);
+        }
+}
+
+static void refusals_by_positions(void)
+{
+    str_indices_range back = {{1, 0}, {0, 1}}, forth = {{0, 0}, {1, 0}};
+    str_rope rope = WITH(lines);
+    same(str_rope_change(&rope, STR_ROPE_ENCODING_UTF16, back, "\200", 1) == STR_ROPE_NOT_UTF8, "change", 1, 0);
+    same(str_rope_change(&rope, STR_ROPE_ENCODING_UTF8, back, "x", 1) == STR_ROPE_NOT_ORDERED, "change", 1, 0);
+    same(str_rope_change(&rope, STR_ROPE_ENCODING_UTF32, forth, "\343\201", 2) == STR_ROPE_NOT_UTF8, "change", 0, 1);
+    HAS(&rope, lines, "what refusals leave");
+    str_rope_free(&rope);
+}
+
+int main(void)
+{
+    counts();
+    from_bytes();
+    to_bytes();
+    boundaries();
+    the_empty_text();
+    changes();
+    refusals_of_changes();
+    reading();
+    a_break_over_two_pieces();
+    positions_of_bytes();
+    bytes_of_positions();
+    ranges_and_lines();
+    changes_by_positions();
+    refusals_by_positions();
+    printf("%d passed, %d failed\n", passed, failed);
+    return failed != 0;
+}
