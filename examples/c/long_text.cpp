@@ -9,7 +9,11 @@
 int main(int number, char **words)
 {
     const std::string line = "line of text \360\237\220\270b\r\n";
-    const size_t lines = number > 1 ? std::strtoull(words[1], nullptr, 10) : 1000;
+    const size_t lines = number > 1 ? std::strtoull(words[1], nullptr, 10) : 0;
+    if (lines == 0) {
+        std::cerr << "usage: long_text LINES\n";
+        return 2;
+    }
     Rope rope;
     for (size_t at = 0; at < lines; at++)
         rope.insert(at / 2 * line.size(), line);

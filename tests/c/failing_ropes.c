@@ -98,7 +98,7 @@ static int same(int right, const char *call, long number)
  * The texts: what a rope has before a call, what is put in, and what it has after.
  */
 
-enum { WHOLE = 40000, MOST_PUT = 6000, LINE = 20 };
+enum { WHOLE = 40000, MOST_PUT = 60000, LINE = 20 };
 
 static char whole[WHOLE], put[MOST_PUT], after[WHOLE + MOST_PUT], copy[WHOLE + MOST_PUT];
 static const char line[LINE + 1] = "line of text \360\237\220\270b\r\n";
@@ -213,7 +213,7 @@ static void try_each(const call *one)
     long k = 1;
     while (k < MOST_ALLOCATIONS && failed == 0 && try_refused(one, k))
         k++;
-    same(k > 1 && k < MOST_ALLOCATIONS, "how many allocations there are", k - 1);
+    same(k < MOST_ALLOCATIONS, "how many allocations there are", k - 1);
     printf("%s: %ld allocations\n", one->name, k - 1);
 }
 
