@@ -1,7 +1,7 @@
 // A rope that frees its text by itself: a small class over str_rope.h, for C++11 and later.
 //
 // Where a call is refused it throws: std::bad_alloc where memory was, and else std::invalid_argument. The text is then as it
-// was. A rope moves and does not copy. One thread at a time may use it, also to ask.
+// was. A rope moves and does not copy. It stays on one thread, and no call may be made beside another, also to ask.
 #ifndef STR_ROPE_HPP
 #define STR_ROPE_HPP
 

@@ -15,7 +15,7 @@
 
 #include <str_rope.h>
 
-enum { BLOCK = 1 << 16, CHECKPOINTS = 5, SAMPLES = 400, SCHEMES = 5, ENCODINGS = 3, LONGEST = 3000 };
+enum { BLOCK = 1 << 16, CHECKPOINTS = 5, SAMPLES = 400, SCHEMES = 5, ENCODINGS = 3, LONGEST = 3000, PEEKED = 64 };
 
 static long passed, failed;
 
@@ -37,6 +37,12 @@ static void *memory(void *block, size_t size)
         exit(1);
     }
     return grown;
+}
+
+/* A block with room for so many bytes and no more, so that a byte past them is seen where each access is watched. */
+static char *room_for(size_t len)
+{
+    return (char *)memory(NULL, len == 0 ? 1 : len);
 }
 
 static uint64_t state = 20261125;
@@ -174,7 +180,7 @@ static size_t boundary_before(const model *text, size_t at)
 
 static char *flat(const model *text)
 {
-    char *bytes = (char *)memory(NULL, text->len + 1);
+    char *bytes = room_for(text->len);
     size_t len = 0;
     for (size_t place = 0; place < text->number; place++) {
         memcpy(bytes + len, text->blocks[place]->bytes, text->blocks[place]->len);
@@ -314,7 +320,7 @@ static void ask_all(str_rope *rope, const char *text, size_t len)
 /* The rope's bytes, written out at once and piece by piece. */
 static void read_all(str_rope *rope, const char *text, size_t len)
 {
-    char *copy = (char *)memory(NULL, len + 1);
+    char *copy = room_for(len);
     same(str_rope_copy_to(rope, 0, len, copy, len) == STR_ROPE_OK && memcmp(copy, text, len) == 0, "copy_to", len);
     memset(copy, 0, len);
     for (size_t at = 0, read = 1; read > 0 && at <= len; at += read) {
@@ -376,27 +382,39 @@ static void refuse(str_rope *rope, const model *text, size_t at)
     same(str_rope_remove(rope, at + 1, at) == STR_ROPE_NOT_ORDERED, "remove", at);
 }
 
+/* From a byte on the rope has what the model has, as far as either reads. */
+static void peek_at(str_rope *rope, const model *text, size_t at)
+{
+    char *seen = room_for(PEEKED), wanted[PEEKED];
+    size_t len = str_rope_read(rope, at, seen, PEEKED);
+    len = peek(text, at, wanted, len);
+    same(memcmp(seen, wanted, len) == 0, "read", at);
+    free(seen);
+}
+
 static void change(str_rope *rope, model *text)
 {
-    static char bytes[LONGEST], seen[64], wanted[64];
     size_t from = pick(text->len + 1), to = from + pick(pick(20) == 0 ? LONGEST : 40);
-    size_t kind = pick(10), len = kind < 3 ? 0 : random_text(bytes, pick(pick(20) == 0 ? LONGEST : 40));
+    size_t kind = pick(10), room = kind < 3 ? 0 : pick(pick(20) == 0 ? LONGEST : 40);
+    char *bytes = room_for(room), *exact;
+    size_t len = random_text(bytes, room);
+    exact = room_for(len);
+    memcpy(exact, bytes, len);
     refuse(rope, text, from);
     from = boundary_before(text, from);
     to = boundary_before(text, kind > 6 || to > text->len ? from : to);
-    replace(rope, text, from, to, bytes, len);
+    replace(rope, text, from, to, exact, len);
     if (kind == 9)
         cut(rope, text, from);
     same(str_rope_len(rope) == text->len, "len", from);
-    len = str_rope_read(rope, from, seen, sizeof seen);
-    len = len < sizeof wanted ? len : sizeof wanted;
-    len = peek(text, from, wanted, len);
-    same(memcmp(seen, wanted, len) == 0, "read", from);
+    peek_at(rope, text, from);
+    free(bytes);
+    free(exact);
 }
 
 static void fill(str_rope *rope, model *text, size_t size)
 {
-    char *bytes = (char *)memory(NULL, size + 1);
+    char *bytes = room_for(size);
     size_t len = random_text(bytes, size);
     new_block(text, 0);
     for (size_t at = 0; at < len; at += BLOCK / 2) {
