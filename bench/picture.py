@@ -48,7 +48,7 @@ def text(x, y, words, **attributes):
 
 
 def bars(place, name, means, halves, end):
-    """The name of a function, its bars, and a number behind each."""
+    """The name of a function, its bars, and a number after each."""
     y = TOP + place * (BAR * len(means) + GAP)
     weight = "bold" if name == "mean" else "normal"
     parts = [text(LEFT - 10, y + BAR * len(means) / 2 + 5, name, text_anchor="end", font_weight=weight)]

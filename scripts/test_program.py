@@ -58,7 +58,7 @@ COMMANDS = [
     ("idx \"$(printf '\\377')\" <&-", USAGE),
     ("idx chars.to_byte_idx \"$(printf '1\\377')\" <&-", USAGE),
     ("printf abc | { idx chars; status=$?; cat; exit $status; }", (2, "abc", USAGE[2])),
-    # one unfinished character, alone and behind a long text
+    # one unfinished character, alone and after a long text
     ("printf '\\360\\237\\220' | idx chars.count", NOT_UTF8),
     ("{ cat large; printf '\\360\\237\\220'; } | idx chars.count", NOT_UTF8),
     # 64 MiB of memory for all that the program holds

@@ -139,7 +139,7 @@ export class Cells {
 
   /** The sets of breaks by which a line ends at each of the bytes. */
   #lineEnds(byte, bytes) {
-    // a CR is the end of a line only where no LF follows it, so the byte behind is looked at too
+    // a CR is the end of a line only where no LF follows it, so the byte after is looked at too
     const behind = byte + bytes.length;
     const [next] = this.#text.bytes(behind, Math.min(this.#text.length, behind + 1));
     const part = this.#indices.text(next === 0x0a ? Uint8Array.from([...bytes, next]) : bytes);

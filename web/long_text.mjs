@@ -25,7 +25,7 @@ function mayCut(string, unit) {
   return !isLowSurrogate(code) && !(code === LF && string.charCodeAt(unit - 1) === CR);
 }
 
-/** The unit where a string differs from another, and how many units at their ends are the same behind that. */
+/** The unit where a string differs from another, and how many units at their ends are the same after that. */
 function difference(before, after) {
   const shorter = Math.min(before.length, after.length);
   let at = 0;
@@ -143,7 +143,7 @@ export class LongText {
     const room = (last) => blocks[last - 1].before.utf16 + by >= (blocks[first]?.before.utf16 ?? this.#whole.utf16);
     let last = blocks.length;
     while (last > first && room(last) && same(blocks[last - 1], by)) last -= 1;
-    // a neighbour on each side, so that no block becomes small and none begins behind a CR with LF
+    // a neighbour on each side, so that no block becomes small and none begins after a CR with LF
     first = Math.max(0, first - 1);
     last = Math.min(blocks.length, last + 1);
     return [first, last, this.#whole.utf16 - (blocks[last]?.before.utf16 ?? this.#whole.utf16)];

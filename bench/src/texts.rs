@@ -13,7 +13,7 @@ pub enum Kind {
     Cjk,
     /// Lines of prose of varying length, each ended by CR LF.
     Crlf,
-    /// Words as in `Mixed`, with a break behind every second one, so that short texts have breaks too.
+    /// Words as in `Mixed`, with a break after every second one, so that short texts have breaks too.
     Broken,
 }
 

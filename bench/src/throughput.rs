@@ -125,7 +125,7 @@ fn bytecount() -> Option<fn(&str) -> usize> {
     None
 }
 
-/// The sum of the text as words of eight bytes, and of the bytes behind them: a plain loop that looks at each byte.
+/// The sum of the text as words of eight bytes, and of the bytes after them: a plain loop that looks at each byte.
 fn read(text: &str) -> usize {
     let words = text.as_bytes().chunks_exact(8);
     let rest = words.remainder().iter().map(|byte| u64::from(*byte));

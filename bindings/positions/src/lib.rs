@@ -1,6 +1,6 @@
 //! Maps byte indices of a text to the positions of the Language Server Protocol 3.17, and back.
 //!
-//! A line ends in LF, CR or CR LF, which is one break. No position names a place inside or behind a break on its line: an
+//! A line ends in LF, CR or CR LF, which is one break. No position names a place inside or after a break on its line: an
 //! offset past the end of the line means the line's end, before its break.
 //!
 //! Offsets are counted in UTF-16 code units by the functions, as is the protocol's default, and by the methods of
@@ -10,14 +10,14 @@
 //! library of the crate `str_indices`. Every text, byte index and position has an answer: nothing panics, and nothing
 //! allocates. The text may be sliced at each byte index that is answered.
 //!
-//! A request names a place by a position, as that of the second char behind a surrogate pair; the answer names a range:
+//! A request names a place by a position, as that of the second char after a surrogate pair; the answer names a range:
 //!
 //! ```
 //! use str_indices_positions::{byte_of, line_end, position_of, Position};
 //!
 //! let text = "let x = 1;\r\n🐸.push(\"世界\");\r\n";
 //!
-//! // A hover at line 1, character 9: behind the quotation mark.
+//! // A hover at line 1, character 9: after the quotation mark.
 //! let byte = byte_of(text, Position { line: 1, character: 9 });
 //! assert_eq!(byte, 23);
 //! let word: &str = text[byte..].split('"').next().unwrap();

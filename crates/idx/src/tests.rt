@@ -8,6 +8,7 @@ use std::test::Fail;
 
 mod faults;
 mod kernels;
+mod walk;
 mod wide;
 
 const TEXT: &str = "Hello せかい! Hello せかい! Hello せかい! Hello せかい! Hello せかい!";

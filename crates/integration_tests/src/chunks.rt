@@ -292,7 +292,7 @@ fn numbers_are(rt: &impl Abort, found: [usize; 4], want: [usize; 4]) {
     assert_eq!(rt; found, want);
 }
 
-/// What the functions above make of letters, of letters behind a dash, and of bytes, and then the threes.
+/// What the functions above make of letters, of letters after a dash, and of bytes, and then the threes.
 fn chunks_of<T: ByteChunk>(letters: &[u8], bytes: &[u8]) -> (T, T, T, T)
     requires letters { T.SIZE ≤ length letters.now }
     requires bytes { T.SIZE ≤ length bytes.now }

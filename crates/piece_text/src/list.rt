@@ -16,6 +16,8 @@ use std::marker::Model;
 const MAX_LEN: usize = isize::MAX as usize;
 
 /// A text that is kept in pieces, none of them empty. A contract sees the list of the pieces' texts.
+///
+/// A question takes time linear in the number of pieces and in the length of one of them.
 #[derive(Drop)]
 pub struct PieceText {
     pieces: Vec<Piece>,
@@ -47,7 +49,7 @@ impl PieceText {
         }
     }
 
-    /// Puts a text behind the last piece, as a piece of its own. An empty text changes nothing.
+    /// Puts a text after the last piece, as a piece of its own. An empty text changes nothing.
     ///
     /// After a refusal all is as it was. It is `TooLong` where the text would have more than `isize::MAX` bytes, and
     /// else `NoMemory` where memory was refused.
@@ -220,7 +222,7 @@ impl PieceText {
         from_in(&mut self.view(), s, b)
     }
 
-    /// The byte index in the joined text behind the first `k` of them; its length where it has fewer.
+    /// The byte index in the joined text after the first `k` of them; its length where it has fewer.
     pub fn to_byte_idx(&self, s: Scheme, k: usize) -> usize
         ensures { result ≡ to_byte_idx s (joined self.now) k }
     {

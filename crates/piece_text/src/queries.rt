@@ -69,7 +69,7 @@ pub fn from_in(p: &mut Pieces, s: Scheme, b: usize) -> usize
     front.total
 }
 
-/// The byte index in the joined text behind the first `k` of them; its length where it has fewer. Reads one piece at
+/// The byte index in the joined text after the first `k` of them; its length where it has fewer. Reads one piece at
 /// most.
 pub fn to_in(p: &mut Pieces, s: Scheme, k: usize) -> usize
     ensures answer { result ≡ to_byte_idx s (joined p.old.texts) k }
@@ -86,7 +86,7 @@ pub fn to_in(p: &mut Pieces, s: Scheme, k: usize) -> usize
     asked.start + s.to_byte_idx(p.text(asked.piece), asked.index)
 }
 
-/// The piece that answers for an index: the last one before which the text does not reach it, since a piece behind it
+/// The piece that answers for an index: the last one before which the text does not reach it, since a piece after it
 /// may take the break off that it ends with.
 fn piece_for(p: &mut Pieces, s: Scheme, k: usize) -> Asked
     requires { 0 < length p.old.texts }
@@ -160,7 +160,7 @@ fn look_at(p: &mut Pieces, s: Scheme, i: usize, front: Front) -> Look
     }
 }
 
-/// How many breaks a seam takes off, by whether the text before it ends in CR and the text behind it starts with LF.
+/// How many breaks a seam takes off, by whether the text before it ends in CR and the text after it starts with LF.
 fn lost_at_seam(s: Scheme, ends_cr: bool, starts_lf: bool) -> usize
     ensures { (a b : Text) → ends_cr ≡ ends_in_return a → starts_lf ≡ starts_with_feed b →
         result ≡ seam_loss s a b }

@@ -18,7 +18,7 @@ pub struct Summary {
     pub lf: usize,
     /// How many line breaks by LF, CR and CRLF.
     pub crlf: usize,
-    /// How many line breaks by all that Unicode Annex 14 names.
+    /// How many line breaks by all of the Rust crate's list.
     pub lines: usize,
     /// Whether its first character is LF.
     pub starts_lf: bool,

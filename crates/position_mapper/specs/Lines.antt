@@ -16,7 +16,7 @@ use Rattle.str_indices.specs.declared.Scheme.TheVariants.{Crlf}
 abbrev pub is_break : ℕ → Bool
 is_break c = char_set_contains (break_characters Crlf) c
 
--- the characters that end behind the byte index: the text without what is cut off there
+-- the characters that end after the byte index: the text without what is cut off there
 abbrev pub behind : Text → ℕ → Text
 behind text byte = drop (length (cut text byte)) text
 

@@ -17,7 +17,7 @@ use Rattle.position_mapper.specs.declared.encodings.Encoding.{Encoding}
 use Rattle.position_mapper.specs.Encodings.{units_of}
 use Rattle.position_mapper.specs.Lines.{line_content}
 
--- the units of a line's content up to the byte index: all of them, where it is behind the content
+-- the units of a line's content up to the byte index: all of them, where it is after the content
 abbrev pub units_on_line : Encoding → Text → ℕ → ℕ → ℕ
 units_on_line e text line byte = weighed (units_of e) (line_content text line) (byte - to_byte_idx Crlf text line)
 
@@ -33,7 +33,7 @@ abbrev pub byte_at : Encoding → Text → Position → ℕ
 byte_at e text position = to_byte_idx Crlf text position.line
     + boundary_weighed (units_of e) (line_content text position.line) position.character
 
--- whether the text has the line, and the offset is before or behind a character of that line's content
+-- whether the text has the line, and the offset is before or after a character of that line's content
 abbrev pub is_exact : Encoding → Text → Position → Bool
 is_exact e text position = let content = line_content text position.line in
     nat_le position.line (count Crlf text)

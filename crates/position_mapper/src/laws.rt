@@ -78,7 +78,7 @@ pub fn byte_ranges(encoding: Encoding, text: &str, range: Range)
 {}
 
 /// By the units of the whole text: a position's offset and the units before its line are the units before its byte, or
-/// before the line's end where the byte is behind it; and the byte of a position is that of the sum of its offset and
+/// before the line's end where the byte is after it; and the byte of a position is that of the sum of its offset and
 /// the units before its line, or the line's end where that is less.
 pub fn units_of_the_text(encoding: Encoding, text: &str, byte: usize, position: Position)
     ensures offset { let cs = chars text.now in let p = position_at encoding cs byte in

@@ -2,9 +2,10 @@
 //!
 //! A line ends in LF, CR or CRLF, and a position is a line and an offset on it. The functions count the offset in UTF-16
 //! code units, the protocol's default, and the methods of [`Encoding`] in bytes or scalar values too. No position names a
-//! place inside or behind a break on its line: an offset past the line's end means the line's end, before its break.
+//! place inside or after a break on its line: an offset past the line's end means the line's end, before its break.
 //!
-//! Every text, byte index and position has an answer: nothing panics, nothing allocates.
+//! Every text, byte index and position has an answer: nothing panics, nothing allocates. Each takes time linear in the
+//! byte index that it is about, and in the length of that line.
 #![tactic(auto)]
 
 ghost use Rattle.std.specs.Prelude.{◌≡◌, ◌+◌, ◌≤◌, ◌↔◌, IfSome, IsCharBoundary, IsTrue, chars, drop, length, nat_le};

@@ -12,7 +12,7 @@
 --     is_line_feed b                   whether a byte is LF
 --     is_carriage_return b             whether a byte is CR
 --     byte_before bytes n              the byte before place n
---     starts_break before b            whether LF, CR or CRLF starts with b, which stands behind `before`
+--     starts_break before b            whether LF, CR or CRLF starts with b, which stands after `before`
 --     break_start bytes n              1 where LF, CR or CRLF starts at place n
 --     breaks_before bytes n            how many LF, CR and CRLF start before place n: a CRLF counts at its CR
 --     is_middle bytes n                whether place n stands between CR and LF

@@ -43,7 +43,7 @@ pub fn start_of_char(text: &str, b: usize)
         IsGreatestBoundary cs b (to_byte_idx s cs (from_byte_idx s cs b)) }
 {}
 
-/// From a byte index to its line and back gives the byte index behind the last line break that ends at or before it, or
+/// From a byte index to its line and back gives the byte index after the last line break that ends at or before it, or
 /// 0 where none does.
 ///
 /// An editor's go to line relies on it: the line round the caret begins there.
@@ -99,7 +99,7 @@ pub fn joined_breaks(a: &str, b: &str)
         ≡ count Lines (chars a.now) + count Lines (chars b.now) }
 {}
 
-/// Two texts, joined, answer before their seam as `a` does, and behind it as `b` does where `a` has gone before; but the
+/// Two texts, joined, answer before their seam as `a` does, and after it as `b` does where `a` has gone before; but the
 /// index is one less where the seam makes one CRLF of a CR and an LF.
 ///
 /// A rope with summed counts relies on it: it finds the piece by its counts and asks that piece alone.

@@ -18,7 +18,9 @@ const GROUP: usize = 2;
 
 /// How many line breaks the text has.
 ///
-/// That is one less than its lines: behind a break at the end of the text an empty line begins.
+/// That is one less than its lines: after a break at the end of the text an empty line begins.
+///
+/// Takes time linear in the length of the text.
 #[tactic(auto, using(crate::proofs::lemmas::bytes::Walks::whole_text))]
 pub fn count_breaks(text: &str) -> usize
     ensures { result ≡ count Lines (chars text.now) }
@@ -30,17 +32,21 @@ pub fn count_breaks(text: &str) -> usize
 ///
 /// A break belongs to the line that it ends, and so does each byte inside it: a byte between CR and LF is on the line
 /// that the CR LF ends. A byte past the end gives the index of the last line.
+///
+/// Takes time linear in the byte index, and never more than in the length of the text.
 pub fn from_byte_idx(text: &str, byte_idx: usize) -> usize
     ensures { result ≡ from_byte_idx Lines (chars text.now) byte_idx }
 {
     from_byte_idx_impl(&mut Probe::<Chunk>::of(text), byte_idx, 0)
 }
 
-/// Converts a line index to the byte index where that line begins: 0, or right behind a line break.
+/// Converts a line index to the byte index where that line begins: 0, or right after a line break.
 ///
 /// An index past the last line gives the length of the text in bytes.
 ///
 /// The text may be sliced at the answer.
+///
+/// Takes time linear in the answer.
 pub fn to_byte_idx(text: &str, line_idx: usize) -> usize
     ensures answer { result ≡ to_byte_idx Lines (chars text.now) line_idx }
     ensures boundary { IsCharBoundary text.now result }
@@ -117,7 +123,7 @@ fn is_break_at<T: ByteChunk>(probe: &mut Probe<'_, T>, byte: u8, at: usize, end:
     }
 }
 
-/// Whether a break of several bytes is counted at byte `at`: only where that may begin one, the bytes behind it are
+/// Whether a break of several bytes is counted at byte `at`: only where that may begin one, the bytes after it are
 /// peeked at.
 fn starts_wide_break<T: ByteChunk>(
     probe: &mut Probe<'_, T>,
@@ -208,7 +214,7 @@ impl<T: ByteChunk> PlaceCounts<T> for LineBreaks {
 
 /// 1 in each lane of the chunk at `at` that is a break of one byte or the LF of CR LF.
 ///
-/// Only where a lane is CR it peeks at the last byte, and only where that is CR at the one behind it.
+/// Only where a lane is CR it peeks at the last byte, and only where that is CR at the one after it.
 #[tactic(auto, using(crate::proofs::lemmas::lanes::BreakChunks::last_is_counted))]
 fn count_narrow_breaks<T: ByteChunk>(probe: &mut Probe<'_, T>, chunk: T, at: usize, end: usize) -> T
     requires seen { (at + T.SIZE ≤ end) × (end ≤ length probe.old.text) }
@@ -230,7 +236,7 @@ fn count_narrow_breaks<T: ByteChunk>(probe: &mut Probe<'_, T>, chunk: T, at: usi
     }
 }
 
-/// Whether CR LF starts at byte `at`: where that is CR, the byte behind it is peeked at too.
+/// Whether CR LF starts at byte `at`: where that is CR, the byte after it is peeked at too.
 fn starts_crlf<T: ByteChunk>(probe: &mut Probe<'_, T>, at: usize, end: usize) -> bool
     requires seen { (at < end) × (end ≤ length probe.old.text) }
     ensures answer { let byte = slice_index (take end probe.old.text) in result ≡ is_crlf (byte at) (byte (1 + at)) }
@@ -304,8 +310,8 @@ fn separator_ends<T: ByteChunk>(chunk: T) -> T
 
 /// Adds the break of several bytes that crosses the end of the chunk at `at`, if there is one.
 ///
-/// `breaks` has those that are counted where no byte behind the chunk is seen. The last byte says whether more bytes
-/// are peeked at: two behind it, or the one before it and the one behind it.
+/// `breaks` has those that are counted where no byte after the chunk is seen. The last byte says whether more bytes
+/// are peeked at: two after it, or the one before it and the one after it.
 fn add_at_edge<T: ByteChunk>(probe: &mut Probe<'_, T>, breaks: T, at: usize, end: usize) -> T
     requires seen { (at + T.SIZE ≤ end) × (end ≤ length probe.old.text) }
     requires counted { let bytes = take end probe.old.text in let inside = take (at + T.SIZE) bytes in

@@ -17,7 +17,9 @@ const GROUP: usize = 4;
 
 /// How many line breaks the text has: LF, CR and CRLF, which is one break.
 ///
-/// That is one less than its lines: behind a break at the end of the text an empty line begins.
+/// That is one less than its lines: after a break at the end of the text an empty line begins.
+///
+/// Takes time linear in the length of the text.
 #[tactic(auto, using(crate::proofs::lemmas::bytes::Walks::whole_text))]
 pub fn count_breaks(text: &str) -> usize
     ensures { result ≡ count Crlf (chars text.now) }
@@ -29,17 +31,21 @@ pub fn count_breaks(text: &str) -> usize
 ///
 /// A break belongs to the line that it ends, and the byte between CR and LF to the line that the CRLF ends. A byte past
 /// the end gives the index of the last line.
+///
+/// Takes time linear in the byte index, and never more than in the length of the text.
 pub fn from_byte_idx(text: &str, byte_idx: usize) -> usize
     ensures { result ≡ from_byte_idx Crlf (chars text.now) byte_idx }
 {
     from_byte_idx_impl(&mut Probe::<Chunk>::of(text), byte_idx, 0)
 }
 
-/// Converts a line index to the byte index where that line begins: 0, or right behind a line break.
+/// Converts a line index to the byte index where that line begins: 0, or right after a line break.
 ///
 /// An index past the last line gives the length of the text in bytes.
 ///
 /// The text may be sliced at the answer.
+///
+/// Takes time linear in the answer.
 pub fn to_byte_idx(text: &str, line_idx: usize) -> usize
     ensures answer { result ≡ to_byte_idx Crlf (chars text.now) line_idx }
     ensures boundary { IsCharBoundary text.now result }
@@ -87,7 +93,7 @@ pub fn to_byte_idx_impl<T: ByteChunk>(probe: &mut Probe<'_, T>, idx: usize, lead
     after_crlf(probe, place)
 }
 
-/// The place itself, or where it stands between CR and LF the place behind the LF, by at most two peeks.
+/// The place itself, or where it stands between CR and LF the place after the LF, by at most two peeks.
 fn after_crlf<T: ByteChunk>(probe: &mut Probe<'_, T>, place: usize) -> usize
     requires { place ≤ length probe.old.text }
     ensures behind { result ≡ place + mark (is_middle probe.old.text) place }
@@ -102,7 +108,7 @@ fn after_crlf<T: ByteChunk>(probe: &mut Probe<'_, T>, place: usize) -> usize
 }
 
 /// The breaks that start in the lanes of a chunk, 1 each. A chunk hands on 1 in each lane that is CR, of which the chunk
-/// behind it reads the last.
+/// after it reads the last.
 struct BreakStarts;
 
 impl<T: ByteChunk> PlaceCounts<T> for BreakStarts {

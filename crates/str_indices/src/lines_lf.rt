@@ -11,7 +11,9 @@ use byte_chunk::{ByteChunk, Chunk, Probe};
 
 /// How many line breaks the text has.
 ///
-/// A text has one line more: behind a break at its end an empty line begins.
+/// A text has one line more: after a break at its end an empty line begins.
+///
+/// Takes time linear in the length of the text.
 #[tactic(auto, using(crate::proofs::lemmas::bytes::Walks::whole_text))]
 pub fn count_breaks(text: &str) -> usize
     ensures { result ≡ count Lf (chars text.now) }
@@ -23,17 +25,21 @@ pub fn count_breaks(text: &str) -> usize
 ///
 /// A break belongs to the line that it ends, and the byte between CR and LF to the line of the CR. A byte past the end
 /// gives the index of the last line.
+///
+/// Takes time linear in the byte index, and never more than in the length of the text.
 pub fn from_byte_idx(text: &str, byte_idx: usize) -> usize
     ensures { result ≡ from_byte_idx Lf (chars text.now) byte_idx }
 {
     from_byte_idx_impl(&mut Probe::<Chunk>::of(text), byte_idx, 0)
 }
 
-/// Converts a line index to the byte index where that line begins: 0, or right behind a line break.
+/// Converts a line index to the byte index where that line begins: 0, or right after a line break.
 ///
 /// An index past the last line gives the length of the text in bytes.
 ///
 /// The text may be sliced at the answer.
+///
+/// Takes time linear in the answer.
 pub fn to_byte_idx(text: &str, line_idx: usize) -> usize
     ensures answer { result ≡ to_byte_idx Lf (chars text.now) line_idx }
     ensures boundary { IsCharBoundary text.now result }

@@ -11,7 +11,7 @@ use byte_chunk::{ByteChunk, Probe};
 /// To a contract `counted_at end text n` is what is counted at place `n`, where of the text the bytes before `end` are
 /// seen, and `carries text at carry` says that the chunk before place `at` hands on that carry.
 pub(crate) trait PlaceCounts<T: ByteChunk> {
-    /// What a chunk hands on to the chunk behind it.
+    /// What a chunk hands on to the chunk after it.
     type Carry: Copy;
 
     ghost MOST: { ℕ };

@@ -1,4 +1,4 @@
-//! Counts over the bytes behind the last whole chunk, all at once.
+//! Counts over the bytes after the last whole chunk, all at once.
 //!
 //! One by one they would take a branch each, and where they end no processor foresees: of a short text that is most of
 //! the time. So the last bytes of a text are put into a chunk, whose first lanes are then left out.

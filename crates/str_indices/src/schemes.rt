@@ -15,7 +15,7 @@ pub enum Scheme {
     Lf,
     /// Line breaks by LF, CR and CRLF, as `lines_crlf`.
     Crlf,
-    /// Line breaks by all that Unicode Annex 14 names, as `lines`.
+    /// Line breaks by all of the Rust crate's list, as `lines`.
     Lines,
 }
 

@@ -11,6 +11,8 @@ use crate::weights::{FourByteLeads, GROUP, LAST_GROUP, Units, Weights};
 use byte_chunk::{ByteChunk, Chunk, Probe};
 
 /// How many UTF-16 code units the text would take.
+///
+/// Takes time linear in the length of the text.
 #[tactic(auto, using(crate::proofs::lemmas::bytes::Walks::whole_text))]
 pub fn count(text: &str) -> usize
     ensures { result ≡ count Utf16 (chars text.now) }
@@ -19,6 +21,8 @@ pub fn count(text: &str) -> usize
 }
 
 /// How many surrogate pairs the text would have in UTF-16: one for each char of four bytes.
+///
+/// Takes time linear in the length of the text.
 #[tactic(auto, using(crate::proofs::lemmas::bytes::Walks::whole_text))]
 pub fn count_surrogates(text: &str) -> usize
     ensures { result ≡ surrogates (chars text.now) }
@@ -30,6 +34,8 @@ pub fn count_surrogates(text: &str) -> usize
 ///
 /// A byte inside a char belongs to that char, whose first unit is the answer. A byte past the end gives the number of
 /// units.
+///
+/// Takes time linear in the byte index, and never more than in the length of the text.
 pub fn from_byte_idx(text: &str, byte_idx: usize) -> usize
     ensures { result ≡ from_byte_idx Utf16 (chars text.now) byte_idx }
 {
@@ -42,6 +48,8 @@ pub fn from_byte_idx(text: &str, byte_idx: usize) -> usize
 /// text in bytes.
 ///
 /// The text may be sliced at the answer.
+///
+/// Takes time linear in the answer.
 pub fn to_byte_idx(text: &str, utf16_idx: usize) -> usize
     ensures answer { result ≡ to_byte_idx Utf16 (chars text.now) utf16_idx }
     ensures boundary { IsCharBoundary text.now result }

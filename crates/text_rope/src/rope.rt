@@ -27,6 +27,9 @@ use std::ops::Range;
 const MAX_LEN: usize = isize::MAX as usize;
 
 /// A text that is kept in a balanced tree of its pieces. A contract sees the text, the list of its characters.
+///
+/// A question takes time logarithmic in the number of pieces, and so does a change, besides the time for the bytes that it
+/// puts in or takes out.
 #[derive(Drop)]
 pub struct Rope {
     tree: Tree,

@@ -9,7 +9,7 @@ ghost use Rattle.str_indices.specs.declared.Scheme.TheVariants.{Chars, Lines};
 
 use str_indices::{chars, laws, lines};
 
-/// The text behind its first `n` characters; nothing where it has no more.
+/// The text after its first `n` characters; nothing where it has no more.
 pub fn after_chars(text: &str, n: usize) -> &str
     ensures { result.now ≡ drop (to_byte_idx Chars (chars text.now) n) text.now }
 {
@@ -27,7 +27,7 @@ pub fn line(text: &str, k: usize) -> &str
     &text[start..end]
 }
 
-/// Where line `k` ends, behind its line break: the beginning of line `k + 1`, or the end of the text.
+/// Where line `k` ends, after its line break: the beginning of line `k + 1`, or the end of the text.
 fn end_of_line(text: &str, k: usize) -> usize
     ensures answer { result ≡ to_byte_idx Lines (chars text.now) (k + 1) }
     ensures boundary { IsCharBoundary text.now result }

@@ -8,7 +8,7 @@ abbrev pub LaneByLane : (ℕ → ℕ) → ℕ → ℕ → ℕ → Type 0
 LaneByLane f zero w r = r ≡ 0
 LaneByLane f (suc n) w r = (r % 256 ≡ f (w % 256)) × LaneByLane f n (w / 256) (r / 256)
 
--- a word's first lane, and those behind it
+-- a word's first lane, and those after it
 pub next : (n w : ℕ) {q x : ℕ} {xs : List ℕ} → word_lanes n q ≡ xs → w % 256 ≡ x → w / 256 ≡ q
     → word_lanes (suc n) w ≡ x ∷ xs
 unfolding word_lanes
@@ -17,7 +17,7 @@ next n w rest first behind = ap₂ (λ x xs. x ∷ xs) first (ap (digits_l 256 n
 pub record Made (f : ℕ → ℕ) (n w r : ℕ) : Type 0 where
   pub each : LaneByLane f n w r
 
--- the lanes behind the first
+-- the lanes after the first
 behind : {f : ℕ → ℕ} {n w r : ℕ} → Made f (suc n) w r → Made f n (w / 256) (r / 256)
 behind made = record { each = made.each.1 }
 

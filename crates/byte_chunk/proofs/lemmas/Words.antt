@@ -122,7 +122,7 @@ past (suc n) k zero w all within = absurd (omega arith)
 past (suc n) k (suc m) w all within =
     next m w (past n k m (w / 256) (omega arith) (omega (arith, pow-suc 256 n))) refl refl
 
--- `shift_back_lex`: k lanes go, and k lanes 0 come in behind the others
+-- `shift_back_lex`: k lanes go, and k lanes 0 come in after the others
 pub word_shift_back : (n k w : ℕ) → w < 256 ^ n → k ≤ n
     → word_lanes n (w / 2 ^ (8 * k)) ≡ drop k (word_lanes n w) ++ replicate k 0
 word_shift_back n k w within few =

@@ -182,7 +182,7 @@ fn refuses_text_that_is_not_utf8(rt: HostRuntime) {
     }
 }
 
-/// Runs over a reader that fails at this read, and wants no read behind it. The reader would go on, so a run that read
+/// Runs over a reader that fails at this read, and wants no read after it. The reader would go on, so a run that read
 /// again would answer otherwise.
 fn assert_no_read_again(rt: &impl Abort, alloc: Global, text: &[u8], kind: ErrorKind, n: usize) {
     let mut input = slow_reader(text);

@@ -1,5 +1,5 @@
-//! The kernels over `Wide` beside the public functions, wherever chunks and leading bytes may end.
-use super::assert_same;
+//! The kernels over `Wide` beside a plain walk, wherever chunks and leading bytes may end.
+use super::{assert_same, walk};
 use crate::calls::Call;
 use crate::kernels::{ChunkType, Kernel};
 use crate::wide::Wide;
@@ -101,9 +101,9 @@ fn count_at_boundary(call: Call, text: &str, end: usize, lead: usize) -> Option<
     }
 }
 
-/// Compares the kernel of the call with its public function for all of the text.
+/// Compares the kernel of the call with the walk for all of the text.
 fn compare_whole(rt: &impl Abort, call: Call, text: &str, index: usize, leads: &[usize]) {
-    let wanted = call.answer(text);
+    let wanted = walk::answer(call, text);
     for &lead in leads {
         let chunk = ChunkType::Wide;
         let found = Kernel { chunk, lead }.answer(call, text);
@@ -111,12 +111,12 @@ fn compare_whole(rt: &impl Abort, call: Call, text: &str, index: usize, leads: &
     }
 }
 
-/// Compares the kernel of the call, where it counts, with its public function for the characters before `end`.
+/// Compares the kernel of the call, where it counts, with the walk for the characters before `end`.
 fn compare_front(rt: &impl Abort, call: Call, text: &str, end: usize, leads: &[usize]) {
     let Some(front) = text.get(..text.floor_char_boundary(end)) else {
         return;
     };
-    let wanted = call.answer(front);
+    let wanted = walk::answer(call, front);
     for &lead in leads {
         if let Some(found) = count_before(call, text, end, lead) {
             assert_same(rt, found, wanted, &(front.len(), end, lead));
@@ -138,7 +138,7 @@ fn compare(rt: &impl Abort, text: &str, index: usize, leads: &[usize]) {
     }
 }
 
-/// Compares the kernels with the public functions at the least indices, and from `first` to past the text's end.
+/// Compares the kernels with the walk at the least indices, and from `first` to past the text's end.
 fn compare_from(rt: &impl Abort, text: &str, first: usize, leads: &[usize]) {
     for index in 0..4 {
         compare(rt, text, index, leads);
@@ -150,7 +150,7 @@ fn compare_from(rt: &impl Abort, text: &str, first: usize, leads: &[usize]) {
 }
 
 #[test]
-fn thirty_two_lanes_answer_as_the_public_functions(rt: HostRuntime) {
+fn thirty_two_lanes_answer_as_the_walk(rt: HostRuntime) {
     for text in TEXTS {
         compare_from(&rt, text, 4, &LEADS);
     }

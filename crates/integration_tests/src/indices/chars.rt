@@ -95,7 +95,7 @@ fn char_begins_at_its_byte(rt: HostRuntime) {
     rows::to_bytes(&rt, Scheme::Chars, BEGINS);
 }
 
-/// The index of a byte of `ENGLISH_AND_JAPANESE`: behind 88 characters of one byte are those of three.
+/// The index of a byte of `ENGLISH_AND_JAPANESE`: after 88 characters of one byte are those of three.
 fn char_of(byte: usize) -> usize {
     if byte < 88 {
         byte

@@ -184,7 +184,7 @@ fn surround(alloc: Global, letters: usize, middle: &str) -> Result<String, Fail>
     Ok(text)
 }
 
-/// Where a line module's conversions go, with `breaks` breaks behind so many letters.
+/// Where a line module's conversions go, with `breaks` breaks after so many letters.
 fn around_breaks(letters: usize, middle: &str, breaks: usize, index: usize) -> (usize, usize) {
     let behind = letters.saturating_add(middle.len());
     let two_characters_apart = middle == "\n\r";

@@ -8,7 +8,7 @@ use std::test::Fail;
 
 const LINE: &str = "Zeile – über 🐸 und せかい, und so weiter\r\n";
 
-/// How many pieces there are behind the long one.
+/// How many pieces there are after the long one.
 const PIECES: usize = 4_000;
 
 /// A line so many times.
@@ -20,7 +20,7 @@ fn lines(alloc: Global, count: usize) -> Result<String, AllocError> {
     Ok(text)
 }
 
-/// Puts a text behind others, both in pieces and joined.
+/// Puts a text after others, both in pieces and joined.
 fn push(text: &mut PieceText, joined: &mut String, piece: &str) -> Result<(), Fail> {
     text.push(piece)?;
     joined.push_str(piece)?;
@@ -64,7 +64,7 @@ fn late_pieces_are_cut(rt: HostRuntime) -> Result<(), Fail> {
     }
     push(&mut text, &mut joined, &long)?;
     assert_eq!(rt; text.pieces(), PIECES + 2);
-    // behind the first letter, and between CR and LF
+    // after the first letter, and between CR and LF
     for i in [0, 1, 290, 300, 301, 2_000, PIECES - 1, PIECES] {
         let start = long.len().saturating_add(piece.len().saturating_mul(i));
         assert_cut(&rt, &mut text, &joined, start.saturating_add(1));

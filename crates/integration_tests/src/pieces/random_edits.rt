@@ -108,7 +108,7 @@ impl Model {
     }
 }
 
-/// Puts a piece behind others, cut at a byte where that is inside, going over all characters.
+/// Puts a piece after others, cut at a byte where that is inside, going over all characters.
 fn push_halves(
     alloc: Global,
     pieces: &mut Vec<String>,
@@ -128,7 +128,7 @@ fn push_halves(
     push_some(pieces, right)
 }
 
-/// Puts a text behind others where it is not empty.
+/// Puts a text after others where it is not empty.
 fn push_some(pieces: &mut Vec<String>, text: String) -> Result<(), AllocError> {
     if !text.is_empty() {
         pieces.push(text)?;

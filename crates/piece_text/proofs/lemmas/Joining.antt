@@ -1,4 +1,4 @@
--- The joined text of a list of pieces, by a piece and those before and behind it.
+-- The joined text of a list of pieces, by a piece and those before and after it.
 use Rattle.piece_text.proofs.lemmas.Common.{◌≡◌, ◌≢◌, ℕ, zero, suc, ◌+◌, ◌<◌, ◌≤◌, List, [], ◌∷◌, ◌++◌, length, take, drop, insert, refl, arith, sym, ◌∙◌, ap, append_assoc, add-one, take_more, append-nil, take-append-drop, Text, size, size-append, joined, joined_size, piece_at, as_pieces}
 
 -- the pieces of two lists, one after the other
@@ -16,7 +16,7 @@ pub joined-take : (xs : List Text) (i : ℕ) → i < length xs
 joined-take xs i inside = ap joined (take_more xs i [] inside) ∙ joined-append (take i xs) (piece_at xs i ∷ [])
     ∙ ap (λ r. joined (take i xs) ++ r) (append-nil (piece_at xs i))
 
--- a piece, and then those behind it
+-- a piece, and then those after it
 pub drop-piece : (xs : List Text) (i : ℕ) → i < length xs → drop i xs ≡ piece_at xs i ∷ drop (suc i) xs
 drop-piece [] i inside = absurd (omega arith)
 drop-piece (x ∷ xs) zero inside = refl

@@ -42,7 +42,7 @@ edge_boundary texts byte edge = record {
   place = edge.place;
 }
 
--- a byte index in piece i, `at` bytes behind its beginning and before its end
+-- a byte index in piece i, `at` bytes after its beginning and before its end
 pub record IsInside (texts : List Text) (i at byte : ℕ) : Type 0 where
   pub inside : i < length texts
   pub place : joined_size (take i texts) + at ≡ byte
@@ -97,7 +97,7 @@ module _ (texts : List Text) (i at byte : ℕ) (inner : IsInside texts i at byte
         | inr before ↦ absurd (omega (arith, inner.place, inner.above, joined_size-take-le texts n i before))
       ]
 
--- the second half is put in behind piece i, and then the first half in its place
+-- the second half is put in after piece i, and then the first half in its place
 cut_list : (xs : List Text) (i : ℕ) (left right : Text) → i < length xs
     → set (insert xs (suc i) right) i left ≡ take i xs ++ left ∷ right ∷ drop (suc i) xs
 cut_list [] i left right inside = absurd (omega arith)

@@ -76,7 +76,7 @@ second_line_le cs e end above =
           absurd (omega (arith, ap (to_byte_idx Crlf cs) zero, last.greatest e end (omega arith)))
     ]
 
--- where there is a second line, it begins behind the content of the first, and not between CR and LF
+-- where there is a second line, it begins after the content of the first, and not between CR and LF
 second_line_begins : (cs : Text) → 1 ≤ count Crlf cs
     → (line_end cs 0 < to_byte_idx Crlf cs 1) × ¬ (IsCrlfMiddle cs (to_byte_idx Crlf cs 1))
 second_line_begins cs has =
@@ -96,7 +96,7 @@ second_line_begins cs has =
       not_middle_at_end cs p ends,
     )
 
--- a text, cut where its second line begins, is the content of its first and the break behind that
+-- a text, cut where its second line begins, is the content of its first and the break after that
 pub first_line : (cs : Text)
     → (brk : Text) × (cut cs (to_byte_idx Crlf cs 1) ≡ before_first is_break cs ++ brk) × IsLineBreak brk
 first_line cs =

@@ -48,7 +48,7 @@ module _ (bytes : List ℕ) (utf8 : IsUtf8 bytes) where
         later_line (chars bytes) line later le,
       )
 
-  -- where the line of a byte index begins, by the part of the text behind a place: all of it, or one in which a break
+  -- where the line of a byte index begins, by the part of the text after a place: all of it, or one in which a break
   -- ends up to the byte index
   pub line_behind : (p byte breaks : ℕ) → IsCharBoundary bytes p → p ≤ byte
       → breaks ≡ from_byte_idx Crlf (chars (drop p bytes)) (byte - p) → (p ≡ 0) ⊎ (0 < breaks)

@@ -1,9 +1,9 @@
--- A text, split at one of its lines: what stands before it, its content, and what is behind that.
+-- A text, split at one of its lines: what stands before it, its content, and what is after that.
 use Rattle.position_mapper.proofs.lemmas.Common.{◌≡◌, ℕ, ◌+◌, ◌-◌, ◌<◌, ◌≤◌, true, [], ◌∷◌, ◌++◌, ◌⊎◌, inl, inr, length, drop, sym, ◌∙◌, ap, arith, cond, refl, min, append_assoc, append-nil, ◌≢◌, count_by, nat_le, len_utf8, drop-append_seam, cases_Bool, cases_lt, append_cancel_left, sum_by-append, count_by-le-length, len_utf8_bounds, Text, size, line_feed, carriage_return, is_crlf_middle, ends, from_byte_idx, to_byte_idx, count, weighed, Crlf, IsBoundary, IsEnd, IsEndOf, IsCrlfMiddle, size-append, size-cons, boundary_beside, cut_front, cut_goes_on, is_crlf_middle_iff, end_at-past, weighed_at, IsBoundary-to_byte_idx, from-to, to-from_is_greatest, from_byte_idx-le, is_joined, seam_loss, to_byte_idx-le-size, is_break, behind, line_content, line_end, IsBreakStart, IsLineEnd}
 use Rattle.position_mapper.proofs.lemmas.Contents.{split_at_first}
 use Rattle.str_indices.specs.declared.Scheme.TheVariants.{Utf16}
 
--- behind a boundary is the rest of the text
+-- after a boundary is the rest of the text
 pub behind_boundary : (cs : Text) (p : ℕ) (at : IsBoundary cs p) → behind cs p ≡ at.back
 behind_boundary cs p at = ap (λ f. drop (length f) cs) (cut_front cs p at)
     ∙ ap (drop (length at.front)) at.split ∙ drop-append_seam at.front at.back
@@ -23,7 +23,7 @@ not_middle_at_end cs p (inr zero) = λ middle.
     let size_of = size-append middle.front (carriage_return ∷ []) in
     omega (arith, middle.place, size-cons carriage_return [], len_utf8_bounds carriage_return)
 
--- behind the character at which a break begins ends a break, or the place is between CR and LF and it ends behind that
+-- after the character at which a break begins ends a break, or the place is between CR and LF and it ends after that
 pub ends_behind : (cs front : Text) (c : ℕ) (back : Text) → cs ≡ front ++ c ∷ back → is_break c ≡ true
     → IsEnd Crlf cs (size (front ++ c ∷ []))
     ⊎ (IsCrlfMiddle cs (size (front ++ c ∷ [])) × IsEnd Crlf cs (size (front ++ c ∷ []) + 1))
@@ -155,7 +155,7 @@ module _ (cs : Text) (line : ℕ) where
         place = omega (arith, sizes, at.place, parts.place);
       }
 
-  -- the character of a break that ends behind the line's beginning begins at or behind the line's end
+  -- the character of a break that ends after the line's beginning begins at or after the line's end
   pub break_from_line_end : (front : Text) (c : ℕ) (back : Text) → cs ≡ front ++ c ∷ back → is_break c ≡ true
       → start < size front + len_utf8 c → line_end cs line ≤ size front
   break_from_line_end front c back split breaks behind =
@@ -201,7 +201,7 @@ module _ (cs : Text) (line : ℕ) where
       let most : from_byte_idx Crlf cs p ≤ count Crlf cs = count_by-le-length (λ e. nat_le e p) (ends Crlf cs) in
       omega (arith, from_byte_idx-le Crlf cs start p from, from_byte_idx-le Crlf cs begins start early)
 
-  -- a later line begins at or behind the line's end
+  -- a later line begins at or after the line's end
   pub line_end_le : (next : ℕ) → line < next → line_end cs line ≤ to_byte_idx Crlf cs next
   line_end_le next later =
       let place = to_byte_idx Crlf cs next in
@@ -238,7 +238,7 @@ module _ (cs : Text) (line : ℕ) where
         | inr le ↦ let same : p ≡ start = omega arith in none (rw same at middle)
       ]
 
-  -- before each place behind the line's end that doesn't stand between CR and LF, or at it, ends a break
+  -- before each place after the line's end that doesn't stand between CR and LF, or at it, ends a break
   pub end_before : (q : ℕ) → IsBoundary cs q → ¬ (IsCrlfMiddle cs q) → line_end cs line < q
       → (e : ℕ) × IsEnd Crlf cs e × (start < e) × (e ≤ q)
   end_before q at not_middle past =
@@ -341,7 +341,7 @@ later_line cs line later le =
     ∙ ap (λ n. n + to_byte_idx Crlf at.back (later - line)) (sym at.place)
     ∙ later_of ∙ ap (λ t. to_byte_idx Crlf t later) (sym at.split)
 
--- of two joined texts, the line of a byte index behind their seam begins where the second has it, if a break ends there
+-- of two joined texts, the line of a byte index after their seam begins where the second has it, if a break ends there
 -- up to the byte index, or the first is empty
 pub begins_behind : (a b : Text) (from byte breaks : ℕ) → size a ≡ from → from ≤ byte
     → breaks ≡ from_byte_idx Crlf b (byte - from) → (from ≡ 0) ⊎ (0 < breaks)

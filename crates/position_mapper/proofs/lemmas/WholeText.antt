@@ -22,7 +22,7 @@ weighed_at_greatest w cs byte p place =
       weighed-le-weighed w cs p byte place.at_or_before,
     )
 
--- the units on a line up to a byte index behind its beginning, and those before the line
+-- the units on a line up to a byte index after its beginning, and those before the line
 units_before : (e : Encoding) (cs : Text) (line byte : ℕ) → to_byte_idx Crlf cs line ≤ byte
     → units_on_line e cs line byte + weighed (units_of e) cs (to_byte_idx Crlf cs line)
     ≡ weighed (units_of e) cs (min byte (line_end cs line))

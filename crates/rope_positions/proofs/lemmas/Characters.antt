@@ -8,7 +8,7 @@ length-encodes [] = refl
 length-encodes (c ∷ cs) =
     omega (arith, length-append (encode c) (encodes cs), length-encode c, length-encodes cs, size-cons c cs)
 
--- the byte behind the bytes of a text's beginning
+-- the byte after the bytes of a text's beginning
 byte_behind : (cs front back : Text) (at i : ℕ) → cs ≡ front ++ back → size front + i ≡ at
     → get_or (encodes cs) at 0 ≡ get_or (encodes back) i 0
 byte_behind cs front back at i split place =

@@ -84,7 +84,7 @@ module _ (bytes : List ℕ) (utf8 : IsUtf8 bytes) where
       → from ≤ p → at ≤ p
   no_boundary_before from at within trails p b le = grind (arith, trails p le, boundary_begins p b)
 
-  -- a text is cut no later than at a place with trailing bytes alone behind it
+  -- a text is cut no later than at a place with trailing bytes alone after it
   cut_before_trailing : (i end : ℕ) → end < length bytes
       → ((j : ℕ) → i < j → j ≤ end → is_trailing (get_or bytes j 0) ≡ true) → size (cut (chars bytes) end) ≤ i
   cut_before_trailing i end below trails =
@@ -93,14 +93,14 @@ module _ (bytes : List ℕ) (utf8 : IsUtf8 bytes) where
       (size (cut (chars bytes) end)) (cut_boundary (chars bytes) end) in
       grind (arith, parts.at.fits, past)
 
-  -- a byte that begins a character, with trailing bytes alone behind it up to `end`, is where the text is cut at `end`
+  -- a byte that begins a character, with trailing bytes alone after it up to `end`, is where the text is cut at `end`
   pub cut_at_leading : (i end : ℕ) → i ≤ end → end < length bytes → is_trailing (get_or bytes i 0) ≡ false
       → ((j : ℕ) → i < j → j ≤ end → is_trailing (get_or bytes j 0) ≡ true) → i ≡ size (cut (chars bytes) end)
   cut_at_leading i end le below leads trails =
       let at = begins_boundary i (omega arith) (λ _. leads) in
       omega (arith, boundary-le-cut (chars bytes) i end at le, cut_before_trailing i end below trails)
 
-  -- three trailing bytes stand behind a byte that begins a character
+  -- three trailing bytes stand after a byte that begins a character
   pub cut_behind_three : (i end : ℕ) → i + 3 ≡ end → end < length bytes
       → ((j : ℕ) → i < j → j ≤ end → is_trailing (get_or bytes j 0) ≡ true) → i ≡ size (cut (chars bytes) end)
   cut_behind_three i end three below trails =

@@ -47,12 +47,12 @@ trailing_range b h = agree_below_at (λ x. bit_and x 192 == 128) (λ x. nat_le 1
 pub is_trailing_later : (b : ℕ) → IsTrailing b → is_trailing b ≡ true
 is_trailing_later b t = rw (trailing_range b (omega (arith, t.high)), le-leb 128 b t.low, lt-ltb b 192 t.high)
 
--- the bytes behind a character
+-- the bytes after a character
 pub get_or-behind : (c : ℕ) (bytes : List ℕ) (j k : ℕ) → k ≡ len_utf8 c + j
     → get_or (encode c ++ bytes) k 0 ≡ get_or bytes j 0
 get_or-behind c bytes j k e = rw (e, ← length-encode c) (get_or-append-add (encode c) bytes j 0)
 
--- every byte of a character behind its first is a trailing byte
+-- every byte of a character after its first is a trailing byte
 pub later_trailing : (c : ℕ) → scalar c ≡ true → (rest : List ℕ) (j : ℕ) → 0 < j → j < len_utf8 c
     → IsTrailing (get_or (encode c ++ rest) j 0)
 later_trailing c s rest zero above below = absurd (omega arith)

@@ -13,7 +13,7 @@ feed_first (c ∷ cs) s =
     (and_parts (scalar c) (scalars cs) s).0 (λ ascii. refl)
     (λ first others wide. grind (arith, nat_tests, wide.from, wide.low)))
 
--- a number above ASCII, and trailing bytes behind it, don't end in CR
+-- a number above ASCII, and trailing bytes after it, don't end in CR
 no_return : (first : ℕ) (others : List ℕ) → 128 ≤ first → All IsTrailing others → ends_in_return (first ∷ others) ≡ false
 no_return first [] wide all = ends_in_return-one first ∙ grind (arith, nat_tests)
 no_return first (b ∷ others) wide all =

@@ -48,7 +48,7 @@ adds_breaks s has test at_ascii at_wide later = record {
   ]));
 }
 
--- the byte before a place behind the start
+-- the byte before a place after the start
 byte_before-at : (bytes : List ℕ) (n k : ℕ) → n ≡ suc k → byte_before bytes n ≡ get_or bytes k 0
 byte_before-at bytes n k next = rw next refl
 
@@ -97,7 +97,7 @@ pub breaks_of_cut_text : (s : Scheme) → HasReturn s → (bytes : List ℕ) →
 breaks_of_cut_text s has bytes utf8 end = end_count-cut_seam s has (chars bytes) end
     ∙ ap (λ b. ends_up_to s (chars bytes) end + flag b) (sym (middle_at_cut bytes utf8 end))
 
--- behind a place between CR and LF stands a byte, which is LF
+-- after a place between CR and LF stands a byte, which is LF
 pub feed_at_middle : (bytes : List ℕ) (n : ℕ) → is_middle bytes n ≡ true
     → (n < length bytes) × (get_or bytes n 0 ≡ line_feed)
 feed_at_middle bytes n middle =

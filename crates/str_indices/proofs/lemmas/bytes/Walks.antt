@@ -4,11 +4,11 @@ use Rattle.str_indices.proofs.lemmas.texts.{size-cons, total, total_front, total
 use Rattle.str_indices.proofs.lemmas.bytes.Sums.{sum_below-add, sum_below-same, sum_below-still}
 use Rattle.str_indices.proofs.lemmas.bytes.Characters.{IsTrailing, get_or-behind, later_trailing, scalars_parts}
 
--- what a test of each byte and of the two behind it counts at a byte
+-- what a test of each byte and of the two after it counts at a byte
 abbrev pub counted_at : (ℕ → ℕ → ℕ → Bool) → List ℕ → ℕ → ℕ
 counted_at test bytes j = flag (test (get_or bytes j 0) (get_or bytes (1 + j) 0) (get_or bytes (2 + j) 0))
 
--- such a test counts v of each character at its first byte; v may read the characters behind its own
+-- such a test counts v of each character at its first byte; v may read the characters after its own
 pub record AddsAtFirst (test : ℕ → ℕ → ℕ → Bool) (v : ℕ → List ℕ → ℕ) : Type 0 where
   pub first : (c : ℕ) (cs : List ℕ) → scalar c ≡ true → scalars cs ≡ true
       → counted_at test (encode c ++ encodes cs) 0 ≡ v c cs
@@ -49,7 +49,7 @@ module _ (bytes : List ℕ) (utf8 : IsUtf8 bytes) where
   cut_at_end = cut_all (chars bytes) (length bytes) (omega (arith, size-chars))
 
 module _ (test : ℕ → ℕ → ℕ → Bool) (v : ℕ → List ℕ → ℕ) (adds : AddsAtFirst test v) where
-  -- at the bytes behind a character as much is counted as without it
+  -- at the bytes after a character as much is counted as without it
   counted_behind : (c : ℕ) (bytes : List ℕ) (j : ℕ)
       → counted_at test (encode c ++ bytes) (len_utf8 c + j) ≡ counted_at test bytes j
   counted_behind c bytes j = rw (

@@ -101,7 +101,7 @@ module _ {bytes : List ℕ} {at size : ℕ} {chunk : List ℕ} (least : 4 ≤ si
       pub sums_small : Each1 (λ lane. lane < 255) sums
       sums_small = Each1-lanes (λ lane. lane < 255) with_next_lines (λ j l. grind (arith, flag-le))
 
-      -- with them the lanes hold what is counted where no byte behind the chunk is seen
+      -- with them the lanes hold what is counted where no byte after the chunk is seen
       pub inside_counted : {inside : List ℕ} → HasLanes size (λ j. get_or sums j 0 + separator_at chunk j) inside
           → HasLanes size (inside_at bytes at size) inside
       inside_counted h = lanes_same h (λ j l. grind (arith, with_next_lines.each j l, lane_alone))

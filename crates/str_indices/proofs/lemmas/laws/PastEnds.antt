@@ -20,7 +20,7 @@ to_byte_idx-past Utf16 cs k past =
 to_byte_idx-past s cs zero past = omega arith
 to_byte_idx-past s cs (suc k) past = get_or-past 0 (ends s cs) (size cs) k (ends_increase_within s cs) (omega arith)
 
--- an index that is at least the number of bytes goes behind the last of them
+-- an index that is at least the number of bytes goes after the last of them
 pub to_byte_idx-past_bytes : (s : Scheme) (bytes : List ℕ) → IsUtf8 bytes → (k : ℕ) → length bytes ≤ k
     → to_byte_idx s (chars bytes) k ≡ length bytes
 to_byte_idx-past_bytes s bytes utf8 k past =

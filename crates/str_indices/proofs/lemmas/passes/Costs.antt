@@ -27,7 +27,7 @@ pub weaken : {old new : ProbeState} {first t l s first' t' l' s' : ℕ} → Read
     → t ≤ t' → l ≤ l' → s ≤ s' → Reads old new first' t' l' s'
 weaken a le_first le_turns le_loads le_spare = search arith
 
--- a load behind others
+-- a load after others
 pub chunk_read : {old seen new : ProbeState} {from at l l' : ℕ} → from ≤ at → Reads old seen from 0 l 0
     → Reads seen new at 0 l' 0 → Reads old new from 0 (l + l') 0
 chunk_read le so_far more = grind arith

@@ -35,5 +35,5 @@ module _ (bytes : List ℕ) (utf8 : IsUtf8 bytes) where
       let place = select-rank-le (ends Chars cs) (size cs) increases d in
       grind (arith, (adjoint (ends_up_to Chars cs d) (zero_or_end cs at b)).1))
 
--- the text that is cut at the boundary at or before a byte, and a pass behind the peeks to it, for the search
+-- the text that is cut at the boundary at or before a byte, and a pass after the peeks to it, for the search
 pub ruleset chars_up_to = (chars_of_byte, pass_after_peeks)

@@ -57,7 +57,7 @@ module _ (bytes : List ℕ) (utf8 : IsUtf8 bytes) where
       rw tested (omega (arith, breaks_of_cut least (omega arith), breaks_up_to least (omega arith)))
 
   -- The first byte before which k breaks start, or else the text's end, is where line k begins; where it stands
-  -- between CR and LF, the line begins behind the LF.
+  -- between CR and LF, the line begins after the LF.
   pub line_begins : (k at : ℕ) → at ≤ length bytes → (at < length bytes → k ≤ breaks_before bytes at)
       → ((d : ℕ) → d < at → breaks_before bytes d < k)
       → at + mark (is_middle bytes) at ≡ to_byte_idx Crlf (chars bytes) k

@@ -114,7 +114,7 @@ module _ (bytes : List ℕ) (utf8 : IsUtf8 bytes) where
       let more = units_before-le-units_before bytes i (length bytes) within in
       omega (arith, b.place, units_at_boundary (length bytes) b)
 
-  -- behind a byte that begins four stands no leading byte
+  -- after a byte that begins four stands no leading byte
   leads_or_behind_four : (n : ℕ) → n < length bytes
       → mark is_leading (get_or bytes n 0) + mark begins_four_bytes (byte_before bytes n) ≤ 1
   leads_or_behind_four zero below = omega (arith, mark-le is_leading (get_or bytes 0 0))
@@ -126,7 +126,7 @@ module _ (bytes : List ℕ) (utf8 : IsUtf8 bytes) where
             rw (leads, none_begins_four n (suc n) (omega arith) (omega arith) (omega arith) next) (omega arith)
       ]
 
-  -- n bytes more show at most n units more, and one more behind a byte that begins four
+  -- n bytes more show at most n units more, and one more after a byte that begins four
   units_before-step : (i n : ℕ) → i + n ≤ length bytes
       → units_before bytes (i + n) ≤ units_before bytes i + n + mark begins_four_bytes (byte_before bytes (i + n))
   units_before-step i zero within = rw add-zero (omega arith)
@@ -158,5 +158,5 @@ module _ (bytes : List ℕ) (utf8 : IsUtf8 bytes) where
       let most : units_before bytes p ≤ k = omega (arith, units_at_boundary p answer.boundary, answer.fits) in
       grind (arith, stopped, units_before-le-units_before bytes (at + 1) p)
 
--- the text that is cut at the boundary at or before a byte, and a pass behind the peeks to it, for the search
+-- the text that is cut at the boundary at or before a byte, and a pass after the peeks to it, for the search
 pub ruleset units_up_to = (units_of_byte, pass_after_peeks)

@@ -50,7 +50,7 @@ cut_from-later n start later (c ∷ cs) end place =
 pub cut_before : (a b : List ℕ) (end : ℕ) → end ≤ size a → cut (a ++ b) end ≡ cut a end
 cut_before a b end before = cut_from-before 0 a b end (omega arith)
 
--- cut behind it, they are the first and then the second's cut
+-- cut after it, they are the first and then the second's cut
 pub cut_behind : (a b : List ℕ) (end : ℕ) → cut (a ++ b) (size a + end) ≡ a ++ cut b end
 cut_behind a b end = cut_from-append 0 a b (size a) (size a + end) (omega arith) (omega arith)
     ∙ ap (λ r. a ++ r) (cut_from-later (size a) 0 (size a) b end (omega arith))

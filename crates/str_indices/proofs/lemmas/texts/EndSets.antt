@@ -23,7 +23,7 @@ abbrev StandsIn : List ℕ → Placed → Type 0
 StandsIn text x =
     (front : List ℕ) × (text ≡ (front ++ x.character ∷ []) ++ x.after) × (size (front ++ x.character ∷ []) ≡ x.end)
 
--- the characters of a text stand in it, behind those `before`
+-- the characters of a text stand in it, after those `before`
 placed_are : (text before cs : List ℕ) (start : ℕ) → text ≡ before ++ cs → size before ≡ start
     → All (StandsIn text) (placed start cs)
 placed_are text before [] start split place = All-nil (StandsIn text)
@@ -177,7 +177,7 @@ end_at-past s cs (suc k) fewer = get_or_past (ends s cs) k (size cs) (omega arit
 pub ends_up_to-all : (s : Scheme) (cs : List ℕ) (byte : ℕ) → size cs ≤ byte → ends_up_to s cs byte ≡ end_count s cs
 ends_up_to-all s cs byte past = rank_all 0 (ends s cs) (size cs) byte (ends_increase_within s cs) past
 
--- a walk that stops where it first has k ends behind it, or else at the text's size, stops at what `end_at` answers
+-- a walk that stops where it first has k ends after it, or else at the text's size, stops at what `end_at` answers
 pub end_at_reached : (s : Scheme) (cs : List ℕ) (k e : ℕ) → e ≤ size cs → (e < size cs → k ≤ ends_up_to s cs e)
     → ((d : ℕ) → d < e → ends_up_to s cs d < k) → e ≡ end_at s cs k
 end_at_reached s cs k e within stopped first =

@@ -11,7 +11,7 @@ end_weight-next : (s : Scheme) (c d : ℕ) (cs ds : List ℕ) → end_weight s c
 end_weight-next Chars c d cs ds = refl
 end_weight-next s c d cs ds = refl
 
--- before the end of a text that begins at `start`, its ends are counted, whatever goes on behind it
+-- before the end of a text that begins at `start`, its ends are counted, whatever goes on after it
 rank-before : (s : Scheme) (start : ℕ) (a b : List ℕ) (byte : ℕ) → byte < start + size a
     → rank (ends_from (is_end s) start (a ++ b)) byte ≡ rank (ends_from (is_end s) start a) byte
 rank-before s start [] b byte before =
@@ -41,7 +41,7 @@ module _ (s : Scheme) (a b : List ℕ) where
   pub ends_up_to-before : (i : ℕ) → i < size a → ends_up_to s (a ++ b) i ≡ ends_up_to s a i
   ends_up_to-before i before = rank-before s 0 a b i (omega arith)
 
-  -- behind it all of them, but for what the seam takes, and those of the second text
+  -- after it all of them, but for what the seam takes, and those of the second text
   pub ends_up_to-behind : (j : ℕ)
       → ends_up_to s (a ++ b) (size a + j) + seam_loss s a b ≡ end_count s a + ends_up_to s b j
   ends_up_to-behind j =

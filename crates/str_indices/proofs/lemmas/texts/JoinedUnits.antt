@@ -50,7 +50,7 @@ module _ (a b : List ℕ) where
   pub units-before : (i : ℕ) → i ≤ size a → units (a ++ b) i ≡ units a i
   units-before i before = ap (sum_by weight) (cut_before a b i before)
 
-  -- behind it all of them, and those of the second text
+  -- after it all of them, and those of the second text
   pub units-behind : (j : ℕ) → units (a ++ b) (size a + j) ≡ count Utf16 a + units b j
   units-behind j = ap (sum_by weight) (cut_behind a b j)
       ∙ sum_by-append weight a (cut b j) ∙ ap (λ n. n + units b j) (sym (count-units a))

@@ -21,7 +21,7 @@ compare_splits (x ∷ a) b (y ∷ front) c back same =
     ]
 
 -- A boundary is at or before the place where a character begins, and no more is before it than there, or it is at or
--- behind the place where the character ends, and no less is before it than there.
+-- after the place where the character ends, and no less is before it than there.
 pub boundary_beside : (w : ℕ → ℕ) (cs front : List ℕ) (c : ℕ) (back : List ℕ) → cs ≡ front ++ c ∷ back
     → (p : ℕ) (at : IsBoundary cs p)
     → ((p ≤ size front) × (sum_by w at.front ≤ sum_by w front))
@@ -37,12 +37,12 @@ boundary_beside w cs front c back split p at =
           inr (omega (arith, at.place, size-cons c rest), omega (arith, sum_by-cons w c rest))
     ]
 
--- the sum of what v says of each character and those behind it
+-- the sum of what v says of each character and those after it
 abbrev pub total : (ℕ → List ℕ → ℕ) → List ℕ → ℕ
 total v [] = 0
 total v (c ∷ cs) = v c cs + total v cs
 
--- the same over the characters of a beginning, where a text goes on behind it
+-- the same over the characters of a beginning, where a text goes on after it
 abbrev pub total_front : (ℕ → List ℕ → ℕ) → List ℕ → List ℕ → ℕ
 total_front v [] back = 0
 total_front v (c ∷ front) back = v c (front ++ back) + total_front v front back
@@ -53,7 +53,7 @@ pub total-append : (v : ℕ → List ℕ → ℕ) (front back : List ℕ)
 total-append v [] back = omega arith
 total-append v (c ∷ front) back = omega (arith, total-append v front back)
 
--- where v is f of the character alone, whatever goes on behind a beginning
+-- where v is f of the character alone, whatever goes on after a beginning
 pub total_front_alone : (v : ℕ → List ℕ → ℕ) (f : ℕ → ℕ) → ((c : ℕ) (cs : List ℕ) → v c cs ≡ f c)
     → (front back : List ℕ) → total_front v front back ≡ sum_by f front
 total_front_alone v f alone [] back = refl
