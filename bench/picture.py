@@ -30,7 +30,8 @@ def read(lines):
             inside = True
         elif inside and line.startswith("| ") and not line.startswith("| function "):
             row = cells(line)
-            tables[-1][1].append((row[0], float(row[-1])))
+            # the mean stands before the spread
+            tables[-1][1].append((row[0], float(row[-2])))
             inside = row[0] != "mean"
     return heading, tables
 

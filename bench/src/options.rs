@@ -42,8 +42,8 @@ fn rounds(word: Option<String>) -> Result<usize, String> {
 pub struct Scale {
     /// The bytes of a long text of the table of ratios.
     pub long: usize,
-    /// The bytes of a middling text.
-    pub middling: usize,
+    /// The bytes of middling texts.
+    pub middling: [usize; 2],
     /// How many short texts are timed together.
     pub short_texts: usize,
     /// The bytes of the texts of the table of throughput.
@@ -61,7 +61,7 @@ impl Scale {
         let long = if small { 2_048 } else { 65_536 };
         Self {
             long,
-            middling: 1_000,
+            middling: [1_000, 300],
             short_texts: if small { 20 } else { 2_000 },
             throughput: [43, 1_000, long, huge],
             positions: if small { [4_096, 8_192] } else { [1 << 20, 10 << 20] },

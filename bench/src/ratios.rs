@@ -3,8 +3,11 @@
 use crate::options::Scale;
 use crate::table::Table;
 use crate::texts::{samples, Sample};
-use crate::timing::{geometric_mean, Best, Input, Work};
+use crate::timing::{geometric_mean, spread, Best, Input, Work};
 use original::Function;
+
+/// The quarters of what an index counts at which a conversion is asked: one quarter, three, and the end.
+const QUARTERS: [usize; 3] = [1, 3, 4];
 
 /// What was measured: a row for each function, in it a ratio for each sample.
 pub struct Ratios {
@@ -16,6 +19,8 @@ pub struct Ratios {
     ours: Vec<Vec<f64>>,
     /// The other's second timings over its first ones, which a quiet machine makes 1.
     control: Vec<Vec<f64>>,
+    /// How far the ratios of single rounds are spread.
+    spreads: Vec<Vec<f64>>,
 }
 
 /// One function over one sample.
@@ -24,6 +29,8 @@ struct Cell<'a> {
     ours: Timed,
     other: Timed,
     again: Timed,
+    /// Ours over the other, in each round.
+    rounds: Vec<f64>,
 }
 
 /// A function and its best time.
@@ -41,14 +48,22 @@ impl Timed {
     fn over(&self, other: &Self) -> f64 {
         self.best.nanoseconds() / other.best.nanoseconds()
     }
+
+    /// Times the function once more.
+    fn take(&mut self, work: &Work) -> f64 {
+        let time = work.time(self.function);
+        self.best.take(time);
+        time.as_secs_f64()
+    }
 }
 
 impl Cell<'_> {
     /// Times ours, the other, and the other again.
     fn round(&mut self) {
-        for timed in [&mut self.ours, &mut self.other, &mut self.again] {
-            timed.best.take(self.work.time(timed.function));
-        }
+        let ours = self.ours.take(&self.work);
+        let other = self.other.take(&self.work);
+        self.again.take(&self.work);
+        self.rounds.push(ours / other);
     }
 }
 
@@ -81,26 +96,28 @@ impl Ratios {
             samples: samples.iter().map(|sample| sample.name.clone()).collect(),
             ours: by_cell(&rows, |cell| cell.ours.over(&cell.other)),
             control: by_cell(&rows, |cell| cell.again.over(&cell.other)),
+            spreads: by_cell(&rows, |cell| spread(&cell.rounds)),
         })
     }
 
     /// The table that is printed, of the library as it answers now.
     pub fn table(&self, library: &str) -> Table {
         let mut rows = Vec::new();
-        for (name, ratios) in self.functions.iter().zip(&self.ours) {
+        for ((name, ratios), spreads) in self.functions.iter().zip(&self.ours).zip(&self.spreads) {
             let mean = geometric_mean(ratios.iter().copied());
-            rows.push(row(name, ratios.iter().copied(), mean));
+            rows.push(row(name, ratios.iter().copied(), mean, spreads));
         }
         for (name, ratios) in [("mean", &self.ours), (&format!("{}, twice", self.other), &self.control)] {
             let by_sample = (0..self.samples.len()).map(|place| geometric_mean(ratios.iter().map(|row| row[place])));
             let mean = geometric_mean(ratios.iter().flatten().copied());
-            rows.push(row(name, by_sample, mean));
+            rows.push(row(name, by_sample, mean, &[]));
         }
         let samples = self.samples.iter().map(String::as_str);
-        let headings = ["function"].into_iter().chain(samples).chain(["mean"]);
+        let headings = ["function"].into_iter().chain(samples).chain(["mean", "spread"]);
         Table {
             title: format!(
-                "Our time / that of {}, {library}, with geometric means. Below 1, ours is the faster.",
+                "Our time / that of {}, {library}, with geometric means, and the widest spread of a row's rounds. Below 1, \
+                 ours is the faster.",
                 self.other
             ),
             headings: headings.map(str::to_string).collect(),
@@ -114,20 +131,26 @@ fn by_cell(rows: &[Vec<Cell>], ratio: fn(&Cell) -> f64) -> Vec<Vec<f64>> {
     rows.iter().map(of_row).collect()
 }
 
-/// What the function is called with: each text of the sample, and the index at three quarters, rounded up, of what its
-/// indices count, which are bytes, or what its module counts.
+/// What the function is called with: each text of the sample, and where it converts an index, the indices at the quarters,
+/// rounded up, of what its indices count, which are bytes, or what its module counts.
 fn inputs<'a>(function: &Function, all: &[Function], sample: &'a Sample) -> Vec<Input<'a>> {
     let back = function.name().strip_suffix("to_byte_idx").map(|module| {
         let back = format!("{module}from_byte_idx");
         let named = all.iter().find(|other| other.name() == back);
         named.expect("each module has both conversions")
     });
-    let input = |text: &'a String| {
-        let whole = back.map_or(text.len(), |back| back.answer(text, text.len()));
-        let index = whole - whole / 4;
-        Input { text, index }
+    let quarters = match function {
+        Function::Counting(..) => &QUARTERS[2..],
+        Function::Converting(..) => &QUARTERS,
     };
-    sample.texts.iter().map(input).collect()
+    let of_text = |text: &'a String| {
+        let whole = back.map_or(text.len(), |back| back.answer(text, text.len()));
+        quarters.iter().map(move |quarter| Input {
+            text,
+            index: whole - whole / 4 * (4 - quarter),
+        })
+    };
+    sample.texts.iter().flat_map(of_text).collect()
 }
 
 /// Says where the answers differ, if they do.
@@ -151,12 +174,16 @@ fn cell<'a>(ours: Function, other: Function, inputs: Vec<Input<'a>>, scale: &Sca
         ours: Timed::new(ours),
         other: Timed::new(other),
         again: Timed::new(other),
+        rounds: Vec::new(),
     }
 }
 
-fn row(name: &str, ratios: impl Iterator<Item = f64>, mean: f64) -> Vec<String> {
+/// A row: the name, the ratios, their mean, and the widest of the spreads, where there are some.
+fn row(name: &str, ratios: impl Iterator<Item = f64>, mean: f64, spreads: &[f64]) -> Vec<String> {
     let cells = ratios.chain([mean]).map(|ratio| format!("{ratio:.2}"));
-    [name.to_string()].into_iter().chain(cells).collect()
+    let widest = spreads.iter().copied().reduce(f64::max);
+    let spread = widest.map_or(String::new(), |widest| format!("±{widest:.2}"));
+    [name.to_string()].into_iter().chain(cells).chain([spread]).collect()
 }
 
 #[cfg(test)]
@@ -183,20 +210,24 @@ mod tests {
         let difference = measure(&wrong).err().unwrap();
         assert_eq!(
             difference,
-            "utf16::from_byte_idx differs: 2 KiB ASCII, text 0, index 1536: ours 1537, that of the other 1536"
+            "utf16::from_byte_idx differs: 2 KiB ASCII, text 0, index 512: ours 513, that of the other 512"
         );
     }
 
     #[test]
-    fn indices_are_at_three_quarters_of_what_is_counted() {
+    fn indices_are_at_quarters_of_what_is_counted() {
         let functions = original::functions!(str_indices);
         let sample = Sample {
             name: String::new(),
             texts: vec!["über\nüber\nüber\nüber\n".to_string()],
         };
-        let index = |place: usize| inputs(&functions[place], &functions, &sample)[0].index;
-        assert_eq!(index(1), 18); // chars::from_byte_idx, of 24 bytes
-        assert_eq!(index(2), 15); // chars::to_byte_idx, of 20 characters
-        assert_eq!(index(9), 3); // lines_lf::to_byte_idx, of 4 breaks
+        let indices = |place: usize| {
+            let inputs = inputs(&functions[place], &functions, &sample);
+            inputs.iter().map(|input| input.index).collect::<Vec<usize>>()
+        };
+        assert_eq!(indices(0).len(), 1); // chars::count
+        assert_eq!(indices(1), [6, 18, 24]); // chars::from_byte_idx, of 24 bytes
+        assert_eq!(indices(2), [5, 15, 20]); // chars::to_byte_idx, of 20 characters
+        assert_eq!(indices(9), [1, 3, 4]); // lines_lf::to_byte_idx, of 4 breaks
     }
 }

@@ -43,8 +43,10 @@ pub fn samples(scale: &Scale) -> Vec<Sample> {
     for kind in [Kind::Ascii, Kind::Mixed, Kind::Cjk, Kind::Crlf] {
         samples.push(Sample::of_one(&mut random, kind, scale.long));
     }
-    for kind in [Kind::Ascii, Kind::Mixed] {
-        samples.push(Sample::of_one(&mut random, kind, scale.middling));
+    for size in scale.middling {
+        for kind in [Kind::Ascii, Kind::Mixed] {
+            samples.push(Sample::of_one(&mut random, kind, size));
+        }
     }
     let short = |_| {
         let size = 10 + random.below(91);

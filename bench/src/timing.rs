@@ -82,6 +82,15 @@ pub fn geometric_mean(ratios: impl Iterator<Item = f64>) -> f64 {
     (logarithms.iter().sum::<f64>() / logarithms.len() as f64).exp()
 }
 
+/// How far numbers are spread: half the distance between their quartiles, so that a single one that is far off does not
+/// tell.
+pub fn spread(numbers: &[f64]) -> f64 {
+    let mut sorted = numbers.to_vec();
+    sorted.sort_by(f64::total_cmp);
+    let quartile = |quarters: usize| sorted[(sorted.len() - 1) * quarters / 4];
+    (quartile(3) - quartile(1)) / 2.0
+}
+
 #[cfg(test)]
 mod tests {
     use super::*;
@@ -109,6 +118,12 @@ mod tests {
             best.take(Duration::from_nanos(nanoseconds));
         }
         assert_eq!(best.nanoseconds(), 3.0);
+    }
+
+    #[test]
+    fn the_spread_is_half_the_distance_of_the_quartiles() {
+        assert_eq!(spread(&[1.0]), 0.0);
+        assert_eq!(spread(&[1.0, 99.0, 2.0, 4.0, 3.0]), 1.0);
     }
 
     #[test]
