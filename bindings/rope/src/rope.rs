@@ -38,8 +38,8 @@ pub struct Rope {
     handle: UnsafeCell<Handle>,
 }
 
-// SAFETY: a rope owns what its handle points to, and that is memory of the heap, which threads share. The library keeps
-// nothing of a rope elsewhere. README.md says what this rests on.
+// SAFETY: all that a rope owns is memory of the C library's heap, which threads share, and the library keeps nothing of a
+// rope elsewhere. The header for C does not promise so much: it is read, as README.md says, and not proved.
 unsafe impl Send for Rope {}
 
 impl Drop for Rope {
