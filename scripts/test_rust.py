@@ -2,12 +2,12 @@
 """Builds and runs what Rust has of the library, as a user would.
 
 The tests and the doc examples of bindings/rust, by each half of the library, and once over the library without its wide
-half, and the message where the library is missing; outside the repository, over an installed library which pkg-config
-finds; those of bindings/positions, of bindings/original and of the benchmark; each function exchanged for each other one
-of its shape, which a worked answer must see; the example of a project that uses bindings/rust; a program without std; and
-the benchmark, one round over small texts, whose times nobody looks at. The original is compared where the environment variable
-STR_INDICES_ORIGINAL names its folder. Where cargo is not on the path nothing is tried. The last line printed is
-'N passed, M failed', with what is left out.
+half, and the message where a library is missing; outside the repository, over installed libraries which pkg-config
+finds; those of bindings/positions, of bindings/rope, of bindings/original and of the benchmark; each function of
+str_indices exchanged for each other one of its shape, which a worked answer must see; the example of a project that
+uses bindings/rust; a program without std; and the benchmark, one round over small texts, whose times nobody looks at. The
+original is compared where the environment variable STR_INDICES_ORIGINAL names its folder. Where cargo is not on the path
+nothing is tried. The last line printed is 'N passed, M failed', with what is left out.
 """
 import json
 import os
@@ -29,9 +29,10 @@ BINDINGS = ROOT / "bindings/rust"
 POSITIONS = ROOT / "bindings/positions"
 EXAMPLE = ROOT / "examples/rust"
 NO_STD = BINDINGS / "tests/no_std"
+ROPE = ROOT / "bindings/rope"
 
 # each folder with tests of its own, beside that of the library's functions, which has them by each half
-OTHERS = [POSITIONS, ROOT / "bindings/original", ROOT / "bench"]
+OTHERS = [POSITIONS, ROPE, ROOT / "bindings/original", ROOT / "bench"]
 
 TEST_RESULT = re.compile(r"^test result: \w+\. (\d+) passed; (\d+) failed", re.MULTILINE)
 COMPARED = re.compile(r"^random texts: .* (\d+) answers, none differs.*", re.MULTILINE)
@@ -87,27 +88,30 @@ def test_others():
 
 
 def install(library, prefix):
-    """The library below the prefix, with a file for pkg-config, as install_c has them."""
-    (prefix / "lib/pkgconfig").mkdir(parents=True)
+    """A library below the prefix, with a file for pkg-config, as install_c has them."""
+    name = library.stem.removeprefix("lib")
+    (prefix / "lib/pkgconfig").mkdir(parents=True, exist_ok=True)
     shutil.copy(library, prefix / "lib")
-    told = f"libdir={prefix}/lib\nName: str_indices\nDescription: proved\nVersion: 0.4.4\nLibs: -lstr_indices\n"
-    (prefix / "lib/pkgconfig/str_indices.pc").write_text(told, encoding="utf-8")
+    told = f"libdir={prefix}/lib\nName: {name}\nDescription: proved\nVersion: 0.4.4\nLibs: -l{name}\n"
+    (prefix / f"lib/pkgconfig/{name}.pc").write_text(told, encoding="utf-8")
 
 
-def test_outside(library, folder):
-    """The crates in a folder where there is nothing else of the repository, over the installed library."""
+def test_outside(libraries, folder):
+    """The crates in a folder where there is nothing else of the repository, over the installed libraries."""
     if not shutil.which("pkg-config"):
-        tally.leave_out(1, "bindings/rust over an installed library, as pkg-config is not on the path")
+        tally.leave_out(2, "the crates over installed libraries, as pkg-config is not on the path")
         return
     bindings = folder / "bindings"
     shutil.copytree(ROOT / "bindings", bindings, ignore=shutil.ignore_patterns("target", "Cargo.lock"))
-    install(library, folder / "a prefix")
+    for library in libraries:
+        install(library, folder / "a prefix")
     search = str(folder / "a prefix/lib/pkgconfig")
     named = dict(os.environ, PKG_CONFIG_PATH=search)
-    done = cargo(bindings / "positions", "test", env=named)
-    right = right_tests(done.stdout) if done.returncode == 0 else 0
-    if not tally.enough("tests of bindings/positions", right, "bindings/positions outside the repository, by pkg-config"):
-        print(done.stdout + done.stderr)
+    for name in ["positions", "rope"]:
+        done = cargo(bindings / name, "test", env=named)
+        right = right_tests(done.stdout) if done.returncode == 0 else 0
+        if not tally.enough(f"tests of bindings/{name}", right, f"bindings/{name} outside the repository, by pkg-config"):
+            print(done.stdout + done.stderr)
 
 
 def test_program(folder, name, environment):
@@ -134,11 +138,12 @@ def test_exchanges(library, folder):
         try_exchanges(tally, programs, of_both, "", "the Cargo crates")
 
 
-def test_missing_library(folder):
+def test_missing_library(crate, folder, missed):
+    """What a crate says where the environment variable names a folder without its library."""
     named = dict(os.environ, STR_INDICES_LIB_DIR=str(folder))
-    done = cargo(BINDINGS, "build", env=named)
-    said = f"STR_INDICES_LIB_DIR names {folder}, which has no libstr_indices.a" in done.stderr
-    tally.result(done.returncode != 0 and said, "bindings/rust says what is missing")
+    done = cargo(crate, "build", env=named)
+    said = f"STR_INDICES_LIB_DIR names {folder}, which has no {missed}" in done.stderr
+    tally.result(done.returncode != 0 and said, f"{crate.relative_to(ROOT)} says what is missing")
 
 
 def test_example(target):
@@ -169,15 +174,15 @@ def test_benchmark():
         print(done.stdout + done.stderr)
 
 
-def build_library(*words):
+def build_library(*words, script="build_library"):
     """The library that the script builds; None where it fails."""
-    done = subprocess.run([ROOT / "scripts/build_library", *words], capture_output=True, text=True)
-    if tally.result(done.returncode == 0, " ".join(["build_library", *words])):
+    done = subprocess.run([ROOT / "scripts" / script, *words], capture_output=True, text=True)
+    if tally.result(done.returncode == 0, " ".join([script, *words])):
         return pathlib.Path(done.stdout.splitlines()[-1])
     return None
 
 
-def test_all(library, folder):
+def test_all(library, rope, folder):
     empty = folder / "empty"
     empty.mkdir()
     os.environ["CARGO_TARGET_DIR"] = str(folder / "target")
@@ -186,9 +191,10 @@ def test_all(library, folder):
     if missing(library):
         tally.leave_out(3 * (len(ASKED) - 1), f"the wide half, as {missing(library)}")
     test_without_the_wide_half()
-    test_missing_library(empty)
+    test_missing_library(BINDINGS, empty, library.name)
+    test_missing_library(ROPE, library.parent / "narrow", rope.name)
     test_others()
-    test_outside(library, folder)
+    test_outside([library, rope], folder)
     test_exchanges(library, folder)
     test_example(folder / "target")
     test_no_std(folder / "target")
@@ -199,10 +205,10 @@ def main():
     if not shutil.which("cargo"):
         tally.leave_out(least("test_rust.py"), "cargo is not on the path")
     else:
-        library = build_library()
-        if library:
+        library, rope = build_library(), build_library(script="build_rope")
+        if library and rope:
             with tempfile.TemporaryDirectory() as folder:
-                test_all(library, pathlib.Path(folder))
+                test_all(library, rope, pathlib.Path(folder))
     return tally.end()
 
 

@@ -1,0 +1,178 @@
+//! The pieces of a rope, copied out one by one.
+use crate::library::str_rope_read;
+use crate::{Error, Rope};
+use alloc::string::String;
+use alloc::vec::Vec;
+use core::fmt;
+use core::iter::FusedIterator;
+use core::ops::{Deref, RangeBounds};
+use core::str;
+
+/// The most bytes that a piece has.
+pub const MAX_PIECE: usize = 1024;
+
+/// A part of a rope's text, of at most [`MAX_PIECE`] bytes. It is a copy, and holds no memory of the heap.
+#[derive(Clone)]
+pub struct Chunk {
+    start: usize,
+    len: usize,
+    bytes: [u8; MAX_PIECE],
+}
+
+impl Chunk {
+    /// The byte index where it begins in the rope's text.
+    pub fn start(&self) -> usize {
+        self.start
+    }
+
+    /// The byte index where it ends in the rope's text.
+    pub fn end(&self) -> usize {
+        self.start + self.len
+    }
+}
+
+impl Deref for Chunk {
+    type Target = str;
+
+    fn deref(&self) -> &str {
+        // SAFETY: a rope's text is UTF-8, the chunk begins at a boundary of it, and ends where a piece does, which is a
+        // boundary, or at one that was asked for.
+        unsafe { str::from_utf8_unchecked(&self.bytes[..self.len]) }
+    }
+}
+
+impl AsRef<str> for Chunk {
+    fn as_ref(&self) -> &str {
+        self
+    }
+}
+
+impl fmt::Debug for Chunk {
+    fn fmt(&self, f: &mut fmt::Formatter<'_>) -> fmt::Result {
+        f.debug_struct("Chunk")
+            .field("start", &self.start)
+            .field("text", &&**self)
+            .finish()
+    }
+}
+
+/// The chunks of a rope's text, or of a part of it, in order. None is empty, and one after the other they are the text.
+#[derive(Clone)]
+pub struct Chunks<'a> {
+    rope: &'a Rope,
+    at: usize,
+    end: usize,
+}
+
+impl Iterator for Chunks<'_> {
+    type Item = Chunk;
+
+    fn next(&mut self) -> Option<Chunk> {
+        if self.at == self.end {
+            return None;
+        }
+        let mut chunk = self.rope.chunk_from(self.at);
+        chunk.len = chunk.len.min(self.end - self.at);
+        self.at = chunk.end();
+        Some(chunk)
+    }
+}
+
+impl FusedIterator for Chunks<'_> {}
+
+impl fmt::Debug for Chunks<'_> {
+    fn fmt(&self, f: &mut fmt::Formatter<'_>) -> fmt::Result {
+        f.debug_list().entries(self.clone()).finish()
+    }
+}
+
+impl Rope {
+    /// The text in chunks, in order. Each is found in the logarithm of the number of pieces, and copied.
+    ///
+    /// ```
+    /// # fn main() -> Result<(), str_rope::Error> {
+    /// let rope: str_rope::Rope = "one\r\n".repeat(1000).parse()?;
+    /// let breaks: usize = rope.chunks().map(|chunk| chunk.matches('\n').count()).sum();
+    /// assert_eq!(breaks, 1000);
+    /// # Ok(())
+    /// # }
+    /// ```
+    pub fn chunks(&self) -> Chunks<'_> {
+        Chunks {
+            rope: self,
+            at: 0,
+            end: self.len_bytes(),
+        }
+    }
+
+    /// The text between two byte indices in chunks, in order.
+    ///
+    /// ```
+    /// # fn main() -> Result<(), str_rope::Error> {
+    /// let rope: str_rope::Rope = "one two three".parse()?;
+    /// let chunks: Vec<String> = rope.chunks_in(4..7)?.map(|chunk| chunk.to_string()).collect();
+    /// assert_eq!(chunks.concat(), "two");
+    /// # Ok(())
+    /// # }
+    /// ```
+    pub fn chunks_in(&self, range: impl RangeBounds<usize>) -> Result<Chunks<'_>, Error> {
+        let bytes = self.bytes_of(range);
+        if bytes.end < bytes.start {
+            return Err(Error::NotOrdered);
+        }
+        if !(self.is_char_boundary(bytes.start) && self.is_char_boundary(bytes.end)) {
+            return Err(Error::NotBoundary);
+        }
+        Ok(Chunks {
+            rope: self,
+            at: bytes.start,
+            end: bytes.end,
+        })
+    }
+
+    /// The text from a byte on, as far as its piece goes; `None` where the byte is at the end or past it. A byte inside a
+    /// char belongs to it: the chunk begins where the char does.
+    ///
+    /// ```
+    /// # fn main() -> Result<(), str_rope::Error> {
+    /// let rope: str_rope::Rope = "a🐸b".parse()?;
+    /// let chunk = rope.chunk_at(3).unwrap();
+    /// assert_eq!((chunk.start(), &chunk[..]), (1, "🐸b"));
+    /// assert!(rope.chunk_at(6).is_none());
+    /// # Ok(())
+    /// # }
+    /// ```
+    pub fn chunk_at(&self, byte_idx: usize) -> Option<Chunk> {
+        let start = self.char_to_byte(self.byte_to_char(byte_idx));
+        (byte_idx < self.len_bytes()).then(|| self.chunk_from(start))
+    }
+
+    /// The text between two byte indices as one block of memory.
+    ///
+    /// ```
+    /// # fn main() -> Result<(), str_rope::Error> {
+    /// let rope: str_rope::Rope = "one\ntwo\n".parse()?;
+    /// assert_eq!(rope.text_in(rope.line_to_byte(1)..rope.line_to_byte(2))?, "two\n");
+    /// # Ok(())
+    /// # }
+    /// ```
+    pub fn text_in(&self, range: impl RangeBounds<usize>) -> Result<String, Error> {
+        let bytes = self.bytes_of(range);
+        // Long enough for each range that is not refused, and no longer than the text.
+        let room = bytes.end.min(self.len_bytes()).saturating_sub(bytes.start);
+        let mut copy = Vec::new();
+        copy.try_reserve_exact(room).map_err(|_| Error::NoMemory)?;
+        copy.resize(room, 0);
+        self.copy_to(bytes, &mut copy)?;
+        // SAFETY: the part of a text between two boundaries is UTF-8.
+        Ok(unsafe { String::from_utf8_unchecked(copy) })
+    }
+
+    /// The text from a boundary on, as far as its piece goes.
+    fn chunk_from(&self, start: usize) -> Chunk {
+        let mut bytes = [0; MAX_PIECE];
+        // SAFETY: as `library` says, and the room may be written to.
+        let len = unsafe { str_rope_read(self.handle(), start, bytes.as_mut_ptr(), bytes.len()) };
+        Chunk { start, len, bytes }
+    }
+}

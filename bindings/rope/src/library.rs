@@ -1,0 +1,47 @@
+//! The exports of the static library.
+//!
+//! What they want of a caller is the same for all: a handle that was zeroed once and that no other call has meanwhile,
+//! and bytes that are there and stay as they are until the call returns. A `&str` is such bytes, and UTF-8 too.
+use crate::Bytes;
+use core::ffi::c_void;
+use core::ptr;
+use str_indices_positions::{Position, Range};
+
+/// What the library has of a rope. A zeroed one is the empty text.
+#[repr(C)]
+pub struct Handle {
+    hidden: *mut c_void,
+}
+
+impl Handle {
+    /// The empty text, which takes no memory.
+    pub const EMPTY: Handle = Handle {
+        hidden: ptr::null_mut(),
+    };
+}
+
+extern "C" {
+    pub fn str_rope_free(rope: *mut Handle);
+    pub fn str_rope_assign(rope: *mut Handle, text: *const u8, len: usize) -> u32;
+    pub fn str_rope_len(rope: *mut Handle) -> usize;
+    pub fn str_rope_count(rope: *mut Handle, scheme: u32) -> usize;
+    pub fn str_rope_from_byte_idx(rope: *mut Handle, scheme: u32, byte_idx: usize) -> usize;
+    pub fn str_rope_to_byte_idx(rope: *mut Handle, scheme: u32, idx: usize) -> usize;
+    pub fn str_rope_is_char_boundary(rope: *mut Handle, byte_idx: usize) -> bool;
+
+    pub fn str_rope_insert(rope: *mut Handle, at: usize, text: *const u8, len: usize) -> u32;
+    pub fn str_rope_remove(rope: *mut Handle, from: usize, to: usize) -> u32;
+    pub fn str_rope_replace(rope: *mut Handle, from: usize, to: usize, text: *const u8, len: usize) -> u32;
+    pub fn str_rope_append(rope: *mut Handle, other: *mut Handle) -> u32;
+    pub fn str_rope_split_off(rope: *mut Handle, at: usize, rest: *mut Handle) -> u32;
+
+    pub fn str_rope_read(rope: *mut Handle, at: usize, out: *mut u8, room: usize) -> usize;
+    pub fn str_rope_copy_to(rope: *mut Handle, from: usize, to: usize, out: *mut u8, room: usize) -> u32;
+
+    pub fn str_rope_line_end(rope: *mut Handle, line_idx: usize) -> usize;
+    pub fn str_rope_position_of(rope: *mut Handle, encoding: u32, byte_idx: usize) -> Position;
+    pub fn str_rope_byte_of(rope: *mut Handle, encoding: u32, position: Position) -> usize;
+    pub fn str_rope_exact_byte_of(rope: *mut Handle, encoding: u32, position: Position) -> usize;
+    pub fn str_rope_byte_range(rope: *mut Handle, encoding: u32, range: Range) -> Bytes;
+    pub fn str_rope_change(rope: *mut Handle, encoding: u32, range: Range, text: *const u8, len: usize) -> u32;
+}

@@ -1,0 +1,115 @@
+//! Positions of the Language Server Protocol in a rope.
+use crate::errors::result_of;
+use crate::library::*;
+use crate::{Error, Rope};
+use core::ops;
+use str_indices_positions::{Encoding, Position, Range};
+
+/// The byte indices of a range, as the library has them.
+#[repr(C)]
+pub struct Bytes {
+    start: usize,
+    end: usize,
+}
+
+/// What the library answers where it has none: no text is so long.
+const NONE: usize = usize::MAX;
+
+/// The number that the library has for an encoding.
+fn number_of(encoding: Encoding) -> u32 {
+    match encoding {
+        Encoding::Utf16 => 0,
+        Encoding::Utf8 => 1,
+        Encoding::Utf32 => 2,
+    }
+}
+
+/// Positions of the Language Server Protocol 3.17, whose lines end in LF, CR or CR LF. The answers are those of the crate
+/// `str_indices_positions` for the whole text.
+///
+/// ```
+/// use str_rope::{Encoding, Position, Range, Rope};
+///
+/// # fn main() -> Result<(), str_rope::Error> {
+/// let mut rope: Rope = "a\r\n🐸b".parse()?;
+/// let start = Position { line: 1, character: 2 };
+/// assert_eq!(rope.byte_of(Encoding::Utf16, start), 7);
+/// assert_eq!(rope.position_of(Encoding::Utf8, 7), Position { line: 1, character: 4 });
+///
+/// // A change as a client sends it.
+/// let end = Position { line: 1, character: 99 };
+/// rope.change(Encoding::Utf16, Range { start, end }, "ye")?;
+/// assert_eq!(rope, "a\r\n🐸ye");
+/// # Ok(())
+/// # }
+/// ```
+impl Rope {
+    /// The position of a byte: its line, and the units from that line's beginning to the byte.
+    ///
+    /// A byte inside a char has the position where the char begins, the byte between CR and LF that of the line's end,
+    /// and a byte past the end that of the text's end.
+    pub fn position_of(&self, encoding: Encoding, byte_idx: usize) -> Position {
+        // SAFETY: as `library` says.
+        unsafe { str_rope_position_of(self.handle(), number_of(encoding), byte_idx) }
+    }
+
+    /// The byte index where the char at a position begins.
+    ///
+    /// An offset inside a char belongs to its char. An offset past the end of the line gives the line's end, before its
+    /// break, and a line past the last one the length of the text in bytes.
+    pub fn byte_of(&self, encoding: Encoding, position: Position) -> usize {
+        // SAFETY: as `library` says.
+        unsafe { str_rope_byte_of(self.handle(), number_of(encoding), position) }
+    }
+
+    /// The byte index of a position that names a place, or `None`: where the text has no such line, the offset is past
+    /// the end of the line, or the unit is inside a char. So a server notices a client that is out of step.
+    ///
+    /// ```
+    /// use str_rope::{Encoding, Position, Rope};
+    ///
+    /// # fn main() -> Result<(), str_rope::Error> {
+    /// let rope: Rope = "🐸b".parse()?;
+    /// assert_eq!(rope.exact_byte_of(Encoding::Utf16, Position { line: 0, character: 2 }), Some(4));
+    /// assert_eq!(rope.exact_byte_of(Encoding::Utf16, Position { line: 0, character: 1 }), None);
+    /// # Ok(())
+    /// # }
+    /// ```
+    pub fn exact_byte_of(&self, encoding: Encoding, position: Position) -> Option<usize> {
+        // SAFETY: as `library` says.
+        let byte = unsafe { str_rope_exact_byte_of(self.handle(), number_of(encoding), position) };
+        (byte != NONE).then_some(byte)
+    }
+
+    /// The byte indices of a range, each as `byte_of` answers it, or `None` where its end is before its start.
+    pub fn byte_range(&self, encoding: Encoding, range: Range) -> Option<ops::Range<usize>> {
+        // SAFETY: as `library` says.
+        let bytes = unsafe { str_rope_byte_range(self.handle(), number_of(encoding), range) };
+        (bytes.start != NONE).then_some(bytes.start..bytes.end)
+    }
+
+    /// The byte index where the content of a line ends: before its break, or the length of the text in bytes where it is
+    /// the last line or past it.
+    ///
+    /// ```
+    /// # fn main() -> Result<(), str_rope::Error> {
+    /// let rope: str_rope::Rope = "one\r\ntwo".parse()?;
+    /// assert_eq!((rope.line_end(0), rope.line_end(1)), (3, 8));
+    /// # Ok(())
+    /// # }
+    /// ```
+    pub fn line_end(&self, line_idx: usize) -> usize {
+        // SAFETY: as `library` says.
+        unsafe { str_rope_line_end(self.handle(), line_idx) }
+    }
+
+    /// Exchanges what stands in a range for a text: one entry of the protocol's `contentChanges`. Each entry is meant in
+    /// the text that the one before it left. Where the entry has no range, its text is the whole one: [`Rope::assign`].
+    ///
+    /// Positions are cut as by [`Rope::byte_of`], so it is never [`Error::NotBoundary`].
+    pub fn change(&mut self, encoding: Encoding, range: Range, text: &str) -> Result<(), Error> {
+        let number = number_of(encoding);
+        // SAFETY: as `library` says.
+        result_of(unsafe { str_rope_change(self.handle(), number, range, text.as_ptr(), text.len()) })
+    }
+}

@@ -1,0 +1,282 @@
+//! A rope: how it is made, asked and changed.
+use crate::errors::result_of;
+use crate::library::*;
+use crate::Error;
+use core::cell::UnsafeCell;
+use core::ops::{self, Bound, RangeBounds};
+
+/// What is counted in a text.
+#[derive(Clone, Copy, Debug, PartialEq, Eq, Hash)]
+#[repr(u32)]
+pub enum Scheme {
+    /// Chars: Unicode scalar values.
+    Chars = 0,
+    /// UTF-16 code units.
+    Utf16 = 1,
+    /// Line breaks of LF alone.
+    Lf = 2,
+    /// Line breaks of LF, CR and CR LF, which is one, as a language server has them.
+    Crlf = 3,
+    /// Line breaks of Unicode: LF, VT, FF, CR, CR LF, U+0085, U+2028 and U+2029.
+    Lines = 4,
+}
+
+/// A text in a balanced tree of pieces. Each question and each change takes the logarithm of the number of pieces.
+///
+/// It may go to another thread, but two threads cannot ask one rope at once:
+///
+/// ```
+/// fn sent<T: Send>(_: T) {}
+/// sent(str_rope::Rope::new());
+/// ```
+///
+/// ```compile_fail,E0277
+/// fn shared<T: Sync>(_: T) {}
+/// shared(str_rope::Rope::new());
+/// ```
+pub struct Rope {
+    handle: UnsafeCell<Handle>,
+}
+
+// SAFETY: all that a rope owns is memory of the C library's heap, which threads share, and the library keeps nothing of a
+// rope elsewhere. The header for C does not promise so much: it is read, as README.md says, and not proved.
+unsafe impl Send for Rope {}
+
+impl Drop for Rope {
+    fn drop(&mut self) {
+        // SAFETY: the handle is this rope's own, and nobody has it afterwards.
+        unsafe { str_rope_free(self.handle()) }
+    }
+}
+
+impl Rope {
+    /// The empty text, which takes no memory.
+    ///
+    /// ```
+    /// assert!(str_rope::Rope::new().is_empty());
+    /// ```
+    pub const fn new() -> Rope {
+        Rope {
+            handle: UnsafeCell::new(Handle::EMPTY),
+        }
+    }
+
+    /// The handle for one call. A question too takes it for itself until it returns, so there is no `Sync`; and since
+    /// the library calls nothing of Rust, no two calls have it at once.
+    pub(crate) fn handle(&self) -> *mut Handle {
+        self.handle.get()
+    }
+
+    /// Exchanges the whole text for another. Both take memory until it is done.
+    ///
+    /// ```
+    /// # fn main() -> Result<(), str_rope::Error> {
+    /// let mut rope = "one\n".parse::<str_rope::Rope>()?;
+    /// rope.assign("two\n")?;
+    /// assert_eq!(rope, "two\n");
+    /// # Ok(())
+    /// # }
+    /// ```
+    pub fn assign(&mut self, text: &str) -> Result<(), Error> {
+        // SAFETY: as `library` says.
+        result_of(unsafe { str_rope_assign(self.handle(), text.as_ptr(), text.len()) })
+    }
+
+    /// A rope with the same text, or [`Error::NoMemory`]. For a moment the text stands in memory once more, in one block.
+    pub fn try_clone(&self) -> Result<Rope, Error> {
+        self.text_in(..)?.parse()
+    }
+
+    /// Whether the text has no byte.
+    pub fn is_empty(&self) -> bool {
+        self.len_bytes() == 0
+    }
+
+    /// How many bytes the text has.
+    pub fn len_bytes(&self) -> usize {
+        // SAFETY: as `library` says.
+        unsafe { str_rope_len(self.handle()) }
+    }
+
+    /// How many chars, UTF-16 code units or line breaks the text has.
+    ///
+    /// ```
+    /// use str_rope::{Rope, Scheme};
+    ///
+    /// # fn main() -> Result<(), str_rope::Error> {
+    /// let rope: Rope = "a\r\n🐸\u{2028}b".parse()?;
+    /// let schemes = [Scheme::Chars, Scheme::Utf16, Scheme::Lf, Scheme::Crlf, Scheme::Lines];
+    /// assert_eq!(schemes.map(|scheme| rope.count(scheme)), [6, 7, 1, 1, 2]);
+    /// # Ok(())
+    /// # }
+    /// ```
+    pub fn count(&self, scheme: Scheme) -> usize {
+        // SAFETY: as `library` says.
+        unsafe { str_rope_count(self.handle(), scheme as u32) }
+    }
+
+    /// How many chars, UTF-16 code units or line breaks end at a byte index or before it. Past the end it is all.
+    ///
+    /// ```
+    /// use str_rope::{Rope, Scheme};
+    ///
+    /// # fn main() -> Result<(), str_rope::Error> {
+    /// let rope: Rope = "a\r\n🐸b".parse()?;
+    /// assert_eq!(rope.from_byte_idx(Scheme::Utf16, 7), 5);
+    /// assert_eq!(rope.from_byte_idx(Scheme::Crlf, 2), 0);
+    /// assert_eq!(rope.from_byte_idx(Scheme::Crlf, 3), 1);
+    /// assert_eq!(rope.from_byte_idx(Scheme::Chars, 99), 5);
+    /// # Ok(())
+    /// # }
+    /// ```
+    pub fn from_byte_idx(&self, scheme: Scheme, byte_idx: usize) -> usize {
+        // SAFETY: as `library` says.
+        unsafe { str_rope_from_byte_idx(self.handle(), scheme as u32, byte_idx) }
+    }
+
+    /// The byte index where a char, or the char of a UTF-16 code unit, or a line begins. Past the last one it is the
+    /// length of the text in bytes.
+    ///
+    /// ```
+    /// use str_rope::{Rope, Scheme};
+    ///
+    /// # fn main() -> Result<(), str_rope::Error> {
+    /// let rope: Rope = "a\r\n🐸b".parse()?;
+    /// assert_eq!(rope.to_byte_idx(Scheme::Utf16, 4), 3);
+    /// assert_eq!(rope.to_byte_idx(Scheme::Utf16, 5), 7);
+    /// assert_eq!(rope.to_byte_idx(Scheme::Lf, 1), 3);
+    /// assert_eq!(rope.to_byte_idx(Scheme::Lf, 2), 8);
+    /// # Ok(())
+    /// # }
+    /// ```
+    pub fn to_byte_idx(&self, scheme: Scheme, idx: usize) -> usize {
+        // SAFETY: as `library` says.
+        unsafe { str_rope_to_byte_idx(self.handle(), scheme as u32, idx) }
+    }
+
+    /// Whether a byte index is where a char begins, or the end of the text.
+    pub fn is_char_boundary(&self, byte_idx: usize) -> bool {
+        // SAFETY: as `library` says.
+        unsafe { str_rope_is_char_boundary(self.handle(), byte_idx) }
+    }
+
+    /// Puts a text in at a byte index.
+    ///
+    /// ```
+    /// use str_rope::{Error, Rope};
+    ///
+    /// # fn main() -> Result<(), str_rope::Error> {
+    /// let mut rope: Rope = "🐸b".parse()?;
+    /// rope.insert(4, "a")?;
+    /// assert_eq!(rope, "🐸ab");
+    /// assert_eq!(rope.insert(1, "c"), Err(Error::NotBoundary));
+    /// # Ok(())
+    /// # }
+    /// ```
+    pub fn insert(&mut self, at: usize, text: &str) -> Result<(), Error> {
+        // SAFETY: as `library` says.
+        result_of(unsafe { str_rope_insert(self.handle(), at, text.as_ptr(), text.len()) })
+    }
+
+    /// Takes out what stands between two byte indices. It takes no memory, and is never [`Error::NoMemory`].
+    ///
+    /// ```
+    /// # fn main() -> Result<(), str_rope::Error> {
+    /// let mut rope: str_rope::Rope = "one two".parse()?;
+    /// rope.remove(3..)?;
+    /// assert_eq!(rope, "one");
+    /// # Ok(())
+    /// # }
+    /// ```
+    pub fn remove(&mut self, range: impl RangeBounds<usize>) -> Result<(), Error> {
+        let bytes = self.bytes_of(range);
+        // SAFETY: as `library` says.
+        result_of(unsafe { str_rope_remove(self.handle(), bytes.start, bytes.end) })
+    }
+
+    /// Exchanges what stands between two byte indices for a text, in one change.
+    ///
+    /// ```
+    /// # fn main() -> Result<(), str_rope::Error> {
+    /// let mut rope: str_rope::Rope = "one two".parse()?;
+    /// rope.replace(..3, "no")?;
+    /// assert_eq!(rope, "no two");
+    /// # Ok(())
+    /// # }
+    /// ```
+    pub fn replace(&mut self, range: impl RangeBounds<usize>, text: &str) -> Result<(), Error> {
+        let bytes = self.bytes_of(range);
+        // SAFETY: as `library` says.
+        result_of(unsafe { str_rope_replace(self.handle(), bytes.start, bytes.end, text.as_ptr(), text.len()) })
+    }
+
+    /// Puts the text of another rope at the end of this one, and leaves the other empty. It takes no memory.
+    ///
+    /// ```
+    /// # fn main() -> Result<(), str_rope::Error> {
+    /// let mut rope: str_rope::Rope = "one ".parse()?;
+    /// let mut rest = "two".parse()?;
+    /// rope.append(&mut rest)?;
+    /// assert_eq!(rope, "one two");
+    /// assert_eq!(rest, "");
+    /// # Ok(())
+    /// # }
+    /// ```
+    pub fn append(&mut self, other: &mut Rope) -> Result<(), Error> {
+        // SAFETY: as `library` says; two `&mut` are of two ropes.
+        result_of(unsafe { str_rope_append(self.handle(), other.handle()) })
+    }
+
+    /// Takes off what stands from a byte index on, and answers it as a rope.
+    ///
+    /// ```
+    /// # fn main() -> Result<(), str_rope::Error> {
+    /// let mut rope: str_rope::Rope = "one two".parse()?;
+    /// assert_eq!(rope.split_off(4)?, "two");
+    /// assert_eq!(rope, "one ");
+    /// # Ok(())
+    /// # }
+    /// ```
+    pub fn split_off(&mut self, at: usize) -> Result<Rope, Error> {
+        let rest = Rope::new();
+        // SAFETY: as `library` says; the new rope is another one.
+        result_of(unsafe { str_rope_split_off(self.handle(), at, rest.handle()) })?;
+        Ok(rest)
+    }
+
+    /// Copies the bytes between two byte indices to the beginning of a room, and answers how many they are. Where it is
+    /// refused, the room is as it was; it is [`Error::TooLong`] where the room is shorter than the part.
+    ///
+    /// ```
+    /// # fn main() -> Result<(), str_rope::Error> {
+    /// let rope: str_rope::Rope = "one two".parse()?;
+    /// let mut room = [b'.'; 5];
+    /// assert_eq!(rope.copy_to(4.., &mut room), Ok(3));
+    /// assert_eq!(&room, b"two..");
+    /// # Ok(())
+    /// # }
+    /// ```
+    pub fn copy_to(&self, range: impl RangeBounds<usize>, room: &mut [u8]) -> Result<usize, Error> {
+        let bytes = self.bytes_of(range);
+        let (out, len) = (room.as_mut_ptr(), room.len());
+        // SAFETY: as `library` says, and the room may be written to.
+        result_of(unsafe { str_rope_copy_to(self.handle(), bytes.start, bytes.end, out, len) })?;
+        Ok(bytes.len())
+    }
+
+    /// The byte indices that a range means.
+    pub(crate) fn bytes_of(&self, range: impl RangeBounds<usize>) -> ops::Range<usize> {
+        // No text has a byte at `usize::MAX`, so an index that is cut to it is past the end as well.
+        let start = match range.start_bound() {
+            Bound::Included(&byte) => byte,
+            Bound::Excluded(&byte) => byte.saturating_add(1),
+            Bound::Unbounded => 0,
+        };
+        let end = match range.end_bound() {
+            Bound::Included(&byte) => byte.saturating_add(1),
+            Bound::Excluded(&byte) => byte,
+            Bound::Unbounded => self.len_bytes(),
+        };
+        start..end
+    }
+}

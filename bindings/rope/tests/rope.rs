@@ -1,0 +1,190 @@
+//! What is refused, what other crates expect of a text, and what a rope does with memory.
+mod model;
+use model::{joined, Numbers};
+use std::error::Error as _;
+use std::fs;
+use std::ops;
+use std::thread;
+use str_rope::{Chunk, Encoding, Error, Position, Range, Rope, MAX_PIECE};
+
+/// Nine bytes: a break of two, and a char of four.
+const TEXT: &str = "a\r\n🐸bc";
+
+fn rope() -> Rope {
+    TEXT.parse().unwrap()
+}
+
+#[test]
+fn a_change_is_refused_and_the_text_stays() {
+    let mut rope = rope();
+    let (after, before) = (Position { line: 1, character: 2 }, Position { line: 1, character: 0 });
+    let reversed = Range {
+        start: after,
+        end: before,
+    };
+    assert_eq!(rope.insert(4, "x"), Err(Error::NotBoundary));
+    assert_eq!(rope.insert(10, "x"), Err(Error::NotBoundary));
+    assert_eq!(rope.insert(usize::MAX, ""), Err(Error::NotBoundary));
+    assert_eq!(rope.remove(ops::Range { start: 5, end: 4 }), Err(Error::NotOrdered));
+    assert_eq!(rope.remove(3..5), Err(Error::NotBoundary));
+    assert_eq!(rope.remove(3..=usize::MAX), Err(Error::NotBoundary));
+    assert_eq!(rope.replace(4..7, "x"), Err(Error::NotBoundary));
+    assert_eq!(rope.replace(11.., "x"), Err(Error::NotOrdered));
+    assert_eq!(rope.split_off(6).unwrap_err(), Error::NotBoundary);
+    assert_eq!(rope.change(Encoding::Utf16, reversed, "x"), Err(Error::NotOrdered));
+    assert_eq!(rope.byte_range(Encoding::Utf16, reversed), None);
+    assert_eq!(rope, TEXT);
+}
+
+#[test]
+fn a_copy_is_refused_and_the_room_stays() {
+    let rope = rope();
+    let mut room = *b"....";
+    assert_eq!(rope.copy_to(.., &mut room), Err(Error::TooLong));
+    assert_eq!(rope.copy_to(4..7, &mut room), Err(Error::NotBoundary));
+    assert_eq!(
+        rope.copy_to(ops::Range { start: 3, end: 1 }, &mut room),
+        Err(Error::NotOrdered)
+    );
+    assert_eq!(&room, b"....");
+    assert_eq!(rope.copy_to(3..7, &mut room), Ok(4));
+    assert_eq!(&room, "🐸".as_bytes());
+    assert_eq!(rope.text_in(2..5), Err(Error::NotBoundary));
+    assert_eq!(rope.text_in(3..99), Err(Error::NotBoundary));
+    assert_eq!(
+        rope.chunks_in(ops::Range { start: 9, end: 3 }).unwrap_err(),
+        Error::NotOrdered
+    );
+    assert_eq!(rope.chunks_in(4..).unwrap_err(), Error::NotBoundary);
+}
+
+#[test]
+fn ranges_are_those_of_std() {
+    let rope = rope();
+    assert_eq!(rope.text_in(..).as_deref(), Ok(TEXT));
+    assert_eq!(rope.text_in(..=2).as_deref(), Ok("a\r\n"));
+    assert_eq!(rope.text_in(7..).as_deref(), Ok("bc"));
+    let after_b = (ops::Bound::Excluded(7), ops::Bound::Unbounded);
+    assert_eq!(rope.text_in(after_b).as_deref(), Ok("c"));
+    assert_eq!(rope.text_in(9..).as_deref(), Ok(""));
+}
+
+#[test]
+fn an_error_tells_what_it_is() {
+    let errors = [Error::NotOrdered, Error::NotBoundary, Error::TooLong, Error::NoMemory];
+    let told: Vec<String> = errors.iter().map(Error::to_string).collect();
+    assert_eq!(told[0], "the end of a range is before its start");
+    assert!((1..4).all(|one| !told[..one].contains(&told[one])));
+    assert!(Error::NoMemory.source().is_none());
+}
+
+#[test]
+fn the_empty_text() {
+    let mut rope = Rope::default();
+    assert!(rope.is_empty() && rope.chunks().next().is_none() && rope.chunk_at(0).is_none());
+    assert_eq!((rope.len_chars(), rope.len_lines(), rope.char_to_byte(7)), (0, 1, 0));
+    assert_eq!(rope.position_of(Encoding::Utf16, 7), Position { line: 0, character: 0 });
+    rope.assign(TEXT).unwrap();
+    rope.remove(..).unwrap();
+    assert_eq!((&rope, rope.to_string()), (&Rope::new(), String::new()));
+    let mut rest = rope.split_off(0).unwrap();
+    rope.append(&mut rest).unwrap();
+    assert_eq!(rope, "");
+}
+
+#[test]
+fn it_is_written_as_the_text_is() {
+    let mut numbers = Numbers(3);
+    for _ in 0..50 {
+        let text = numbers.text(2000) + "'\"\\\u{301}";
+        let rope = Rope::try_from(text.as_str()).unwrap();
+        assert_eq!(rope.to_string(), text);
+        assert_eq!(format!("{rope:?}"), format!("{text:?}"));
+        assert_eq!(String::from(&rope), text);
+    }
+    assert_eq!(
+        format!("{:?}", rope().chunk_at(3)),
+        "Some(Chunk { start: 3, text: \"🐸bc\" })"
+    );
+}
+
+#[test]
+fn equal_texts_in_other_pieces_are_equal() {
+    let mut numbers = Numbers(4);
+    let text = numbers.text(9000);
+    let whole: Rope = text.parse().unwrap();
+    let mut grown = Rope::new();
+    for char in text.chars() {
+        grown.insert(grown.len_bytes(), char.encode_utf8(&mut [0; 4])).unwrap();
+    }
+    assert_eq!(grown, whole);
+    assert_eq!(grown, text);
+    let mut copy = grown.clone();
+    assert_eq!(copy, whole);
+    copy.insert(0, "x").unwrap();
+    copy.remove(copy.char_to_byte(copy.len_chars() - 1)..).unwrap();
+    assert!(copy != whole && copy != text.as_str());
+    assert_eq!(grown, whole);
+}
+
+#[test]
+fn chunks_are_short_and_own_their_bytes() {
+    let rope: Rope = TEXT.repeat(1000).parse().unwrap();
+    let chunks: Vec<Chunk> = rope.chunks().collect();
+    assert!(chunks.iter().all(|chunk| chunk.len() <= MAX_PIECE));
+    assert!(chunks.len() <= 2 * rope.len_bytes() / MAX_PIECE + 1);
+    drop(rope);
+    let joined: String = chunks.iter().map(|chunk| &**chunk).collect();
+    assert_eq!(joined, TEXT.repeat(1000));
+}
+
+#[test]
+fn a_rope_goes_to_other_threads() {
+    let mut rope: Rope = TEXT.repeat(1000).parse().unwrap();
+    for _ in 0..20 {
+        let change = move || {
+            rope.insert(1, "b").unwrap();
+            rope
+        };
+        rope = thread::spawn(change).join().unwrap();
+    }
+    thread::spawn(move || assert_eq!(rope.text_in(..21).as_deref(), Ok("abbbbbbbbbbbbbbbbbbbb")))
+        .join()
+        .unwrap();
+}
+
+/// The memory that the program has, in pages.
+fn pages() -> usize {
+    let told = fs::read_to_string("/proc/self/statm").unwrap();
+    told.split(' ').nth(1).unwrap().parse().unwrap()
+}
+
+/// Ten thousand ropes of 90,000 bytes would take 900 MB. Half are cut in two, and half of these put together again.
+#[test]
+fn what_is_dropped_is_freed() {
+    let text = TEXT.repeat(10_000);
+    let one = |nth: usize| {
+        let mut rope: Rope = text.parse().unwrap();
+        let mut rest = rope.split_off(nth % 2 * 45_000).unwrap();
+        if nth % 4 == 3 {
+            rope.append(&mut rest).unwrap();
+            assert_eq!(rope.len_bytes(), text.len());
+        }
+        rope.assign(&text[..9]).unwrap();
+    };
+    (0..100).for_each(one);
+    let before = pages();
+    (0..10_000).for_each(one);
+    assert!(pages() < before + 10_000, "{before} pages before, {} after", pages());
+}
+
+#[test]
+fn many_ropes_at_once() {
+    let mut numbers = Numbers(5);
+    let texts: Vec<String> = (0..2000).map(|_| numbers.text(300)).collect();
+    let mut ropes: Vec<Rope> = texts.iter().map(|text| text.parse().unwrap()).collect();
+    for _ in 0..1000 {
+        ropes.swap_remove(numbers.below(ropes.len()));
+    }
+    assert!(ropes.iter().all(|rope| texts.contains(&joined(rope))));
+}
