@@ -1,4 +1,4 @@
-// Times changes of a text in the rope of libstdc++, `__gnu_cxx::crope`. Its words and lines are those of rope.txt, where
+// Times changes of a text in the rope of libstdc++, `__gnu_cxx::crope`. Its words and lines are those of rope.rt.txt, where
 // the first word is crope. It answers no questions of characters or lines.
 #include <chrono>
 #include <cstdint>

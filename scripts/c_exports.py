@@ -48,10 +48,10 @@ class Library(NamedTuple):
     added: tuple
 
     def headers(self):
-        return sorted((ROOT / "include").glob(f"{self.name}*.h"))
+        return sorted((ROOT / "bindings/c/include").glob(f"{self.name}*.h"))
 
     def is_here(self):
-        return (ROOT / "scripts" / self.script).is_file()
+        return (ROOT / "bindings/c" / self.script).is_file()
 
 
 STR_INDICES = Library(

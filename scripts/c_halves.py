@@ -123,7 +123,7 @@ def link_stand_ins(tally, library, folder):
     names = sorted({name for _, name in NAMES.findall(told)})
     source, program = folder / "stand_ins.c", folder / f"stand_ins_{library.parent.name}"
     source.write_text(stand_ins(names), encoding="utf-8")
-    command = ["cc", "-std=c99", "-Wall", "-Wextra", "-Werror", f"-I{ROOT}/include"]
+    command = ["cc", "-std=c99", "-Wall", "-Wextra", "-Werror", f"-I{ROOT}/bindings/c/include"]
     done = subprocess.run([*command, source, folder / "choose_half.o", "-o", program], capture_output=True, text=True)
     right = done.returncode == 0 and {PREFIX + name for name in names} == set(declared()) - WITHOUT
     if not tally.result(right, f"{len(names)} functions are linked with stand-ins of the halves"):
@@ -169,8 +169,7 @@ def try_halves(tally, library, narrow, worked_answers, folder):
 
 def copy_for_builds(folder):
     """What build_library needs, with the halves as they are built, and a folder with a stand-in of rt."""
-    for part in ["scripts", "c", "include"]:
-        shutil.copytree(ROOT / part, folder / part)
+    shutil.copytree(ROOT / "bindings/c", folder / "bindings/c")
     for crate in ["str_indices_c_wide", *[library.crate for library in LIBRARIES]]:
         (folder / "crates" / crate / "out").mkdir(parents=True)
         shutil.copy(ROOT / "crates" / crate / f"out/lib{crate}.a", folder / "crates" / crate / "out")
@@ -197,7 +196,7 @@ def try_build(tally, folder, commands, compiler, right, said, what):
     """Whether build_library ends so, and whether there is a library then."""
     shutil.rmtree(folder / "out", ignore_errors=True)
     path = dict(os.environ, PATH=f"{commands}:{os.environ['PATH']}", CC=compiler)
-    done = subprocess.run([folder / "scripts/build_library"], env=path, capture_output=True, text=True)
+    done = subprocess.run([folder / "bindings/c/build_library"], env=path, capture_output=True, text=True)
     built = (folder / "out/libstr_indices.a").is_file()
     if not tally.result((done.returncode == 0) == right == built and said in done.stderr, f"build_library, {what}"):
         print(done.returncode, done.stdout + done.stderr)
@@ -210,6 +209,6 @@ def try_builds(tally, folder, commands):
     try_build(tally, folder, commands, "old_cc", True, cannot_ask, "a compiler without cpuid.h: without the wide half")
     absent = "no_such_compiler"
     try_build(tally, folder, commands, absent, False, absent, "a compiler that is not there: an error")
-    with open(folder / "c/choose_half.c", "a", encoding="utf-8") as source:
+    with open(folder / "bindings/c/choose_half.c", "a", encoding="utf-8") as source:
         source.write("#ifdef STR_INDICES_WIDE\n#error a fault\n#endif\n")
     try_build(tally, folder, commands, "cc", False, "a fault", "a wide half that does not compile: an error")

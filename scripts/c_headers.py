@@ -8,7 +8,7 @@ import subprocess
 
 from c_exports import LIBRARIES, ROOT, declared, exported, symbols
 
-STRICT = ["-Wall", "-Wextra", "-Werror", "-pedantic", "-fsyntax-only", f"-I{ROOT}/include"]
+STRICT = ["-Wall", "-Wextra", "-Werror", "-pedantic", "-fsyntax-only", f"-I{ROOT}/bindings/c/include"]
 HEADERS = [header for library in LIBRARIES for header in library.headers()]
 COMPILERS = {"C": ["cc", "-std=c99", "-x", "c"], "C++": ["c++", "-std=c++11", "-x", "c++"]}
 

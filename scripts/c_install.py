@@ -1,4 +1,4 @@
-"""Tries what `install_c` says of itself: its words, where it puts files, and how it takes them away.
+"""Tries what `install` says of itself: its words, where it puts files, and how it takes them away.
 
 That runs in a copy with a stand-in of `rt`, since nothing of it has to be proved again. What is installed is used by
 `test_c.py`.
@@ -18,7 +18,7 @@ class Copy:
 
     def install(self, *words, **variables):
         environment = dict(os.environ, PATH=self.path, **variables)
-        return subprocess.run([self.folder / "scripts/install_c", *words], env=environment, capture_output=True, text=True)
+        return subprocess.run([self.folder / "bindings/c/install", *words], env=environment, capture_output=True, text=True)
 
     def has_built(self):
         return (self.folder / "out").exists()
@@ -31,21 +31,21 @@ def files(root):
 
 def ends(tally, done, status, said, what):
     """Whether it ended with that status, and said so."""
-    if not tally.result(done.returncode == status and said in done.stdout + done.stderr, f"install_c, {what}"):
+    if not tally.result(done.returncode == status and said in done.stdout + done.stderr, f"install, {what}"):
         print(done.returncode, done.stdout + done.stderr)
 
 
 def try_words(tally, copy, folder):
     """Its words, and prefixes where nothing can be put: all of them before anything is built."""
     (folder / "file").touch()
-    ends(tally, copy.install("--help"), 0, "usage: install_c PREFIX", "--help")
-    ends(tally, copy.install(), 2, "usage: install_c PREFIX", "no prefix")
+    ends(tally, copy.install("--help"), 0, "usage: install PREFIX", "--help")
+    ends(tally, copy.install(), 2, "usage: install PREFIX", "no prefix")
     ends(tally, copy.install(folder / "p", "--wide"), 2, "no such word: --wide", "a word that it has not")
     ends(tally, copy.install(folder / "p", folder / "q"), 2, "two prefixes", "two prefixes")
     below = folder / "file/prefix"
     ends(tally, copy.install(below), 1, f"nothing can be put below {below}", "a prefix that is no folder")
     ends(tally, copy.install("--uninstall", folder / "p"), 1, "nothing is installed", "--uninstall with nothing there")
-    tally.result(not copy.has_built(), "install_c builds nothing where it cannot install")
+    tally.result(not copy.has_built(), "install builds nothing where it cannot install")
 
 
 def try_list(tally, copy, folder):

@@ -11,10 +11,10 @@ from c_exports import ROOT, STR_ROPE, pairs
 from exchanges import exchanging_library, try_exchanges
 from tally import least, sums_of
 
-TESTS = ROOT / "tests/c"
+TESTS = ROOT / "bindings/c/tests"
 ROPES, CHANGES, FAILING = TESTS / "ropes.c", TESTS / "rope_changes.c", TESTS / "failing_ropes.c"
-LONG_TEXT = ROOT / "examples/c/long_text.cpp"
-STRICT = ["-Wall", "-Wextra", "-Werror", "-pedantic", "-O2", f"-I{ROOT}/include"]
+LONG_TEXT = ROOT / "bindings/c/examples/long_text.cpp"
+STRICT = ["-Wall", "-Wextra", "-Werror", "-pedantic", "-O2", f"-I{ROOT}/bindings/c/include"]
 LANGUAGES = {"C": ["cc", "-std=c99"], "C++": ["c++", "-std=c++11"]}
 SANITIZERS = ["-fsanitize=address,undefined", "-fno-sanitize-recover", "-g"]
 VALGRIND = ["valgrind", "-q", "--error-exitcode=9", "--leak-check=full", "--show-leak-kinds=all"]

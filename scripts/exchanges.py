@@ -10,7 +10,7 @@ import subprocess
 from c_exports import ROOT, STR_INDICES, declared
 from tally import least
 
-COMPILER = ["cc", "-std=c99", "-Wall", "-Wextra", "-Werror", "-O1", "-fPIC", f"-I{ROOT}/include"]
+COMPILER = ["cc", "-std=c99", "-Wall", "-Wextra", "-Werror", "-O1", "-fPIC", f"-I{ROOT}/bindings/c/include"]
 
 HEAD = """#include <stdlib.h>
 #include <string.h>

@@ -1,7 +1,7 @@
 #!/usr/bin/env python3
 """Makes each allocation, read and write of the program fail, each in a run of its own.
 
-The built program runs over tests/c/failing_calls.c: each allocation is refused, alone and with all after it; each read
+The built program runs over tests/failing_calls.c: each allocation is refused, alone and with all after it; each read
 fails, is interrupted, or moves one byte; each write fails, is interrupted, or moves one byte or none. It reads files,
 since a pipe brings a text in as many reads as it happens to take. Then `rt try` builds the program once more, so that it
 stops at an index out of bounds and at a bad access, and refuses the last allocation of the longest text: a growth of what
@@ -23,7 +23,7 @@ from tally import Tally
 from test_program import CRATE, NO_MEMORY, NOT_UTF8, PROGRAM, READ, USAGE, WRITE, build, number, run, told
 
 ROOT = pathlib.Path(__file__).resolve().parent.parent
-SOURCE = ROOT / "tests/c/failing_calls.c"
+SOURCE = ROOT / "tests/failing_calls.c"
 COMPILER = ["cc", "-std=c99", "-Wall", "-Wextra", "-Werror", "-pedantic", "-O2", "-shared", "-fPIC"]
 
 

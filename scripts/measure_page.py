@@ -2,7 +2,7 @@
 """Measures the page on long texts beside a plain field for text, in Chromium.
 
 For each size: milliseconds from the event of a paste, an arrow key or a letter in the middle of the text until the next
-drawing is made, at the page of `scripts/build_web` and at a page that has nothing but the field. A drawing is waited for
+drawing is made, at the page of `bindings/web/build` and at a page that has nothing but the field. A drawing is waited for
 in each, so that nothing falls below the time between two. No test runs this, and nothing is judged.
 
     scripts/measure_page.py [BYTES..]

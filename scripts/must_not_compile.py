@@ -36,7 +36,7 @@ def check(crate, program):
 
 
 def try_all(cases, folder):
-    program = (cases / "program.txt").read_text(encoding="utf-8")
+    program = (cases / "program.rt.txt").read_text(encoding="utf-8")
     copy_crate(cases.name, folder, f"program: {cases.name}\n")
     crate = folder / "crates" / "program"
     (crate / "src").mkdir(parents=True)

@@ -1,6 +1,6 @@
 """Changes a rope by positions and asks it, and compares each answer with the model's, over random lists of changes.
 
-Each change is made in the text that the one before left. The rope is that of the program tests/rope_positions.txt, which
+Each change is made in the text that the one before left. The rope is that of the program tests/rope_positions.rt.txt, which
 `rt try` builds once, beside a copy of the crates, and runs once for each list. Some lists change a text of several pieces.
 """
 import pathlib
@@ -107,7 +107,7 @@ def run(lists, folder):
     copy_crate("rope_positions", folder, names, left_out=("must-fail", "out"))
     crate = folder / "crates" / "rope_changes"
     (crate / "src").mkdir(parents=True)
-    shutil.copyfile(ROOT / "tests/rope_positions.txt", crate / "src" / "main.rt")
+    shutil.copyfile(ROOT / "tests/rope_positions.rt.txt", crate / "src" / "main.rt")
     cases = folder / "cases"
     cases.mkdir()
     for number, case in enumerate(lists):

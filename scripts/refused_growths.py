@@ -1,7 +1,7 @@
 #!/usr/bin/env python3
 """Refuses each growth of a text in pieces and of a rope in turn, and wants all as it was.
 
-The programs tests/refused_growths.txt and tests/refused_rope_growths.txt make a text grow, step by step. `rt try`
+The programs tests/refused_growths.rt.txt and tests/refused_rope_growths.rt.txt make a text grow, step by step. `rt try`
 builds each once, beside a copy of its library, and refuses the same allocation in each of its runs. In each run the
 program has taken less memory before its first step, so that a later growth is refused. It must answer `NoMemory` then,
 with every other answer as before, and succeed at the second try. The last runs come to an end with no growth refused.
@@ -44,7 +44,7 @@ def copy_program(program, folder):
     copy_crate(program.library, folder, f"{program.name}: {program.library}\n", left_out=("must-fail", "out"))
     crate = folder / "crates" / program.name
     (crate / "src").mkdir(parents=True)
-    shutil.copyfile(ROOT / "tests" / f"{program.name}.txt", crate / "src" / "main.rt")
+    shutil.copyfile(ROOT / "tests" / f"{program.name}.rt.txt", crate / "src" / "main.rt")
     return crate
 
 

@@ -17,7 +17,7 @@ ROOT = pathlib.Path(__file__).resolve().parent.parent
 NARROW = ROOT / "crates/str_indices_c/src/lib.rt"
 OTHERS = {
     ROOT / "crates/str_indices_c_wide/src/lib.rt": "wide",
-    ROOT / "web/exports.txt": "browser",
+    ROOT / "bindings/web/exports.rt.txt": "browser",
 }
 # the positions, which the browser does not have
 NARROW_POSITIONS = ROOT / "crates/str_indices_c/src/positions.rt"

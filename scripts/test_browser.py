@@ -63,7 +63,7 @@ def serve(folder):
 
 def build_web():
     """The script that builds the page, as a module."""
-    loader = importlib.machinery.SourceFileLoader("build_web", str(ROOT / "scripts/build_web"))
+    loader = importlib.machinery.SourceFileLoader("build_web", str(ROOT / "bindings/web/build"))
     module = importlib.util.module_from_spec(importlib.util.spec_from_loader("build_web", loader))
     loader.exec_module(module)
     return module
@@ -74,9 +74,9 @@ def fill(folder, built, modules):
     for name in ["str_indices_web.wasm", "package.json"]:
         shutil.copy(built / name, folder)
     for name in modules:
-        shutil.copy(ROOT / "web" / name, folder)
+        shutil.copy(ROOT / "bindings/web" / name, folder)
     for name in ["compare.mjs", "exchanges.mjs"]:
-        shutil.copy(ROOT / "tests/web" / name, folder)
+        shutil.copy(ROOT / "bindings/web/tests" / name, folder)
     (folder / "site.html").write_text("<!doctype html><title>A site</title>")
 
 
@@ -138,8 +138,8 @@ def compare_in_node(folder):
 
 def check_types():
     """The types name what the module has."""
-    types = (ROOT / "web/str_indices.d.ts").read_text()
-    module = (ROOT / "web/str_indices.mjs").read_text()
+    types = (ROOT / "bindings/web/str_indices.d.ts").read_text()
+    module = (ROOT / "bindings/web/str_indices.mjs").read_text()
     names = {name for path in page_tests.functions_of(module) for name in path.split(".")}
     missing = sorted(name for name in names if f"readonly {name}:" not in types)
     tally.result(len(names) == 16 and not missing, f"the types name the module's functions; missing: {missing}")
@@ -180,7 +180,7 @@ def try_in_node(built):
 
 def main():
     browser = next(filter(None, map(shutil.which, NAMES)), None)
-    built = subprocess.run([ROOT / "scripts/build_web"], stdout=subprocess.PIPE, text=True)
+    built = subprocess.run([ROOT / "bindings/web/build"], stdout=subprocess.PIPE, text=True)
     right = tally.result(built.returncode == 0, "build_web, which proves the exports")
     check_types()
     if right:

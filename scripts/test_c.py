@@ -5,7 +5,7 @@ The tables of worked answers and of positions and the example, compiled as C and
 tables by each half of the library, and the worked answers by the library without its wide half; the example's output; and
 all of these once more from installed prefixes by pkg-config, over the shared object and the archive, and the example by
 CMake, where these commands are there. Texts of all lengths beside a plain model, which end and begin at pages that may
-not be read. Then the headers and the types of the functions, which half answers on which processor, what install_c does,
+not be read. Then the headers and the types of the functions, which half answers on which processor, what install does,
 each function exchanged for each other of its shape, and the rope, as the modules tell which try that. With --large the
 rope has texts of 100 MB. The last line printed is 'N passed, M failed', with what is left out.
 """
@@ -28,10 +28,10 @@ from halves import ASKED, halves, has_wide_half, missing
 from tally import Tally, least, sums_of
 
 ROOT = pathlib.Path(__file__).resolve().parent.parent
-EXAMPLE = ROOT / "examples/c/line_and_column.c"
-WORKED_ANSWERS = ROOT / "tests/c/worked_answers.c"
-POSITIONS = ROOT / "tests/c/positions.c"
-GUARDED = ROOT / "tests/c/guarded_texts.c"
+EXAMPLE = ROOT / "bindings/c/examples/line_and_column.c"
+WORKED_ANSWERS = ROOT / "bindings/c/tests/worked_answers.c"
+POSITIONS = ROOT / "bindings/c/tests/positions.c"
+GUARDED = ROOT / "bindings/c/tests/guarded_texts.c"
 STRICT = ["-Wall", "-Wextra", "-Werror", "-pedantic", "-O2"]
 COMPILERS = {"C": ["cc", "-std=c99"], "C++": ["c++", "-std=c++11", "-x", "c++"]}
 
@@ -83,14 +83,14 @@ def check_by_half(program, source, how, environment, texts):
 
 
 def compile_with(command, source, library, program):
-    link = [*command, *STRICT, f"-I{ROOT}/include", source, "-x", "none", library, "-o", program]
+    link = [*command, *STRICT, f"-I{ROOT}/bindings/c/include", source, "-x", "none", library, "-o", program]
     return run(link, f"{program.name} compiles without a warning")
 
 
 def link_with_the_c_library_alone(library, folder):
     """The library wants nothing of the compiler's own library, which a program without Rust's std is not linked with."""
     program = folder / "with_the_c_library_alone"
-    link = [*COMPILERS["C"], f"-I{ROOT}/include", WORKED_ANSWERS, library, "-nodefaultlibs", "-lc", "-o", program]
+    link = [*COMPILERS["C"], f"-I{ROOT}/bindings/c/include", WORKED_ANSWERS, library, "-nodefaultlibs", "-lc", "-o", program]
     if run(link, "worked_answers is linked with the C library and no other"):
         check_table(program, WORKED_ANSWERS, "with the C library and no other")
 
@@ -132,9 +132,9 @@ def run_guarded(library, folder):
 
 
 def install(prefix, umask, *words):
-    """The library below the prefix, by install_c under that umask, or None where that fails; all may read it."""
-    command = ["sh", "-c", f'umask {umask}; exec "$@"', "sh", ROOT / "scripts/install_c", prefix, *words]
-    if not run(command, " ".join(["install_c, umask", umask, f"'{prefix.name}'", *words])):
+    """The library below the prefix, by install under that umask, or None where that fails; all may read it."""
+    command = ["sh", "-c", f'umask {umask}; exec "$@"', "sh", ROOT / "bindings/c/install", prefix, *words]
+    if not run(command, " ".join(["install, umask", umask, f"'{prefix.name}'", *words])):
         return None
     modes = {path.stat().st_mode & 0o777 for path in prefix.rglob("*") if path.is_file()}
     folders = {path.stat().st_mode & 0o777 for path in [prefix, *prefix.rglob("*")] if path.is_dir()}
@@ -262,7 +262,7 @@ def run_exchanged(library, folder):
 
 def build(script, *words):
     """What a script builds, by the last line that it prints; None where it fails."""
-    done = subprocess.run([ROOT / "scripts" / script, *words], stdout=subprocess.PIPE, text=True)
+    done = subprocess.run([ROOT / "bindings/c" / script, *words], stdout=subprocess.PIPE, text=True)
     if tally.result(done.returncode == 0, " ".join([script, *words])):
         return pathlib.Path(done.stdout.splitlines()[-1])
     return None
@@ -289,10 +289,10 @@ def run_all(library, rope, folder, size):
 
 def main():
     size = "large" if sys.argv[1:] == ["--large"] else "usual"
-    example = build("build_c")
+    example = build("build_example")
     rope = build(STR_ROPE.script) if STR_ROPE in LIBRARIES else None
     if example:
-        check_example(example, "by build_c")
+        check_example(example, "by build_example")
         with tempfile.TemporaryDirectory() as folder:
             run_all(example.parent / "libstr_indices.a", rope, pathlib.Path(folder), size)
     return tally.end()

@@ -142,7 +142,7 @@ def compare(library):
 
 
 def main():
-    built = subprocess.run([ROOT / "scripts/build_library"], stdout=subprocess.PIPE, stderr=subprocess.PIPE, text=True)
+    built = subprocess.run([ROOT / "bindings/c/build_library"], stdout=subprocess.PIPE, stderr=subprocess.PIPE, text=True)
     if tally.result(built.returncode == 0, "build_library"):
         with tempfile.TemporaryDirectory() as folder:
             library = link(built.stdout.splitlines()[-1], pathlib.Path(folder))

@@ -88,7 +88,7 @@ def test_others():
 
 
 def install(library, prefix):
-    """A library below the prefix, with a file for pkg-config, as install_c has them."""
+    """A library below the prefix, with a file for pkg-config, as install has them."""
     name = library.stem.removeprefix("lib")
     (prefix / "lib/pkgconfig").mkdir(parents=True, exist_ok=True)
     shutil.copy(library, prefix / "lib")

@@ -61,7 +61,7 @@ fn library_folder() -> Result<PathBuf, String> {
     if has_library(&built) {
         Ok(built)
     } else {
-        Err(format!("scripts/build_library left no {LIBRARY}"))
+        Err(format!("bindings/c/build_library left no {LIBRARY}"))
     }
 }
 
@@ -81,18 +81,18 @@ fn installed_folder() -> Option<PathBuf> {
 
 /// Proves and builds the library in the repository that this crate is part of. The first time takes minutes.
 fn build(repository: &Path) -> Result<(), String> {
-    let script = repository.join("scripts/build_library");
+    let script = repository.join("bindings/c/build_library");
     let has_rattle = Command::new("rt").arg("version").output().is_ok();
     if !has_rattle || !script.is_file() {
         return Err(format!(
             "the static library {LIBRARY} is missing. Either build it with Rattle's command rt on the path \
-             (scripts/build_library in the repository of this crate), or let {LIBRARY_FOLDER} name a folder that has \
-             it, or install it (scripts/install_c) where pkg-config finds str_indices"
+             (bindings/c/build_library in the repository of this crate), or let {LIBRARY_FOLDER} name a folder that has \
+             it, or install it (bindings/c/install) where pkg-config finds str_indices"
         ));
     }
     match Command::new(&script).status() {
         Ok(status) if status.success() => Ok(()),
-        Ok(status) => Err(format!("scripts/build_library failed: {status}")),
-        Err(error) => Err(format!("scripts/build_library cannot be run: {error}")),
+        Ok(status) => Err(format!("bindings/c/build_library failed: {status}")),
+        Err(error) => Err(format!("bindings/c/build_library cannot be run: {error}")),
     }
 }

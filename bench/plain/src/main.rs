@@ -1,6 +1,6 @@
 //! Times changes of and questions about a `String`, which moves its bytes at each change.
 //!
-//! Its words and lines are those of `../rope.txt`, where the first word is `string`. The questions are asked of the
+//! Its words and lines are those of `../rope.rt.txt`, where the first word is `string`. The questions are asked of the
 //! original crate `str_indices`, where it is at hand, else of loops over the standard library; the first line says which.
 
 mod changes;

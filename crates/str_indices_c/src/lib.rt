@@ -1,9 +1,10 @@
 //! The functions of `str_indices` for C, as a static library: one export for each of them, and one that tells whether
 //! bytes are UTF-8; and those of `position_mapper`, in `positions`.
 //!
-//! C hands a text over as the address of its first byte and the number of its bytes. `include/str_indices.h`, at the
-//! top of the repository, says what a caller owes. It declares the exports without the word `narrow`: by that name each
-//! function is in `c/choose_half.c`, which hands a call on to the one here, or to that of `str_indices_c_wide`.
+//! C hands a text over as the address of its first byte and the number of its bytes.
+//! `bindings/c/include/str_indices.h`, at the top of the repository, says what a caller owes. It declares the exports
+//! without the word `narrow`: by that name each function is in `bindings/c/choose_half.c`, which hands a call on to the
+//! one here, or to that of `str_indices_c_wide`.
 #![tactic(auto)]
 
 ghost use Rattle.std.specs.Prelude.{◌≡◌, ◌↔◌, IsCharBoundary, IsTrue, IsUtf8, chars};

@@ -1,5 +1,5 @@
-//! The functions of `position_mapper` for C. `include/str_indices_positions.h` declares them without the word `narrow`, as
-//! the header beside it does those of `str_indices`.
+//! The functions of `position_mapper` for C. `bindings/c/include/str_indices_positions.h` declares them without the
+//! word `narrow`, as the header beside it does those of `str_indices`.
 ghost use Rattle.std.specs.Prelude.{◌≡◌, ◌^◌, ◌-◌, IfNone, IfSome, IsCharBoundary, IsUtf8, chars, unwrap_or};
 ghost use Rattle.position_mapper.specs.Lines.{line_end};
 ghost use Rattle.position_mapper.specs.Positions.{byte_at, byte_range_at, exact_byte_at, position_at};

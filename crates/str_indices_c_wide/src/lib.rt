@@ -2,8 +2,8 @@
 //! of `position_mapper`, in `positions`.
 //!
 //! They promise what those of `str_indices_c` do, for a processor of the level x86-64-v3, where such a chunk is one
-//! vector. So this crate is checked and built for that level, by `scripts/build_library` at the top of the repository.
-//! `c/choose_half.c` there hands calls on to these functions where the processor is of that level.
+//! vector. So this crate is checked and built for that level, by `bindings/c/build_library` at the top of the
+//! repository. `bindings/c/choose_half.c` there hands calls on to these functions where the processor is of that level.
 #![tactic(auto)]
 
 ghost use Rattle.std.specs.Prelude.{◌≡◌, IsCharBoundary, IsUtf8, chars};
