@@ -196,7 +196,7 @@ def copy_of(folder):
 def libraries():
     """The folder of both libraries; None where a script fails."""
     for script in ["build_library", "build_rope"]:
-        done = subprocess.run([ROOT / "scripts" / script], stdout=subprocess.PIPE, text=True)
+        done = subprocess.run([ROOT / "bindings/c" / script], stdout=subprocess.PIPE, text=True)
         if not tally.result(done.returncode == 0, script):
             return None
     return pathlib.Path(done.stdout.splitlines()[-1]).parent

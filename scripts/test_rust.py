@@ -176,7 +176,7 @@ def test_benchmark():
 
 def build_library(*words, script="build_library"):
     """The library that the script builds; None where it fails."""
-    done = subprocess.run([ROOT / "scripts" / script, *words], capture_output=True, text=True)
+    done = subprocess.run([ROOT / "bindings/c" / script, *words], capture_output=True, text=True)
     if tally.result(done.returncode == 0, " ".join([script, *words])):
         return pathlib.Path(done.stdout.splitlines()[-1])
     return None
