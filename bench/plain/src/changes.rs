@@ -1,5 +1,6 @@
 //! The changes: letters put in, characters taken out, letters typed at one place.
 
+use crate::kept::Kept;
 use crate::{below, hashed, next, Scale};
 use std::time::Instant;
 
@@ -57,43 +58,43 @@ fn find(found: fn(&mut String, u64) -> Change, text: &mut String, seed: u64, n: 
 }
 
 /// Times a round's changes at random places of a fresh text.
-fn change(source: &str, scale: Scale, seed: u64, taken: &mut Taken) {
+fn change<K: Kept>(source: &str, scale: Scale, seed: u64, taken: &mut Taken) {
     let mut twin = source.to_string();
     let inserts = find(found_insert, &mut twin, seed, scale.changes);
     let removals = find(found_removal, &mut twin, next(seed), scale.changes);
-    let mut text = source.to_string();
+    let mut text = K::of(source);
     let start = Instant::now();
     for change in &inserts {
-        text.insert_str(change.at, &LETTERS[..change.to]);
+        text.insert(change.at, &LETTERS[..change.to]);
     }
     taken.inserts += start.elapsed().as_nanos();
     let start = Instant::now();
     for change in &removals {
-        text.replace_range(change.at..change.to, "");
+        text.remove(change.at..change.to);
     }
     taken.removals += start.elapsed().as_nanos();
-    taken.changed = taken.changed.wrapping_add(hashed(&text));
+    taken.changed = taken.changed.wrapping_add(hashed(&text.whole()));
 }
 
 /// Times a round's typing in the middle of a fresh text.
-fn typed(source: &str, scale: Scale, taken: &mut Taken) {
-    let mut text = source.to_string();
-    let at = floor(&text, text.len() / 2);
+fn typed<K: Kept>(source: &str, scale: Scale, taken: &mut Taken) {
+    let mut text = K::of(source);
+    let at = floor(source, source.len() / 2);
     let start = Instant::now();
     for i in 0..scale.changes {
-        text.insert_str(at + i, &LETTERS[i % 20..][..1]);
+        text.insert(at + i, &LETTERS[i % 20..][..1]);
     }
     taken.typing += start.elapsed().as_nanos();
-    taken.typed = taken.typed.wrapping_add(hashed(&text));
+    taken.typed = taken.typed.wrapping_add(hashed(&text.whole()));
 }
 
-pub fn tell_changes(source: &str, scale: Scale) {
+pub fn tell_changes<K: Kept>(source: &str, scale: Scale) {
     let mut taken = Taken::default();
     let mut seed = 7;
     for _ in 0..scale.rounds {
         seed = next(seed);
-        change(source, scale, seed, &mut taken);
-        typed(source, scale, &mut taken);
+        change::<K>(source, scale, seed, &mut taken);
+        typed::<K>(source, scale, &mut taken);
     }
     let calls = (scale.rounds * scale.changes).max(1) as u128;
     println!("insert {} {}", taken.inserts / calls, taken.changed);

@@ -1,16 +1,21 @@
-//! Times changes of and questions about a `String`, which moves its bytes at each change.
+//! Times changes of and questions about a text in Rust: a `String`, which moves its bytes at each change, or the rope of the
+//! Cargo crate `str_rope`, which calls the library for C.
 //!
-//! Its words and lines are those of `../rope.rt.txt`, where the first word is `string`. The questions are asked of the
-//! original crate `str_indices`, where it is at hand, else of loops over the standard library; the first line says which.
+//! Its words and lines are those of `../rope.rt.txt`, where the first word is `string` or `rust`. The questions about a
+//! `String` are asked of the original crate `str_indices`, where it is at hand, else of loops over the standard library; the
+//! first line says which.
 
 mod changes;
+mod kept;
 mod questions;
 
 use changes::tell_changes;
-use questions::{tell_questions, Functions};
+use kept::Kept;
+use questions::tell_questions;
 use std::env;
 use std::hint::black_box;
 use std::time::Instant;
+use str_rope::Rope;
 
 /// One line of the text: words of several scripts, ended by CR LF.
 const LINE: &str = "Zeile – über 🐸 und せかい, und so weiter\r\n";
@@ -44,28 +49,35 @@ pub fn hashed(text: &str) -> u64 {
     text.bytes().fold(0, add)
 }
 
-/// The least time of a few, in nanoseconds.
-pub fn best(mut timed: impl FnMut()) -> u128 {
+/// The least time of a few, in nanoseconds. What is made last is dropped after the clock stops.
+pub fn best<T>(mut timed: impl FnMut() -> T) -> u128 {
     let times = (0..TIMINGS).map(|_| {
         let start = Instant::now();
-        timed();
-        start.elapsed().as_nanos()
+        let made = timed();
+        let taken = start.elapsed().as_nanos();
+        drop(made);
+        taken
     });
     times.min().unwrap_or(0)
 }
 
-fn tell_load(source: &str, scale: Scale) {
+fn tell_load<K: Kept>(source: &str, scale: Scale) {
     let repeats = 1_000_000 / scale.bytes.clamp(1, 1_000_000);
     let rate = |taken: u128| (source.len() * repeats) as u128 * 1000 / taken.max(1);
-    let loading = best(|| (0..repeats).for_each(|_| drop(black_box(black_box(source).to_string()))));
+    let loading = best(|| (0..repeats).map(|_| black_box(K::of(black_box(source)))).last());
     println!("load {} {}", rate(loading), hashed(source));
-    let read = || {
-        black_box(source)
-            .bytes()
-            .fold(0, |sum: u64, byte| sum.wrapping_add(u64::from(byte)))
-    };
-    let reading = best(|| (0..repeats).for_each(|_| _ = black_box(read())));
-    println!("read {} {}", rate(reading), read());
+    let text = K::of(source);
+    let reading = best(|| (0..repeats).for_each(|_| _ = black_box(black_box(&text).read())));
+    println!("read {} {}", rate(reading), text.read());
+}
+
+fn tell_all<K: Kept>(source: &str, scale: Scale) {
+    let text = K::of(source);
+    let questions = text.questions();
+    println!("questions {} 0", questions.of);
+    tell_load::<K>(source, scale);
+    tell_questions(&questions, source, scale);
+    tell_changes::<K>(source, scale);
 }
 
 fn scale_of(numbers: &[usize]) -> Option<Scale> {
@@ -85,9 +97,8 @@ fn main() {
     let numbers: Vec<usize> = env::args().skip(2).filter_map(|word| word.parse().ok()).collect();
     let scale = scale_of(&numbers).expect("five numbers after the kind");
     let source = LINE.repeat(scale.bytes.div_ceil(LINE.len()));
-    let functions = Functions::at_hand();
-    println!("questions {} 0", functions.of);
-    tell_load(&source, scale);
-    tell_questions(&functions, &source, scale);
-    tell_changes(&source, scale);
+    match env::args().nth(1).as_deref() {
+        Some("rust") => tell_all::<Rope>(&source, scale),
+        _ => tell_all::<String>(&source, scale),
+    }
 }

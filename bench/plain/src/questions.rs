@@ -1,41 +1,51 @@
-//! The questions, of the original crate `str_indices` where it is at hand.
+//! The questions about a text.
 
 use crate::{below, best, next, Scale};
 use original::Function;
 use std::hint::black_box;
+use str_rope::{Rope, Scheme};
 
 type Convert = fn(&str, usize) -> usize;
 
-/// The functions that answer, and whose they are.
-pub struct Functions {
+/// A question, from an index to another.
+type Question<'a> = Box<dyn Fn(usize) -> usize + 'a>;
+
+/// What is asked of a text, and who answers.
+pub struct Questions<'a> {
     pub of: &'static str,
-    line: Convert,
-    utf16: Convert,
-    char: Convert,
+    line: Question<'a>,
+    utf16: Question<'a>,
+    char: Question<'a>,
 }
 
-impl Functions {
-    /// The original's, else loops over the standard library.
-    pub fn at_hand() -> Functions {
+impl<'a> Questions<'a> {
+    /// Those of the original, else of loops over the standard library.
+    pub fn of_text(text: &'a str) -> Self {
         let named = |name: &str| original::functions()?.iter().find_map(|f| converting(f, name));
-        let three = (
+        let original = (
             named("lines_crlf::to_byte_idx"),
             named("utf16::to_byte_idx"),
             named("chars::from_byte_idx"),
         );
-        match three {
-            (Some(line), Some(utf16), Some(char)) => Functions {
-                of: "original",
-                line,
-                utf16,
-                char,
-            },
-            _ => Functions {
-                of: "std",
-                line: line_to_byte,
-                utf16: utf16_to_byte,
-                char: byte_to_char,
-            },
+        let (of, [line, utf16, char]): (_, [Convert; 3]) = match original {
+            (Some(line), Some(utf16), Some(char)) => ("original", [line, utf16, char]),
+            _ => ("std", [line_to_byte, utf16_to_byte, byte_to_char]),
+        };
+        Self {
+            of,
+            line: Box::new(move |index| line(text, index)),
+            utf16: Box::new(move |index| utf16(text, index)),
+            char: Box::new(move |index| char(text, index)),
+        }
+    }
+
+    /// Those of the rope itself.
+    pub fn of_rope(rope: &'a Rope) -> Self {
+        Self {
+            of: "rope",
+            line: Box::new(|index| rope.to_byte_idx(Scheme::Crlf, index)),
+            utf16: Box::new(|index| rope.to_byte_idx(Scheme::Utf16, index)),
+            char: Box::new(|index| rope.from_byte_idx(Scheme::Chars, index)),
         }
     }
 }
@@ -79,29 +89,27 @@ fn byte_to_char(text: &str, byte_idx: usize) -> usize {
 }
 
 /// Asks so many times at pseudo-random places. Each call waits for the one before it.
-fn ask(convert: Convert, text: &str, places: usize, calls: usize) -> u64 {
+fn ask(question: &Question, places: usize, calls: usize) -> u64 {
     let (mut seed, mut sum) = (1, 0_u64);
     for _ in 0..calls {
         seed = next(seed);
         let index = below(seed ^ (sum & 1) << 33, places);
-        sum = sum.wrapping_add(convert(text, index) as u64);
+        sum = sum.wrapping_add(question(index) as u64);
     }
     sum
 }
 
-pub fn tell_questions(functions: &Functions, text: &str, scale: Scale) {
+pub fn tell_questions(questions: &Questions, text: &str, scale: Scale) {
     let breaks = text.bytes().filter(|byte| *byte == b'\n').count();
     let units = text.chars().map(char::len_utf16).sum();
-    let questions = [
-        ("line", functions.line, breaks),
-        ("utf16", functions.utf16, units),
-        ("char", functions.char, text.len()),
+    let named = [
+        ("line", &questions.line, breaks),
+        ("utf16", &questions.utf16, units),
+        ("char", &questions.char, text.len()),
     ];
-    for (name, convert, places) in questions {
-        let taken = best(|| {
-            black_box(ask(convert, text, places, scale.asked));
-        });
+    for (name, question, places) in named {
+        let taken = best(|| black_box(ask(question, places, scale.asked)));
         let each = taken / scale.asked.max(1) as u128;
-        println!("{name} {each} {}", ask(convert, text, places, scale.checked));
+        println!("{name} {each} {}", ask(question, places, scale.checked));
     }
 }
