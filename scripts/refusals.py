@@ -1,9 +1,9 @@
 """Tries edits of crates: each must be refused by the function, and at the goal, that it names.
 
 An edit is a file with lines of a word and a text. 'refuses:' names a function and what must be open in it: a clause of
-its contract, or 'returns' for one without a name; 'invariant' for that of a type whose value it leaves; or what a call in
-it asks, as 'CALL asks CLAUSE'. 'file:' names a file of the crate, and each 'old:' text, which stands once in it, becomes
-the 'new:' text of the next line.
+its contract, or 'returns' for one without a name; 'invariant' for that of a type whose value it leaves; what a call in it
+asks, as 'CALL asks CLAUSE'; or 'proof', where a file Proof.antt proves it step by step, which names no clause. 'file:'
+names a file of the crate, and each 'old:' text, which stands once in it, becomes the 'new:' text of the next line.
 
 Each crate is copied with all below it, and proved as it stands, before and after. What a script puts into one group is
 tried in one check of a copy, each edit by the function that it names and no other.
@@ -24,7 +24,7 @@ JOBS = max(1, min(3, (os.cpu_count() or 1) - 1))
 MOST_GROUPS = 5
 
 # what the checker says where a proof file names what is no longer there, which tells nothing of the contract
-STALE_NAME = re.compile(r"has no field|is not in scope|has no `|was not admitted")
+STALE_NAME = re.compile(r"has no field|is not in scope(?! here, so what is shown)|has no `|was not admitted")
 
 
 class Edit:
@@ -62,6 +62,8 @@ class Edit:
             return re.compile(r"returns(?!.*-clause-)")
         if self.goal == "invariant":
             return re.compile(r"invariant_of-")
+        if self.goal == "proof":
+            return re.compile(r"\w+_spec$")
         return re.compile(rf"returns(-.*)?-clause-{re.escape(self.goal)}$")
 
     def is_refused(self, goals):

@@ -12,7 +12,8 @@ and that the prover must refuse. If one of them were still proved, the contract 
 
 `scripts/wrong_bodies.py` tries each by the function in its row. It counts only where what the row names is open there: a
 clause of that function, its type's invariant, or what a call in it asks. It does not count where another function is refused, or where a proof
-file names what is no longer there. Those marked *gate* stand in `must-fail/` of their crate, where the toolchain's gate
+file names what is no longer there. Where the row names a proof, that goes step by step and names no clause; it would
+refuse any other body too. Those marked *gate* stand in `must-fail/` of their crate, where the toolchain's gate
 tries them too, by the whole crate; the others stand in `refusals/bodies/`. This page is written by
 `scripts/wrong_bodies.py --write`, and the gate fails where it is another.
 
@@ -35,6 +36,7 @@ PROMISES = [
     ("A rope answers as its text, changes it as asked, and a refusal changes nothing", "text_rope", r".*", r".*", ""),
     ("A position is a line and an offset on it, and back", "position_mapper", r".*", r".*", ""),
     ("Positions in a rope are those in its text, and a change by positions is made or refused", "rope_positions", r".*", r".*", ""),
+    ("A rope for C answers and changes as a rope does, and loses no text", "text_rope_c", r".*", r".*", ""),
     ("A slice is what stands between two places", "text_slices", r".*", r".*", ""),
     ("Each export for C answers as the function that it calls", "str_indices_c", r".*", r".*", ""),
 ]
@@ -74,6 +76,8 @@ def told_goal(goal):
         return f"what `{call}` asks" + (f": `{clause.strip()}`" if clause else "")
     if goal == "invariant":
         return "the type's invariant"
+    if goal == "proof":
+        return "its proof"
     return "its answer" if goal == "returns" else f"`{goal}`"
 
 
