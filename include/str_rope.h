@@ -9,8 +9,8 @@
  * end the program: where something cannot be done, they say so by a status, and
  * then each text is as before the call.
  *
- * A text is held by a handle, a str_rope. The empty text takes no memory, so a
- * handle that is zeroed is the empty text, and there is no function that makes one:
+ * A text is held by a handle, a str_rope. A handle that is zeroed is the empty text
+ * and has taken no memory, so there is no function that makes one:
  *
  *     str_rope rope = STR_ROPE_EMPTY;
  *     if (str_rope_assign(&rope, text, len) != STR_ROPE_OK) ...
@@ -26,8 +26,9 @@
  *   - A handle is zeroed before its first use, and after that written to by these
  *     functions alone. A copy of one is not used beside the other: they would be
  *     one text. It may be moved, if only one of the two is used afterwards.
- *   - Each handle that is not empty is freed once, by str_rope_free; else its
- *     memory is lost.
+ *   - A handle that is no longer used is freed by str_rope_free, also where its
+ *     text is empty by then: it may still have memory, which is lost else. To free
+ *     one that is zeroed, or that was freed, does nothing.
  *   - A handle is in one call at a time. That goes for a question too, which takes
  *     the text out of the handle and puts it back. Two handles may be in two calls.
  *     A handle stays on the thread that uses it first.
@@ -93,8 +94,8 @@ typedef enum str_rope_encoding {
     STR_ROPE_ENCODING_UTF32  /* chars */
 } str_rope_encoding;
 
-/* Whether a call did what it was asked. Where two reasons hold, the status is that
- * of the first here but STR_ROPE_NOT_UTF8, which comes before all others. */
+/* Whether a call did what it was asked. Where two reasons hold, the status is the
+ * one that stands first here; but STR_ROPE_NOT_UTF8 comes before all others. */
 typedef enum str_rope_status {
     STR_ROPE_OK,           /* it is done */
     STR_ROPE_NOT_ORDERED,  /* the end of a part is before its start */

@@ -1,5 +1,5 @@
 -- What a read hands over.
-use Rattle.std.specs.Prelude.{ℕ, ◌≡◌, ◌+◌, ◌-◌, ◌≤◌, min, List, ◌++◌, length, chars, take, drop, IsUtf8}
+use Rattle.std.specs.Prelude.{ℕ, ◌≡◌, ◌-◌, ◌≤◌, min, List, ◌++◌, length, chars, take, drop, IsUtf8}
 use Rattle.str_indices.specs.Text.{Text}
 use Rattle.text_rope.specs.Edits.{IsChunkAt}
 use Rattle.text_rope.specs.Pieces.{max_piece}

@@ -1,4 +1,4 @@
-use Rattle.std.proofs.Common.{◌≡◌, ◌-◌, ◌++◌, ap, subst, ◌∙◌, arith, length-drop, min, IsUtf8, length, take, drop}
+use Rattle.std.proofs.Common.{◌-◌, ◌++◌, ap, subst, ◌∙◌, arith, length-drop, min, IsUtf8, length, take, drop}
 use Rattle.str_indices.proofs.lemmas.Callers.{size-chars}
 use Rattle.text_rope_c.proofs.reads.read.Goals as goal
 
