@@ -1,56 +1,59 @@
 /*
- * A UTF-8 text that changes: a rope, which keeps a long text in a balanced tree
- * of pieces. It counts the chars, UTF-16 code units and line breaks of the text,
- * converts between those indices, byte indices and the positions of the Language
- * Server Protocol 3.17, and puts text in and takes text out.
+ * A UTF-8 text that changes: a rope, which keeps a long text in a balanced
+ * tree of pieces. It counts the chars, UTF-16 code units and line breaks of
+ * the text, converts between those indices, byte indices and the positions of
+ * the Language Server Protocol 3.17, and puts text in and takes text out.
  *
- * Each function is proved to answer by a definition, and to make the change that
- * is said here or none. They answer for every text, index and position, and never
- * end the program: where something cannot be done, they say so by a status, and
- * then each text is as before the call.
+ * Each function is proved to answer by a definition, and to make the change
+ * that is said here or none. They answer for every text, index and position,
+ * and never end the program: where something cannot be done, they say so by a
+ * status, and then each text is as before the call.
  *
- * A text is held by a handle, a str_rope. A handle that is zeroed is the empty text
- * and has taken no memory, so there is no function that makes one:
+ * A text is held by a handle, a str_rope. A handle that is zeroed is the empty
+ * text and has taken no memory, so there is no function that makes one:
  *
  *     str_rope rope = STR_ROPE_EMPTY;
  *     if (str_rope_assign(&rope, text, len) != STR_ROPE_OK) ...
  *     size_t lines = str_rope_count(&rope, STR_ROPE_CRLF) + 1;
  *     str_rope_free(&rope);
  *
- * All indices are byte indices where nothing else is said, and begin at 0. A char
- * is a Unicode scalar value. A boundary is a byte index between two chars, or at
- * the beginning or the end of the text.
+ * All indices are byte indices where nothing else is said, and begin at 0. A
+ * char is a Unicode scalar value. A boundary is a byte index between two
+ * chars, or at the beginning or the end of the text.
  *
  * What the caller owes, and what nothing checks:
  *
- *   - A handle is zeroed before its first use, and after that written to by these
- *     functions alone. A copy of one is not used beside the other: they would be
- *     one text. It may be moved, if only one of the two is used afterwards.
- *   - A handle that is no longer used is freed by str_rope_free, also where its
- *     text is empty by then: it may still have memory, which is lost else. To free
- *     one that is zeroed, or that was freed, does nothing.
- *   - A handle is in one call at a time. That goes for a question too, which takes
- *     the text out of the handle and puts it back. Two handles may be in two calls.
- *     A handle stays on the thread that uses it first.
+ *   - A handle is zeroed before its first use, and after that written to by
+ *     these functions alone. A copy of one is not used beside the other: they
+ *     would be one text. It may be moved, if only one of the two is used
+ *     afterwards.
+ *   - A handle that is no longer used is freed by str_rope_free, also where
+ *     its text is empty by then: it may still have memory, which would be lost.
+ *     To free one that is zeroed, or that was freed, does nothing.
+ *   - A handle is in one call at a time. That goes for a question too, which
+ *     takes the text out of the handle and puts it back. Two handles may be in
+ *     two calls. A handle stays on the thread that uses it first.
  *   - Where a function takes two handles, they differ.
- *   - No pointer is null, even where the length after it is 0. The `len` bytes from
- *     `text` on may be read, and no thread writes to them during the call; the
- *     `room` bytes from `out` on may be written, and no thread reads them during the
- *     call. They do not overlap with each other or with a handle. `len` and `room`
- *     are at most PTRDIFF_MAX. That the bytes are UTF-8 is checked.
- *   - malloc, realloc and free are those of one allocator, and align each block to
- *     every power of two up to 16 that divides its size.
+ *   - No pointer is null, even where the length after it is 0. The `len` bytes
+ *     from `text` on may be read, and no thread writes to them during the
+ *     call; the `room` bytes from `out` on may be written, and no thread reads
+ *     them during the call. They do not overlap with each other or with a
+ *     handle. `len` and `room` are at most PTRDIFF_MAX. That the bytes are
+ *     UTF-8 is checked.
+ *   - malloc, realloc and free are those of one allocator, and align each
+ *     block to every power of two up to 16 that divides its size.
  *   - No function is called from a signal handler, or in the forked child of a
  *     process with threads.
  *
- * Where one of these is broken, what a call does is undefined. The library is built
- * for Linux on x86-64 processors from the level x86-64-v2 on (with SSE4.2), and does
- * not ask whether it runs on one.
+ * Where one of these is broken, what a call does is undefined. The library is
+ * built for Linux on x86-64 processors from the level x86-64-v2 on (with
+ * SSE4.2), and does not ask whether it runs on one.
  *
- * What a call costs, where the text has n pieces, each of at most STR_ROPE_MAX_PIECE
- * bytes: a question looks at no more than about 2 log2(n + 1) of them, and reads the
- * text of one; one about positions asks up to 16 such questions. A change takes a
- * number of steps of that order too, and copies the text that is put in once.
+ * What a call costs, where the text has n pieces, each of at most
+ * STR_ROPE_MAX_PIECE bytes: a question visits at most twice the logarithm to
+ * base 2 of n + 1, and reads the text of one; one about positions asks up to 16
+ * such questions. A change takes a number of steps of that order too, and
+ * copies the text that is put in once.
  */
 #ifndef STR_ROPE_H
 #define STR_ROPE_H
@@ -76,8 +79,9 @@ typedef struct str_rope {
 /* How many bytes a piece has at most. */
 #define STR_ROPE_MAX_PIECE 1024
 
-/* What is counted. The breaks of the last three are those of lines_lf, lines_crlf
- * and lines in str_indices.h. A greater number counts as STR_ROPE_LINES. */
+/* What is counted. The breaks of the last three are those of lines_lf,
+ * lines_crlf and lines in str_indices.h. A greater number counts as
+ * STR_ROPE_LINES. */
 typedef enum str_rope_scheme {
     STR_ROPE_CHARS, /* chars */
     STR_ROPE_UTF16, /* UTF-16 code units */
@@ -86,22 +90,23 @@ typedef enum str_rope_scheme {
     STR_ROPE_LINES  /* line breaks: all those of Unicode */
 } str_rope_scheme;
 
-/* What an offset on a line counts. The first is the protocol's default. A greater
- * number counts as STR_ROPE_ENCODING_UTF32. */
+/* What an offset on a line counts. The first is the protocol's default. A
+ * greater number counts as STR_ROPE_ENCODING_UTF32. */
 typedef enum str_rope_encoding {
     STR_ROPE_ENCODING_UTF16, /* UTF-16 code units */
     STR_ROPE_ENCODING_UTF8,  /* bytes */
     STR_ROPE_ENCODING_UTF32  /* chars */
 } str_rope_encoding;
 
-/* Whether a call did what it was asked. Where two reasons hold, the status is the
- * one that stands first here; but STR_ROPE_NOT_UTF8 comes before all others. */
+/* Whether a call did what it was asked. Where two reasons hold, the status is
+ * the one that stands first here; but STR_ROPE_NOT_UTF8 comes before all
+ * others. */
 typedef enum str_rope_status {
     STR_ROPE_OK,           /* it is done */
     STR_ROPE_NOT_ORDERED,  /* the end of a part is before its start */
     STR_ROPE_NOT_BOUNDARY, /* a byte index is inside a char, or past the end */
-    STR_ROPE_TOO_LONG,     /* the text would have more than PTRDIFF_MAX bytes, or
-                              a part has more than the room for it */
+    STR_ROPE_TOO_LONG,     /* the text would have more than PTRDIFF_MAX bytes,
+                              or a part has more than the room for it */
     STR_ROPE_NO_MEMORY,    /* memory was refused */
     STR_ROPE_NOT_UTF8      /* the bytes handed over are not UTF-8 */
 } str_rope_status;
@@ -110,12 +115,13 @@ typedef enum str_rope_status {
  * The whole text.
  */
 
-/* Frees the text, which is then the empty one. The handle may be used again. */
+/* Frees the text, which is then the empty one. The handle may be used again.
+ * Takes a step for each piece. */
 void str_rope_free(str_rope *rope);
 
-/* Makes the text another one. The old text is freed after the new one is made, so
- * there has to be room for both. Takes time in the length of both. May answer
- * STR_ROPE_NOT_UTF8 and, where `len` is not 0, STR_ROPE_NO_MEMORY. */
+/* Makes the text another one. The old text is freed after the new one is made,
+ * so there has to be room for both. Takes time in the length of both. May
+ * answer STR_ROPE_NOT_UTF8 and, where `len` is not 0, STR_ROPE_NO_MEMORY. */
 str_rope_status str_rope_assign(str_rope *rope, const char *text, size_t len);
 
 /*
@@ -125,19 +131,19 @@ str_rope_status str_rope_assign(str_rope *rope, const char *text, size_t len);
 /* How many bytes the text has. Takes no longer for a longer text. */
 size_t str_rope_len(str_rope *rope);
 
-/* How many chars, UTF-16 code units or line breaks the text has. Takes no longer for
- * a longer text. */
+/* How many chars, UTF-16 code units or line breaks the text has. Takes no
+ * longer for a longer text. */
 size_t str_rope_count(str_rope *rope, str_rope_scheme scheme);
 
-/* From a byte index to a char, code unit or line index: how many of them end at or
- * before the byte. A byte inside a char or a break belongs to that char, or to the
- * line that the break ends. Any byte index past the end gives all. */
+/* From a byte index to a char, code unit or line index: how many of them end
+ * at or before the byte. A byte inside a char or a break belongs to that char,
+ * or to the line that the break ends. Any byte index past the end gives all. */
 size_t str_rope_from_byte_idx(str_rope *rope, str_rope_scheme scheme,
                               size_t byte_idx);
 
-/* From a char, code unit or line index to the byte index where that char, the char
- * of that unit, or that line begins. An index past the last gives the length of the
- * text in bytes. */
+/* From a char, code unit or line index to the byte index where that char, the
+ * char of that unit, or that line begins. An index past the last gives the
+ * length of the text in bytes. */
 size_t str_rope_to_byte_idx(str_rope *rope, str_rope_scheme scheme, size_t idx);
 
 /* Whether a byte index is a boundary. One past the end is none. */
@@ -147,27 +153,30 @@ bool str_rope_is_char_boundary(str_rope *rope, size_t byte_idx);
  * Changes.
  */
 
-/* Puts a text in at a boundary. May answer STR_ROPE_NOT_BOUNDARY, STR_ROPE_TOO_LONG,
- * STR_ROPE_NOT_UTF8 and, where `len` is not 0, STR_ROPE_NO_MEMORY. */
+/* Puts a text in at a boundary. May answer STR_ROPE_NOT_BOUNDARY,
+ * STR_ROPE_TOO_LONG, STR_ROPE_NOT_UTF8 and, where `len` is not 0,
+ * STR_ROPE_NO_MEMORY. */
 str_rope_status str_rope_insert(str_rope *rope, size_t at, const char *text,
                                 size_t len);
 
-/* Takes out what is between two boundaries, from `from` up to `to`. Takes no memory.
- * May answer STR_ROPE_NOT_ORDERED and STR_ROPE_NOT_BOUNDARY. */
+/* Takes out what is between two boundaries, from `from` up to `to`. Takes no
+ * memory. May answer STR_ROPE_NOT_ORDERED and STR_ROPE_NOT_BOUNDARY. */
 str_rope_status str_rope_remove(str_rope *rope, size_t from, size_t to);
 
-/* Exchanges what is between two boundaries, from `from` up to `to`, for a text. May
- * answer STR_ROPE_NOT_ORDERED, STR_ROPE_NOT_BOUNDARY, STR_ROPE_TOO_LONG,
- * STR_ROPE_NOT_UTF8 and, where `len` is not 0, STR_ROPE_NO_MEMORY. */
+/* Exchanges what is between two boundaries, from `from` up to `to`, for a
+ * text. May answer STR_ROPE_NOT_ORDERED, STR_ROPE_NOT_BOUNDARY,
+ * STR_ROPE_TOO_LONG, STR_ROPE_NOT_UTF8 and, where `len` is not 0,
+ * STR_ROPE_NO_MEMORY. */
 str_rope_status str_rope_replace(str_rope *rope, size_t from, size_t to,
                                  const char *text, size_t len);
 
-/* Moves all of `other` to the end of the text; `other` is then the empty text. Takes
- * no memory. May answer STR_ROPE_TOO_LONG, and then `other` is as before too. */
+/* Moves all of `other` to the end of the text; `other` is then the empty text.
+ * Takes no memory. May answer STR_ROPE_TOO_LONG, and then `other` is as before
+ * too. */
 str_rope_status str_rope_append(str_rope *rope, str_rope *other);
 
-/* Cuts the text in two at a boundary. The second part is then the text of `rest`,
- * whose former text is freed. May answer STR_ROPE_NOT_BOUNDARY and
+/* Cuts the text in two at a boundary. The second part is then the text of
+ * `rest`, whose former text is freed. May answer STR_ROPE_NOT_BOUNDARY and
  * STR_ROPE_NO_MEMORY, and then `rest` is as before too. */
 str_rope_status str_rope_split_off(str_rope *rope, size_t at, str_rope *rest);
 
@@ -175,63 +184,70 @@ str_rope_status str_rope_split_off(str_rope *rope, size_t at, str_rope *rest);
  * The text's bytes.
  */
 
-/* Writes to `out` the bytes from `at` on up to the end of the piece that `at` is in, as
- * far as there is room for them, and answers how many: at least one where `at` is
- * before the end of the text and `room` is not 0, and none from the end on. `at` need
- * be no boundary. With room for STR_ROPE_MAX_PIECE bytes, `at` plus the answer is one,
- * so this reads a text in order:
+/* Writes to `out` the bytes from `at` on up to the end of the piece that `at`
+ * is in, as far as there is room for them, and answers how many: at least one
+ * where `at` is before the end of the text and `room` is not 0, and none from
+ * the end on. `at` need be no boundary. With room for STR_ROPE_MAX_PIECE
+ * bytes, `at` plus the answer is a boundary. This reads a text in order:
  *
  *     char out[STR_ROPE_MAX_PIECE];
- *     for (size_t at = 0, n; (n = str_rope_read(&rope, at, out, sizeof out)); at += n)
+ *     size_t at = 0, n;
+ *     while ((n = str_rope_read(&rope, at, out, sizeof out)) != 0) {
  *         fwrite(out, 1, n, stdout);
- */
+ *         at += n;
+ *     } */
 size_t str_rope_read(str_rope *rope, size_t at, char *out, size_t room);
 
-/* Writes to `out` the bytes between two boundaries, from `from` up to `to`: all of them,
- * or none. Takes time in their number too. May answer STR_ROPE_NOT_ORDERED,
- * STR_ROPE_NOT_BOUNDARY, and STR_ROPE_TOO_LONG where `room` is less than `to - from`. */
-str_rope_status str_rope_copy_to(str_rope *rope, size_t from, size_t to, char *out,
-                                 size_t room);
+/* Writes to `out` the bytes between two boundaries, from `from` up to `to`:
+ * all of them, or none. Takes time in their number too. May answer
+ * STR_ROPE_NOT_ORDERED, STR_ROPE_NOT_BOUNDARY, and STR_ROPE_TOO_LONG where
+ * `room` is less than `to - from`. */
+str_rope_status str_rope_copy_to(str_rope *rope, size_t from, size_t to,
+                                 char *out, size_t room);
 
 /*
- * Positions of a language server, as in str_indices_positions.h: a line ends in LF,
- * CR or CR LF, and a position is a line and an offset on it, in units of the encoding.
+ * Positions of a language server, as in str_indices_positions.h: a line ends
+ * in LF, CR or CR LF, and a position is a line and an offset on it, in units
+ * of the encoding.
  */
 
-/* The byte index where the content of a line ends: before its break, or the length of
- * the text in bytes where it is the last line or past it. */
+/* The byte index where the content of a line ends: before its break, or the
+ * length of the text in bytes where it is the last line or past it. */
 size_t str_rope_line_end(str_rope *rope, size_t line_idx);
 
-/* From a byte index to its position: the byte's line, and the units from that line's
- * beginning to the byte. A byte inside a char has the position where the char begins,
- * the byte between CR and LF that of the line's end, and a byte past the end that of
- * the text's end. */
+/* From a byte index to its position: the byte's line, and the units from that
+ * line's beginning to the byte. A byte inside a char has the position where
+ * the char begins, the byte between CR and LF that of the line's end, and a
+ * byte past the end that of the text's end. */
 str_indices_position str_rope_position_of(str_rope *rope,
                                           str_rope_encoding encoding,
                                           size_t byte_idx);
 
-/* From a position to the byte index where the char at it begins. An offset inside a
- * char belongs to it. An offset past the end of the line gives the line's end, before
- * its break, and a line past the last one the length of the text in bytes. */
+/* From a position to the byte index where the char at it begins. An offset
+ * inside a char belongs to it. An offset past the end of the line gives the
+ * line's end, before its break, and a line past the last one the length of the
+ * text in bytes. */
 size_t str_rope_byte_of(str_rope *rope, str_rope_encoding encoding,
                         str_indices_position position);
 
-/* The byte index of a position that names a place: as str_rope_byte_of, but SIZE_MAX
- * where the text has no such line, or the offset is past the end of the line or inside
- * a char. So a server notices a client that is out of step. */
+/* The byte index of a position that names a place: as str_rope_byte_of, but
+ * SIZE_MAX where the text has no such line, or the offset is past the end of
+ * the line or inside a char. So a server notices a client that is out of step.
+ */
 size_t str_rope_exact_byte_of(str_rope *rope, str_rope_encoding encoding,
                               str_indices_position position);
 
-/* The byte indices of a range, each as str_rope_byte_of answers it; SIZE_MAX twice
- * where the range's end is before its start. */
-str_indices_bytes str_rope_byte_range(str_rope *rope, str_rope_encoding encoding,
+/* The byte indices of a range, each as str_rope_byte_of answers it; SIZE_MAX
+ * twice where the range's end is before its start. */
+str_indices_bytes str_rope_byte_range(str_rope *rope,
+                                      str_rope_encoding encoding,
                                       str_indices_range range);
 
-/* Exchanges the bytes of a range, as str_rope_byte_range answers them, for a text: one
- * change as a client sends it. For a change that has no range, which exchanges the
- * whole text, call str_rope_assign. May answer STR_ROPE_NOT_ORDERED,
- * STR_ROPE_TOO_LONG, STR_ROPE_NOT_UTF8 and, where `len` is not 0,
- * STR_ROPE_NO_MEMORY. */
+/* Exchanges the bytes of a range, as str_rope_byte_range answers them, for a
+ * text: one change as a client sends it. For a change that has no range, which
+ * exchanges the whole text, call str_rope_assign. May answer
+ * STR_ROPE_NOT_ORDERED, STR_ROPE_TOO_LONG, STR_ROPE_NOT_UTF8 and, where `len`
+ * is not 0, STR_ROPE_NO_MEMORY. */
 str_rope_status str_rope_change(str_rope *rope, str_rope_encoding encoding,
                                 str_indices_range range, const char *text,
                                 size_t len);
