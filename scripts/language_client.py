@@ -4,7 +4,7 @@ import subprocess
 
 
 class Client:
-    """Runs a server, sends messages and waits for the one that answers each. A server that hangs ends the script's part."""
+    """Runs a server, sends messages and waits for the one that answers each, however long that takes."""
 
     def __init__(self, program):
         self.server = subprocess.Popen([program], stdin=subprocess.PIPE, stdout=subprocess.PIPE, stderr=subprocess.DEVNULL)

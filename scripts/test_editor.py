@@ -28,7 +28,7 @@ BY_HAND = 15
 IN_EDITOR = 32
 # the first Neovim that computes the changes of a buffer by itself, in each encoding
 NEOVIM = (0, 7)
-# no time is judged: an editor that hangs ends the script, also on a slow machine
+# no time is judged: an editor that hangs is ended, also on a slow machine
 SECONDS = 900
 
 LINES = ["let frog = \"🐸\";  ", "é e\u0301 世界\t", "", "  x = 1", "👩\u200d🚀 \u2028 \u0085 \u000b a", "word a b c", "\U0010ffff"]
@@ -132,10 +132,13 @@ def edit(program, run, seed, folder):
     homes = {f"XDG_{name}_HOME": str(folder) for name in ["CACHE", "CONFIG", "DATA", "STATE"]}
     job = json.dumps(run.job(program, file, seed))
     command = ["nvim", "--headless", "-u", "NONE", "-i", "NONE", "-n", "-c", f"luafile {CHANGES}", "-c", "cquit"]
-    done = subprocess.run(
-        command, env=dict(os.environ, JOB=job, **homes), stdin=subprocess.DEVNULL, capture_output=True, text=True,
-        timeout=SECONDS,
-    )
+    try:
+        done = subprocess.run(
+            command, env=dict(os.environ, JOB=job, **homes), stdin=subprocess.DEVNULL, capture_output=True, text=True,
+            timeout=SECONDS,
+        )
+    except subprocess.TimeoutExpired:
+        return {"wrong": [f"the editor took more than {SECONDS} seconds"]}
     lines = [line for line in done.stdout.split("\n") if line.startswith("{")]
     return json.loads(lines[-1]) if lines else {"wrong": [done.stdout[-500:] + done.stderr[-500:]]}
 

@@ -70,10 +70,11 @@ end
 
 -- Edits.
 
+-- No ".", which after the paste would type it again, char by char.
 local NORMAL = {
   "x", "3x", "X", "D", "dd", "2dd", "dw", "db", "d$", "J", "gJ", "~", "g~~", "gUU", "yyp", "yyP", "2yyp", "ddp", "ddP", "xp", ">>", "<<",
   "ra", "r🐸", "R🐸x", "i🐸", "a e\u{301}", "A  ", "Iせ", "owörd", "O\t🐸 ", "o", "cw👩\u{200D}🚀", "ccnew", "S", "s界", "5|D",
-  "\22jlx", "\22jj$Aend ", "\22jI🐸", "Vjd", "vjd", "vjry", "Vj:m0\r", ".", "yiwP", "ylp", "10ix",
+  "\22jlx", "\22jj$Aend ", "\22jI🐸", "Vjd", "vjd", "vjry", "Vj:m0\r", "yiwP", "ylp", "10ix",
 }
 
 local function normal()
@@ -82,13 +83,16 @@ local function normal()
   vim.cmd("silent! normal! " .. NORMAL[random(#NORMAL)])
 end
 
+-- FIRST is for the first lines: each line of an edit that is undone costs the editor a look at all warnings.
 local COMMANDS = {
-  "%s/a/🐸b/g", "%s/🐸/a/", "%s/\\s\\+$//", "%s/x/\\r/", "2,4move $", "$move 0", "1,3copy $", "2,5sort", "2,3join", "3delete", "3,4>",
-  "2put =''", "1,4normal! Az", "undojoin | 2s/$/🐸 /", "retab", "2,4left 3",
+  "FIRSTs/a/🐸b/g", "FIRSTs/🐸/a/", "FIRSTs/\\s\\+$//", "FIRSTs/x/\\r/", "2,4move $", "$move 0", "1,3copy $", "2,5sort", "2,3join", "3delete", "3,4>",
+  "2put =''", "1,4normal! Az", "undojoin | 2s/$/🐸 /", "FIRSTretab", "2,4left 3",
 }
 
 local function command()
-  vim.cmd("silent! " .. COMMANDS[random(#COMMANDS)])
+  local first = "1," .. math.min(100, vim.api.nvim_buf_line_count(0))
+  local words = COMMANDS[random(#COMMANDS)]:gsub("FIRST", first)
+  vim.cmd("silent! " .. words)
 end
 
 local function set_text()

@@ -1,6 +1,6 @@
 //! What is refused, what other crates expect of a text, and what a rope does with memory.
 mod model;
-use model::{joined, Numbers};
+use model::{joined, Numbers, ENCODINGS};
 use std::error::Error as _;
 use std::fs;
 use std::ops;
@@ -151,6 +151,22 @@ fn a_rope_goes_to_other_threads() {
     thread::spawn(move || assert_eq!(rope.text_in(..21).as_deref(), Ok("abbbbbbbbbbbbbbbbbbbb")))
         .join()
         .unwrap();
+}
+
+/// The crate for whole texts links another library beside the rope's.
+#[test]
+fn positions_are_those_of_the_whole_text() {
+    let mut numbers = Numbers(6);
+    let text = numbers.text(4000);
+    let rope: Rope = text.parse().unwrap();
+    for _ in 0..500 {
+        let byte = numbers.below(text.len() + 2);
+        for encoding in ENCODINGS {
+            let position = rope.position_of(encoding, byte);
+            assert_eq!(position, encoding.position_of(&text, byte));
+            assert_eq!(rope.byte_of(encoding, position), encoding.byte_of(&text, position));
+        }
+    }
 }
 
 /// The memory that the program has, in pages.

@@ -60,7 +60,7 @@ fn ends(scheme: Scheme, text: &str) -> Vec<usize> {
     chars.map(|(at, char)| at + char.len_utf8()).collect()
 }
 
-/// How many units there are at most in the text, in front of each boundary, beginning with 0.
+/// How many units a text has.
 fn units(encoding: Encoding, text: &str) -> usize {
     match encoding {
         Encoding::Utf8 => text.len(),
