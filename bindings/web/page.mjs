@@ -72,28 +72,31 @@ function position(encoding, byte) {
   return `${line} : ${character}`;
 }
 
-/** The rows of the table of places: a heading, what it says of a byte, and what of the whole text. */
-function placeRows() {
-  const lines = (set) => {
-    const number = text.count(set) + 1;
-    return `${number} ${number === 1 ? "line" : "lines"}`;
-  };
-  return [
-    ["byte", (byte) => byte, text.length],
-    ["char", (byte) => text.fromByteIdx("chars", byte), text.count("chars")],
-    ["UTF-16 unit", (byte) => text.fromByteIdx("utf16", byte), text.count("utf16")],
-    ...LINE_SETS.map(([set, heading]) => [`line : column, ${heading}`, (byte) => lineAndColumn(set, byte), lines(set)]),
-    ...ENCODINGS.map(([encoding, heading]) => [heading, (byte) => position(encoding, byte), position(encoding, text.length)]),
-  ];
+function lines(set) {
+  const number = text.count(set) + 1;
+  return `${number} ${number === 1 ? "line" : "lines"}`;
 }
 
-function showPlaces(bytes) {
+// the rows of the table of places: a heading, what it says of a byte, and what of the whole text
+const PLACES = [
+  ["byte", (byte) => byte, () => text.length],
+  ["char", (byte) => text.fromByteIdx("chars", byte), () => text.count("chars")],
+  ["UTF-16 unit", (byte) => text.fromByteIdx("utf16", byte), () => text.count("utf16")],
+  ...LINE_SETS.map(([set, heading]) => [`line : column, ${heading}`, (byte) => lineAndColumn(set, byte), () => lines(set)]),
+  ...ENCODINGS.map(([encoding, heading]) => [
+    heading,
+    (byte) => position(encoding, byte),
+    () => position(encoding, text.length),
+  ]),
+];
+
+function showPlaces([start, end], changed) {
   const body = document.querySelector("#places tbody");
-  const [start, end] = bytes;
-  placeRows().forEach(([heading, at, whole], i) => {
+  PLACES.forEach(([heading, at, whole], i) => {
     const row = body.rows[i] ?? placeRow(body, heading);
     const first = String(at(start));
-    const values = [first, end === start ? first : String(at(end)), String(whole)];
+    const values = [first, end === start ? first : String(at(end))];
+    if (changed) values.push(String(whole()));
     values.forEach((value, column) => {
       const place = row.cells[column + 1];
       if (place.textContent !== value) place.textContent = value;
@@ -184,7 +187,7 @@ function show() {
   }
   shownAt = selection.join();
   const bytes = selection.map((unit) => text.toByteIdx("utf16", unit));
-  showPlaces(bytes);
+  showPlaces(bytes, changed);
   if (changed) {
     showConversions();
     byId("arrow").hidden = !field.holdsArrow;
