@@ -1,8 +1,9 @@
 /*
- * The functions of str_indices.h and str_indices_positions.h, each handed on to one of two that answer the
- * same: to one over vectors of sixteen bytes, for any processor of the level
- * x86-64-v2, or to one over vectors of thirty-two, for the level x86-64-v3.
- * The first are the narrow half of the library, and the second the wide half.
+ * The functions of str_indices.h and str_indices_positions.h, each handed on to
+ * one of two that answer the same: to one over vectors of sixteen bytes, for
+ * any processor of the level x86-64-v2, or to one over vectors of thirty-two,
+ * for the level x86-64-v3. The first are the narrow half of the library, and
+ * the second the wide half.
  *
  * Where STR_INDICES_WIDE is not defined, the library has no wide half.
  */

@@ -49,8 +49,9 @@ extern "C" {
  * here too. */
 bool str_indices_is_utf8(const char *text, size_t len);
 
-/* Whether the functions below, but for those four conversions, answer for a text
- * of `len` bytes by the wide half. A library that was built without it answers false. */
+/* Whether the functions below, but for the four conversions that are named
+ * above, answer for a text of `len` bytes by the wide half. A library that was
+ * built without it answers false. */
 bool str_indices_is_wide(size_t len);
 
 /*
@@ -96,7 +97,7 @@ size_t str_indices_utf16_to_byte_idx(const char *text, size_t len,
                                      size_t utf16_idx);
 
 /*
- * Lines. Line 0 begins at byte 0, and each other line right behind a line
+ * Lines. Line 0 begins at byte 0, and each other line right after a line
  * break, so a text has one line more than it has breaks. The three schemes
  * differ in what is a break:
  *

@@ -3,9 +3,9 @@
  * Protocol 3.17, and back.
  *
  * A line ends in LF, CR or CR LF, which is one break. A position is a line and
- * an offset on it, both from 0. No position names a place inside or behind a
- * break on its line: an offset past the end of the line means the line's end,
- * before its break. An offset inside a char belongs to the char's start.
+ * an offset on it, both from 0. No position names a place inside a break, or
+ * after it on its line: an offset past the end of the line means the line's
+ * end, before its break. An offset inside a char belongs to the char's start.
  *
  * The protocol knows three position encodings, which say what an offset counts.
  * The first functions are for UTF-16, its default, and count UTF-16 code units.
