@@ -19,7 +19,7 @@ OTHERS = {
     ROOT / "crates/str_indices_c_wide/src/lib.rt": "wide",
     ROOT / "bindings/web/exports.rt.txt": "browser",
 }
-# the positions, which the browser does not have
+# the positions; for the browser the file of the narrow half is taken as it is
 NARROW_POSITIONS = ROOT / "crates/str_indices_c/src/positions.rt"
 WIDE_POSITIONS = ROOT / "crates/str_indices_c_wide/src/positions.rt"
 # the narrow half alone has it, and the browser; no half of sixteen lanes or thirty-two is concerned

@@ -181,7 +181,7 @@ def try_in_node(built):
 def main():
     browser = next(filter(None, map(shutil.which, NAMES)), None)
     built = subprocess.run([ROOT / "bindings/web/build"], stdout=subprocess.PIPE, text=True)
-    right = tally.result(built.returncode == 0, "build_web, which proves the exports")
+    right = tally.result(built.returncode == 0, "bindings/web/build, which proves the exports")
     check_types()
     if right:
         try_in_node(pathlib.Path(built.stdout.splitlines()[-1]))
