@@ -2,6 +2,7 @@
 ghost use Rattle.std.specs.Prelude.{◌≡◌, ◌≢◌, [], IfSome, IfNone, IsErr, IsOkUnless, OnOk, OnErr};
 ghost use Rattle.std.specs.Fn.{FnOnceReturnsAt};
 ghost use Rattle.text_rope.specs.declared.refusals.Refusal.TheVariants.{NoMemory};
+ghost use Rattle.text_rope_c.specs.Kept.{null};
 
 use crate::loose::Loose;
 use crate::slot::Slot;
@@ -33,7 +34,8 @@ fn freed(alloc: Global, rope: Slot) {
 
 /// Frees the text of a handle, which is then null.
 pub(crate) fn emptied(alloc: Global, rope: &mut Slot)
-    ensures { rope.new.text ≡ [] }
+    ensures text { rope.new.text ≡ [] }
+    ensures null { rope.new.at ≡ null }
 {
     freed(alloc, mem::replace(rope, Slot::none()));
 }
