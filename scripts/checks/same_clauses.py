@@ -13,7 +13,7 @@ import sys
 
 from tally import Tally
 
-ROOT = pathlib.Path(__file__).resolve().parent.parent
+ROOT = pathlib.Path(__file__).resolve().parents[2]
 NARROW = ROOT / "crates/str_indices_c/src/lib.rt"
 OTHERS = {
     ROOT / "crates/str_indices_c_wide/src/lib.rt": "wide",

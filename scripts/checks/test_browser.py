@@ -23,7 +23,7 @@ import page_tests
 from devtools import Browser
 from tally import Tally
 
-ROOT = pathlib.Path(__file__).resolve().parent.parent
+ROOT = pathlib.Path(__file__).resolve().parents[2]
 NAMES = ["chromium", "chromium-browser", "google-chrome"]
 # how many results there are of what Node and of what a Chromium is asked
 IN_NODE = 6

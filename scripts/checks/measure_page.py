@@ -5,7 +5,7 @@ For each size: milliseconds from the event of a paste, an arrow key or a letter 
 drawing is made, at the page of `bindings/web/build` and at a page that has nothing but the field. A drawing is waited for
 in each, so that nothing falls below the time between two. No test runs this, and nothing is judged.
 
-    scripts/measure_page.py [BYTES..]
+    scripts/checks/measure_page.py [BYTES..]
 """
 import pathlib
 import shutil
@@ -15,7 +15,7 @@ import tempfile
 
 from devtools import Browser
 
-PAGE = pathlib.Path(__file__).resolve().parent.parent / "out/web/index.html"
+PAGE = pathlib.Path(__file__).resolve().parents[2] / "out/web/index.html"
 PLAIN = '<!doctype html><meta charset="utf-8"><textarea id="text" rows="9" cols="70" spellcheck="false"></textarea>'
 LINE = 'let greeting = "Grüße, 世界 🐸"; // the frog is a pair\n'
 FIELD = "document.getElementById('text')"

@@ -27,7 +27,7 @@ from exchanges import exchanging_library, try_exchanges
 from halves import ASKED, halves, has_wide_half, missing
 from tally import Tally, least, sums_of
 
-ROOT = pathlib.Path(__file__).resolve().parent.parent
+ROOT = pathlib.Path(__file__).resolve().parents[2]
 EXAMPLE = ROOT / "bindings/c/examples/line_and_column.c"
 WORKED_ANSWERS = ROOT / "bindings/c/tests/worked_answers.c"
 POSITIONS = ROOT / "bindings/c/tests/positions.c"

@@ -13,7 +13,7 @@ import tempfile
 
 from tally import Tally
 
-ROOT = pathlib.Path(__file__).resolve().parent.parent
+ROOT = pathlib.Path(__file__).resolve().parents[2]
 CRATE = ROOT / "crates/idx"
 PROGRAM = CRATE / "out/idx"
 # no time is judged: a program that hangs ends the script, also on a slow machine

@@ -24,7 +24,7 @@ from halves import ASKED, halves, missing
 from tally import Tally, least
 from test_c import ROWS, TEXT
 
-ROOT = pathlib.Path(__file__).resolve().parent.parent
+ROOT = pathlib.Path(__file__).resolve().parents[2]
 BINDINGS = ROOT / "bindings/rust"
 POSITIONS = ROOT / "bindings/positions"
 EXAMPLE = ROOT / "examples/rust"

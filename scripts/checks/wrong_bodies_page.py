@@ -10,16 +10,16 @@ HEAD = """# Wrong bodies
 A proof says no more than its contract. So the contracts here have wrong bodies: edits of the code that look much like it,
 and that the prover must refuse. If one of them were still proved, the contract would be too weak.
 
-`scripts/wrong_bodies.py` tries each by the function in its row. It counts only where what the row names is open there: a
-clause of that function, its type's invariant, or what a call in it asks. It does not count where another function is refused, or where a proof
-file names what is no longer there. Where the row names a proof, that goes step by step and names no clause; it would
-refuse any other body too. Those marked *gate* stand in `must-fail/` of their crate, where the toolchain's gate
-tries them too, by the whole crate; the others stand in `refusals/bodies/`. This page is written by
-`scripts/wrong_bodies.py --write`, and the gate fails where it is another.
+`scripts/checks/wrong_bodies.py` tries each by the function in its row. It counts only where what the row names is open
+there: a clause of that function, its type's invariant, or what a call in it asks. It does not count where another
+function is refused, or where a proof file names what is no longer there. Where the row names a proof, that goes step by
+step and names no clause; it would refuse any other body too. Those marked *gate* stand in `must-fail/` of their crate,
+where the toolchain's gate tries them too, by the whole crate; the others stand in `refusals/bodies/`. This page is
+written by `scripts/checks/wrong_bodies.py --write`, and the gate fails where it is another.
 
 Where a call has many implementations, it has a wrong body for each way of computing it: by an array, by a number, by a
 vector. The same goes for the exports: those of the wide half and of the browser have none of their own.
-`scripts/same_clauses.py` searches their texts: all have the clauses of the ones that are tried.
+`scripts/checks/same_clauses.py` searches their texts: all have the clauses of the ones that are tried.
 """
 
 # what is promised, in the order of the page, with the functions and clauses that owe it; the first that fits has the row
@@ -46,9 +46,9 @@ ELSEWHERE = """## Refused in another way
 
 - A public function with a walk of its own, which never calls its kernel: the contracts cannot tell. `refusals/own-walk/`
   strikes the answer from the kernel's contract, and then the public function must be refused at its own answer. The same
-  goes for the queries of a text in pieces. `scripts/own_walk.py` tries them.
+  goes for the queries of a text in pieces and of a rope. `scripts/checks/own_walk.py` tries them.
 - A kernel that loads chunks of another type, and a probe or a view that is copied: these do not compile.
-  `refusals/must-not-compile/` has the programs, and `scripts/must_not_compile.py` tries them.
+  `refusals/must-not-compile/` has the programs, and `scripts/checks/must_not_compile.py` tries them.
 - An edit of a definition: the lemmas that it makes false are refused, and no function by itself. The toolchain's gate tries
   it: DEFINITIONS.
 - A program that always says that memory or a read failed, and a text in pieces that always refuses: a test fails.

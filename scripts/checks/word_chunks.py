@@ -12,7 +12,7 @@ import sys
 
 from tally import Tally
 
-ROOT = pathlib.Path(__file__).resolve().parent.parent
+ROOT = pathlib.Path(__file__).resolve().parents[2]
 
 # the chunk types that are numbers, each in a file of its own
 NUMBERS = ["u128", "usize"]

@@ -6,7 +6,7 @@ failure. scripts/least.txt has the least number of what is tried, of each script
 import pathlib
 import re
 
-LEAST = pathlib.Path(__file__).resolve().parent / "least.txt"
+LEAST = pathlib.Path(__file__).resolve().parents[1] / "least.txt"
 SUMS = re.compile(r"([0-9]+) passed, ([0-9]+) failed(?:, ([0-9]+) skipped)?")
 
 

@@ -17,7 +17,7 @@ import position_changes
 from position_model import CHARACTERS, ENCODINGS, GREATEST, Lines, units
 from tally import Tally
 
-ROOT = pathlib.Path(__file__).resolve().parent.parent
+ROOT = pathlib.Path(__file__).resolve().parents[2]
 SEED = 317
 TEXTS = 4000
 MOST_CHARACTERS = 24

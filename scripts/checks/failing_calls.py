@@ -22,7 +22,7 @@ import typing
 from tally import Tally
 from test_program import CRATE, NO_MEMORY, NOT_UTF8, PROGRAM, READ, USAGE, WRITE, build, number, run, told
 
-ROOT = pathlib.Path(__file__).resolve().parent.parent
+ROOT = pathlib.Path(__file__).resolve().parents[2]
 SOURCE = ROOT / "tests/failing_calls.c"
 COMPILER = ["cc", "-std=c99", "-Wall", "-Wextra", "-Werror", "-pedantic", "-O2", "-shared", "-fPIC"]
 

@@ -19,7 +19,7 @@ import tempfile
 from language_client import Client, opened
 from tally import Tally, least
 
-ROOT = pathlib.Path(__file__).resolve().parent.parent
+ROOT = pathlib.Path(__file__).resolve().parents[2]
 CHANGES = ROOT / "tests/editor/changes.lua"
 # where Debian's packages put the sources of crates
 REGISTRY = pathlib.Path("/usr/share/cargo/registry")
