@@ -42,11 +42,11 @@ abbrev pub entry_named : {A : Type 0} → List ℕ → List (List ℕ × A) → 
 entry_named name table = option_map (λ row. row.1) (find (λ row. bytes_eq row.0 name) table)
 
 -- the counting call that is built under the name
-abbrev pub counting_named : List ℕ → Option Call
+unfoldable pub counting_named : List ℕ → Option Call
 counting_named name = entry_named name counting_calls
 
 -- the conversion that is built under the name, with its index
-abbrev pub conversion_named : List ℕ → ℕ → Option Call
+unfoldable pub conversion_named : List ℕ → ℕ → Option Call
 conversion_named name index = option_map (λ conversion. conversion index) (entry_named name conversions)
 
 -- the number that answers the call for the text

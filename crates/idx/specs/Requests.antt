@@ -30,7 +30,7 @@ abbrev pub is_index : List ℕ → Bool
 is_index word = nat_lt 0 (length word) && all_ascii_digits word && nat_le (digits_value 10 word) greatest_index
 
 -- the number that the word writes in decimal, if it is an index
-abbrev pub index_of : List ℕ → Option ℕ
+unfoldable pub index_of : List ℕ → Option ℕ
 index_of word = if is_index word then Some (digits_value 10 word) else None
 
 -- the call of the name: a conversion with its index, or for a hyphen a counting call, which has none
@@ -43,7 +43,7 @@ abbrev pub chunk_types : List (List ℕ × ChunkType)
 chunk_types = (codes "plain", Plain) ∷ (codes "word", Word) ∷ (codes "lanes", Lanes) ∷ (codes "wide", Wide) ∷ []
 
 -- the chunk type that has the name
-abbrev pub chunk_type_named : List ℕ → Option ChunkType
+unfoldable pub chunk_type_named : List ℕ → Option ChunkType
 chunk_type_named name = entry_named name chunk_types
 
 -- the run of a kernel over the chunk type of a name, with a number of leading bytes

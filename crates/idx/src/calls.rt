@@ -19,6 +19,7 @@ pub enum Call {
 
 impl Call {
     /// The counting call of this name, or `None` where none is built under it.
+    #[tactic(auto, unfolding(crate::specs::Calls::counting_named))]
     pub fn counting(name: &str) -> Option<Call>
         ensures { result ≡ counting_named name.now }
     {
@@ -34,6 +35,7 @@ impl Call {
     }
 
     /// The conversion of this name for the index, or `None` where none is built under it.
+    #[tactic(auto, unfolding(crate::specs::Calls::conversion_named))]
     pub fn conversion(name: &str, index: usize) -> Option<Call>
         ensures { result ≡ conversion_named name.now index }
     {

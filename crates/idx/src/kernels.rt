@@ -32,6 +32,7 @@ pub struct Kernel {
 
 impl ChunkType {
     /// The chunk type of this name, or `None` where there is none.
+    #[tactic(auto, unfolding(crate::specs::Requests::chunk_type_named))]
     pub fn named(name: &str) -> Option<ChunkType>
         ensures { result ≡ chunk_type_named name.now }
     {

@@ -73,6 +73,7 @@ fn parse_kernel(chunk: &str, lead: &str) -> Option<Kernel>
 
 /// The number that the word writes in decimal digits, or `None` where it is empty, has another
 /// character, or writes a number that `usize` does not hold.
+#[tactic(auto, unfolding(crate::specs::Requests::index_of))]
 fn parse_index(word: &str) -> Option<usize>
     ensures { result ≡ index_of word.now }
 {

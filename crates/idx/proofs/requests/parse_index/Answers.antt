@@ -13,6 +13,7 @@ index_of-numeral : {E : Type 0} (word : List ℕ) (parsed : Result ℕ E)
     → OkIff parsed ((all_ascii_digits word ≡ true) × (0 < length word) × (digits_value 10 word < 2 ^ 64))
     (digits_value 10 word)
     → result_ok parsed ≡ index_of word
+unfolding index_of
 index_of-numeral word (Ok n) reads = grind (arith, reads)
 index_of-numeral word (Err error) refuses = grind (arith, refuses)
 
