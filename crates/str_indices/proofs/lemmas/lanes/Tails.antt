@@ -65,8 +65,11 @@ module _ {size : ℕ} (lanes : List ℕ) (long : length lanes ≡ size) where
     -- windows of small lanes have room for one another
     pub windows_addable : Each1 (λ lane. lane ≤ 2) lanes → m < 64 → Each2 (λ a b. a + b ≤ 255) xs moved
     windows_addable small few = Each2-lanes (λ a b. a + b ≤ 255) h k
-        (λ j l. omega (arith, window-le lanes 2 (small_lane 2 lanes small) m j,
-        window-le lanes 2 (small_lane 2 lanes small) m (m + j)))
+        (λ j l. omega (
+          arith,
+          window-le lanes 2 (small_lane 2 lanes small) m j,
+          window-le lanes 2 (small_lane 2 lanes small) m (m + j),
+        ))
 
     -- and added make windows twice as wide
     pub windows_added : {wide : List ℕ} → wide ≡ zip2 (λ a b. a + b) xs moved → HasLanes size (window lanes (m + m)) wide
@@ -121,12 +124,14 @@ module _ (t : ℕ → ℕ) (k : ℕ) (falls : (j : ℕ) → t (suc j) ≤ t j) w
                 let far : t n ≤ t (above n) = falls-to (above n) n (omega arith) in
                 absurd (omega (arith, under, far))
             | inr le ↦ omega (arith, (front n).0)
-          ] in
-          (omega (arith, one, all), λ j l.
-            let far : t n ≤ t j = falls-to j n (omega (arith, one, all)) in omega (arith, far), λ j l l'. absurd (omega (arith, one, all)))
+          ] in (
+            omega (arith, one, all),
+            λ j l.
+                let far : t n ≤ t j = falls-to j n (omega (arith, one, all)) in omega (arith, far),
+            λ j l l'. absurd (omega (arith, one, all)),
+          )
       | inr under ↦
-          let none : is_between k 127 (t n) ≡ 0 = grind (arith, nat_tests) in
-          (
+          let none : is_between k 127 (t n) ≡ 0 = grind (arith, nat_tests) in (
             omega (arith, none, (front n).0),
             λ j l. (front n).1 j (omega (arith, none)),
             λ j l l'. elim (cases_lt j n) [
@@ -163,8 +168,8 @@ module _ {counted : ℕ → ℕ} {most size from to : ℕ} {lanes : List ℕ} (k
   split : (n ≤ size) × ((j : ℕ) → j < n → k < sum (drop j lanes)) × ((j : ℕ) → n ≤ j → j < size → sum (drop j lanes) ≤ k)
   split = rw is (front (λ j. sum (drop j lanes)) k falls
       (λ j.
-          let first : sum (drop j lanes) ≤ sum lanes = falls-to (λ i. sum (drop i lanes)) k falls 0 j (omega arith) in
-          omega (arith, first)) size)
+      let first : sum (drop j lanes) ≤ sum lanes = falls-to (λ i. sum (drop i lanes)) k falls 0 j (omega arith) in
+      omega (arith, first)) size)
 
   -- more lanes are found than are left out
   found_some : size - (to - from) < n
@@ -174,9 +179,9 @@ module _ {counted : ℕ → ℕ} {most size from to : ℕ} {lanes : List ℕ} (k
       elim (cases_lt out n) [
         | inl some ↦ some
         | inr none ↦ elim (cases_lt out size) [
-            | inl inside ↦ absurd (omega (arith, here, split.2 out none inside))
-            | inr past ↦ let same : from ≡ to = omega arith in absurd (omega (arith, ap counted same))
-          ]
+          | inl inside ↦ absurd (omega (arith, here, split.2 out none inside))
+          | inr past ↦ let same : from ≡ to = omega arith in absurd (omega (arith, ap counted same))
+        ]
       ]
 
   -- no more than idx are counted before the place

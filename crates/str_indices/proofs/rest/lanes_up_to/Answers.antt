@@ -1,4 +1,4 @@
-use Rattle.str_indices.proofs.lemmas.{◌≡◌, ◌+◌, ◌-◌, ap, arith, kept_small, rest_counted, subst}
+use Rattle.str_indices.proofs.lemmas.{ap, arith, kept_small, rest_counted, subst}
 use Rattle.str_indices.proofs.rest.lanes_up_to.Goals as goal
 
 pub last_lanes-requires-clause-small : goal.last_lanes-requires-clause-small
