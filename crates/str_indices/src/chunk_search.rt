@@ -1,7 +1,7 @@
-//! The search through the one chunk in which an index is reached, by its lanes.
+//! The search through the chunk in which an index is reached, by all its lanes at once.
 //!
-//! Byte by byte it would take a branch each, and where they end no processor foresees; or as many steps wherever they end.
-//! So each lane gets the sum of those from it on, and how many of these sums are large enough says which lane is found.
+//! Byte by byte it would take a branch each, and where they end no processor foresees; or all steps wherever it ends. So each
+//! lane gets the sum of those from it on. Of how many lanes that sum is too great, so many bytes stand before the place.
 ghost use Rattle.std.specs.Prelude.{◌≡◌, ◌+◌, ◌*◌, ◌<◌, ◌≤◌, length, drop, map, slice_index, sum};
 ghost use Rattle.std.specs.Simd.Lanes.{Each1};
 ghost use Rattle.str_indices.specs.Prelude.{is_between, sum_below, CountsUpTo, HasLanes, Reads};
@@ -15,7 +15,7 @@ pub(crate) const MOST_COMPARED: usize = 126;
 
 /// The first byte with which more than `idx` are counted, of those from a position up to `to`, or `to`, for one turn a lane.
 ///
-/// They are no more than a chunk has, and the bytes before `to` no fewer.
+/// They are no more than a chunk has, and all the bytes before `to` are no fewer.
 pub(crate) fn find_in_chunk<C: PlaceCounts<T>, T: ByteChunk>(
     probe: &mut Probe<'_, T>,
     from: Cursor<C::Carry>,
@@ -42,8 +42,8 @@ pub(crate) fn find_in_chunk<C: PlaceCounts<T>, T: ByteChunk>(
         return to;
     }
     let after = total - more - 1;
-    let before = lanes_above(sums_to_end(lanes), after as u8);
-    to - T::SIZE + (before - 1)
+    let up_to_place = lanes_above(sums_to_end(lanes), after as u8);
+    to - T::SIZE + (up_to_place - 1)
 }
 
 /// How many lanes are above `n`, where none is too great to be compared.

@@ -69,7 +69,8 @@ pub(crate) fn find_first<
 
 /// The first byte with which more than `idx` are counted, or the end of the text where no more are.
 ///
-/// It looks at chunks in groups while at least `LEAST` are left.
+/// It looks at chunks in groups while at least `LEAST` are left. The one that reaches the index is searched by its lanes, and
+/// walked where a sum of them may be too great to be compared, or where the text has fewer bytes.
 pub(crate) fn find<
     C: PlaceCounts<T>,
     T: ByteChunk,

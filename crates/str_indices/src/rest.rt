@@ -1,7 +1,7 @@
-//! Counts over the bytes after the last whole chunk, all at once.
+//! Counts over the last bytes of a pass, fewer than a chunk has or as many, all at once.
 //!
 //! One by one they would take a branch each, and where they end no processor foresees: of a short text that is most of
-//! the time. So the last bytes of a text are put into a chunk, whose first lanes are then left out.
+//! the time. So the last bytes are put into a chunk, whose first lanes are then left out.
 ghost use Rattle.std.specs.Prelude.{◌≡◌, ◌+◌, ◌-◌, ◌<◌, ◌≤◌, ◌++◌, length, take, drop, replicate};
 ghost use Rattle.std.specs.Simd.Lanes.{Each1};
 ghost use Rattle.str_indices.specs.Prelude.{sum_below, CountsUpTo, FitsIn, Reads};

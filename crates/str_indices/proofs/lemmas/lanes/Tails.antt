@@ -203,5 +203,17 @@ module _ {counted : ℕ → ℕ} {most size from to : ℕ} {lanes : List ℕ} (k
         | inr last ↦ let same : next ≡ to = omega (arith, found_some, split.0) in omega (arith, ap counted same)
       ]
 
-  pub found : FoundBy counted size from to idx n
+  found : FoundBy counted size from to idx n
   found = record { some = found_some; within = split.0; at_most = found_few; stopped = found_more }
+
+-- the same, from what the calls of a search say
+pub found_place : {counted : ℕ → ℕ} {most size from to : ℕ} {lanes sums : List ℕ} {count idx total n : ℕ}
+    → CountsUpTo counted most size from to lanes → (from ≤ to) × (to ≤ from + size) → size ≤ to → count ≡ counted from
+    → count ≤ idx → total ≡ sum lanes → idx - count < total → size * most ≤ 126
+    → HasLanes size (λ j. sum (drop j lanes)) sums → n ≡ sum (map (is_between (total - (idx - count) - 1) 127) sums)
+    → FoundBy counted size from to idx n
+found_place {most = most} {lanes = lanes} {count = count} {idx = idx} {total = total} {n = n} h near long is_count few is_total
+    more room tails is =
+    let k = total - (idx - count) - 1 in
+    found k idx n h near long (omega (arith, is_count, few)) (omega (arith, more, h.added, is_total, is_count, few))
+    (omega (arith, sum_small most lanes h.long h.small, room)) (is ∙ tails_above k tails)
