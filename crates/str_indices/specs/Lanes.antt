@@ -5,9 +5,11 @@
 --     IsChunk bytes at size lanes      the lanes are the `size` bytes from `at` on
 --     AddsUp counted most size from to chunks lanes
 --                                      the lanes of so many chunks were added, and hold what is counted there
+--     CountsUpTo counted most size from to lanes
+--                                      the lanes hold what is counted from one place up to another
 --     FitsIn counted n                 before no place up to n is more counted than n
 --     IsSteady counted n               nor, between two places up to n, much more than there are bytes
-use Rattle.std.specs.Prelude.{ℕ, ◌≡◌, ◌+◌, ◌*◌, ◌<◌, ◌≤◌, List, length, slice_index, sum}
+use Rattle.std.specs.Prelude.{ℕ, ◌≡◌, ◌+◌, ◌-◌, ◌*◌, ◌<◌, ◌≤◌, List, drop, length, slice_index, sum}
 use Rattle.std.specs.Simd.Lanes.{Each1}
 
 pub record HasLanes (size : ℕ) (f : ℕ → ℕ) (lanes : List ℕ) : Type 0 where
@@ -32,6 +34,15 @@ pub record AddsUp (counted : ℕ → ℕ) (most size from to chunks : ℕ) (lane
   pub long : length lanes ≡ size
   pub small : Each1 (λ lane. lane ≤ chunks * most) lanes
   pub added : counted to ≡ counted from + sum lanes
+
+-- The lanes of the last `size` places before `to`, each `most` at most. From each place from `from` on, they add up to what
+-- `counted`, the count before a place, grows by up to `to`; and those before `from` add nothing.
+pub record CountsUpTo (counted : ℕ → ℕ) (most size from to : ℕ) (lanes : List ℕ) : Type 0 where
+  pub long : length lanes ≡ size
+  pub small : Each1 (λ lane. lane ≤ most) lanes
+  pub added : counted to ≡ counted from + sum lanes
+  pub rest : (place : ℕ) → from ≤ place → place ≤ to
+      → counted to ≡ counted place + sum (drop (size - (to - place)) lanes)
 
 -- before no place up to n is more counted than n
 abbrev pub FitsIn : (ℕ → ℕ) → ℕ → Type 0

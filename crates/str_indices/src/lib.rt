@@ -5,6 +5,7 @@
 #![tactic(auto)]
 
 pub mod chars;
+mod chunk_search;
 pub mod laws;
 pub mod lines;
 pub mod lines_crlf;

@@ -5,6 +5,7 @@
 ghost use Rattle.std.specs.Prelude.{◌≡◌, ℕ, ◌+◌, ◌-◌, ◌*◌, ◌/◌, ◌<◌, ◌≤◌, length};
 ghost use Rattle.str_indices.specs.Prelude.{sum_below, FitsIn, IsSteady, Reads, Counts, Finds};
 
+use crate::chunk_search::{MOST_COMPARED, find_in_chunk};
 use crate::place_counts::{Cursor, PlaceCounts, count_chunks, skip_chunks};
 use crate::places::byte_before;
 use crate::rest::count_rest;
@@ -68,7 +69,8 @@ pub(crate) fn find_first<
 
 /// The first byte with which more than `idx` are counted, or the end of the text where no more are.
 ///
-/// It looks at chunks in groups while at least `LEAST` are left.
+/// It looks at chunks in groups while at least `LEAST` are left. The one that reaches the index is searched by its lanes, and
+/// walked where a sum of them may be too great to be compared, or where the text has fewer bytes.
 pub(crate) fn find<
     C: PlaceCounts<T>,
     T: ByteChunk,
@@ -101,6 +103,9 @@ pub(crate) fn find<
     let after_chunks = skip_chunks::<C, T, 1>(probe, after_groups, idx, 1);
     let last = T::SIZE.min(len - after_chunks.byte);
     let to = after_chunks.byte + last;
+    if T::SIZE <= len && T::SIZE <= MOST_COMPARED / C::MOST {
+        return find_in_chunk::<C, T>(probe, after_chunks, to, idx);
+    }
     walk::<C, T>(probe, after_chunks.byte, after_chunks.count, to, len, idx).place
 }
 

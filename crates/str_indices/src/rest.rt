@@ -1,10 +1,10 @@
-//! Counts over the bytes after the last whole chunk, all at once.
+//! Counts over the last bytes of a pass, fewer than a chunk has or as many, all at once.
 //!
 //! One by one they would take a branch each, and where they end no processor foresees: of a short text that is most of
-//! the time. So the last bytes of a text are put into a chunk, whose first lanes are then left out.
+//! the time. So the last bytes are put into a chunk, whose first lanes are then left out.
 ghost use Rattle.std.specs.Prelude.{◌≡◌, ◌+◌, ◌-◌, ◌<◌, ◌≤◌, ◌++◌, length, take, drop, replicate};
 ghost use Rattle.std.specs.Simd.Lanes.{Each1};
-ghost use Rattle.str_indices.specs.Prelude.{sum_below, FitsIn, IsHandedOn, Reads};
+ghost use Rattle.str_indices.specs.Prelude.{sum_below, CountsUpTo, FitsIn, Reads};
 
 use crate::place_counts::{Cursor, PlaceCounts};
 use byte_chunk::{ByteChunk, Probe};
@@ -17,9 +17,7 @@ static LEFT_OUT_AND_KEPT: [[u8; MOST_LANES]; 2] = [[0; MOST_LANES], [0xFF; MOST_
 
 /// Counts on from a position to `end`, over fewer bytes than a chunk has, for one turn a lane.
 ///
-/// Of the text the bytes before `end` are seen, and they are no fewer than a chunk has. The lanes before the position are
-/// left out, since they are counted already. The first lane always is, so that the carry need not be what the chunk before
-/// the last one hands on.
+/// Of the text the bytes before `end` are seen, and they are no fewer than a chunk has.
 pub(crate) fn count_rest<C: PlaceCounts<T>, T: ByteChunk>(
     probe: &mut Probe<'_, T>,
     from: Cursor<C::Carry>,
@@ -30,18 +28,42 @@ pub(crate) fn count_rest<C: PlaceCounts<T>, T: ByteChunk>(
     requires within { end ≤ length probe.old.text }
     requires fits { FitsIn (sum_below (C.counted_at end probe.old.text)) (length probe.old.text) }
     requires counted { from.count ≡ sum_below (C.counted_at end probe.old.text) from.byte }
-    requires handed_on { IsHandedOn (C.carries probe.old.text) from.carry }
+    requires carried { C.carries probe.old.text from.byte from.carry }
     ensures counted { result ≡ sum_below (C.counted_at end probe.old.text) end }
     ensures reads { Reads probe.old probe.new 0 T.SIZE 0 0 }
 {
     prove!(end <= probe.len());
-    let first = end - T::SIZE;
+    from.count + lanes_up_to::<C, T>(probe, from, end, end).sum_bytes()
+}
+
+/// What is counted in each lane of the chunk that ends at `to`, for one turn a lane.
+///
+/// Of the text the bytes before `end` are seen. The lanes before the position are left out, since they are counted already.
+/// Where there are such, the first lane is one of them, so that the carry need not be what the chunk before this one hands
+/// on.
+#[inline(always)]
+pub(crate) fn lanes_up_to<C: PlaceCounts<T>, T: ByteChunk>(
+    probe: &mut Probe<'_, T>,
+    from: Cursor<C::Carry>,
+    to: usize,
+    end: usize,
+) -> T
+    requires long { T.SIZE ≤ to }
+    requires near { (from.byte ≤ to) × (to ≤ from.byte + T.SIZE) }
+    requires seen { (to ≤ end) × (end ≤ length probe.old.text) }
+    requires carried { C.carries probe.old.text from.byte from.carry }
+    ensures lanes { CountsUpTo (sum_below (C.counted_at end probe.old.text)) C.MOST T.SIZE from.byte to (T.lanes result) }
+    ensures reads { Reads probe.old probe.new 0 T.SIZE 0 0 }
+{
+    prove!(end <= probe.len());
+    let first = to - T::SIZE;
     let chunk = chunk_by_turns(probe, first);
     let counted = C::count_lanes(probe, chunk, first, end, from.carry);
-    from.count + last_lanes(counted.lanes, end - from.byte).sum_bytes()
+    last_lanes(counted.lanes, to - from.byte)
 }
 
 /// The chunk at `at`, for one turn a byte.
+#[inline(always)]
 fn chunk_by_turns<T: ByteChunk>(probe: &mut Probe<'_, T>, at: usize) -> T
     requires { at + T.SIZE ≤ length probe.old.text }
     ensures lanes { T.lanes result ≡ take T.SIZE (drop at probe.old.text) }
@@ -56,6 +78,7 @@ fn chunk_by_turns<T: ByteChunk>(probe: &mut Probe<'_, T>, at: usize) -> T
 }
 
 /// The last `n` lanes of a chunk, which are small numbers, and 0 in the lanes before them.
+#[inline(always)]
 fn last_lanes<T: ByteChunk>(lanes: T, n: usize) -> T
     requires some { n ≤ T.SIZE }
     requires long { length (T.lanes lanes) ≡ T.SIZE }

@@ -3,8 +3,10 @@ pub mod Rounds
 pub mod CrlfChunks
 pub mod BreakChunks
 pub mod Rest
+pub mod Tails
 pub use EachLane.*
 pub use Rounds.*
 pub use CrlfChunks.*
 pub use BreakChunks.*
 pub use Rest.*
+pub use Tails.*

@@ -4,7 +4,7 @@ use Rattle.std.proofs.Math.ListN.{get_or-append}
 use Rattle.str_indices.proofs.lemmas.bytes.{sum_below-add, sum_below-front}
 
 -- lanes that hold f of each place add up to f summed over the places
-sum_lanes : (f : ℕ → ℕ) (lanes : List ℕ) → ((j : ℕ) → j < length lanes → get_or lanes j 0 ≡ f j)
+pub sum_lanes : (f : ℕ → ℕ) (lanes : List ℕ) → ((j : ℕ) → j < length lanes → get_or lanes j 0 ≡ f j)
     → sum lanes ≡ sum_below f (length lanes)
 sum_lanes f [] each = refl
 sum_lanes f (x ∷ lanes) each =

@@ -1,7 +1,8 @@
 -- The last bytes of a text in one chunk, of which the lanes in front are left out.
-use Rattle.str_indices.proofs.lemmas.Common.{◌≡◌, ℕ, zero, suc, ◌+◌, ◌-◌, ◌≤◌, List, [], ◌∷◌, ◌++◌, take, drop, length, get_or, refl, arith, replicate, bit_and, ◌∙◌, ap, ◌<◌, slice_set, add-one, sum, zip2, Each1, take-suc, length-replicate, length-drop, get_or-drop, drop-append-le, drop-replicate, take-replicate, take_more_set, take_rest, sum_by-replicate, sum_by-append, sum_below, HasLanes, HasLaterLanes}
+use Rattle.str_indices.proofs.lemmas.Common.{◌≡◌, ℕ, zero, suc, ◌+◌, ◌-◌, ◌≤◌, List, [], ◌∷◌, ◌++◌, take, drop, length, get_or, refl, arith, cases_lt, inl, inr, length-append, replicate, bit_and, ◌∙◌, ap, ◌<◌, slice_set, add-one, sum, zip2, Each1, take-suc, length-replicate, length-drop, get_or-drop, drop-append-le, drop-replicate, take-replicate, take_more_set, take_rest, sum_by-replicate, sum_by-append, sum_below, CountsUpTo, HasLanes, HasLaterLanes}
 use Rattle.std.specs.Int.Bits.{and_zero_r}
 use Rattle.std.proofs.Math.Seq.{take-append-add}
+use Rattle.std.proofs.lemmas.Slice.{drop-append-drop}
 use Rattle.str_indices.proofs.lemmas.lanes.EachLane.{Each1-lanes, sum_below-chunk}
 
 -- a table of bytes for lanes that are left out and then of as many for those that are kept, from the last `out` on
@@ -56,18 +57,31 @@ byte_more bytes text at i byte room within is filled =
     let next = take-suc (drop at text) i 0 (grind (arith, length-drop)) in
     rw (take_more_set bytes i byte room, add-one) (cc (filled, is, here, next))
 
--- The last chunk before an end, of which the lanes from a place on are kept, and so not the first.
-module _ (f : ℕ → ℕ) (end from size : ℕ) {lanes : List ℕ} (long : size ≤ end) (near : (from ≤ end) × (end < from + size))
-    (h : HasLaterLanes size (λ j. f (end - size + j)) lanes) where
-  -- the lanes that are kept, by their places
-  kept : HasLanes (end - from) (λ j. f (from + j)) (drop (size - (end - from)) lanes)
-  kept = record {
+-- The last chunk before an end, of which the lanes from a place on are kept: all of them, or not the first.
+module _ (f : ℕ → ℕ) (end from size : ℕ) {lanes : List ℕ} (long : size ≤ end) (near : (from ≤ end) × (end ≤ from + size))
+    (h : HasLaterLanes size (λ j. f (end - size + j)) lanes)
+    (whole : end ≡ from + size → HasLanes size (λ j. f (end - size + j)) lanes) where
+  -- a lane that is kept
+  kept_lane : (k : ℕ) → size - (end - from) ≤ k → k < size → get_or lanes k 0 ≡ f (end - size + k)
+  kept_lane k le below = elim (cases_lt 0 k) [
+    | inl later ↦ h.each k later below
+    | inr first ↦ (whole (omega arith)).each k below
+  ]
+
+  -- the lanes from a place on, by their places
+  kept_from : (place : ℕ) → from ≤ place → place ≤ end
+      → HasLanes (end - place) (λ j. f (place + j)) (drop (size - (end - place)) lanes)
+  kept_from place le le' = record {
     long = grind (arith, length-drop, h.long);
     each = λ j l.
-        let out = size - (end - from) in
-        let place : end - size + (out + j) ≡ from + j = omega arith in
-        get_or-drop out lanes j 0 ∙ h.each (out + j) (omega arith) (omega arith) ∙ ap f place;
+        let out = size - (end - place) in
+        let there : end - size + (out + j) ≡ place + j = omega arith in
+        get_or-drop out lanes j 0 ∙ kept_lane (out + j) (omega arith) (omega arith) ∙ ap f there;
   }
+
+  -- the lanes that are kept, by their places
+  kept : HasLanes (end - from) (λ j. f (from + j)) (drop (size - (end - from)) lanes)
+  kept = kept_from from (omega arith) (omega arith)
 
   -- none of them is above the most that f is
   pub kept_small : (most : ℕ) → ((n : ℕ) → f n ≤ most) → Each1 (λ lane. lane ≤ most) (drop (size - (end - from)) lanes)
@@ -88,3 +102,17 @@ module _ (f : ℕ → ℕ) (end from size : ℕ) {lanes : List ℕ} (long : size
         let here : from + (end - from) ≡ end = omega arith in
         let chunk = rw here at (sum_below-chunk f from kept) in
         rw is (omega (arith, add, zeros, chunk))
+
+    -- and from any later one
+    pub rest_counted : (most : ℕ) → ((n : ℕ) → f n ≤ most) → CountsUpTo (sum_below f) most size from end last
+    rest_counted most few = record {
+      long = rw is (grind (arith, h.long, length-append, length-drop, length-replicate {A = ℕ}));
+      small = rest_small most few;
+      added = rest_added;
+      rest = λ place le le'.
+          let out = size - (end - from) in
+          let later = drop-append-drop out lanes (replicate out 0) (size - (end - place)) (omega arith)
+          (length-replicate {A = ℕ} out 0) in
+          let here : place + (end - place) ≡ end = omega arith in
+          rw (is, later) (rw here at (sum_below-chunk f place (kept_from place le le')));
+    }

@@ -1,5 +1,7 @@
 -- What leading bytes, chunks and the rest of a text add up to: the bounds of a whole pass.
 use Rattle.str_indices.proofs.lemmas.Common.{◌≡◌, ℕ, ◌+◌, ◌-◌, ◌/◌, ◌≤◌, min, arith, le-div, div-le_self, div-mul-le_self, ProbeState, Reads, leading_bytes, pass_turns, pass_loads}
+use Rattle.str_indices.proofs.lemmas.passes.Costs.{chunk_read, loads_to_place, then_}
+use Rattle.str_indices.proofs.lemmas.passes.Quotients.{div-add-le}
 
 module _ {old led chunked new : ProbeState} (size lead n : ℕ) {first at t t' : ℕ} (least : 4 ≤ size) where
   -- a pass that counts in n bytes: leading bytes, then chunks, then the rest
@@ -23,3 +25,18 @@ module _ {old peeked new : ProbeState} (size lead end n : ℕ) (least : 4 ≤ si
       Reads peeked new (leading_bytes lead end) (pass_turns size lead end) (pass_loads size lead end) 0
       → Reads old new (leading_bytes lead n) (pass_turns size lead n) (pass_loads size lead n) 3
   pass_after_peeks pass = grind (arith, le-div, div-mul-le_self, div-le_self 0 size)
+
+-- a search: leading bytes, chunks without a look, groups of at most four, single chunks, and the last one
+pub search_pass : {p led carried passed grouped chunked new : ProbeState} {size lead n sure group at place t l : ℕ} → 4 ≤ size
+    → lead ≤ n → lead ≤ sure → sure ≤ group → group ≤ at → at ≤ place → Reads p led 0 (lead - 0 + 1) 0 0
+    → Reads led carried 0 1 0 0 → Reads carried passed lead 0 ((sure - lead) / size) 0
+    → Reads passed grouped sure 0 ((group - sure) / size + l) 0 → l ≤ 4
+    → Reads grouped chunked group 0 ((at - group) / size + 1) 0 → Reads chunked new 0 t 0 0 → t ≤ size + 1
+    → Reads p new (leading_bytes lead n) (pass_turns size lead n) (place / size + 5) 0
+search_pass {size = size} {lead = lead} {n = n} {sure = sure} {group = group} {at = at} {place = place} least within le le' le''
+    before leads carry surely groups few chunks rest turns =
+    let looked = chunk_read le surely groups in
+    let fewer = div-add-le size lead sure group least le le' in
+    let loads = loads_to_place least (omega (arith, le, le')) le'' looked chunks (omega (arith, fewer, few)) (omega arith) in
+    placing_pass size lead n least place (grind (arith, within)) (then_ leads carry) loads rest before
+    (grind (arith, within, turns))

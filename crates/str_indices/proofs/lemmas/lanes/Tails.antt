@@ -1,0 +1,219 @@
+-- The sums of a chunk's lanes from each lane on, and which lane they find.
+use Rattle.str_indices.proofs.lemmas.Common.{◌≡◌, ℕ, zero, suc, ◌+◌, ◌-◌, ◌*◌, ◌<◌, ◌≤◌, List, [], ◌∷◌, drop, map, length, get_or, refl, sym, subst, ap, arith, cases_lt, inl, inr, nat_tests, add-zero, add-suc, ◌∙◌, ◌++◌, replicate, sum, zip2, Each1, Each2, length-drop, get_or-drop, get_or_past, sum_by-cons, ◌&&◌, nat_lt, flag-le, is_between, sum_below, CountsUpTo, HasLanes}
+use Rattle.str_indices.proofs.lemmas.bytes.{sum_below-add, sum_below-same, sum_below-still}
+use Rattle.str_indices.proofs.lemmas.lanes.EachLane.{Each2-lanes, lanes_map, lanes_same, lanes_shift, lanes_zip2, sum_lanes}
+
+-- what n lanes hold from one on, where past the last there is nothing
+abbrev pub window : List ℕ → ℕ → ℕ → ℕ
+window lanes n j = sum_below (λ i. get_or lanes (j + i) 0) n
+
+-- a window, and then another
+window-add : (lanes : List ℕ) (m n j : ℕ) → window lanes (m + n) j ≡ window lanes m j + window lanes n (m + j)
+window-add lanes m n j =
+    let same = sum_below-same (λ i. get_or lanes (j + (m + i)) 0) (λ i. get_or lanes (m + j + i) 0) n
+    (λ i l. ap (λ k. get_or lanes k 0) (omega arith)) in
+    omega (arith, sum_below-add (λ i. get_or lanes (j + i) 0) m n, same)
+
+-- past the last lane there is nothing
+window-past : (lanes : List ℕ) (n j : ℕ) → length lanes ≤ j → window lanes n j ≡ 0
+window-past lanes zero j past = refl
+window-past lanes (suc n) j past = omega (arith, window-past lanes n j past, get_or_past lanes (j + n) 0 (omega arith))
+
+-- a window over small lanes
+window-le : (lanes : List ℕ) (most : ℕ) → ((i : ℕ) → get_or lanes i 0 ≤ most) → (n j : ℕ) → window lanes n j ≤ n * most
+window-le lanes most small zero j = omega arith
+window-le lanes most small (suc n) j = omega (arith, window-le lanes most small n j, small (j + n))
+
+-- a window that goes to the last lane
+window-all : (lanes : List ℕ) (n j : ℕ) → length lanes ≤ n → window lanes n j ≡ sum (drop j lanes)
+window-all lanes n j all =
+    let f = λ (i : ℕ). get_or lanes (j + i) 0 in
+    let tail = length (drop j lanes) in
+    let tails = sum_lanes f (drop j lanes) (λ i l. get_or-drop j lanes i 0) in
+    let still = sum_below-still f tail (n - tail)
+    (λ i l. get_or_past lanes (j + (tail + i)) 0 (omega (arith, length-drop j lanes))) in
+    let whole : tail + (n - tail) ≡ n = omega (arith, length-drop j lanes) in
+    omega (arith, tails, rw whole at still)
+
+-- small lanes, by their places
+small_lane : (most : ℕ) (lanes : List ℕ) → Each1 (λ lane. lane ≤ most) lanes → (i : ℕ) → get_or lanes i 0 ≤ most
+small_lane most [] small i =
+    let none : get_or {A = ℕ} [] i 0 ≡ 0 = get_or_past [] i 0 (omega arith) in omega (arith, none)
+small_lane most (x ∷ lanes) small zero = small.0
+small_lane most (x ∷ lanes) small (suc i) = small_lane most lanes small.1 i
+
+module _ {size : ℕ} (lanes : List ℕ) (long : length lanes ≡ size) where
+  -- windows of one lane are the lanes
+  pub windows_of_one : HasLanes size (window lanes 1) lanes
+  windows_of_one = record { long = long; each = λ j l. rw add-zero (omega arith) }
+
+  -- lanes that hold windows, moved so far that each holds the next window
+  pub windows_moved : (m n : ℕ) → n < size → {xs moved : List ℕ} → HasLanes size (window lanes m) xs
+      → moved ≡ drop n xs ++ replicate n 0 → HasLanes size (λ j. window lanes m (n + j)) moved
+  windows_moved m n small h is = lanes_shift n small (λ j past. window-past lanes m j (omega arith)) h is
+
+  -- the same where each lane is told by its place
+  pub windows_there : (m n : ℕ) {xs moved : List ℕ} → HasLanes size (window lanes m) xs
+      → HasLanes size (λ j. get_or xs (n + j) 0) moved → HasLanes size (λ j. window lanes m (n + j)) moved
+  windows_there m n {xs} h k = lanes_same k (λ j l. elim (cases_lt (n + j) size) [
+    | inl inside ↦ h.each (n + j) inside
+    | inr past ↦ omega (arith, get_or_past xs (n + j) 0 (omega (arith, h.long)), window-past lanes m (n + j) (omega arith))
+  ])
+
+  module _ (m : ℕ) {xs moved : List ℕ} (h : HasLanes size (window lanes m) xs)
+      (k : HasLanes size (λ j. window lanes m (m + j)) moved) where
+    -- windows of small lanes have room for one another
+    pub windows_addable : Each1 (λ lane. lane ≤ 2) lanes → m < 64 → Each2 (λ a b. a + b ≤ 255) xs moved
+    windows_addable small few = Each2-lanes (λ a b. a + b ≤ 255) h k
+        (λ j l. omega (
+          arith,
+          window-le lanes 2 (small_lane 2 lanes small) m j,
+          window-le lanes 2 (small_lane 2 lanes small) m (m + j),
+        ))
+
+    -- and added make windows twice as wide
+    pub windows_added : {wide : List ℕ} → wide ≡ zip2 (λ a b. a + b) xs moved → HasLanes size (window lanes (m + m)) wide
+    windows_added is = lanes_same (lanes_zip2 (λ a b. a + b) h k is) (λ j l. sym (window-add lanes m m j))
+
+  -- windows that are wide enough hold the sums to the end
+  pub windows_to_end : {m : ℕ} {xs : List ℕ} → size ≤ m → HasLanes size (window lanes m) xs
+      → HasLanes size (λ j. sum (drop j lanes)) xs
+  windows_to_end {m} wide h = lanes_same h (λ j l. window-all lanes m j (omega arith))
+
+-- small lanes add up to little
+pub sum_small : (most : ℕ) {size : ℕ} (lanes : List ℕ) → length lanes ≡ size → Each1 (λ lane. lane ≤ most) lanes
+    → sum lanes ≤ size * most
+sum_small most {size} lanes long small =
+    omega (arith, window-all lanes size 0 (omega arith), window-le lanes most (small_lane most lanes small) size 0)
+
+-- a mark is at most 1
+pub between-le : (a b lane : ℕ) → is_between a b lane ≤ 1
+between-le a b lane = flag-le (nat_lt a lane && nat_lt lane b)
+
+-- from one lane on is no less than from the next on
+tail-falls : (lanes : List ℕ) (j : ℕ) → sum (drop (suc j) lanes) ≤ sum (drop j lanes)
+tail-falls [] zero = omega arith
+tail-falls [] (suc j) = omega arith
+tail-falls (x ∷ lanes) zero = omega (arith, sum_by-cons (λ (a : ℕ). a) x lanes)
+tail-falls (x ∷ lanes) (suc j) = tail-falls lanes j
+
+-- Numbers that never rise, and how many of the first are above k.
+module _ (t : ℕ → ℕ) (k : ℕ) (falls : (j : ℕ) → t (suc j) ≤ t j) where
+  falls-far : (i more : ℕ) → t (i + more) ≤ t i
+  falls-far i zero = rw add-zero (omega arith)
+  falls-far i (suc more) = rw add-suc (omega (arith, falls-far i more, falls (i + more)))
+
+  pub falls-to : (i j : ℕ) → i ≤ j → t j ≤ t i
+  falls-to i j le =
+      let there : i + (j - i) ≡ j = omega arith in
+      rw there at (falls-far i (j - i))
+
+  module _ (small : (j : ℕ) → t j < 127) where
+    abbrev pub above : ℕ → ℕ
+    above = sum_below (λ j. is_between k 127 (t j))
+
+    -- those before that many are above k, and the others are not
+    pub front : (n : ℕ) → (above n ≤ n) × ((j : ℕ) → j < above n → k < t j) × ((j : ℕ) → above n ≤ j → j < n → t j ≤ k)
+    front zero = (omega arith, λ j l. absurd (omega arith), λ j l l'. absurd (omega arith))
+    front (suc n) = elim (cases_lt k (t n)) [
+      | inl over ↦
+          let one : is_between k 127 (t n) ≡ 1 = grind (arith, nat_tests, small n) in
+          let all : above n ≡ n = elim (cases_lt (above n) n) [
+            | inl less ↦
+                let under : t (above n) ≤ k = (front n).2 (above n) (omega arith) less in
+                let far : t n ≤ t (above n) = falls-to (above n) n (omega arith) in
+                absurd (omega (arith, under, far))
+            | inr le ↦ omega (arith, (front n).0)
+          ] in (
+            omega (arith, one, all),
+            λ j l.
+                let far : t n ≤ t j = falls-to j n (omega (arith, one, all)) in omega (arith, far),
+            λ j l l'. absurd (omega (arith, one, all)),
+          )
+      | inr under ↦
+          let none : is_between k 127 (t n) ≡ 0 = grind (arith, nat_tests) in (
+            omega (arith, none, (front n).0),
+            λ j l. (front n).1 j (omega (arith, none)),
+            λ j l l'. elim (cases_lt j n) [
+              | inl before ↦ (front n).2 j (omega (arith, none)) before
+              | inr last ↦ subst (λ i. t i ≤ k) (omega arith) under
+            ],
+          )
+    ]
+
+-- how many lanes are above k, of lanes that hold the sums to the end
+pub tails_above : (k : ℕ) {size : ℕ} {lanes sums : List ℕ} → HasLanes size (λ j. sum (drop j lanes)) sums
+    → sum (map (is_between k 127) sums) ≡ sum_below (λ j. is_between k 127 (sum (drop j lanes))) size
+tails_above k {size} {lanes} {sums} h =
+    let marks = lanes_same (lanes_map (is_between k 127) sums h.long refl) (λ j l. ap (is_between k 127) (h.each j l)) in
+    let all = sum_lanes (λ j. is_between k 127 (sum (drop j lanes))) (map (is_between k 127) sums)
+    (λ j l. marks.each j (omega (arith, marks.long))) in
+    all ∙ ap (sum_below (λ j. is_between k 127 (sum (drop j lanes)))) marks.long
+
+-- so many of the sums find the byte with which more than idx are counted
+pub record FoundBy (counted : ℕ → ℕ) (size from to idx n : ℕ) : Type 0 where
+  pub some : size - (to - from) < n
+  pub within : n ≤ size
+  pub at_most : counted (to - size + (n - 1)) ≤ idx
+  pub stopped : to - size + (n - 1) < to → idx < counted (to - size + (n - 1) + 1)
+
+-- The place that so many of the sums find, where with all lanes k and one more than idx are counted.
+module _ {counted : ℕ → ℕ} {most size from to : ℕ} {lanes : List ℕ} (k idx n : ℕ)
+    (h : CountsUpTo counted most size from to lanes) (near : (from ≤ to) × (to ≤ from + size)) (long : size ≤ to) (few : counted from ≤ idx)
+    (more : k + 1 + idx ≡ counted to) (small : sum lanes < 127)
+    (is : n ≡ sum_below (λ j. is_between k 127 (sum (drop j lanes))) size) where
+  falls : (j : ℕ) → sum (drop (suc j) lanes) ≤ sum (drop j lanes)
+  falls = tail-falls lanes
+
+  split : (n ≤ size) × ((j : ℕ) → j < n → k < sum (drop j lanes)) × ((j : ℕ) → n ≤ j → j < size → sum (drop j lanes) ≤ k)
+  split = rw is (front (λ j. sum (drop j lanes)) k falls
+      (λ j.
+      let first : sum (drop j lanes) ≤ sum lanes = falls-to (λ i. sum (drop i lanes)) k falls 0 j (omega arith) in
+      omega (arith, first)) size)
+
+  -- more lanes are found than are left out
+  found_some : size - (to - from) < n
+  found_some =
+      let out = size - (to - from) in
+      let here = h.rest from (omega arith) (omega arith) in
+      elim (cases_lt out n) [
+        | inl some ↦ some
+        | inr none ↦ elim (cases_lt out size) [
+          | inl inside ↦ absurd (omega (arith, here, split.2 out none inside))
+          | inr past ↦ let same : from ≡ to = omega arith in absurd (omega (arith, ap counted same))
+        ]
+      ]
+
+  -- no more than idx are counted before the place
+  found_few : counted (to - size + (n - 1)) ≤ idx
+  found_few =
+      let place = to - size + (n - 1) in
+      let here = h.rest place (omega (arith, found_some)) (omega (arith, found_some, split.0)) in
+      let lane : size - (to - place) ≡ n - 1 = omega (arith, found_some, split.0) in
+      omega (arith, rw lane at here, split.1 (n - 1) (omega (arith, found_some)))
+
+  -- and with it more are
+  found_more : to - size + (n - 1) < to → idx < counted (to - size + (n - 1) + 1)
+  found_more inside =
+      let next = to - size + (n - 1) + 1 in
+      let lane : size - (to - next) ≡ n = omega (arith, found_some, split.0) in
+      let here = rw lane at (h.rest next (omega (arith, found_some)) (omega arith)) in
+      elim (cases_lt n size) [
+        | inl before ↦ omega (arith, here, split.2 n (omega arith) before)
+        | inr last ↦ let same : next ≡ to = omega (arith, found_some, split.0) in omega (arith, ap counted same)
+      ]
+
+  found : FoundBy counted size from to idx n
+  found = record { some = found_some; within = split.0; at_most = found_few; stopped = found_more }
+
+-- the same, from what the calls of a search say
+pub found_place : {counted : ℕ → ℕ} {most size from to : ℕ} {lanes sums : List ℕ} {count idx total n : ℕ}
+    → CountsUpTo counted most size from to lanes → (from ≤ to) × (to ≤ from + size) → size ≤ to → count ≡ counted from
+    → count ≤ idx → total ≡ sum lanes → idx - count < total → size * most ≤ 126
+    → HasLanes size (λ j. sum (drop j lanes)) sums → n ≡ sum (map (is_between (total - (idx - count) - 1) 127) sums)
+    → FoundBy counted size from to idx n
+found_place {most = most} {lanes = lanes} {count = count} {idx = idx} {total = total} {n = n} h near long is_count few is_total
+    more room tails is =
+    let k = total - (idx - count) - 1 in
+    found k idx n h near long (omega (arith, is_count, few)) (omega (arith, more, h.added, is_total, is_count, few))
+    (omega (arith, sum_small most lanes h.long h.small, room)) (is ∙ tails_above k tails)

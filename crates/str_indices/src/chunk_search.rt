@@ -1,0 +1,87 @@
+//! The search through the chunk in which an index is reached, by all its lanes at once.
+//!
+//! Byte by byte it would take a branch each, and where they end no processor foresees; or all steps wherever it ends. So each
+//! lane gets the sum of those from it on. Of how many lanes that sum is too great, so many bytes stand before the place.
+ghost use Rattle.std.specs.Prelude.{◌≡◌, ◌+◌, ◌*◌, ◌<◌, ◌≤◌, length, drop, map, slice_index, sum};
+ghost use Rattle.std.specs.Simd.Lanes.{Each1};
+ghost use Rattle.str_indices.specs.Prelude.{is_between, sum_below, CountsUpTo, HasLanes, Reads};
+
+use crate::place_counts::{Cursor, PlaceCounts};
+use crate::rest::lanes_up_to;
+use byte_chunk::{ByteChunk, Probe};
+
+/// The greatest sum of lanes that can be compared with another.
+pub(crate) const MOST_COMPARED: usize = 126;
+
+/// The first byte with which more than `idx` are counted, of those from a position up to `to`, or `to`, for one turn a lane.
+///
+/// They are no more than a chunk has, and all the bytes before `to` are no fewer.
+pub(crate) fn find_in_chunk<C: PlaceCounts<T>, T: ByteChunk>(
+    probe: &mut Probe<'_, T>,
+    from: Cursor<C::Carry>,
+    to: usize,
+    idx: usize,
+) -> usize
+    requires few { T.SIZE * C.MOST ≤ 126 }
+    requires long { T.SIZE ≤ to }
+    requires near { (from.byte ≤ to) × (to ≤ from.byte + T.SIZE) }
+    requires within { to ≤ length probe.old.text }
+    requires counted { from.count ≡ sum_below (C.counted_at (length probe.old.text) probe.old.text) from.byte }
+    requires at_most { from.count ≤ idx }
+    requires carried { C.carries probe.old.text from.byte from.carry }
+    ensures reached { (from.byte ≤ result) × (result ≤ to) }
+    ensures at_most { sum_below (C.counted_at (length probe.old.text) probe.old.text) result ≤ idx }
+    ensures stopped { result < to → idx < sum_below (C.counted_at (length probe.old.text) probe.old.text) (result + 1) }
+    ensures reads { Reads probe.old probe.new 0 T.SIZE 0 0 }
+{
+    let len = probe.len();
+    let lanes = lanes_up_to::<C, T>(probe, from, to, len);
+    let total = lanes.sum_bytes();
+    let more = idx - from.count;
+    if total <= more {
+        return to;
+    }
+    let after = total - more - 1;
+    let up_to_place = lanes_above(sums_to_end(lanes), after as u8);
+    to - T::SIZE + (up_to_place - 1)
+}
+
+/// How many lanes are above `n`, where none is too great to be compared.
+#[inline(always)]
+fn lanes_above<T: ByteChunk>(lanes: T, n: u8) -> usize
+    requires compared { n < 127 }
+    ensures { result ≡ sum (map (is_between n 127) (T.lanes lanes)) }
+{
+    lanes.bytes_between_127(n, 127).sum_bytes()
+}
+
+/// In each lane the sum of those from it on.
+#[inline(always)]
+fn sums_to_end<T: ByteChunk>(lanes: T) -> T
+    requires long { length (T.lanes lanes) ≡ T.SIZE }
+    requires small { Each1 (λ lane. lane ≤ 2) (T.lanes lanes) }
+    ensures { HasLanes T.SIZE (λ j. sum (drop j (T.lanes lanes))) (T.lanes result) }
+{
+    let twos = lanes.add(lanes.shift_back_lex(1));
+    let mut sums = twos.add(twos.shift_back_lex(2));
+    let mut fours = 1;
+    'widths: while 4 * fours < T::SIZE {
+        sums = sums.add(move_back(sums, fours));
+        fours *= 2;
+    }
+    sums
+}
+
+/// The lanes from four times so many on, moved to the front, and then lanes 0.
+#[inline(always)]
+fn move_back<T: ByteChunk>(lanes: T, fours: usize) -> T
+    requires long { length (T.lanes lanes) ≡ T.SIZE }
+    requires in_range { 4 * fours < T.SIZE }
+    ensures { HasLanes T.SIZE (λ j. slice_index (T.lanes lanes) (4 * fours + j)) (T.lanes result) }
+{
+    let mut moved = lanes;
+    'fours: for _ in 0..fours {
+        moved = moved.shift_back_lex(4);
+    }
+    moved
+}
