@@ -165,13 +165,8 @@ pub(crate) fn skip_chunks<C: PlaceCounts<T>, T: ByteChunk, const LEAST: usize>(
     ensures reads { Reads probe.old probe.new from.byte 0 ((result.byte - from.byte) / T.SIZE + group) 0 }
 {
     let len = probe.len();
-    let least = LEAST * T::SIZE;
-    if len < least {
-        return from;
-    }
-    let last = len - least;
     let mut at = from;
-    'groups: while at.byte <= last {
+    'groups: while LEAST * T::SIZE <= len - at.byte {
         let added = add_chunks::<C, T>(probe, at.byte, group, len, at.carry);
         let count = at.count + added.lanes.sum_bytes();
         if count > idx {

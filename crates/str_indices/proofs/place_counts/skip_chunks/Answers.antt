@@ -6,14 +6,13 @@ overflow_add-count g c =
     let so_far = c.groups.invariant in
     let lanes = rw (so_far.reads.text_kept, c.len-len.ensures.len) at c.add_chunks-added.ensures.lanes in
     let fits = mul-le-mul_right {m = c.args.group} {n = g.row.LEAST} g.T.ByteChunk.SIZE c.requires.least.0 in
-    let here = rw c.SIZE-least.ensures at c.groups-test.true in
-    let room = rw c.SIZE-least.ensures at c.if-len-least.false in
+    let here = rw c.SIZE.ensures at c.groups-test.true in
     omega (
       arith,
       so_far.counted,
       lanes.added,
       c.sum_bytes.ensures,
-      c.requires.fits (c.groups.at.byte + c.args.group * g.T.ByteChunk.SIZE) (omega (arith, here, room, fits)),
+      c.requires.fits (c.groups.at.byte + c.args.group * g.T.ByteChunk.SIZE) (omega (arith, here, fits)),
     )
 
 pub groups-preserved : goal.groups-preserved
@@ -22,13 +21,12 @@ groups-preserved g c =
     let group = c.add_chunks-added.ensures in
     let lanes = rw (so_far.reads.text_kept, c.len-len.ensures.len) at group.lanes in
     let fits = mul-le-mul_right {m = c.args.group} {n = g.row.LEAST} g.T.ByteChunk.SIZE c.requires.least.0 in
-    let here = rw c.SIZE-least.ensures at c.groups-test.true in
-    let room = rw c.SIZE-least.ensures at c.if-len-least.false in
+    let here = rw c.SIZE.ensures at c.groups-test.true in
     let text = c.args.probe.now.text in
     let before = sum_below (g.C.PlaceCounts.counted_at (length text) text) in
-    rw c.SIZE.ensures (record {
+    rw c.SIZE-in-groups.ensures (record {
       from_low = omega (arith, so_far.from_low);
-      to_high = omega (arith, here, room, fits);
+      to_high = omega (arith, here, fits);
       counted = counted_there before (c.groups.at.byte + c.args.group * g.T.ByteChunk.SIZE) (omega arith)
           (omega (arith, so_far.counted, lanes.added, c.sum_bytes.ensures));
       at_most = omega arith;
