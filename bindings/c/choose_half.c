@@ -102,50 +102,49 @@ __attribute__((constructor)) static void choose_half(void)
         return str_indices_narrow_##name arguments;             \
     }
 
-/* A function that looks for a place walks byte by byte through the vector where
- * that is, which takes the wide half longer. So its texts are as many times as
- * long, but in `lines`, which does more for each vector. */
-enum { LONGER_TO_FIND = 6 };
-
 #define COUNT(name) HAND_ON(size_t, 1, name, (const char *text, size_t len), (text, len))
 #define CONVERT(name) \
     HAND_ON(size_t, 1, name, (const char *text, size_t len, size_t index), (text, len, index))
-#define FIND(name) \
-    HAND_ON(size_t, LONGER_TO_FIND, name, (const char *text, size_t len, size_t index), (text, len, index))
 
 COUNT(chars_count)
 CONVERT(chars_from_byte_idx)
-FIND(chars_to_byte_idx)
+CONVERT(chars_to_byte_idx)
 
 COUNT(utf16_count)
 COUNT(utf16_count_surrogates)
 CONVERT(utf16_from_byte_idx)
-FIND(utf16_to_byte_idx)
+CONVERT(utf16_to_byte_idx)
 
 COUNT(lines_lf_count_breaks)
 CONVERT(lines_lf_from_byte_idx)
-FIND(lines_lf_to_byte_idx)
+CONVERT(lines_lf_to_byte_idx)
 
 COUNT(lines_crlf_count_breaks)
 CONVERT(lines_crlf_from_byte_idx)
-FIND(lines_crlf_to_byte_idx)
+CONVERT(lines_crlf_to_byte_idx)
 
 COUNT(lines_count_breaks)
 CONVERT(lines_from_byte_idx)
 CONVERT(lines_to_byte_idx)
 
-/* Each of these looks for a place too: where a line begins, or ends. */
+/* Each of these looks for a place besides, where a line begins or ends, and
+ * reads a line or two, which is most often a few vectors. The wide half takes
+ * less time for texts that are as many times as long. */
+enum { LONGER_BY_LINE = 6 };
+
+#define OF_LINE(name) \
+    HAND_ON(size_t, LONGER_BY_LINE, name, (const char *text, size_t len, size_t line), (text, len, line))
 #define POSITION_OF(name) \
-    HAND_ON(str_indices_position, LONGER_TO_FIND, name, \
+    HAND_ON(str_indices_position, LONGER_BY_LINE, name, \
             (const char *text, size_t len, size_t byte_idx), (text, len, byte_idx))
 #define BYTE_OF(name) \
-    HAND_ON(size_t, LONGER_TO_FIND, name, \
+    HAND_ON(size_t, LONGER_BY_LINE, name, \
             (const char *text, size_t len, str_indices_position position), (text, len, position))
 #define BYTE_RANGE(name) \
-    HAND_ON(str_indices_bytes, LONGER_TO_FIND, name, \
+    HAND_ON(str_indices_bytes, LONGER_BY_LINE, name, \
             (const char *text, size_t len, str_indices_range range), (text, len, range))
 
-FIND(line_end)
+OF_LINE(line_end)
 
 POSITION_OF(position_of)
 BYTE_OF(byte_of)

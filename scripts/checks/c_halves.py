@@ -23,7 +23,7 @@ LENGTHS = [0, 1, 255, 256, 257, 1535, 1536, 5000, 2**63 - 1]
 # from how many bytes on the wide half answers where it may, and what takes it later than the others
 WORTH_WIDE = 256
 WORTH_WIDE_LATER = 1536
-LATER = re.compile(r"(chars|utf16|lines_lf|lines_crlf)_to_byte_idx|.*(position_of|byte_of|byte_range|line_end)")
+LATER = re.compile(r".*(position_of|byte_of|byte_range|line_end)")
 
 # what has no half: the choice itself, and what is asked once for a text
 WITHOUT = {f"{PREFIX}is_wide", f"{PREFIX}is_utf8"}

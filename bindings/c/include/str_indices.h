@@ -11,9 +11,8 @@
  * bytes, its narrow half, and over vectors of thirty-two, its wide half. Which
  * one answers is chosen once, before main runs: for texts from 256 bytes on
  * the wide half, where the processor has what x86-64-v3 asks for (AVX2 and
- * more), and else the narrow half. In chars, utf16, lines_lf and lines_crlf
- * the conversion to a byte index goes to the wide half from 1,536 bytes on, as
- * do the positions of str_indices_positions.h. The environment variable
+ * more), and else the narrow half. The positions of str_indices_positions.h
+ * go to the wide half from 1,536 bytes on. The environment variable
  * STR_INDICES_HALF, set to "narrow", leaves all texts to the narrow half, and
  * set to "wide" gives all of them to the wide half where the processor has it.
  * The answers are the same.

@@ -215,6 +215,7 @@ impl<T: ByteChunk> PlaceCounts<T> for LineBreaks {
 /// 1 in each lane of the chunk at `at` that is a break of one byte or the LF of CR LF.
 ///
 /// Only where a lane is CR it peeks at the last byte, and only where that is CR at the one after it.
+#[inline(always)]
 #[tactic(auto, using(crate::proofs::lemmas::lanes::BreakChunks::last_is_counted))]
 fn count_narrow_breaks<T: ByteChunk>(probe: &mut Probe<'_, T>, chunk: T, at: usize, end: usize) -> T
     requires seen { (at + T.SIZE ≤ end) × (end ≤ length probe.old.text) }
@@ -249,6 +250,7 @@ fn starts_crlf<T: ByteChunk>(probe: &mut Probe<'_, T>, at: usize, end: usize) ->
 ///
 /// Only where a lane is C2 or E2, which differ in one bit alone, it peeks: three times at most, and once where the last byte
 /// is CR.
+#[inline(always)]
 fn add_wide_breaks<T: ByteChunk>(
     probe: &mut Probe<'_, T>,
     chunk: T,
