@@ -1,4 +1,4 @@
-use Rattle.str_indices.proofs.lemmas.{◌-◌, arith, found_place, sum_small}
+use Rattle.str_indices.proofs.lemmas.{arith, found_place, sum_small}
 use Rattle.str_indices.proofs.chunk_search.find_in_chunk.Goals as goal
 
 pub overflow_cast-after : goal.overflow_cast-after
