@@ -21,11 +21,3 @@ pub round_fits : (bytes size most weight limit : ℕ) → 4 ≤ size → bytes <
 round_fits bytes size most weight limit least less room =
     let few = (div-lt_iff_lt-mul {k = size} {x = bytes} {y = most} (omega arith)).1 less in
     omega (arith, room, mul-le-mul_right {m = bytes / size} {n = most} weight (omega (arith, few)))
-
--- as many whole chunks as bytes have, or fewer, are within them
-pub chunks_fit : (chunks size bytes : ℕ) → chunks ≤ bytes / size → chunks * size ≤ bytes
-chunks_fit chunks size bytes few = omega (
-  arith,
-  mul-le-mul_right {m = chunks} {n = bytes / size} size few,
-  div-mul-le_self bytes size,
-)
