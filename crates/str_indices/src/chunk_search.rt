@@ -1,7 +1,8 @@
 //! The search through the chunk in which an index is reached, by all its lanes at once.
 //!
 //! Byte by byte it would take a branch each, and where they end no processor foresees; or all steps wherever it ends. So each
-//! lane gets the sum of those from it on. Of how many lanes that sum is too great, so many bytes stand before the place.
+//! lane gets the sum of those from it on. Such a sum is never below the next lane's: too great ones stand in the first lanes,
+//! and the last of these is the place.
 ghost use Rattle.std.specs.Prelude.{◌≡◌, ◌+◌, ◌*◌, ◌<◌, ◌≤◌, length, drop, map, slice_index, sum};
 ghost use Rattle.std.specs.Simd.Lanes.{Each1};
 ghost use Rattle.str_indices.specs.Prelude.{is_between, sum_below, CountsUpTo, HasLanes, Reads};

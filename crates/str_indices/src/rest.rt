@@ -39,8 +39,7 @@ pub(crate) fn count_rest<C: PlaceCounts<T>, T: ByteChunk>(
 /// What is counted in each lane of the chunk that ends at `to`, for one turn a lane.
 ///
 /// Of the text the bytes before `end` are seen. The lanes before the position are left out, since they are counted already.
-/// Where there are such, the first lane is one of them, so that the carry need not be what the chunk before this one hands
-/// on.
+/// Where there are such, the first lane is one of them, so the carry need not be that of the chunk before this one.
 #[inline(always)]
 pub(crate) fn lanes_up_to<C: PlaceCounts<T>, T: ByteChunk>(
     probe: &mut Probe<'_, T>,
