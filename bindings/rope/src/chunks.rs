@@ -5,18 +5,23 @@ use alloc::string::String;
 use alloc::vec::Vec;
 use core::fmt;
 use core::iter::FusedIterator;
+use core::mem::MaybeUninit;
 use core::ops::{Deref, RangeBounds};
-use core::str;
+use core::{slice, str};
 
 /// The most bytes that a piece has.
 pub const MAX_PIECE: usize = 1024;
+
+/// Room for a piece, which nobody has zeroed.
+type Room = [MaybeUninit<u8>; MAX_PIECE];
 
 /// A part of a rope's text, of at most [`MAX_PIECE`] bytes. It is a copy, and holds no memory of the heap.
 #[derive(Clone)]
 pub struct Chunk {
     start: usize,
     len: usize,
-    bytes: [u8; MAX_PIECE],
+    /// The library has written the first `len`.
+    room: Room,
 }
 
 impl Chunk {
@@ -35,9 +40,11 @@ impl Deref for Chunk {
     type Target = str;
 
     fn deref(&self) -> &str {
+        // SAFETY: the library has written so many bytes of the room.
+        let bytes = unsafe { slice::from_raw_parts(self.room.as_ptr().cast(), self.len) };
         // SAFETY: a rope's text is UTF-8, the chunk begins at a boundary of it, and ends where a piece does, which is a
         // boundary, or at one that was asked for.
-        unsafe { str::from_utf8_unchecked(&self.bytes[..self.len]) }
+        unsafe { str::from_utf8_unchecked(bytes) }
     }
 }
 
@@ -67,14 +74,26 @@ pub struct Chunks<'a> {
 impl Iterator for Chunks<'_> {
     type Item = Chunk;
 
+    #[inline]
     fn next(&mut self) -> Option<Chunk> {
         if self.at == self.end {
             return None;
         }
-        let mut chunk = self.rope.chunk_from(self.at);
-        chunk.len = chunk.len.min(self.end - self.at);
+        let chunk = self.rope.chunk_from(self.at, self.end);
         self.at = chunk.end();
         Some(chunk)
+    }
+
+    // `next` moves each chunk, since it is put into an `Option`. Here it is written where the closure has it.
+    #[inline]
+    fn fold<T, F: FnMut(T, Chunk) -> T>(mut self, first: T, mut with: F) -> T {
+        let mut folded = first;
+        while self.at != self.end {
+            let chunk = self.rope.chunk_from(self.at, self.end);
+            self.at = chunk.end();
+            folded = with(folded, chunk);
+        }
+        folded
     }
 }
 
@@ -144,7 +163,7 @@ impl Rope {
     /// ```
     pub fn chunk_at(&self, byte_idx: usize) -> Option<Chunk> {
         let start = self.char_to_byte(self.byte_to_char(byte_idx));
-        (byte_idx < self.len_bytes()).then(|| self.chunk_from(start))
+        (byte_idx < self.len_bytes()).then(|| self.chunk_from(start, usize::MAX))
     }
 
     /// The text between two byte indices as one block of memory.
@@ -168,11 +187,24 @@ impl Rope {
         Ok(unsafe { String::from_utf8_unchecked(copy) })
     }
 
-    /// The text from a boundary on, as far as its piece goes.
-    fn chunk_from(&self, start: usize) -> Chunk {
-        let mut bytes = [0; MAX_PIECE];
-        // SAFETY: as `library` says, and the room may be written to.
-        let len = unsafe { str_rope_read(self.handle(), start, bytes.as_mut_ptr(), bytes.len()) };
-        Chunk { start, len, bytes }
+    /// The text from a boundary on, as far as its piece goes, and no further than to another boundary.
+    #[inline]
+    fn chunk_from(&self, start: usize, end: usize) -> Chunk {
+        let mut len = 0;
+        let room = self.read(start, &mut len);
+        let len = len.min(end - start);
+        Chunk { start, len, room }
+    }
+
+    /// A room with the text from a boundary on, as far as its piece goes, and how many bytes that are.
+    ///
+    /// It is a function of its own, and answers nothing but the room: so the compiler has the library write into the
+    /// caller's room. Else the bytes would be moved once more.
+    #[inline(never)]
+    fn read(&self, start: usize, len: &mut usize) -> Room {
+        let mut room = [MaybeUninit::uninit(); MAX_PIECE];
+        // SAFETY: as `library` says, and the room may be written to. The answer is how many bytes were written.
+        *len = unsafe { str_rope_read(self.handle(), start, room.as_mut_ptr().cast(), room.len()) };
+        room
     }
 }

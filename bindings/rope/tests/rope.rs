@@ -139,6 +139,26 @@ fn chunks_are_short_and_own_their_bytes() {
 }
 
 #[test]
+fn chunks_are_the_same_by_a_loop_and_by_a_fold() {
+    let text = TEXT.repeat(1000);
+    let rope: Rope = text.parse().unwrap();
+    let part = TEXT.len()..text.len() - TEXT.len();
+    let mut looped = Vec::new();
+    for chunk in rope.chunks_in(part.clone()).unwrap() {
+        looped.push((chunk.start(), chunk.end(), chunk.to_string()));
+    }
+    let mut folded = Vec::new();
+    let chunks = rope.chunks_in(part.clone()).unwrap();
+    chunks.for_each(|chunk| folded.push((chunk.start(), chunk.end(), chunk.clone().to_string())));
+    assert_eq!(looped, folded);
+    assert!(folded.len() > 2);
+    assert_eq!(
+        folded.iter().map(|(.., piece)| &piece[..]).collect::<String>(),
+        text[part]
+    );
+}
+
+#[test]
 fn a_rope_goes_to_other_threads() {
     let mut rope: Rope = TEXT.repeat(1000).parse().unwrap();
     for _ in 0..20 {
