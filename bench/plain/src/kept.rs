@@ -2,11 +2,15 @@
 
 use crate::questions::Questions;
 use std::ops::Range;
+use std::str;
 use str_rope::Rope;
 
 /// What is timed of a text.
 pub trait Kept: Sized {
     fn of(source: &str) -> Self;
+
+    /// The same of bytes that are tested for UTF-8.
+    fn tested(source: &str) -> Self;
 
     fn insert(&mut self, at: usize, letters: &str);
 
@@ -27,6 +31,10 @@ fn bytes_added(text: &str) -> u64 {
 impl Kept for String {
     fn of(source: &str) -> String {
         source.to_string()
+    }
+
+    fn tested(source: &str) -> String {
+        str::from_utf8(source.as_bytes()).expect("it is UTF-8").to_string()
     }
 
     fn insert(&mut self, at: usize, letters: &str) {
@@ -53,6 +61,11 @@ impl Kept for String {
 impl Kept for Rope {
     fn of(source: &str) -> Rope {
         source.parse().expect("there is memory")
+    }
+
+    fn tested(source: &str) -> Rope {
+        // The library tests all that it loads.
+        Self::of(source)
     }
 
     fn insert(&mut self, at: usize, letters: &str) {

@@ -1,9 +1,9 @@
 //! Times changes of and questions about a text in Rust: a `String`, which moves its bytes at each change, or the rope of the
 //! Cargo crate `str_rope`, which calls the library for C.
 //!
-//! Its words and lines are those of `../rope.rt.txt`, where the first word is `string` or `rust`. The questions about a
-//! `String` are asked of the original crate `str_indices`, where it is at hand, else of loops over the standard library; the
-//! first line says which.
+//! Its words and lines are those of `../rope.rt.txt`, without the schemes, where the first word is `string` or `rust`. The
+//! questions about a `String` are asked of the original crate `str_indices`, where it is at hand, else of loops over the
+//! standard library; the first line says which.
 
 mod changes;
 mod kept;
@@ -66,6 +66,8 @@ fn tell_load<K: Kept>(source: &str, scale: Scale) {
     let rate = |taken: u128| (source.len() * repeats) as u128 * 1000 / taken.max(1);
     let loading = best(|| (0..repeats).map(|_| black_box(K::of(black_box(source)))).last());
     println!("load {} {}", rate(loading), hashed(source));
+    let testing = best(|| (0..repeats).map(|_| black_box(K::tested(black_box(source)))).last());
+    println!("tested {} {}", rate(testing), hashed(source));
     let text = K::of(source);
     let reading = best(|| (0..repeats).for_each(|_| _ = black_box(black_box(&text).read())));
     println!("read {} {}", rate(reading), text.read());
