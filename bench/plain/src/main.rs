@@ -61,23 +61,32 @@ pub fn best<T>(mut timed: impl FnMut() -> T) -> u128 {
     times.min().unwrap_or(0)
 }
 
-fn tell_load<K: Kept>(source: &str, scale: Scale) {
-    let repeats = 1_000_000 / scale.bytes.clamp(1, 1_000_000);
-    let rate = |taken: u128| (source.len() * repeats) as u128 * 1000 / taken.max(1);
+fn tell_load<K: Kept>(source: &str, repeats: usize) {
     let loading = best(|| (0..repeats).map(|_| black_box(K::of(black_box(source)))).last());
-    println!("load {} {}", rate(loading), hashed(source));
+    println!("load {} {}", rate(source.len() * repeats, loading), hashed(source));
     let testing = best(|| (0..repeats).map(|_| black_box(K::tested(black_box(source)))).last());
-    println!("tested {} {}", rate(testing), hashed(source));
-    let text = K::of(source);
-    let reading = best(|| (0..repeats).for_each(|_| _ = black_box(black_box(&text).read())));
-    println!("read {} {}", rate(reading), text.read());
+    println!("tested {} {}", rate(source.len() * repeats, testing), hashed(source));
+}
+
+fn tell_reading<K: Kept>(text: &K, bytes: usize, repeats: usize) {
+    let reading = best(|| (0..repeats).for_each(|_| _ = black_box(black_box(text).read())));
+    println!("read {} {}", rate(bytes * repeats, reading), text.read());
+}
+
+/// Megabytes a second.
+fn rate(bytes: usize, taken: u128) -> u128 {
+    bytes as u128 * 1000 / taken.max(1)
 }
 
 fn tell_all<K: Kept>(source: &str, scale: Scale) {
+    let repeats = 1_000_000 / scale.bytes.clamp(1, 1_000_000);
+    tell_load::<K>(source, repeats);
+    // The text that is read and asked is loaded after those that are timed, as in the program in Rattle: so both lie in
+    // memory alike.
     let text = K::of(source);
+    tell_reading(&text, source.len(), repeats);
     let questions = text.questions();
     println!("questions {} 0", questions.of);
-    tell_load::<K>(source, scale);
     tell_questions(&questions, source, scale);
     tell_changes::<K>(source, scale);
 }
