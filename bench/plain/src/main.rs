@@ -61,11 +61,12 @@ pub fn best<T>(mut timed: impl FnMut() -> T) -> u128 {
     times.min().unwrap_or(0)
 }
 
-fn tell_load<K: Kept>(source: &str, repeats: usize) {
-    let loading = best(|| (0..repeats).map(|_| black_box(K::of(black_box(source)))).last());
-    println!("load {} {}", rate(source.len() * repeats, loading), hashed(source));
-    let testing = best(|| (0..repeats).map(|_| black_box(K::tested(black_box(source)))).last());
-    println!("tested {} {}", rate(source.len() * repeats, testing), hashed(source));
+fn tell_load(name: &str, source: &str, repeats: usize, taken: u128) {
+    println!("{name} {} {}", rate(source.len() * repeats, taken), hashed(source));
+}
+
+fn time_load<K>(source: &str, repeats: usize, load: fn(&str) -> K) -> u128 {
+    best(|| (0..repeats).map(|_| black_box(load(black_box(source)))).last())
 }
 
 fn tell_reading<K: Kept>(text: &K, bytes: usize, repeats: usize) {
@@ -80,7 +81,8 @@ fn rate(bytes: usize, taken: u128) -> u128 {
 
 fn tell_all<K: Kept>(source: &str, scale: Scale) {
     let repeats = 1_000_000 / scale.bytes.clamp(1, 1_000_000);
-    tell_load::<K>(source, repeats);
+    tell_load("load", source, repeats, time_load(source, repeats, K::of));
+    tell_load("tested", source, repeats, time_load(source, repeats, K::tested));
     // The text that is read and asked is loaded after those that are timed, as in the program in Rattle: so both lie in
     // memory alike.
     let text = K::of(source);
