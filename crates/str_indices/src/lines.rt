@@ -77,8 +77,7 @@ pub fn from_byte_idx_impl<T: ByteChunk>(probe: &mut Probe<'_, T>, byte: usize, l
     let end = boundary_at_or_before(probe, byte);
     prove!(end <= probe.len());
     let inside_crlf = parts_crlf(probe, end, byte);
-    let breaks = count_breaks_impl(probe, end, lead);
-    if inside_crlf { breaks - 1 } else { breaks }
+    count_breaks_impl(probe, end, lead) - usize::from(inside_crlf)
 }
 
 /// Whether `end`, the boundary at or before a byte, stands between CR and LF, by at most two peeks.

@@ -77,8 +77,7 @@ pub fn from_byte_idx_impl<T: ByteChunk>(probe: &mut Probe<'_, T>, byte: usize, l
 {
     let end = byte.min(probe.len());
     let inside_crlf = is_crlf_middle(probe, end);
-    let breaks = count_breaks_impl(probe, end, lead);
-    if inside_crlf { breaks - 1 } else { breaks }
+    count_breaks_impl(probe, end, lead) - usize::from(inside_crlf)
 }
 
 /// Converts a line index to a byte index, over chunks of any type, after `lead` bytes that are walked one by one.

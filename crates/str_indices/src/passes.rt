@@ -17,7 +17,6 @@ const LEAST_SURE: usize = 8;
 /// What is counted before `end`, of the text the bytes before it seen.
 ///
 /// Chunks are added in groups of `GROUP`, and of `LAST_GROUP` in the last round, in which a short text has all its chunks.
-#[tactic(auto, using(crate::proofs::lemmas::passes::Passes::counting_pass))]
 pub(crate) fn count_up_to<
     C: PlaceCounts<T>,
     T: ByteChunk,
@@ -69,8 +68,7 @@ pub(crate) fn find_first<
 
 /// The first byte with which more than `idx` are counted, or the end of the text where no more are.
 ///
-/// It looks at chunks in groups while at least `LEAST` are left. The one that reaches the index is searched by its lanes, and
-/// walked where a sum of them may be too great to be compared, or where the text has fewer bytes.
+/// It looks at chunks in groups while at least `LEAST` are left, then one by one, and searches the one that reaches the index.
 pub(crate) fn find<
     C: PlaceCounts<T>,
     T: ByteChunk,
@@ -101,12 +99,37 @@ pub(crate) fn find<
     let after_sure = skip_unreachable::<C, T, GROUP, LAST_GROUP>(probe, after_lead, idx);
     let after_groups = skip_chunks::<C, T, LEAST>(probe, after_sure, idx, 4 / C::MOST);
     let after_chunks = skip_chunks::<C, T, 1>(probe, after_groups, idx, 1);
-    let last = T::SIZE.min(len - after_chunks.byte);
-    let to = after_chunks.byte + last;
+    find_in_last::<C, T>(probe, after_chunks, idx)
+}
+
+/// The first byte with which more than `idx` are counted, of as many bytes from a position on as a chunk has, or the place
+/// after them; where fewer are left, the end of the text.
+///
+/// They are searched by lanes, and walked where a sum of lanes may be too great to be compared, or where the text has fewer
+/// bytes.
+#[inline(always)]
+fn find_in_last<C: PlaceCounts<T>, T: ByteChunk>(
+    probe: &mut Probe<'_, T>,
+    from: Cursor<C::Carry>,
+    idx: usize,
+) -> usize
+    requires within { from.byte ≤ length probe.old.text }
+    requires fits { let n = length probe.old.text in FitsIn (sum_below (C.counted_at n probe.old.text)) n }
+    requires counted { from.count ≡ sum_below (C.counted_at (length probe.old.text) probe.old.text) from.byte }
+    requires at_most { from.count ≤ idx }
+    requires carried { C.carries probe.old.text from.byte from.carry }
+    ensures reached { (from.byte ≤ result) × (result ≤ length probe.old.text) × (result ≤ from.byte + T.SIZE) }
+    ensures at_most { sum_below (C.counted_at (length probe.old.text) probe.old.text) result ≤ idx }
+    ensures stopped { result < length probe.old.text → result < from.byte + T.SIZE
+        → idx < sum_below (C.counted_at (length probe.old.text) probe.old.text) (result + 1) }
+    ensures reads { Reads probe.old probe.new 0 (T.SIZE + 1) 0 0 }
+{
+    let len = probe.len();
+    let to = from.byte + T::SIZE.min(len - from.byte);
     if T::SIZE <= len && T::SIZE <= MOST_COMPARED / C::MOST {
-        return find_in_chunk::<C, T>(probe, after_chunks, to, idx);
+        return find_in_chunk::<C, T>(probe, from, to, idx);
     }
-    walk::<C, T>(probe, after_chunks.byte, after_chunks.count, to, len, idx).place
+    walk::<C, T>(probe, from.byte, from.count, to, len, idx).place
 }
 
 /// The byte that a walk looks for, and what is counted before the walk's end.

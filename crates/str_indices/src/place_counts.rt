@@ -109,18 +109,10 @@ pub(crate) fn count_chunks<
     let most = chunks_of_round::<C, T, GROUP>();
     let mut at = from;
     'rounds: while most * size <= to - at.byte {
-        let round = add_in_groups::<C, T, GROUP>(probe, at.byte, most, end, at.carry);
-        let count = at.count + round.lanes.sum_bytes();
-        let byte = at.byte + most * size;
-        let carry = round.carry;
-        at = Cursor { byte, count, carry };
+        at = count_in_groups::<C, T, GROUP>(probe, at, most, end);
     }
     let left = (to - at.byte) / size;
-    let last = add_in_groups::<C, T, LAST_GROUP>(probe, at.byte, left, end, at.carry);
-    let count = at.count + last.lanes.sum_bytes();
-    let byte = at.byte + left * size;
-    let carry = last.carry;
-    Cursor { byte, count, carry }
+    count_in_groups::<C, T, LAST_GROUP>(probe, at, left, end)
 }
 
 /// The most chunks that a round has: so few that what they count in a lane can be summed, and no part of a group unless
@@ -167,16 +159,43 @@ pub(crate) fn skip_chunks<C: PlaceCounts<T>, T: ByteChunk, const LEAST: usize>(
     let len = probe.len();
     let mut at = from;
     'groups: while LEAST * T::SIZE <= len - at.byte {
-        let added = add_chunks::<C, T>(probe, at.byte, group, len, at.carry);
-        let count = at.count + added.lanes.sum_bytes();
-        if count > idx {
+        let next = count_in_groups::<C, T, 4>(probe, at, group, len);
+        if next.count > idx {
             return at;
         }
-        let byte = at.byte + group * T::SIZE;
-        let carry = added.carry;
-        at = Cursor { byte, count, carry };
+        at = next;
     }
     at
+}
+
+/// Counts on from a position in so many chunks, which are so few that what they count in a lane can be summed.
+///
+/// Of the text the bytes before `end` are seen.
+#[inline(always)]
+fn count_in_groups<C: PlaceCounts<T>, T: ByteChunk, const GROUP: usize>(
+    probe: &mut Probe<'_, T>,
+    from: Cursor<C::Carry>,
+    chunks: usize,
+    end: usize,
+) -> Cursor<C::Carry>
+    requires some { 0 < GROUP }
+    requires summable { chunks * C.MOST ≤ T.MAX_ACC }
+    requires seen { (from.byte + chunks * T.SIZE ≤ end) × (end ≤ length probe.old.text) }
+    requires fits { FitsIn (sum_below (C.counted_at end probe.old.text)) (length probe.old.text) }
+    requires counted { from.count ≡ sum_below (C.counted_at end probe.old.text) from.byte }
+    requires carried { C.carries probe.old.text from.byte from.carry }
+    ensures byte { result.byte ≡ from.byte + chunks * T.SIZE }
+    ensures counted { result.count ≡ sum_below (C.counted_at end probe.old.text) result.byte }
+    ensures carried { C.carries probe.old.text result.byte result.carry }
+    ensures reads { Reads probe.old probe.new from.byte 0 chunks 0 }
+{
+    prove!(end <= probe.len());
+    let added = add_in_groups::<C, T, GROUP>(probe, from.byte, chunks, end, from.carry);
+    Cursor {
+        byte: from.byte + chunks * T::SIZE,
+        count: from.count + added.lanes.sum_bytes(),
+        carry: added.carry,
+    }
 }
 
 /// Adds what is counted in the lanes of so many chunks: of groups of `GROUP`, and then of what is left one at a time.

@@ -1,4 +1,4 @@
-use Rattle.str_indices.proofs.lemmas.{arith}
+use Rattle.str_indices.proofs.lemmas.{arith, counting_pass, then_}
 use Rattle.str_indices.proofs.passes.count_up_to.Goals as goal
 
 pub walk-requires-clause-counted : goal.walk-requires-clause-counted
@@ -19,3 +19,9 @@ count_chunks-after_chunks-requires-clause-counted g c =
     let fits = c.requires.fits c.min-byte.result (omega (arith, c.requires.within, c.min-byte.ensures)) in
     rw (c.carry_at-carry.ensures.reads.text_kept, walked.reads.text_kept)
     (walked.counted (omega (arith, fits, c.len.ensures.len)))
+
+pub returns-clause-reads : goal.returns-clause-reads
+returns-clause-reads g c =
+    counting_pass g.T.ByteChunk.SIZE c.args.lead c.args.end g.met.T.ByteChunk.lawful.least (omega (arith, c.min-byte.ensures))
+    (then_ c.walk-count.ensures.reads c.carry_at-carry.ensures.reads) c.count_chunks-after_chunks.ensures.reads
+    c.count_rest.ensures.reads c.count_chunks-after_chunks.ensures.reached.1 (omega (arith, c.min-byte.ensures))

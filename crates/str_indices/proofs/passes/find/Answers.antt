@@ -1,18 +1,10 @@
 use Rattle.str_indices.proofs.lemmas.{arith, search_pass}
 use Rattle.str_indices.proofs.passes.find.Goals as goal
 
-pub returns-then-SIZE-MOST-clause-reads : goal.returns-then-SIZE-MOST-clause-reads
-returns-then-SIZE-MOST-clause-reads g c =
-    search_pass g.met.T.ByteChunk.lawful.least c.requires.within c.skip_unreachable-after_sure.ensures.reached.0
-    c.skip_chunks-after_groups.ensures.reached.0 c.skip_chunks-after_chunks.ensures.reached.0 c.find_in_chunk.ensures.reached.0
-    c.walk-place.ensures.reads c.carry_at.ensures.reads c.skip_unreachable-after_sure.ensures.reads
-    c.skip_chunks-after_groups.ensures.reads (omega arith) c.skip_chunks-after_chunks.ensures.reads c.find_in_chunk.ensures.reads
-    (omega arith)
-
 pub returns-clause-reads : goal.returns-clause-reads
 returns-clause-reads g c =
     search_pass g.met.T.ByteChunk.lawful.least c.requires.within c.skip_unreachable-after_sure.ensures.reached.0
-    c.skip_chunks-after_groups.ensures.reached.0 c.skip_chunks-after_chunks.ensures.reached.0 c.walk.ensures.reached.0
+    c.skip_chunks-after_groups.ensures.reached.0 c.skip_chunks-after_chunks.ensures.reached.0 c.find_in_last.ensures.reached.0
     c.walk-place.ensures.reads c.carry_at.ensures.reads c.skip_unreachable-after_sure.ensures.reads
-    c.skip_chunks-after_groups.ensures.reads (omega arith) c.skip_chunks-after_chunks.ensures.reads c.walk.ensures.reads
-    (grind (arith, c.min-last.ensures, c.SIZE.ensures))
+    c.skip_chunks-after_groups.ensures.reads (omega arith) c.skip_chunks-after_chunks.ensures.reads c.find_in_last.ensures.reads
+    (omega arith)
