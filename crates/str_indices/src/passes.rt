@@ -67,8 +67,6 @@ pub(crate) fn find_first<
 }
 
 /// The first byte with which more than `idx` are counted, or the end of the text where no more are.
-///
-/// It looks at chunks in groups while at least `LEAST` are left, then one by one, and searches the one that reaches the index.
 pub(crate) fn find<
     C: PlaceCounts<T>,
     T: ByteChunk,
@@ -96,7 +94,34 @@ pub(crate) fn find<
         count,
         carry: C::carry_at(probe, lead),
     };
-    let after_sure = skip_unreachable::<C, T, GROUP, LAST_GROUP>(probe, after_lead, idx);
+    find_from::<C, T, GROUP, LAST_GROUP, LEAST>(probe, after_lead, idx)
+}
+
+/// The first byte from a position on with which more than `idx` are counted, or the end of the text where no more are.
+///
+/// It looks at chunks in groups while at least `LEAST` are left, then one by one, and searches the one that reaches the index.
+#[inline(always)]
+fn find_from<
+    C: PlaceCounts<T>,
+    T: ByteChunk,
+    const GROUP: usize,
+    const LAST_GROUP: usize,
+    const LEAST: usize,
+>(probe: &mut Probe<'_, T>, from: Cursor<C::Carry>, idx: usize) -> usize
+    requires some { (0 < GROUP) × (0 < LAST_GROUP) }
+    requires least { (4 ≤ LEAST) × (LEAST ≤ 16) }
+    requires within { from.byte ≤ length probe.old.text }
+    requires steady { let n = length probe.old.text in IsSteady (sum_below (C.counted_at n probe.old.text)) n }
+    requires counted { from.count ≡ sum_below (C.counted_at (length probe.old.text) probe.old.text) from.byte }
+    requires at_most { from.count ≤ idx }
+    requires carried { C.carries probe.old.text from.byte from.carry }
+    ensures reached { (from.byte ≤ result) × (result ≤ length probe.old.text) }
+    ensures at_most { sum_below (C.counted_at (length probe.old.text) probe.old.text) result ≤ idx }
+    ensures stopped { result < length probe.old.text
+        → idx < sum_below (C.counted_at (length probe.old.text) probe.old.text) (result + 1) }
+    ensures reads { Reads probe.old probe.new from.byte (T.SIZE + 1) ((result - from.byte) / T.SIZE + 5) 0 }
+{
+    let after_sure = skip_unreachable::<C, T, GROUP, LAST_GROUP>(probe, from, idx);
     let after_groups = skip_chunks::<C, T, LEAST>(probe, after_sure, idx, 4 / C::MOST);
     let after_chunks = skip_chunks::<C, T, 1>(probe, after_groups, idx, 1);
     find_in_last::<C, T>(probe, after_chunks, idx)

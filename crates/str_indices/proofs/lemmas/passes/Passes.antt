@@ -1,6 +1,6 @@
 -- What leading bytes, chunks and the rest of a text add up to: the bounds of a whole pass.
 use Rattle.str_indices.proofs.lemmas.Common.{◌≡◌, ℕ, ◌+◌, ◌-◌, ◌/◌, ◌≤◌, min, arith, le-div, div-le_self, div-mul-le_self, ProbeState, Reads, leading_bytes, pass_turns, pass_loads}
-use Rattle.str_indices.proofs.lemmas.passes.Costs.{chunk_read, loads_to_place, then_}
+use Rattle.str_indices.proofs.lemmas.passes.Costs.{chunk_read, loads_to_place}
 use Rattle.str_indices.proofs.lemmas.passes.Quotients.{div-add-le}
 
 module _ {old led chunked new : ProbeState} (size lead n : ℕ) {first at t t' : ℕ} (least : 4 ≤ size) where
@@ -11,12 +11,13 @@ module _ {old led chunked new : ProbeState} (size lead n : ℕ) {first at t t' :
       → Reads old new (leading_bytes lead n) (pass_turns size lead n) (pass_loads size lead n) 0
   counting_pass here leads chunks rests within few = grind (arith, le-div, div-mul-le_self)
 
-  -- a pass that looks for a place in n bytes
-  pub placing_pass : (place : ℕ) → first ≡ min lead n → Reads old led 0 t 0 0
-      → Reads led chunked first 0 ((at - first) / size + 5) 0 → Reads chunked new 0 t' 0 0 → at ≤ place
-      → t + t' ≤ pass_turns size lead n
-      → Reads old new (leading_bytes lead n) (pass_turns size lead n) (place / size + 5) 0
-  placing_pass place here leads chunks rests before few = grind (arith, le-div, div-mul-le_self)
+-- a pass that looks for a place in n bytes: leading bytes, and then what reads from where they end
+pub placing_pass : (size lead n : ℕ) {old led new : ProbeState} {first place t t' : ℕ} → 4 ≤ size → first ≡ min lead n
+    → first ≤ place → Reads old led 0 t 0 0 → Reads led new first t' ((place - first) / size + 5) 0
+    → t + t' ≤ pass_turns size lead n
+    → Reads old new (leading_bytes lead n) (pass_turns size lead n) (place / size + 5) 0
+placing_pass size lead n {first = first} {place = place} least here before leads searched few =
+    grind (arith, div-add-le size 0 first place)
 
 module _ {old peeked new : ProbeState} (size lead end n : ℕ) (least : 4 ≤ size) (le : end ≤ n)
     (peeks : Reads old peeked 0 0 0 3) where
@@ -26,17 +27,15 @@ module _ {old peeked new : ProbeState} (size lead end n : ℕ) (least : 4 ≤ si
       → Reads old new (leading_bytes lead n) (pass_turns size lead n) (pass_loads size lead n) 3
   pass_after_peeks pass = grind (arith, le-div, div-mul-le_self, div-le_self 0 size)
 
--- a search: leading bytes, chunks without a look, groups of at most four, single chunks, and the last one
-pub search_pass : {p led carried passed grouped chunked new : ProbeState} {size lead n sure group at place t l : ℕ} → 4 ≤ size
-    → lead ≤ n → lead ≤ sure → sure ≤ group → group ≤ at → at ≤ place → Reads p led 0 (lead - 0 + 1) 0 0
-    → Reads led carried 0 1 0 0 → Reads carried passed lead 0 ((sure - lead) / size) 0
+-- a search from a place on: chunks without a look, groups of at most four, single chunks, and the last one
+pub search_from : {p passed grouped chunked new : ProbeState} {size from sure group at place t l : ℕ} → 4 ≤ size
+    → from ≤ sure → sure ≤ group → group ≤ at → at ≤ place → Reads p passed from 0 ((sure - from) / size) 0
     → Reads passed grouped sure 0 ((group - sure) / size + l) 0 → l ≤ 4
-    → Reads grouped chunked group 0 ((at - group) / size + 1) 0 → Reads chunked new 0 t 0 0 → t ≤ size + 1
-    → Reads p new (leading_bytes lead n) (pass_turns size lead n) (place / size + 5) 0
-search_pass {size = size} {lead = lead} {n = n} {sure = sure} {group = group} {at = at} {place = place} least within le le' le''
-    before leads carry surely groups few chunks rest turns =
+    → Reads grouped chunked group 0 ((at - group) / size + 1) 0 → Reads chunked new 0 t 0 0
+    → Reads p new from t ((place - from) / size + 5) 0
+search_from {size = size} {from = from} {sure = sure} {group = group} {at = at} {place = place} least le le' le'' before
+    surely groups few chunks rest =
     let looked = chunk_read le surely groups in
-    let fewer = div-add-le size lead sure group least le le' in
+    let fewer = div-add-le size from sure group least le le' in
     let loads = loads_to_place least (omega (arith, le, le')) le'' looked chunks (omega (arith, fewer, few)) (omega arith) in
-    placing_pass size lead n least place (grind (arith, within)) (then_ leads carry) loads rest before
-    (grind (arith, within, turns))
+    grind (arith, loads, rest, div-add-le size from at place least (omega (arith, le, le', le'')) before)

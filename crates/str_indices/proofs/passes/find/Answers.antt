@@ -1,10 +1,8 @@
-use Rattle.str_indices.proofs.lemmas.{arith, search_pass}
+use Rattle.str_indices.proofs.lemmas.{arith, length, placing_pass, then_}
 use Rattle.str_indices.proofs.passes.find.Goals as goal
 
 pub returns-clause-reads : goal.returns-clause-reads
 returns-clause-reads g c =
-    search_pass g.met.T.ByteChunk.lawful.least c.requires.within c.skip_unreachable-after_sure.ensures.reached.0
-    c.skip_chunks-after_groups.ensures.reached.0 c.skip_chunks-after_chunks.ensures.reached.0 c.find_in_last.ensures.reached.0
-    c.walk-place.ensures.reads c.carry_at.ensures.reads c.skip_unreachable-after_sure.ensures.reads
-    c.skip_chunks-after_groups.ensures.reads (omega arith) c.skip_chunks-after_chunks.ensures.reads c.find_in_last.ensures.reads
-    (omega arith)
+    placing_pass g.T.ByteChunk.SIZE c.args.lead (length c.args.probe.now.text) g.met.T.ByteChunk.lawful.least
+    (omega (arith, c.requires.within)) c.find_from.ensures.reached.0
+    (then_ c.walk-place.ensures.reads c.carry_at.ensures.reads) c.find_from.ensures.reads (omega (arith, c.requires.within))

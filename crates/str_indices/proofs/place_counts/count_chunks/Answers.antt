@@ -16,9 +16,9 @@ rounds-preserved g c =
 
 pub count_in_groups-requires-clause-summable : goal.count_in_groups-requires-clause-summable
 count_in_groups-requires-clause-summable g c =
-    rw c.SIZE-size.ensures (round_fits (c.args.to - c.rounds.at.byte) g.T.ByteChunk.SIZE c.chunks_of_round-most.result g.C.PlaceCounts.MOST
-    g.T.ByteChunk.MAX_ACC g.met.T.ByteChunk.lawful.least (rw c.SIZE-size.ensures at c.rounds-test.false)
-    c.chunks_of_round-most.ensures.summable)
+    rw c.SIZE-size.ensures (round_fits (c.args.to - c.rounds.at.byte) g.T.ByteChunk.SIZE c.chunks_of_round-most.result
+    g.C.PlaceCounts.MOST g.T.ByteChunk.MAX_ACC g.met.T.ByteChunk.lawful.least
+    (rw c.SIZE-size.ensures at c.rounds-test.false) c.chunks_of_round-most.ensures.summable)
 
 pub returns-clause-reads : goal.returns-clause-reads
 returns-clause-reads g c =

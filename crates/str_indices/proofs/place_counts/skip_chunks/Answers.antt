@@ -1,4 +1,4 @@
-use Rattle.str_indices.proofs.lemmas.{◌*◌, arith, mul-le-mul_right, group_joined}
+use Rattle.str_indices.proofs.lemmas.{arith, mul-le-mul_right, group_joined}
 use Rattle.str_indices.proofs.place_counts.skip_chunks.Goals as goal
 
 pub groups-preserved : goal.groups-preserved
