@@ -159,11 +159,14 @@ pub(crate) fn skip_chunks<C: PlaceCounts<T>, T: ByteChunk, const LEAST: usize>(
     let len = probe.len();
     let mut at = from;
     'groups: while LEAST * T::SIZE <= len - at.byte {
-        let next = count_in_groups::<C, T, 4>(probe, at, group, len);
-        if next.count > idx {
+        let added = add_chunks::<C, T>(probe, at.byte, group, len, at.carry);
+        let count = at.count + added.lanes.sum_bytes();
+        if count > idx {
             return at;
         }
-        at = next;
+        let byte = at.byte + group * T::SIZE;
+        let carry = added.carry;
+        at = Cursor { byte, count, carry };
     }
     at
 }

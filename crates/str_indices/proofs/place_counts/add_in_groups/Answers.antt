@@ -1,6 +1,24 @@
-use Rattle.str_indices.proofs.lemmas.{◌*◌, ◌/◌, ◌%◌, arith, parts_addable, parts_added, parts_end, parts_within, room_exchanged, subst, sums_exchanged}
+use Rattle.str_indices.proofs.lemmas.{◌*◌, ◌/◌, ◌%◌, arith, div-mul-le_self, mul-le-mul_right, parts_addable, parts_added, parts_end, parts_within, room_exchanged, subst, sums_exchanged}
 use Rattle.std.proofs.Math.Nat.{div-add-mod}
 use Rattle.str_indices.proofs.place_counts.add_in_groups.Goals as goal
+
+pub add_groups-grouped-requires-clause-room : goal.add_groups-grouped-requires-clause-room
+add_groups-grouped-requires-clause-room g c =
+    let fewer = mul-le-mul_right {m = c.args.chunks / g.row.GROUP * g.row.GROUP} {n = c.args.chunks} g.C.PlaceCounts.MOST
+    (div-mul-le_self c.args.chunks g.row.GROUP) in
+    omega (arith, fewer, c.requires.room)
+
+pub add_groups-grouped-requires-clause-seen : goal.add_groups-grouped-requires-clause-seen
+add_groups-grouped-requires-clause-seen g c =
+    let fewer = mul-le-mul_right {m = c.args.chunks / g.row.GROUP * g.row.GROUP} {n = c.args.chunks} g.T.ByteChunk.SIZE
+    (div-mul-le_self c.args.chunks g.row.GROUP) in
+    (omega (arith, fewer, c.requires.seen), c.requires.seen.1)
+
+pub add_chunks-single-requires-clause-room : goal.add_chunks-single-requires-clause-room
+add_chunks-single-requires-clause-room g c =
+    let fewer = mul-le-mul_right {m = c.args.chunks % g.row.GROUP} {n = c.args.chunks} g.C.PlaceCounts.MOST
+    (omega (arith, div-add-mod c.args.chunks g.row.GROUP)) in
+    omega (arith, fewer, c.requires.room)
 
 pub add_chunks-single-requires-clause-seen : goal.add_chunks-single-requires-clause-seen
 add_chunks-single-requires-clause-seen g c =

@@ -1,17 +1,36 @@
-use Rattle.str_indices.proofs.lemmas.{arith, mul-le-mul_right, group_joined}
+use Rattle.str_indices.proofs.lemmas.{◌+◌, ◌*◌, arith, counted_there, length, mul-le-mul_right, group_joined, subst, sum_below}
 use Rattle.str_indices.proofs.place_counts.skip_chunks.Goals as goal
+
+pub overflow_add-count : goal.overflow_add-count
+overflow_add-count g c =
+    let so_far = c.groups.invariant in
+    let lanes = rw (so_far.reads.text_kept, c.len-len.ensures.len) at c.add_chunks-added.ensures.lanes in
+    let fits = mul-le-mul_right {m = c.args.group} {n = g.row.LEAST} g.T.ByteChunk.SIZE c.requires.least.0 in
+    let here = rw c.SIZE.ensures at c.groups-test.true in
+    omega (
+      arith,
+      so_far.counted,
+      lanes.added,
+      c.sum_bytes.ensures,
+      c.requires.fits (c.groups.at.byte + c.args.group * g.T.ByteChunk.SIZE) (omega (arith, here, fits)),
+    )
 
 pub groups-preserved : goal.groups-preserved
 groups-preserved g c =
     let so_far = c.groups.invariant in
-    let group = c.count_in_groups-next.ensures in
+    let group = c.add_chunks-added.ensures in
+    let lanes = rw (so_far.reads.text_kept, c.len-len.ensures.len) at group.lanes in
     let fits = mul-le-mul_right {m = c.args.group} {n = g.row.LEAST} g.T.ByteChunk.SIZE c.requires.least.0 in
     let here = rw c.SIZE.ensures at c.groups-test.true in
-    record {
-      from_low = omega (arith, so_far.from_low, group.byte);
-      to_high = omega (arith, here, fits, group.byte);
-      counted = rw (so_far.reads.text_kept, c.len-len.ensures.len) at group.counted;
+    let text = c.args.probe.now.text in
+    let before = sum_below (g.C.PlaceCounts.counted_at (length text) text) in
+    rw c.SIZE-in-groups.ensures (record {
+      from_low = omega (arith, so_far.from_low);
+      to_high = omega (arith, here, fits);
+      counted = counted_there before (c.groups.at.byte + c.args.group * g.T.ByteChunk.SIZE) (omega arith)
+          (omega (arith, so_far.counted, lanes.added, c.sum_bytes.ensures));
       at_most = omega arith;
-      carried = rw so_far.reads.text_kept at group.carried;
-      reads = group_joined group.byte g.met.T.ByteChunk.lawful.least so_far.from_low so_far.reads group.reads;
-    }
+      carried = subst (λ at. g.C.PlaceCounts.carries text at c.add_chunks-added.result.carry) (omega arith)
+          (rw so_far.reads.text_kept at group.carried);
+      reads = group_joined (omega arith) g.met.T.ByteChunk.lawful.least so_far.from_low so_far.reads group.reads;
+    })
