@@ -7,9 +7,7 @@ use crate::places::boundary_at_or_before;
 use crate::weights::{GROUP, LAST_GROUP, LeadingBytes, Weights};
 use byte_chunk::{ByteChunk, Chunk, Probe};
 
-/// How many chars the text has; an empty text has none.
-///
-/// Takes time linear in the length of the text.
+/// How many chars the text has, in time linear in its length. An empty text has none.
 #[tactic(auto, using(crate::proofs::lemmas::bytes::Walks::whole_text))]
 pub fn count(text: &str) -> usize
     ensures { result ≡ count Chars (chars text.now) }
@@ -30,9 +28,7 @@ pub fn from_byte_idx(text: &str, byte_idx: usize) -> usize
 
 /// Converts a char index to the byte index where that char begins.
 ///
-/// Any index past the last char gives the length of the text in bytes.
-///
-/// The text may be sliced at the answer.
+/// Any index past the last char gives the length of the text in bytes. The text may be sliced at the answer.
 ///
 /// Takes time linear in the answer.
 pub fn to_byte_idx(text: &str, char_idx: usize) -> usize
@@ -79,5 +75,5 @@ pub fn to_byte_idx_impl<T: ByteChunk>(probe: &mut Probe<'_, T>, idx: usize, lead
     ensures pass { Finds probe.old probe.new T.SIZE lead (length probe.old.text) result 3 }
 {
     let first_chunk = lead.min(probe.len());
-    find::<Weights<LeadingBytes>, T, GROUP, LAST_GROUP, 4>(probe, idx, first_chunk)
+    find::<Weights<LeadingBytes>, T, GROUP, LAST_GROUP>(probe, idx, first_chunk)
 }

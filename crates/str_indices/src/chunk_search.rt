@@ -3,39 +3,44 @@
 //! Byte by byte it would take a branch each, and where they end no processor foresees; or all steps wherever it ends. So each
 //! lane gets the sum of those from it on. Such a sum is never below the next lane's: too great ones stand in the first lanes,
 //! and the last of these is the place.
-ghost use Rattle.std.specs.Prelude.{◌≡◌, ◌+◌, ◌*◌, ◌<◌, ◌≤◌, length, drop, map, slice_index, sum};
+ghost use Rattle.std.specs.Prelude.{◌≡◌, ◌+◌, ◌-◌, ◌*◌, ◌<◌, ◌≤◌, length, drop, map, slice_index, sum};
 ghost use Rattle.std.specs.Simd.Lanes.{Each1};
-ghost use Rattle.str_indices.specs.Prelude.{is_between, sum_below, CountsUpTo, HasLanes, Reads};
+ghost use Rattle.str_indices.specs.Prelude.{is_between, sum_below, CountsUpTo, FitsIn, HasLanes, Reads};
 
+use crate::passes::walk;
 use crate::place_counts::{Cursor, PlaceCounts};
 use crate::rest::lanes_up_to;
 use byte_chunk::{ByteChunk, Probe};
 
 /// The greatest sum of lanes that can be compared with another.
-pub(crate) const MOST_COMPARED: usize = 126;
+const MOST_COMPARED: usize = 126;
 
-/// The first byte with which more than `idx` are counted, of those from a position up to `to`, or `to`, for one turn a lane.
+/// The first byte with which more than `idx` are counted, of as many bytes from a position on as a chunk has, or the place
+/// after them; where fewer are left, the end of the text.
 ///
-/// They are no more than a chunk has, and all the bytes before `to` are no fewer.
-pub(crate) fn find_in_chunk<C: PlaceCounts<T>, T: ByteChunk>(
+/// They are searched by lanes, for one turn each, and walked where a sum of lanes may be too great to be compared, or where
+/// the text has fewer bytes than a chunk.
+pub(crate) fn find_in_last<C: PlaceCounts<T>, T: ByteChunk>(
     probe: &mut Probe<'_, T>,
     from: Cursor<C::Carry>,
-    to: usize,
     idx: usize,
 ) -> usize
-    requires few { T.SIZE * C.MOST ≤ 126 }
-    requires long { T.SIZE ≤ to }
-    requires near { (from.byte ≤ to) × (to ≤ from.byte + T.SIZE) }
-    requires within { to ≤ length probe.old.text }
+    requires within { from.byte ≤ length probe.old.text }
+    requires fits { let n = length probe.old.text in FitsIn (sum_below (C.counted_at n probe.old.text)) n }
     requires counted { from.count ≡ sum_below (C.counted_at (length probe.old.text) probe.old.text) from.byte }
     requires at_most { from.count ≤ idx }
     requires carried { C.carries probe.old.text from.byte from.carry }
-    ensures reached { (from.byte ≤ result) × (result ≤ to) }
+    ensures reached { (from.byte ≤ result) × (result ≤ length probe.old.text) × (result ≤ from.byte + T.SIZE) }
     ensures at_most { sum_below (C.counted_at (length probe.old.text) probe.old.text) result ≤ idx }
-    ensures stopped { result < to → idx < sum_below (C.counted_at (length probe.old.text) probe.old.text) (result + 1) }
-    ensures reads { Reads probe.old probe.new 0 T.SIZE 0 0 }
+    ensures stopped { result < length probe.old.text → result < from.byte + T.SIZE
+        → idx < sum_below (C.counted_at (length probe.old.text) probe.old.text) (result + 1) }
+    ensures reads { Reads probe.old probe.new 0 (T.SIZE + 1) 0 0 }
 {
     let len = probe.len();
+    let to = from.byte + T::SIZE.min(len - from.byte);
+    if len < T::SIZE || MOST_COMPARED / C::MOST < T::SIZE {
+        return walk::<C, T>(probe, from.byte, from.count, to, len, idx).place;
+    }
     let lanes = lanes_up_to::<C, T>(probe, from, to, len);
     let total = lanes.sum_bytes();
     let more = idx - from.count;
@@ -43,17 +48,8 @@ pub(crate) fn find_in_chunk<C: PlaceCounts<T>, T: ByteChunk>(
         return to;
     }
     let after = total - more - 1;
-    let up_to_place = lanes_above(sums_to_end(lanes), after as u8);
-    to - T::SIZE + (up_to_place - 1)
-}
-
-/// How many lanes are above `n`, where none is too great to be compared.
-#[inline(always)]
-fn lanes_above<T: ByteChunk>(lanes: T, n: u8) -> usize
-    requires compared { n < 127 }
-    ensures { result ≡ sum (map (is_between n 127) (T.lanes lanes)) }
-{
-    lanes.bytes_between_127(n, 127).sum_bytes()
+    let above = sums_to_end(lanes).bytes_between_127(after as u8, 127);
+    to - T::SIZE + (above.sum_bytes() - 1)
 }
 
 /// In each lane the sum of those from it on.

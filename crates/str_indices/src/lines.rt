@@ -8,7 +8,7 @@ ghost use Rattle.std.specs.Simd.Lanes.{Each1};
 ghost use Rattle.str_indices.specs.Prelude.{is_between, is_byte, cut, size, count, from_byte_idx, to_byte_idx, Lines, IsBoundary, flag, is_carriage_return, is_middle, break_at-le, is_crlf, is_separator, narrow_break_at, next_line_at, separator_at, break_at, breaks_counted_before, ends_separator, HasLanes, IsChunk, Reads, Counts, Finds};
 
 use crate::passes::{count_up_to, find_first};
-use crate::place_counts::{CountedLanes, PlaceCounts};
+use crate::place_counts::{Counted, PlaceCounts};
 use crate::places::{boundary_at_or_after, boundary_at_or_before, is_crlf_middle};
 use crate::weights::{CR, LF};
 use byte_chunk::{ByteChunk, Chunk, Probe};
@@ -16,11 +16,9 @@ use byte_chunk::{ByteChunk, Chunk, Probe};
 /// How many chunks are added in one step.
 const GROUP: usize = 2;
 
-/// How many line breaks the text has.
+/// How many line breaks the text has, in time linear in its length.
 ///
 /// That is one less than its lines: after a break at the end of the text an empty line begins.
-///
-/// Takes time linear in the length of the text.
 #[tactic(auto, using(crate::proofs::lemmas::bytes::Walks::whole_text))]
 pub fn count_breaks(text: &str) -> usize
     ensures { result ≡ count Lines (chars text.now) }
@@ -42,9 +40,7 @@ pub fn from_byte_idx(text: &str, byte_idx: usize) -> usize
 
 /// Converts a line index to the byte index where that line begins: 0, or right after a line break.
 ///
-/// An index past the last line gives the length of the text in bytes.
-///
-/// The text may be sliced at the answer.
+/// An index past the last line gives the length of the text in bytes. The text may be sliced at the answer.
 ///
 /// Takes time linear in the answer.
 pub fn to_byte_idx(text: &str, line_idx: usize) -> usize
@@ -68,7 +64,7 @@ pub fn count_breaks_impl<T: ByteChunk>(probe: &mut Probe<'_, T>, end: usize, lea
 }
 
 /// Converts a byte index to a line index, over chunks of any type, after `lead` bytes that are walked one by one.
-#[tactic(auto, using(crate::proofs::lemmas::schemes::LineBytes::lines_up_to))]
+#[tactic(auto, using(crate::proofs::lemmas::schemes::LineBytes::lines_up_to, crate::proofs::lemmas::schemes::LineBytes::parted))]
 pub fn from_byte_idx_impl<T: ByteChunk>(probe: &mut Probe<'_, T>, byte: usize, lead: usize) -> usize
     ensures answer { result ≡ from_byte_idx Lines (chars probe.old.text) byte }
     ensures text { probe.new.text ≡ probe.old.text }
@@ -76,23 +72,8 @@ pub fn from_byte_idx_impl<T: ByteChunk>(probe: &mut Probe<'_, T>, byte: usize, l
 {
     let end = boundary_at_or_before(probe, byte);
     prove!(end <= probe.len());
-    let inside_crlf = parts_crlf(probe, end, byte);
+    let inside_crlf = end >= byte && is_crlf_middle(probe, end);
     count_breaks_impl(probe, end, lead) - usize::from(inside_crlf)
-}
-
-/// Whether `end`, the boundary at or before a byte, stands between CR and LF, by at most two peeks.
-///
-/// At a boundary before the byte a char of several bytes begins, so there no peek is needed.
-#[tactic(auto, using(crate::proofs::lemmas::schemes::LineBytes::parted))]
-fn parts_crlf<T: ByteChunk>(probe: &mut Probe<'_, T>, end: usize, byte_idx: usize) -> bool
-    requires within { end ≤ length probe.old.text }
-    requires boundary { end ≡ size (cut (chars probe.old.text) byte_idx) }
-    ensures answer { result ≡ is_middle probe.old.text end }
-    ensures reads { Reads probe.old probe.new 0 0 0 2 }
-    ensures reads_nothing { end < byte_idx → Reads probe.old probe.new 0 0 0 0 }
-{
-    prove!(end <= probe.len());
-    end >= byte_idx && is_crlf_middle(probe, end)
 }
 
 /// Converts a line index to a byte index, over chunks of any type, after `lead` bytes that are walked one by one.
@@ -103,33 +84,13 @@ pub fn to_byte_idx_impl<T: ByteChunk>(probe: &mut Probe<'_, T>, idx: usize, lead
     ensures pass { Finds probe.old probe.new T.SIZE lead (length probe.old.text) result 3 }
 {
     let first_chunk = lead.min(probe.len());
-    let place = find_first::<LineBreaks, T, GROUP, GROUP, 8>(probe, idx, first_chunk);
+    let place = find_first::<LineBreaks, T, GROUP, GROUP>(probe, idx, first_chunk);
     boundary_at_or_after(probe, place)
-}
-
-/// Whether a break is counted at a byte, the one at `at`, by at most two peeks.
-fn is_break_at<T: ByteChunk>(probe: &mut Probe<'_, T>, byte: u8, at: usize, end: usize) -> bool
-    requires seen { (at < end) × (end ≤ length probe.old.text) }
-    requires byte { byte ≡ slice_index probe.old.text at }
-    ensures answer { flag result ≡ break_at (take end probe.old.text) at }
-    ensures reads { Reads probe.old probe.new 0 0 0 2 }
-{
-    prove!(end <= probe.len());
-    match byte {
-        LF | 0x0B | 0x0C => true,
-        CR => peek_ahead(probe, at, 1, end) != LF,
-        _ => starts_wide_break(probe, byte, at, end),
-    }
 }
 
 /// Whether a break of several bytes is counted at byte `at`: only where that may begin one, the bytes after it are
 /// peeked at.
-fn starts_wide_break<T: ByteChunk>(
-    probe: &mut Probe<'_, T>,
-    byte: u8,
-    at: usize,
-    end: usize,
-) -> bool
+fn is_wide_break<T: ByteChunk>(probe: &mut Probe<'_, T>, byte: u8, at: usize, end: usize) -> bool
     requires seen { (at < end) × (end ≤ length probe.old.text) }
     requires byte { byte ≡ slice_index (take end probe.old.text) at }
     ensures answer { let bytes = take end probe.old.text in
@@ -184,7 +145,12 @@ impl<T: ByteChunk> PlaceCounts<T> for LineBreaks {
     const IS_DENSE: bool = false;
 
     fn count_byte(probe: &mut Probe<'_, T>, _before: u8, byte: u8, at: usize, end: usize) -> usize {
-        usize::from(is_break_at(probe, byte, at, end))
+        prove!(end <= probe.len());
+        usize::from(match byte {
+            LF | 0x0B | 0x0C => true,
+            CR => peek_ahead(probe, at, 1, end) != LF,
+            _ => is_wide_break(probe, byte, at, end),
+        })
     }
 
     fn carry_at(_probe: &mut Probe<'_, T>, _at: usize) {}
@@ -197,18 +163,16 @@ impl<T: ByteChunk> PlaceCounts<T> for LineBreaks {
         at: usize,
         end: usize,
         _carry: (),
-    ) -> CountedLanes<T, ()> {
+    ) -> Counted<T, ()> {
         prove!(end <= probe.len());
         let narrow_breaks = count_narrow_breaks(probe, chunk, at, end);
-        CountedLanes {
+        Counted {
             lanes: add_wide_breaks(probe, chunk, narrow_breaks, at, end),
             carry: (),
         }
     }
 
-    ghost at_most = { λ end text. break_at-le (take end text) };
-
-    ghost few = { (lit< tt, lit≤ tt) };
+    ghost bounded = { (lit< tt, lit≤ tt, λ end text. break_at-le (take end text)) };
 }
 
 /// 1 in each lane of the chunk at `at` that is a break of one byte or the LF of CR LF.
@@ -287,6 +251,8 @@ fn pair_starts<T: ByteChunk>(chunk: T, first: u8, second: u8) -> T
 }
 
 /// Adds each U+2028 and U+2029 that stands in a chunk as a whole to its breaks, where `firsts` says which lanes are E2.
+///
+/// The bytes A8 and A9, which end them, differ in their lowest bit alone.
 fn add_separators<T: ByteChunk>(chunk: T, firsts: T, breaks: T) -> T
     requires long { length (T.lanes chunk) ≡ T.SIZE }
     requires first { T.lanes firsts ≡ map (is_byte 0xE2) (T.lanes chunk) }
@@ -297,16 +263,9 @@ fn add_separators<T: ByteChunk>(chunk: T, firsts: T, breaks: T) -> T
     if firsts.is_zero() {
         return breaks;
     }
-    let thirds = separator_ends(chunk).shift_back_lex(2);
-    breaks.add(pair_starts(chunk, 0xE2, 0x80).bitand(thirds))
-}
-
-/// 1 in each lane that ends U+2028 or U+2029 after E2 80: the bytes A8 and A9 differ in their lowest bit alone.
-fn separator_ends<T: ByteChunk>(chunk: T) -> T
-    requires { length (T.lanes chunk) ≡ T.SIZE }
-    ensures { T.lanes result ≡ map (λ lane. flag (ends_separator lane)) (T.lanes chunk) }
-{
-    chunk.shr(1).bitand(T::splat(0x7F)).cmp_eq_byte(0x54)
+    let thirds = chunk.shr(1).bitand(T::splat(0x7F)).cmp_eq_byte(0x54);
+    let found = pair_starts(chunk, 0xE2, 0x80).bitand(thirds.shift_back_lex(2));
+    breaks.add(found)
 }
 
 /// Adds the break of several bytes that crosses the end of the chunk at `at`, if there is one.
@@ -330,7 +289,7 @@ fn add_at_edge<T: ByteChunk>(probe: &mut Probe<'_, T>, breaks: T, at: usize, end
         if is_separator(last_but_one, 0x80, peek_ahead(probe, last, 1, end)) {
             return breaks.inc_nth_from_end_lex_byte(1);
         }
-    } else if starts_wide_break(probe, byte, last, end) {
+    } else if is_wide_break(probe, byte, last, end) {
         return breaks.inc_nth_from_end_lex_byte(0);
     }
     breaks

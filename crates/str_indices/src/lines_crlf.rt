@@ -7,7 +7,7 @@ ghost use Rattle.std.proofs.Common.{lit≤, lit<};
 ghost use Rattle.str_indices.specs.Prelude.{cut, count, from_byte_idx, to_byte_idx, Crlf, flag, mark, is_carriage_return, byte_before, starts_break, break_start, breaks_before, is_middle, break_start-le, Reads, Counts, Finds};
 
 use crate::passes::{count_up_to, find_first};
-use crate::place_counts::{CountedLanes, PlaceCounts};
+use crate::place_counts::{Counted, PlaceCounts};
 use crate::places::{byte_before, is_crlf_middle};
 use crate::weights::{CR, LF};
 use byte_chunk::{ByteChunk, Chunk, Probe};
@@ -15,11 +15,9 @@ use byte_chunk::{ByteChunk, Chunk, Probe};
 /// How many chunks are added in one step.
 const GROUP: usize = 4;
 
-/// How many line breaks the text has: LF, CR and CRLF, which is one break.
+/// How many line breaks the text has, LF, CR and CRLF, which is one break, in time linear in its length.
 ///
 /// That is one less than its lines: after a break at the end of the text an empty line begins.
-///
-/// Takes time linear in the length of the text.
 #[tactic(auto, using(crate::proofs::lemmas::bytes::Walks::whole_text))]
 pub fn count_breaks(text: &str) -> usize
     ensures { result ≡ count Crlf (chars text.now) }
@@ -41,9 +39,7 @@ pub fn from_byte_idx(text: &str, byte_idx: usize) -> usize
 
 /// Converts a line index to the byte index where that line begins: 0, or right after a line break.
 ///
-/// An index past the last line gives the length of the text in bytes.
-///
-/// The text may be sliced at the answer.
+/// An index past the last line gives the length of the text in bytes. The text may be sliced at the answer.
 ///
 /// Takes time linear in the answer.
 pub fn to_byte_idx(text: &str, line_idx: usize) -> usize
@@ -88,22 +84,8 @@ pub fn to_byte_idx_impl<T: ByteChunk>(probe: &mut Probe<'_, T>, idx: usize, lead
     ensures pass { Finds probe.old probe.new T.SIZE lead (length probe.old.text) result 3 }
 {
     let first_chunk = lead.min(probe.len());
-    let place = find_first::<BreakStarts, T, GROUP, GROUP, 4>(probe, idx, first_chunk);
-    after_crlf(probe, place)
-}
-
-/// The place itself, or where it stands between CR and LF the place after the LF, by at most two peeks.
-fn after_crlf<T: ByteChunk>(probe: &mut Probe<'_, T>, place: usize) -> usize
-    requires { place ≤ length probe.old.text }
-    ensures behind { result ≡ place + mark (is_middle probe.old.text) place }
-    ensures reads { Reads probe.old probe.new 0 0 0 2 }
-{
-    if is_crlf_middle(probe, place) {
-        prove!(place < probe.len());
-        place + 1
-    } else {
-        place
-    }
+    let place = find_first::<BreakStarts, T, GROUP, GROUP>(probe, idx, first_chunk);
+    place + usize::from(is_crlf_middle(probe, place))
 }
 
 /// The breaks that start in the lanes of a chunk, 1 each. A chunk hands on 1 in each lane that is CR, of which the chunk
@@ -132,23 +114,15 @@ impl<T: ByteChunk> PlaceCounts<T> for BreakStarts {
         T::splat(u8::from(byte_before(probe, at) == CR))
     }
 
-    fn count_lanes(
-        _probe: &mut Probe<'_, T>,
-        chunk: T,
-        _at: usize,
-        _end: usize,
-        before: T,
-    ) -> CountedLanes<T, T> {
+    fn count_lanes(_: &mut Probe<'_, T>, chunk: T, _: usize, _: usize, before: T) -> Counted<T, T> {
         let feeds = chunk.cmp_eq_byte(LF);
         let returns = chunk.cmp_eq_byte(CR);
         let pairs = before.shift_across(returns).bitand(feeds);
-        CountedLanes {
+        Counted {
             lanes: feeds.add(returns).sub(pairs),
             carry: returns,
         }
     }
 
-    ghost at_most = { λ _. break_start-le };
-
-    ghost few = { (lit< tt, lit≤ tt) };
+    ghost bounded = { (lit< tt, lit≤ tt, λ _. break_start-le) };
 }

@@ -9,11 +9,9 @@ use crate::passes::{count_up_to, find_first};
 use crate::weights::{GROUP, LAST_GROUP, LineFeeds, Weights};
 use byte_chunk::{ByteChunk, Chunk, Probe};
 
-/// How many line breaks the text has.
+/// How many line breaks the text has, in time linear in its length.
 ///
 /// A text has one line more: after a break at its end an empty line begins.
-///
-/// Takes time linear in the length of the text.
 #[tactic(auto, using(crate::proofs::lemmas::bytes::Walks::whole_text))]
 pub fn count_breaks(text: &str) -> usize
     ensures { result ≡ count Lf (chars text.now) }
@@ -35,9 +33,7 @@ pub fn from_byte_idx(text: &str, byte_idx: usize) -> usize
 
 /// Converts a line index to the byte index where that line begins: 0, or right after a line break.
 ///
-/// An index past the last line gives the length of the text in bytes.
-///
-/// The text may be sliced at the answer.
+/// An index past the last line gives the length of the text in bytes. The text may be sliced at the answer.
 ///
 /// Takes time linear in the answer.
 pub fn to_byte_idx(text: &str, line_idx: usize) -> usize
@@ -79,5 +75,5 @@ pub fn to_byte_idx_impl<T: ByteChunk>(probe: &mut Probe<'_, T>, idx: usize, lead
     ensures pass { Finds probe.old probe.new T.SIZE lead (length probe.old.text) result 3 }
 {
     let first_chunk = lead.min(probe.len());
-    find_first::<Weights<LineFeeds>, T, GROUP, LAST_GROUP, 4>(probe, idx, first_chunk)
+    find_first::<Weights<LineFeeds>, T, GROUP, LAST_GROUP>(probe, idx, first_chunk)
 }

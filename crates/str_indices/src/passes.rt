@@ -5,14 +5,14 @@
 ghost use Rattle.std.specs.Prelude.{◌≡◌, ℕ, ◌+◌, ◌-◌, ◌*◌, ◌/◌, ◌<◌, ◌≤◌, length};
 ghost use Rattle.str_indices.specs.Prelude.{sum_below, FitsIn, IsSteady, Reads, Counts, Finds};
 
-use crate::chunk_search::{MOST_COMPARED, find_in_chunk};
+use crate::chunk_search::find_in_last;
 use crate::place_counts::{Cursor, PlaceCounts, count_chunks, skip_chunks};
 use crate::places::byte_before;
-use crate::rest::count_rest;
+use crate::rest::lanes_up_to;
 use byte_chunk::{ByteChunk, Probe};
 
-/// The fewest chunks that a search counts without a look at what it has so far.
-const LEAST_SURE: usize = 8;
+/// The fewest chunks that a search takes in groups, or without a look at what it has so far.
+const LEAST: usize = 8;
 
 /// What is counted before `end`, of the text the bytes before it seen.
 ///
@@ -38,7 +38,8 @@ pub(crate) fn count_up_to<
     let carry = C::carry_at(probe, byte);
     let after_lead = Cursor { byte, count, carry };
     let after_chunks = count_chunks::<C, T, GROUP, LAST_GROUP>(probe, after_lead, end, end);
-    count_rest::<C, T>(probe, after_chunks, end)
+    let rest = lanes_up_to::<C, T>(probe, after_chunks, end, end);
+    after_chunks.count + rest.sum_bytes()
 }
 
 /// The first place before which `idx` are counted, or the end of the text where fewer are.
@@ -47,10 +48,8 @@ pub(crate) fn find_first<
     T: ByteChunk,
     const GROUP: usize,
     const LAST_GROUP: usize,
-    const LEAST: usize,
 >(probe: &mut Probe<'_, T>, idx: usize, lead: usize) -> usize
     requires some { (0 < GROUP) × (0 < LAST_GROUP) }
-    requires least { (4 ≤ LEAST) × (LEAST ≤ 16) }
     requires within { lead ≤ length probe.old.text }
     requires steady { let n = length probe.old.text in IsSteady (sum_below (C.counted_at n probe.old.text)) n }
     ensures reached { result ≤ length probe.old.text }
@@ -62,20 +61,17 @@ pub(crate) fn find_first<
     if idx == 0 {
         return 0;
     }
-    let last = find::<C, T, GROUP, LAST_GROUP, LEAST>(probe, idx - 1, lead);
+    let last = find::<C, T, GROUP, LAST_GROUP>(probe, idx - 1, lead);
     if last < probe.len() { last + 1 } else { last }
 }
 
 /// The first byte with which more than `idx` are counted, or the end of the text where no more are.
-pub(crate) fn find<
-    C: PlaceCounts<T>,
-    T: ByteChunk,
-    const GROUP: usize,
-    const LAST_GROUP: usize,
-    const LEAST: usize,
->(probe: &mut Probe<'_, T>, idx: usize, lead: usize) -> usize
+pub(crate) fn find<C: PlaceCounts<T>, T: ByteChunk, const GROUP: usize, const LAST_GROUP: usize>(
+    probe: &mut Probe<'_, T>,
+    idx: usize,
+    lead: usize,
+) -> usize
     requires some { (0 < GROUP) × (0 < LAST_GROUP) }
-    requires least { (4 ≤ LEAST) × (LEAST ≤ 16) }
     requires within { lead ≤ length probe.old.text }
     requires steady { let n = length probe.old.text in IsSteady (sum_below (C.counted_at n probe.old.text)) n }
     ensures reached { result ≤ length probe.old.text }
@@ -89,27 +85,25 @@ pub(crate) fn find<
     if place < lead {
         return place;
     }
+    let carry = C::carry_at(probe, lead);
     let after_lead = Cursor {
         byte: lead,
         count,
-        carry: C::carry_at(probe, lead),
+        carry,
     };
-    find_from::<C, T, GROUP, LAST_GROUP, LEAST>(probe, after_lead, idx)
+    find_from::<C, T, GROUP, LAST_GROUP>(probe, after_lead, idx)
 }
 
 /// The first byte from a position on with which more than `idx` are counted, or the end of the text where no more are.
 ///
 /// It looks at chunks in groups while at least `LEAST` are left, then one by one, and searches the one that reaches the index.
 #[inline(always)]
-fn find_from<
-    C: PlaceCounts<T>,
-    T: ByteChunk,
-    const GROUP: usize,
-    const LAST_GROUP: usize,
-    const LEAST: usize,
->(probe: &mut Probe<'_, T>, from: Cursor<C::Carry>, idx: usize) -> usize
+fn find_from<C: PlaceCounts<T>, T: ByteChunk, const GROUP: usize, const LAST_GROUP: usize>(
+    probe: &mut Probe<'_, T>,
+    from: Cursor<C::Carry>,
+    idx: usize,
+) -> usize
     requires some { (0 < GROUP) × (0 < LAST_GROUP) }
-    requires least { (4 ≤ LEAST) × (LEAST ≤ 16) }
     requires within { from.byte ≤ length probe.old.text }
     requires steady { let n = length probe.old.text in IsSteady (sum_below (C.counted_at n probe.old.text)) n }
     requires counted { from.count ≡ sum_below (C.counted_at (length probe.old.text) probe.old.text) from.byte }
@@ -127,41 +121,11 @@ fn find_from<
     find_in_last::<C, T>(probe, after_chunks, idx)
 }
 
-/// The first byte with which more than `idx` are counted, of as many bytes from a position on as a chunk has, or the place
-/// after them; where fewer are left, the end of the text.
-///
-/// They are searched by lanes, and walked where a sum of lanes may be too great to be compared, or where the text has fewer
-/// bytes.
-#[inline(always)]
-fn find_in_last<C: PlaceCounts<T>, T: ByteChunk>(
-    probe: &mut Probe<'_, T>,
-    from: Cursor<C::Carry>,
-    idx: usize,
-) -> usize
-    requires within { from.byte ≤ length probe.old.text }
-    requires fits { let n = length probe.old.text in FitsIn (sum_below (C.counted_at n probe.old.text)) n }
-    requires counted { from.count ≡ sum_below (C.counted_at (length probe.old.text) probe.old.text) from.byte }
-    requires at_most { from.count ≤ idx }
-    requires carried { C.carries probe.old.text from.byte from.carry }
-    ensures reached { (from.byte ≤ result) × (result ≤ length probe.old.text) × (result ≤ from.byte + T.SIZE) }
-    ensures at_most { sum_below (C.counted_at (length probe.old.text) probe.old.text) result ≤ idx }
-    ensures stopped { result < length probe.old.text → result < from.byte + T.SIZE
-        → idx < sum_below (C.counted_at (length probe.old.text) probe.old.text) (result + 1) }
-    ensures reads { Reads probe.old probe.new 0 (T.SIZE + 1) 0 0 }
-{
-    let len = probe.len();
-    let to = from.byte + T::SIZE.min(len - from.byte);
-    if T::SIZE <= len && T::SIZE <= MOST_COMPARED / C::MOST {
-        return find_in_chunk::<C, T>(probe, from, to, idx);
-    }
-    walk::<C, T>(probe, from.byte, from.count, to, len, idx).place
-}
-
 /// The byte that a walk looks for, and what is counted before the walk's end.
 #[derive(Clone, Copy)]
-struct Walked {
-    place: usize,
-    count: usize,
+pub(crate) struct Walked {
+    pub(crate) place: usize,
+    pub(crate) count: usize,
 }
 
 /// Walks on from a position to `to`, one turn a byte and one for the byte before them: the first byte with which more
@@ -170,7 +134,7 @@ struct Walked {
 /// Where most bytes count it does not stop there, since a few bytes more cost less than a branch that no processor
 /// foresees. Of the text the bytes before `end` are seen.
 #[inline(always)]
-fn walk<C: PlaceCounts<T>, T: ByteChunk>(
+pub(crate) fn walk<C: PlaceCounts<T>, T: ByteChunk>(
     probe: &mut Probe<'_, T>,
     from: usize,
     mut count: usize,
@@ -230,7 +194,7 @@ fn skip_unreachable<C: PlaceCounts<T>, T: ByteChunk, const GROUP: usize, const L
     let mut at = from;
     'rounds: loop {
         let chunks = sure_chunks::<T>(idx - at.count, len - at.byte);
-        if !C::IS_DENSE || chunks < LEAST_SURE {
+        if !C::IS_DENSE || chunks < LEAST {
             break;
         }
         let to = at.byte + chunks * T::SIZE;

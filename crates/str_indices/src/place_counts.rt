@@ -52,7 +52,7 @@ pub(crate) trait PlaceCounts<T: ByteChunk> {
         at: usize,
         end: usize,
         carry: Self::Carry,
-    ) -> CountedLanes<T, Self::Carry>
+    ) -> Counted<T, Self::Carry>
         requires seen { (at + T.SIZE ≤ end) × (end ≤ length probe.old.text) }
         requires chunk { T.lanes chunk ≡ take T.SIZE (drop at probe.old.text) }
         requires handed_on { IsHandedOn (carries probe.old.text) carry }
@@ -62,14 +62,12 @@ pub(crate) trait PlaceCounts<T: ByteChunk> {
         ensures carried { carries probe.old.text (at + T.SIZE) result.carry }
         ensures reads { Reads probe.old probe.new 0 0 0 4 };
 
-    ghost at_most: { (end : ℕ) (text : List ℕ) (n : ℕ) → counted_at end text n ≤ MOST };
-
-    ghost few: { (0 < MOST) × (MOST ≤ 2) };
+    ghost bounded: { (0 < MOST) × (MOST ≤ 2) × ((end : ℕ) (text : List ℕ) (n : ℕ) → counted_at end text n ≤ MOST) };
 }
 
 /// The lanes in which was counted, and what is handed on.
 #[derive(Clone, Copy)]
-pub(crate) struct CountedLanes<T, C> {
+pub(crate) struct Counted<T, C> {
     pub(crate) lanes: T,
     pub(crate) carry: C,
 }
@@ -173,7 +171,7 @@ pub(crate) fn skip_chunks<C: PlaceCounts<T>, T: ByteChunk, const LEAST: usize>(
 
 /// Counts on from a position in so many chunks, which are so few that what they count in a lane can be summed.
 ///
-/// Of the text the bytes before `end` are seen.
+/// The lanes of groups of `GROUP` are added, and then those of what is left. Of the text the bytes before `end` are seen.
 #[inline(always)]
 fn count_in_groups<C: PlaceCounts<T>, T: ByteChunk, const GROUP: usize>(
     probe: &mut Probe<'_, T>,
@@ -193,68 +191,21 @@ fn count_in_groups<C: PlaceCounts<T>, T: ByteChunk, const GROUP: usize>(
     ensures reads { Reads probe.old probe.new from.byte 0 chunks 0 }
 {
     prove!(end <= probe.len());
-    let added = add_in_groups::<C, T, GROUP>(probe, from.byte, chunks, end, from.carry);
-    Cursor {
-        byte: from.byte + chunks * T::SIZE,
-        count: from.count + added.lanes.sum_bytes(),
-        carry: added.carry,
-    }
-}
-
-/// Adds what is counted in the lanes of so many chunks: of groups of `GROUP`, and then of what is left one at a time.
-#[inline(always)]
-fn add_in_groups<C: PlaceCounts<T>, T: ByteChunk, const GROUP: usize>(
-    probe: &mut Probe<'_, T>,
-    from: usize,
-    chunks: usize,
-    end: usize,
-    carry: C::Carry,
-) -> CountedLanes<T, C::Carry>
-    requires some { 0 < GROUP }
-    requires room { chunks * C.MOST ≤ 255 }
-    requires seen { (from + chunks * T.SIZE ≤ end) × (end ≤ length probe.old.text) }
-    requires carried { C.carries probe.old.text from carry }
-    ensures lanes { AddsUp (sum_below (C.counted_at end probe.old.text)) C.MOST T.SIZE from (from + chunks * T.SIZE) chunks
-        (T.lanes result.lanes) }
-    ensures carried { C.carries probe.old.text (from + chunks * T.SIZE) result.carry }
-    ensures reads { Reads probe.old probe.new from 0 chunks 0 }
-{
-    let groups = chunks / GROUP;
-    let grouped = add_groups::<C, T, GROUP>(probe, from, groups, end, carry);
-    let behind = from + groups * GROUP * T::SIZE;
-    let single = add_chunks::<C, T>(probe, behind, chunks % GROUP, end, grouped.carry);
-    CountedLanes {
-        lanes: grouped.lanes.add(single.lanes),
-        carry: single.carry,
-    }
-}
-
-/// Adds what is counted in the lanes of so many groups of `GROUP` chunks.
-#[inline(always)]
-fn add_groups<C: PlaceCounts<T>, T: ByteChunk, const GROUP: usize>(
-    probe: &mut Probe<'_, T>,
-    from: usize,
-    groups: usize,
-    end: usize,
-    mut carry: C::Carry,
-) -> CountedLanes<T, C::Carry>
-    requires room { groups * GROUP * C.MOST ≤ 255 }
-    requires seen { (from + groups * GROUP * T.SIZE ≤ end) × (end ≤ length probe.old.text) }
-    requires carried { C.carries probe.old.text from carry }
-    ensures lanes { AddsUp (sum_below (C.counted_at end probe.old.text)) C.MOST T.SIZE from (from + groups * GROUP * T.SIZE)
-        (groups * GROUP) (T.lanes result.lanes) }
-    ensures carried { C.carries probe.old.text (from + groups * GROUP * T.SIZE) result.carry }
-    ensures reads { Reads probe.old probe.new from 0 (groups * GROUP) 0 }
-{
     let mut lanes = T::zero();
-    let mut at = from;
-    'groups: for _ in 0..groups {
+    let mut at = from.byte;
+    let mut carry = from.carry;
+    'groups: for _ in 0..chunks / GROUP {
         let group = add_chunks::<C, T>(probe, at, GROUP, end, carry);
         lanes = lanes.add(group.lanes);
         carry = group.carry;
         at += GROUP * T::SIZE;
     }
-    CountedLanes { lanes, carry }
+    let single = add_chunks::<C, T>(probe, at, chunks % GROUP, end, carry);
+    Cursor {
+        byte: from.byte + chunks * T::SIZE,
+        count: from.count + lanes.add(single.lanes).sum_bytes(),
+        carry: single.carry,
+    }
 }
 
 /// Adds what is counted in the lanes of so many chunks.
@@ -265,7 +216,7 @@ fn add_chunks<C: PlaceCounts<T>, T: ByteChunk>(
     chunks: usize,
     end: usize,
     mut carry: C::Carry,
-) -> CountedLanes<T, C::Carry>
+) -> Counted<T, C::Carry>
     requires room { chunks * C.MOST ≤ 255 }
     requires seen { (from + chunks * T.SIZE ≤ end) × (end ≤ length probe.old.text) }
     requires carried { C.carries probe.old.text from carry }
@@ -283,5 +234,5 @@ fn add_chunks<C: PlaceCounts<T>, T: ByteChunk>(
         carry = counted.carry;
         at += T::SIZE;
     }
-    CountedLanes { lanes, carry }
+    Counted { lanes, carry }
 }

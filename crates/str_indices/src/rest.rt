@@ -15,27 +15,6 @@ const MOST_LANES: usize = 64;
 /// For each lane that is left out 0, and then for each that is kept a byte with all bits set.
 static LEFT_OUT_AND_KEPT: [[u8; MOST_LANES]; 2] = [[0; MOST_LANES], [0xFF; MOST_LANES]];
 
-/// Counts on from a position to `end`, over fewer bytes than a chunk has, for one turn a lane.
-///
-/// Of the text the bytes before `end` are seen, and they are no fewer than a chunk has.
-pub(crate) fn count_rest<C: PlaceCounts<T>, T: ByteChunk>(
-    probe: &mut Probe<'_, T>,
-    from: Cursor<C::Carry>,
-    end: usize,
-) -> usize
-    requires long { T.SIZE ≤ end }
-    requires near { (from.byte ≤ end) × (end < from.byte + T.SIZE) }
-    requires within { end ≤ length probe.old.text }
-    requires fits { FitsIn (sum_below (C.counted_at end probe.old.text)) (length probe.old.text) }
-    requires counted { from.count ≡ sum_below (C.counted_at end probe.old.text) from.byte }
-    requires carried { C.carries probe.old.text from.byte from.carry }
-    ensures counted { result ≡ sum_below (C.counted_at end probe.old.text) end }
-    ensures reads { Reads probe.old probe.new 0 T.SIZE 0 0 }
-{
-    prove!(end <= probe.len());
-    from.count + lanes_up_to::<C, T>(probe, from, end, end).sum_bytes()
-}
-
 /// What is counted in each lane of the chunk that ends at `to`, for one turn a lane.
 ///
 /// Of the text the bytes before `end` are seen. The lanes before the position are left out, since they are counted already.

@@ -10,9 +10,7 @@ use crate::places::boundary_at_or_before;
 use crate::weights::{FourByteLeads, GROUP, LAST_GROUP, Units, Weights};
 use byte_chunk::{ByteChunk, Chunk, Probe};
 
-/// How many UTF-16 code units the text would take.
-///
-/// Takes time linear in the length of the text.
+/// How many UTF-16 code units the text would take, in time linear in its length.
 #[tactic(auto, using(crate::proofs::lemmas::bytes::Walks::whole_text))]
 pub fn count(text: &str) -> usize
     ensures { result ≡ count Utf16 (chars text.now) }
@@ -20,9 +18,7 @@ pub fn count(text: &str) -> usize
     count_impl(&mut Probe::<Chunk>::of(text), text.len(), 0)
 }
 
-/// How many surrogate pairs the text would have in UTF-16: one for each char of four bytes.
-///
-/// Takes time linear in the length of the text.
+/// How many surrogate pairs the text would have in UTF-16, one for each char of four bytes, in time linear in its length.
 #[tactic(auto, using(crate::proofs::lemmas::bytes::Walks::whole_text))]
 pub fn count_surrogates(text: &str) -> usize
     ensures { result ≡ surrogates (chars text.now) }
@@ -45,9 +41,7 @@ pub fn from_byte_idx(text: &str, byte_idx: usize) -> usize
 /// Converts a UTF-16 code unit index to the byte index where the char of that unit begins.
 ///
 /// The second unit of a surrogate pair belongs to its char. An index past the last unit gives the length of the
-/// text in bytes.
-///
-/// The text may be sliced at the answer.
+/// text in bytes. The text may be sliced at the answer.
 ///
 /// Takes time linear in the answer.
 pub fn to_byte_idx(text: &str, utf16_idx: usize) -> usize
@@ -111,5 +105,5 @@ pub fn to_byte_idx_impl<T: ByteChunk>(probe: &mut Probe<'_, T>, idx: usize, lead
     ensures pass { Finds probe.old probe.new T.SIZE lead (length probe.old.text) result 3 }
 {
     let first_chunk = lead.min(probe.len());
-    find::<Weights<Units>, T, GROUP, LAST_GROUP, 4>(probe, idx, first_chunk)
+    find::<Weights<Units>, T, GROUP, LAST_GROUP>(probe, idx, first_chunk)
 }

@@ -3,7 +3,7 @@ ghost use Rattle.std.specs.Prelude.{◌≡◌, ℕ, ◌<◌, ◌≤◌, length, 
 ghost use Rattle.std.proofs.Common.{lit≤, lit<};
 ghost use Rattle.str_indices.specs.Prelude.{mark, is_trailing, is_leading, begins_four_bytes, is_line_feed, units_begun, mark-le, units_begun-le};
 
-use crate::place_counts::{CountedLanes, PlaceCounts};
+use crate::place_counts::{Counted, PlaceCounts};
 use byte_chunk::{ByteChunk, Probe};
 use std::marker::PhantomData;
 
@@ -32,9 +32,7 @@ pub(crate) trait ByteWeight {
         requires { length (T.lanes chunk) ≡ T.SIZE }
         ensures { T.lanes result ≡ map weight (T.lanes chunk) };
 
-    ghost few: { (0 < MOST) × (MOST ≤ 2) };
-
-    ghost bounded: { (byte : ℕ) → weight byte ≤ MOST };
+    ghost bounded: { (0 < MOST) × (MOST ≤ 2) × ((byte : ℕ) → weight byte ≤ MOST) };
 }
 
 /// 1 for each LF.
@@ -57,9 +55,7 @@ impl ByteWeight for LineFeeds {
         chunk.cmp_eq_byte(LF)
     }
 
-    ghost few = { (lit< tt, lit≤ tt) };
-
-    ghost bounded = { mark-le is_line_feed };
+    ghost bounded = { (lit< tt, lit≤ tt, mark-le is_line_feed) };
 }
 
 /// 1 for each byte that begins a char.
@@ -83,9 +79,7 @@ impl ByteWeight for LeadingBytes {
         T::splat(1).sub(mark_trailing(chunk))
     }
 
-    ghost few = { (lit< tt, lit≤ tt) };
-
-    ghost bounded = { mark-le is_leading };
+    ghost bounded = { (lit< tt, lit≤ tt, mark-le is_leading) };
 }
 
 /// 1 for each byte that begins a char of four bytes, which takes a surrogate pair.
@@ -108,9 +102,7 @@ impl ByteWeight for FourByteLeads {
         chunk.bitand(T::splat(0xF0)).cmp_eq_byte(0xF0)
     }
 
-    ghost few = { (lit< tt, lit≤ tt) };
-
-    ghost bounded = { mark-le begins_four_bytes };
+    ghost bounded = { (lit< tt, lit≤ tt, mark-le begins_four_bytes) };
 }
 
 /// For each byte that begins a char the UTF-16 code units of that char, 1 or 2.
@@ -134,9 +126,7 @@ impl ByteWeight for Units {
         leading.add(FourByteLeads::in_lanes(chunk))
     }
 
-    ghost few = { (lit< tt, lit≤ tt) };
-
-    ghost bounded = { units_begun-le };
+    ghost bounded = { (lit< tt, lit≤ tt, units_begun-le) };
 }
 
 /// How many chunks are added in one step.
@@ -167,22 +157,14 @@ impl<B: ByteWeight, T: ByteChunk> PlaceCounts<T> for Weights<B> {
 
     fn carry_at(_: &mut Probe<'_, T>, _: usize) {}
 
-    fn count_lanes(
-        _probe: &mut Probe<'_, T>,
-        chunk: T,
-        _at: usize,
-        _end: usize,
-        _carry: (),
-    ) -> CountedLanes<T, ()> {
-        CountedLanes {
+    fn count_lanes(_: &mut Probe<'_, T>, chunk: T, _: usize, _: usize, _: ()) -> Counted<T, ()> {
+        Counted {
             lanes: B::in_lanes(chunk),
             carry: (),
         }
     }
 
-    ghost at_most = { λ _ text n. B.bounded (slice_index text n) };
-
-    ghost few = { B.few };
+    ghost bounded = { (B.bounded.0, B.bounded.1, λ _ text n. B.bounded.2 (slice_index text n)) };
 }
 
 pub(crate) fn is_trailing_byte(byte: u8) -> bool

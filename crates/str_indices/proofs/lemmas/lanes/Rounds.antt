@@ -41,16 +41,16 @@ module _ {counted : ℕ → ℕ} {most size from : ℕ} where
       })
 
   -- two parts of some chunks, added; the second begins where the first ends
-  module _ {m n chunks middle : ℕ} {xs ys : List ℕ} (so_far : AddsUp counted most size from (from + m * size) m xs)
+  module _ {m n chunks middle : ℕ} {xs ys : List ℕ} (so_far : AddsUp counted most size from middle m xs)
       (there : from + m * size ≡ middle) (more : AddsUp counted most size middle (middle + n * size) n ys)
       (all : m + n ≡ chunks) where
     pub parts_addable : (limit : ℕ) → chunks * most ≤ limit → Each2 (λ a b. a + b ≤ limit) xs ys
-    parts_addable limit room = lanes_addable (rw there at so_far) more limit (rw all room)
+    parts_addable limit room = lanes_addable so_far more limit (rw all room)
 
     pub parts_added : {sums : List ℕ} → sums ≡ zip2 (λ a b. a + b) xs ys
         → AddsUp counted most size from (from + chunks * size) chunks sums
     parts_added added = as_many all (rw (parts_end from m n size all there) at
-        (lanes_added (rw there at so_far) more added))
+        (lanes_added so_far more added))
 
 -- the lanes of one chunk, each with what f adds at its place
 pub lanes_of_places : (f : ℕ → ℕ) {most size at : ℕ} {lanes : List ℕ} → ((j : ℕ) → f j ≤ most)

@@ -1,7 +1,7 @@
 -- The sums of a chunk's lanes from each lane on, and which lane they find.
-use Rattle.str_indices.proofs.lemmas.Common.{◌≡◌, ℕ, zero, suc, ◌+◌, ◌-◌, ◌*◌, ◌<◌, ◌≤◌, List, [], ◌∷◌, drop, map, length, get_or, refl, sym, subst, ap, arith, cases_lt, inl, inr, nat_tests, add-zero, add-suc, ◌∙◌, ◌++◌, replicate, sum, zip2, Each1, Each2, length-drop, get_or-drop, get_or_past, sum_by-cons, ◌&&◌, nat_lt, flag-le, is_between, sum_below, CountsUpTo, HasLanes}
+use Rattle.str_indices.proofs.lemmas.Common.{◌≡◌, ℕ, zero, suc, ◌+◌, ◌-◌, ◌*◌, ◌/◌, ◌<◌, ◌≤◌, List, [], ◌∷◌, drop, map, length, get_or, refl, sym, subst, ap, arith, div-mul-le_self, mul-le-mul_right, cases_lt, inl, inr, nat_tests, add-zero, add-suc, ◌∙◌, ◌++◌, replicate, sum, zip2, Each1, Each2, length-drop, get_or-drop, get_or_past, sum_by-cons, ◌&&◌, nat_lt, flag-le, is_between, sum_below, CountsUpTo, HasLanes}
 use Rattle.str_indices.proofs.lemmas.bytes.{sum_below-add, sum_below-same, sum_below-still}
-use Rattle.str_indices.proofs.lemmas.lanes.EachLane.{Each2-lanes, lanes_map, lanes_same, lanes_shift, lanes_zip2, sum_lanes}
+use Rattle.str_indices.proofs.lemmas.lanes.EachLane.{lanes_at_most, Each2-lanes, lanes_map, lanes_same, lanes_shift, lanes_zip2, sum_lanes}
 
 -- what n lanes hold from one on, where past the last there is nothing
 abbrev pub window : List ℕ → ℕ → ℕ → ℕ
@@ -205,6 +205,16 @@ module _ {counted : ℕ → ℕ} {most size from to : ℕ} {lanes : List ℕ} (k
 
   found : FoundBy counted size from to idx n
   found = record { some = found_some; within = split.0; at_most = found_few; stopped = found_more }
+
+-- marks are small enough to be summed
+pub marks_small : (a b most : ℕ) → 4 ≤ most → (lanes : List ℕ) → Each1 (λ lane. lane ≤ most) (map (is_between a b) lanes)
+marks_small a b most room lanes =
+    lanes_at_most (is_between a b) most (λ lane. omega (arith, room, between-le a b lane)) lanes
+
+-- so few lanes that no sum of them is too great to be compared
+pub comparable : (size most : ℕ) → size ≤ 126 / most → size * most ≤ 126
+comparable size most few =
+    omega (arith, mul-le-mul_right {m = size} {n = 126 / most} most few, div-mul-le_self 126 most)
 
 -- the same, from what the calls of a search say
 pub found_place : {counted : ℕ → ℕ} {most size from to : ℕ} {lanes sums : List ℕ} {count idx total n : ℕ}

@@ -1,10 +1,23 @@
 -- How many whole chunks fit between two places.
-use Rattle.str_indices.proofs.lemmas.Common.{◌≡◌, ℕ, ap, ◌+◌, ◌-◌, ◌*◌, ◌/◌, ◌<◌, ◌≤◌, arith, add-mul, le-div, div-mul-le_self, div-lt_iff_lt-mul, mul-le-mul_right}
+use Rattle.str_indices.proofs.lemmas.Common.{◌≡◌, ℕ, ap, ◌+◌, ◌-◌, ◌*◌, ◌/◌, ◌%◌, ◌<◌, ◌≤◌, arith, add-mul, le-div, div-mul-le_self, div-lt_iff_lt-mul, mul-le-mul_right}
+use Rattle.std.proofs.Math.Nat.{div-add-mod}
 
 -- from one place on and from the next on fit no more than from the first
 pub div-add-le : (size from at to : ℕ) → 4 ≤ size → from ≤ at → at ≤ to
     → (at - from) / size + (to - at) / size ≤ (to - from) / size
 div-add-le size from at to least le le' = grind (arith, le-div, div-mul-le_self, add-mul)
+
+-- the groups of some chunks up to one of them have no more than all
+pub groups_within : (k chunks group weight : ℕ) → k < chunks / group → (k + 1) * group * weight ≤ chunks * weight
+groups_within k chunks group weight more =
+    let few = mul-le-mul_right {m = k + 1} {n = chunks / group} group (omega (arith, more)) in
+    mul-le-mul_right {m = (k + 1) * group} {n = chunks} weight (omega (arith, few, div-mul-le_self chunks group))
+
+-- the groups of some chunks, once they are counted up, and what is left over are all of them
+pub groups_and_rest : (k chunks group : ℕ) → k ≤ chunks / group → chunks / group ≤ k
+    → (k * group ≡ chunks / group * group) × (chunks / group * group + chunks % group ≡ chunks)
+groups_and_rest k chunks group few many =
+    let done : k ≡ chunks / group = omega (arith, few, many) in (ap (λ n. n * group) done, omega (arith, div-add-mod chunks group))
 
 -- of two parts of some chunks the first ends at a place, and the second where all of them do
 module _ (from m n size : ℕ) {chunks middle : ℕ} (all : m + n ≡ chunks) (there : from + m * size ≡ middle) where

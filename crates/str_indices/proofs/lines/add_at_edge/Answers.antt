@@ -35,27 +35,27 @@ returns-else-is_separator-clause-lanes g c =
     separator_kept bytes _ _ least c.requires.counted
     (cc (seen last 0 (omega (arith, least)), same_place)) before next (cc)
 
-pub returns-then-starts_wide_break-clause-lanes : goal.returns-then-starts_wide_break-clause-lanes
-returns-then-starts_wide_break-clause-lanes g c =
+pub returns-then-is_wide_break-clause-lanes : goal.returns-then-is_wide_break-clause-lanes
+returns-then-is_wide_break-clause-lanes g c =
     let law = g.met.T.ByteChunk.lawful in
     let seen = get_or-take c.args.end c.args.probe.now.text (c.args.at + (g.T.ByteChunk.SIZE - 1)) 0 (omega arith) in
     let same = ap (λ p. p.text) c.peek-byte.ensures.state in
     let same_place = add_comm c.args.at (g.T.ByteChunk.SIZE - 1) in
     wide_crosses (take c.args.end c.args.probe.now.text) _ _ law.least c.requires.counted
-    (λ second. c.if-byte.false (cc same_place)) (cc (ap flag c.if-starts_wide_break.true, same_place))
-    c.inc_nth_from_end_lex_byte-then-starts_wide_break.ensures
+    (λ second. c.if-byte.false (cc same_place)) (cc (ap flag c.if-is_wide_break.true, same_place))
+    c.inc_nth_from_end_lex_byte-then-is_wide_break.ensures
 
-pub returns-else-starts_wide_break-clause-lanes : goal.returns-else-starts_wide_break-clause-lanes
-returns-else-starts_wide_break-clause-lanes g c =
+pub returns-else-is_wide_break-clause-lanes : goal.returns-else-is_wide_break-clause-lanes
+returns-else-is_wide_break-clause-lanes g c =
     let law = g.met.T.ByteChunk.lawful in
     let seen = get_or-take c.args.end c.args.probe.now.text (c.args.at + (g.T.ByteChunk.SIZE - 1)) 0 (omega arith) in
     let same = ap (λ p. p.text) c.peek-byte.ensures.state in
     let same_place = add_comm c.args.at (g.T.ByteChunk.SIZE - 1) in
     wide_kept (take c.args.end c.args.probe.now.text) _ _ law.least c.requires.counted
-    (λ second. c.if-byte.false (cc same_place)) (cc (ap flag c.if-starts_wide_break.false, same_place))
+    (λ second. c.if-byte.false (cc same_place)) (cc (ap flag c.if-is_wide_break.false, same_place))
 
-pub inc_nth_from_end_lex_byte-requires-then-starts_wide_break-clause-room :
-    goal.inc_nth_from_end_lex_byte-requires-then-starts_wide_break-clause-room
-inc_nth_from_end_lex_byte-requires-then-starts_wide_break-clause-room g c =
+pub inc_nth_from_end_lex_byte-requires-then-is_wide_break-clause-room :
+    goal.inc_nth_from_end_lex_byte-requires-then-is_wide_break-clause-room
+inc_nth_from_end_lex_byte-requires-then-is_wide_break-clause-room g c =
     let least = g.met.T.ByteChunk.lawful.least in
     lane_small (take c.args.end c.args.probe.now.text) c.args.at _ least c.requires.counted _ (omega (arith, least))

@@ -1,4 +1,4 @@
-use Rattle.str_indices.proofs.lemmas.{◌≡◌, chars, to_byte_idx, IsCharBoundary-to_byte_idx, Crlf, arith, break_start-le, ones_steady}
+use Rattle.str_indices.proofs.lemmas.{◌≡◌, ◌+◌, mark, is_middle, chars, to_byte_idx, IsCharBoundary-to_byte_idx, Crlf, arith, break_start-le, ones_steady}
 use Rattle.str_indices.proofs.lemmas.schemes.CrlfBytes.{line_begins}
 use Rattle.str_indices.proofs.lines_crlf.to_byte_idx_impl.Goals as goal
 
@@ -6,14 +6,15 @@ pub find_first-place-requires-clause-steady : goal.find_first-place-requires-cla
 find_first-place-requires-clause-steady g c = ones_steady _ (break_start-le c.args.probe.now.text) _
 
 -- where the line begins, by the place at which the search stopped
-begins : (g : _) (c : goal.After-after_crlf g)
-    → c.after_crlf.result ≡ to_byte_idx Crlf (chars c.args.probe.now.text) c.args.idx
+begins : (g : _) (c : goal.After-from g)
+    → c.find_first-place.result + c.from.result ≡ to_byte_idx Crlf (chars c.args.probe.now.text) c.args.idx
 begins g c =
     let place = c.find_first-place in
-    let behind = rw place.ensures.reads.text_kept at c.after_crlf.ensures.behind in
+    let middle = rw place.ensures.reads.text_kept at c.is_crlf_middle.ensures.middle in
+    let added : c.from.result ≡ mark (is_middle c.args.probe.now.text) place.result = grind (arith, middle, c.from.ensures) in
     omega (
       arith,
-      behind,
+      added,
       line_begins c.args.probe.now.text c.len.ensures.utf8 c.args.idx place.result
           place.ensures.reached place.ensures.stopped place.ensures.first,
     )

@@ -6,8 +6,7 @@ skip_chunks-after_groups-requires-clause-room g c =
     rw c.MOST.ensures (div-mul-le_self 4 g.C.PlaceCounts.MOST)
 
 pub skip_chunks-after_groups-requires-clause-least : goal.skip_chunks-after_groups-requires-clause-least
-skip_chunks-after_groups-requires-clause-least g c =
-    (omega (arith, div-le_self 4 c.MOST.result, c.requires.least), c.requires.least.1)
+skip_chunks-after_groups-requires-clause-least g c = (omega (arith, div-le_self 4 c.MOST.result), omega arith)
 
 pub returns-clause-reads : goal.returns-clause-reads
 returns-clause-reads g c =

@@ -14,7 +14,7 @@ add-lanes-requires g c =
     let so_far = c.chunks.invariant in
     let same = ap (λ p. p.text) c.load-chunk.ensures.state ∙ so_far.reads.text_kept in
     let counted = g.C.PlaceCounts.counted_at c.args.end c.args.probe.now.text in
-    let more = lanes_of_places counted (g.met.C.PlaceCounts.at_most c.args.end c.args.probe.now.text)
+    let more = lanes_of_places counted (g.met.C.PlaceCounts.bounded.2 c.args.end c.args.probe.now.text)
     ((rw same at c.count_lanes-counted.ensures.lanes) so_far.carried) in
     let few = mul-le-mul_right {m = c.chunks.counter + 1} {n = c.args.chunks} g.C.PlaceCounts.MOST (omega arith) in
     search (lanes_addable so_far.lanes more 255 (omega (arith, few, c.requires.room)), room_exchanged)
@@ -24,7 +24,7 @@ chunks-preserved g c =
     let so_far = c.chunks.invariant in
     let same = ap (λ p. p.text) c.load-chunk.ensures.state ∙ so_far.reads.text_kept in
     let counted = g.C.PlaceCounts.counted_at c.args.end c.args.probe.now.text in
-    let more = lanes_of_places counted (g.met.C.PlaceCounts.at_most c.args.end c.args.probe.now.text)
+    let more = lanes_of_places counted (g.met.C.PlaceCounts.bounded.2 c.args.end c.args.probe.now.text)
     ((rw same at c.count_lanes-counted.ensures.lanes) so_far.carried) in
     let chunk = c.count_lanes-counted.ensures in
     let reads = chunk_made c.chunks.at c.chunks.at (omega arith) c.load-chunk.ensures.state chunk.reads in
