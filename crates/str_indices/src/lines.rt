@@ -64,7 +64,7 @@ pub fn count_breaks_impl<T: ByteChunk>(probe: &mut Probe<'_, T>, end: usize, lea
 }
 
 /// Converts a byte index to a line index, over chunks of any type, after `lead` bytes that are walked one by one.
-#[tactic(auto, using(crate::proofs::lemmas::schemes::LineBytes::lines_up_to, crate::proofs::lemmas::schemes::LineBytes::parted))]
+#[tactic(auto, using(crate::proofs::lemmas::schemes::LineBytes::lines_up_to))]
 pub fn from_byte_idx_impl<T: ByteChunk>(probe: &mut Probe<'_, T>, byte: usize, lead: usize) -> usize
     ensures answer { result ≡ from_byte_idx Lines (chars probe.old.text) byte }
     ensures text { probe.new.text ≡ probe.old.text }
@@ -72,6 +72,7 @@ pub fn from_byte_idx_impl<T: ByteChunk>(probe: &mut Probe<'_, T>, byte: usize, l
 {
     let end = boundary_at_or_before(probe, byte);
     prove!(end <= probe.len());
+    // Where the boundary is before the byte, a char of several bytes begins there, so no peek is needed.
     let inside_crlf = end >= byte && is_crlf_middle(probe, end);
     count_breaks_impl(probe, end, lead) - usize::from(inside_crlf)
 }

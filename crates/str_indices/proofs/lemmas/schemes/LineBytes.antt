@@ -51,8 +51,5 @@ module _ (bytes : List ℕ) (utf8 : IsUtf8 bytes) where
       let late = least (size (cut cs d)) (cut_boundary cs d) in
       grind (arith, first (size (cut cs d)), late, walked d))
 
--- the byte before or at which a text is cut, as the search takes it
-pub ruleset lines_up_to = (boundary_of_cut, line_of_byte)
-
--- where a boundary stands between CR and LF, for the search
-pub ruleset parted = (moved_is_whole, lt-leb)
+-- the byte before or at which a text is cut, and where that parts CR from LF, as the search takes it
+pub ruleset lines_up_to = (boundary_of_cut, line_of_byte, moved_is_whole, lt-leb)
