@@ -1,4 +1,4 @@
-use Rattle.position_mapper.proofs.lemmas.{◌<◌, ◌≡◌, ◌⊎◌, inl, inr, arith, IsCharBoundary-line_start, line_behind}
+use Rattle.position_mapper.proofs.lemmas.{◌<◌, ◌≡◌, ◌⊎◌, inl, inr, arith, line_behind}
 use Rattle.position_mapper.proofs.look_back.line_start.Goals as goal
 
 pub returns-then-from-eq0-clause-start : goal.returns-then-from-eq0-clause-start
@@ -14,7 +14,3 @@ returns-then-from-eq0-clause-start g c =
       line_behind c.args.text.now c.utf8.text from.result c.args.byte breaks.result from.ensures.boundary
           (omega (arith, from.ensures.bound)) (rw part at breaks.ensures) whole_or_some,
     )
-
-pub returns-then-from-eq0-clause-boundary : goal.returns-then-from-eq0-clause-boundary
-returns-then-from-eq0-clause-boundary g c =
-    IsCharBoundary-line_start c.args.text.now c.utf8.text _ _ (returns-then-from-eq0-clause-start g c)

@@ -1,17 +1,15 @@
-use Rattle.str_indices.proofs.lemmas.{arith, comparable, found_place, marks_small, sum_small}
+use Rattle.str_indices.proofs.lemmas.{arith, compared, found_place, marks_small}
 use Rattle.str_indices.proofs.chunk_search.find_in_last.Goals as goal
 
 pub overflow_cast-after : goal.overflow_cast-after
 overflow_cast-after g c =
-    let lanes = c.lanes_up_to-lanes.ensures.lanes in
-    let few = comparable g.T.ByteChunk.SIZE _ (rw (c.MOST.ensures, c.SIZE-else-len-SIZE.ensures) at c.if-MOST-SIZE.false) in
-    omega (arith, sum_small g.C.PlaceCounts.MOST _ lanes.long lanes.small, few, c.sum_bytes-total.ensures)
+    let few = rw (c.MOST.ensures, c.SIZE-else-len-SIZE.ensures) at c.if-MOST-SIZE.false in
+    omega (arith, compared c.lanes_up_to-lanes.ensures.lanes few c.sum_bytes-total.ensures)
 
 pub bytes_between_127-above-requires-clause-ordered : goal.bytes_between_127-above-requires-clause-ordered
 bytes_between_127-above-requires-clause-ordered g c =
-    let lanes = c.lanes_up_to-lanes.ensures.lanes in
-    let few = comparable g.T.ByteChunk.SIZE _ (rw (c.MOST.ensures, c.SIZE-else-len-SIZE.ensures) at c.if-MOST-SIZE.false) in
-    omega (arith, sum_small g.C.PlaceCounts.MOST _ lanes.long lanes.small, few, c.sum_bytes-total.ensures)
+    let few = rw (c.MOST.ensures, c.SIZE-else-len-SIZE.ensures) at c.if-MOST-SIZE.false in
+    omega (arith, compared c.lanes_up_to-lanes.ensures.lanes few c.sum_bytes-total.ensures)
 
 pub sum_bytes-requires : goal.sum_bytes-requires
 sum_bytes-requires g c =
@@ -20,7 +18,7 @@ sum_bytes-requires g c =
 pub overflow_sub-result-2 : goal.overflow_sub-result-2
 overflow_sub-result-2 g c =
     let lanes = rw c.len-len.ensures.len at c.lanes_up_to-lanes.ensures.lanes in
-    let few = comparable g.T.ByteChunk.SIZE _ (rw (c.MOST.ensures, c.SIZE-else-len-SIZE.ensures) at c.if-MOST-SIZE.false) in
+    let few = rw (c.MOST.ensures, c.SIZE-else-len-SIZE.ensures) at c.if-MOST-SIZE.false in
     let place = found_place lanes (omega arith, omega arith) (omega arith) c.requires.counted c.requires.at_most
     c.sum_bytes-total.ensures c.if-total-more.false few c.sums_to_end.ensures
     (rw c.bytes_between_127-above.ensures at c.sum_bytes.ensures) in
@@ -29,7 +27,7 @@ overflow_sub-result-2 g c =
 pub overflow_add-result : goal.overflow_add-result
 overflow_add-result g c =
     let lanes = rw c.len-len.ensures.len at c.lanes_up_to-lanes.ensures.lanes in
-    let few = comparable g.T.ByteChunk.SIZE _ (rw (c.MOST.ensures, c.SIZE-else-len-SIZE.ensures) at c.if-MOST-SIZE.false) in
+    let few = rw (c.MOST.ensures, c.SIZE-else-len-SIZE.ensures) at c.if-MOST-SIZE.false in
     let place = found_place lanes (omega arith, omega arith) (omega arith) c.requires.counted c.requires.at_most
     c.sum_bytes-total.ensures c.if-total-more.false few c.sums_to_end.ensures
     (rw c.bytes_between_127-above.ensures at c.sum_bytes.ensures) in
@@ -38,7 +36,7 @@ overflow_add-result g c =
 pub returns-clause-reached : goal.returns-clause-reached
 returns-clause-reached g c =
     let lanes = rw c.len-len.ensures.len at c.lanes_up_to-lanes.ensures.lanes in
-    let few = comparable g.T.ByteChunk.SIZE _ (rw (c.MOST.ensures, c.SIZE-else-len-SIZE.ensures) at c.if-MOST-SIZE.false) in
+    let few = rw (c.MOST.ensures, c.SIZE-else-len-SIZE.ensures) at c.if-MOST-SIZE.false in
     let place = found_place lanes (omega arith, omega arith) (omega arith) c.requires.counted c.requires.at_most
     c.sum_bytes-total.ensures c.if-total-more.false few c.sums_to_end.ensures
     (rw c.bytes_between_127-above.ensures at c.sum_bytes.ensures) in
@@ -48,7 +46,7 @@ returns-clause-reached g c =
 pub returns-clause-at_most : goal.returns-clause-at_most
 returns-clause-at_most g c =
     let lanes = rw c.len-len.ensures.len at c.lanes_up_to-lanes.ensures.lanes in
-    let few = comparable g.T.ByteChunk.SIZE _ (rw (c.MOST.ensures, c.SIZE-else-len-SIZE.ensures) at c.if-MOST-SIZE.false) in
+    let few = rw (c.MOST.ensures, c.SIZE-else-len-SIZE.ensures) at c.if-MOST-SIZE.false in
     let place = found_place lanes (omega arith, omega arith) (omega arith) c.requires.counted c.requires.at_most
     c.sum_bytes-total.ensures c.if-total-more.false few c.sums_to_end.ensures
     (rw c.bytes_between_127-above.ensures at c.sum_bytes.ensures) in
@@ -57,7 +55,7 @@ returns-clause-at_most g c =
 pub returns-clause-stopped : goal.returns-clause-stopped
 returns-clause-stopped g c = λ inside near.
     let lanes = rw c.len-len.ensures.len at c.lanes_up_to-lanes.ensures.lanes in
-    let few = comparable g.T.ByteChunk.SIZE _ (rw (c.MOST.ensures, c.SIZE-else-len-SIZE.ensures) at c.if-MOST-SIZE.false) in
+    let few = rw (c.MOST.ensures, c.SIZE-else-len-SIZE.ensures) at c.if-MOST-SIZE.false in
     let place = found_place lanes (omega arith, omega arith) (omega arith) c.requires.counted c.requires.at_most
     c.sum_bytes-total.ensures c.if-total-more.false few c.sums_to_end.ensures
     (rw c.bytes_between_127-above.ensures at c.sum_bytes.ensures) in

@@ -1,9 +1,5 @@
-use Rattle.str_indices.proofs.lemmas.{◌+◌, ◌*◌, ap, arith, get_or, get_or_past, lanes_of, lanes_same, lanes_shift}
+use Rattle.str_indices.proofs.lemmas.{◌+◌, ◌*◌, ap, arith, get_or, get_or_past, lanes_same, lanes_shift}
 use Rattle.str_indices.proofs.chunk_search.move_back.Goals as goal
-
-pub fours-init : goal.fours-init
-fours-init g c = lanes_same (lanes_of c.requires.long)
-    (λ j l. ap (λ k. get_or (g.T.ByteChunk.lanes c.args.lanes) k 0) (omega arith))
 
 pub fours-preserved : goal.fours-preserved
 fours-preserved g c =

@@ -80,12 +80,6 @@ module _ {size : ℕ} (lanes : List ℕ) (long : length lanes ≡ size) where
       → HasLanes size (λ j. sum (drop j lanes)) xs
   windows_to_end {m} wide h = lanes_same h (λ j l. window-all lanes m j (omega arith))
 
--- small lanes add up to little
-pub sum_small : (most : ℕ) {size : ℕ} (lanes : List ℕ) → length lanes ≡ size → Each1 (λ lane. lane ≤ most) lanes
-    → sum lanes ≤ size * most
-sum_small most {size} lanes long small =
-    omega (arith, window-all lanes size 0 (omega arith), window-le lanes most (small_lane most lanes small) size 0)
-
 -- a mark is at most 1
 pub between-le : (a b lane : ℕ) → is_between a b lane ≤ 1
 between-le a b lane = flag-le (nat_lt a lane && nat_lt lane b)
@@ -211,19 +205,26 @@ pub marks_small : (a b most : ℕ) → 4 ≤ most → (lanes : List ℕ) → Eac
 marks_small a b most room lanes =
     lanes_at_most (is_between a b) most (λ lane. omega (arith, room, between-le a b lane)) lanes
 
--- so few lanes that no sum of them is too great to be compared
-pub comparable : (size most : ℕ) → size ≤ 126 / most → size * most ≤ 126
-comparable size most few =
-    omega (arith, mul-le-mul_right {m = size} {n = 126 / most} most few, div-mul-le_self 126 most)
+-- so few lanes that their sum can be compared
+pub compared : {counted : ℕ → ℕ} {most size from to total : ℕ} {lanes : List ℕ} → CountsUpTo counted most size from to lanes
+    → size ≤ 126 / most → total ≡ sum lanes → total ≤ 126
+compared {most = most} {size} {lanes = lanes} h few is = omega (
+  arith,
+  is,
+  window-all lanes size 0 (omega (arith, h.long)),
+  window-le lanes most (small_lane most lanes h.small) size 0,
+  mul-le-mul_right {m = size} {n = 126 / most} most few,
+  div-mul-le_self 126 most,
+)
 
 -- the same, from what the calls of a search say
 pub found_place : {counted : ℕ → ℕ} {most size from to : ℕ} {lanes sums : List ℕ} {count idx total n : ℕ}
     → CountsUpTo counted most size from to lanes → (from ≤ to) × (to ≤ from + size) → size ≤ to → count ≡ counted from
-    → count ≤ idx → total ≡ sum lanes → idx - count < total → size * most ≤ 126
+    → count ≤ idx → total ≡ sum lanes → idx - count < total → size ≤ 126 / most
     → HasLanes size (λ j. sum (drop j lanes)) sums → n ≡ sum (map (is_between (total - (idx - count) - 1) 127) sums)
     → FoundBy counted size from to idx n
 found_place {most = most} {lanes = lanes} {count = count} {idx = idx} {total = total} {n = n} h near long is_count few is_total
     more room tails is =
     let k = total - (idx - count) - 1 in
     found k idx n h near long (omega (arith, is_count, few)) (omega (arith, more, h.added, is_total, is_count, few))
-    (omega (arith, sum_small most lanes h.long h.small, room)) (is ∙ tails_above k tails)
+    (omega (arith, compared h room is_total, is_total)) (is ∙ tails_above k tails)

@@ -1,4 +1,4 @@
-use Rattle.str_indices.proofs.lemmas.{◌-◌, arith, div-mul-le_self, group_joined, round_fits}
+use Rattle.str_indices.proofs.lemmas.{◌-◌, arith, group_joined, round_fits}
 use Rattle.str_indices.proofs.place_counts.count_chunks.Goals as goal
 
 pub rounds-preserved : goal.rounds-preserved
@@ -19,12 +19,6 @@ count_in_groups-requires-clause-summable g c =
     rw c.SIZE-size.ensures (round_fits (c.args.to - c.rounds.at.byte) g.T.ByteChunk.SIZE c.chunks_of_round-most.result
     g.C.PlaceCounts.MOST g.T.ByteChunk.MAX_ACC g.met.T.ByteChunk.lawful.least
     (rw c.SIZE-size.ensures at c.rounds-test.false) c.chunks_of_round-most.ensures.summable)
-
-pub count_in_groups-requires-clause-seen : goal.count_in_groups-requires-clause-seen
-count_in_groups-requires-clause-seen g c =
-    let within = div-mul-le_self (c.args.to - c.rounds.at.byte) g.T.ByteChunk.SIZE in
-    rw (c.SIZE-size.ensures, c.rounds.invariant.reads.text_kept)
-    (omega (arith, within, c.rounds.invariant.to_high, c.requires.seen), c.requires.seen.1)
 
 pub returns-clause-reads : goal.returns-clause-reads
 returns-clause-reads g c =

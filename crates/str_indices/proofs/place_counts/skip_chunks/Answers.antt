@@ -1,20 +1,6 @@
 use Rattle.str_indices.proofs.lemmas.{◌+◌, ◌*◌, arith, counted_there, length, mul-le-mul_right, group_joined, subst, sum_below}
 use Rattle.str_indices.proofs.place_counts.skip_chunks.Goals as goal
 
-pub overflow_add-count : goal.overflow_add-count
-overflow_add-count g c =
-    let so_far = c.groups.invariant in
-    let lanes = rw (so_far.reads.text_kept, c.len-len.ensures.len) at c.add_chunks-added.ensures.lanes in
-    let fits = mul-le-mul_right {m = c.args.group} {n = g.row.LEAST} g.T.ByteChunk.SIZE c.requires.least.0 in
-    let here = rw c.SIZE.ensures at c.groups-test.true in
-    omega (
-      arith,
-      so_far.counted,
-      lanes.added,
-      c.sum_bytes.ensures,
-      c.requires.fits (c.groups.at.byte + c.args.group * g.T.ByteChunk.SIZE) (omega (arith, here, fits)),
-    )
-
 pub groups-preserved : goal.groups-preserved
 groups-preserved g c =
     let so_far = c.groups.invariant in

@@ -1,4 +1,4 @@
-use Rattle.str_indices.proofs.lemmas.{arith, IsCharBoundary-to_byte_idx, Utf16, unit_reached, units_steady}
+use Rattle.str_indices.proofs.lemmas.{arith, unit_reached, units_steady}
 use Rattle.str_indices.proofs.utf16.to_byte_idx_impl.Goals as goal
 
 pub find-requires-clause-steady : goal.find-requires-clause-steady
@@ -8,8 +8,3 @@ pub returns-clause-answer : goal.returns-clause-answer
 returns-clause-answer g c =
     let found = c.find.ensures in
     omega (arith, unit_reached _ c.len.ensures.utf8 _ c.args.idx found.reached found.at_most found.stopped)
-
-pub returns-clause-boundary : goal.returns-clause-boundary
-returns-clause-boundary g c =
-    IsCharBoundary-to_byte_idx Utf16 _ c.len.ensures.utf8 _ _
-    (unit_reached _ c.len.ensures.utf8 _ _ c.find.ensures.reached c.find.ensures.at_most c.find.ensures.stopped)
