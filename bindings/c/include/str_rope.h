@@ -52,7 +52,8 @@
  * What a call costs, where the text has n pieces, each of at most
  * STR_ROPE_MAX_PIECE bytes: a question visits at most twice the logarithm to
  * base 2 of n + 1, and reads the text of one; one about positions asks up to 16
- * such questions. A change takes a number of steps of that order too, and
+ * such questions. A read goes down to its first piece, and from there over those
+ * that it writes out. A change takes a number of steps of that order too, and
  * copies the text that is put in once.
  */
 #ifndef STR_ROPE_H
@@ -184,13 +185,12 @@ str_rope_status str_rope_split_off(str_rope *rope, size_t at, str_rope *rest);
  * The text's bytes.
  */
 
-/* Writes to `out` the bytes from `at` on up to the end of the piece that `at`
- * is in, as far as there is room for them, and answers how many: at least one
- * where `at` is before the end of the text and `room` is not 0, and none from
- * the end on. `at` need be no boundary. With room for STR_ROPE_MAX_PIECE
- * bytes, `at` plus the answer is a boundary. This reads a text in order:
+/* Writes to `out` the bytes from `at` on, as far as there is room for them, and
+ * answers how many: fewer than `room` only where the text ends, and none from
+ * its end on. `at` need be no boundary, and the last char may be written in
+ * part: the next read begins with its rest. This reads a text in order:
  *
- *     char out[STR_ROPE_MAX_PIECE];
+ *     char out[8192];
  *     size_t at = 0, n;
  *     while ((n = str_rope_read(&rope, at, out, sizeof out)) != 0) {
  *         fwrite(out, 1, n, stdout);

@@ -317,17 +317,20 @@ static void ask_all(str_rope *rope, const char *text, size_t len)
         same(str_rope_count(rope, (str_rope_scheme)scheme) == on.counts[scheme], "count", (size_t)scheme);
 }
 
-/* The rope's bytes, written out at once and piece by piece. */
+/* The rope's bytes, written out at once and part by part. */
 static void read_all(str_rope *rope, const char *text, size_t len)
 {
     char *copy = room_for(len);
     same(str_rope_copy_to(rope, 0, len, copy, len) == STR_ROPE_OK && memcmp(copy, text, len) == 0, "copy_to", len);
     memset(copy, 0, len);
-    for (size_t at = 0, read = 1; read > 0 && at <= len; at += read) {
-        read = str_rope_read(rope, at, copy + at, len - at);
-        same(read <= STR_ROPE_MAX_PIECE && (read > 0) == (at < len), "read", at);
+    for (size_t at = 0, read; at < len; at += read) {
+        size_t room = 1 + pick(4 * STR_ROPE_MAX_PIECE);
+        if (room > len - at)
+            room = len - at;
+        read = str_rope_read(rope, at, copy + at, room);
+        same(read == room, "read", at);
     }
-    same(memcmp(copy, text, len) == 0, "pieces", len);
+    same(memcmp(copy, text, len) == 0, "all that was read", len);
     free(copy);
 }
 
@@ -386,7 +389,8 @@ static void refuse(str_rope *rope, const model *text, size_t at)
 static void peek_at(str_rope *rope, const model *text, size_t at)
 {
     char *seen = room_for(PEEKED), wanted[PEEKED];
-    size_t len = str_rope_read(rope, at, seen, PEEKED);
+    size_t left = text->len - at, len = str_rope_read(rope, at, seen, PEEKED);
+    same(len == PEEKED || (len < PEEKED && len == left), "read", at);
     len = peek(text, at, wanted, len);
     same(memcmp(seen, wanted, len) == 0, "read", at);
     free(seen);

@@ -1,4 +1,4 @@
-//! The pieces of a rope, copied out one by one.
+//! The text of a rope, copied out part by part.
 use crate::library::str_rope_read;
 use crate::{Error, Rope};
 use alloc::string::String;
@@ -9,13 +9,13 @@ use core::mem::MaybeUninit;
 use core::ops::{Deref, RangeBounds};
 use core::{slice, str};
 
-/// The most bytes that a piece has.
-pub const MAX_PIECE: usize = 1024;
+/// The most bytes that a chunk has.
+pub const MAX_CHUNK: usize = 2048;
 
-/// Room for a piece, which nobody has zeroed.
-type Room = [MaybeUninit<u8>; MAX_PIECE];
+/// Room for a chunk, which nobody has zeroed.
+type Room = [MaybeUninit<u8>; MAX_CHUNK];
 
-/// A part of a rope's text, of at most [`MAX_PIECE`] bytes. It is a copy, and holds no memory of the heap.
+/// A part of a rope's text, of at most [`MAX_CHUNK`] bytes. It is a copy, and holds no memory of the heap.
 #[derive(Clone)]
 pub struct Chunk {
     start: usize,
@@ -42,8 +42,8 @@ impl Deref for Chunk {
     fn deref(&self) -> &str {
         // SAFETY: the library has written so many bytes of the room.
         let bytes = unsafe { slice::from_raw_parts(self.room.as_ptr().cast(), self.len) };
-        // SAFETY: a rope's text is UTF-8, the chunk begins at a boundary of it, and ends where a piece does, which is a
-        // boundary, or at one that was asked for.
+        // SAFETY: a rope's text is UTF-8, the chunk begins at a boundary of it, and ends where the text does, before the
+        // first byte of a char, or at a boundary that was asked for.
         unsafe { str::from_utf8_unchecked(bytes) }
     }
 }
@@ -106,7 +106,8 @@ impl fmt::Debug for Chunks<'_> {
 }
 
 impl Rope {
-    /// The text in chunks, in order. Each is found in the logarithm of the number of pieces, and copied.
+    /// The text in chunks, in order. Each is found in the logarithm of the number of pieces, and copied. All are about as
+    /// long as [`MAX_CHUNK`] says, but for the last one.
     ///
     /// ```
     /// # fn main() -> Result<(), str_rope::Error> {
@@ -149,8 +150,8 @@ impl Rope {
         })
     }
 
-    /// The text from a byte on, as far as its piece goes; `None` where the byte is at the end or past it. A byte inside a
-    /// char belongs to it: the chunk begins where the char does.
+    /// The text from a byte on, as far as a chunk goes; `None` where the byte is at the end or past it. A byte inside a char
+    /// belongs to it: the chunk begins where the char does.
     ///
     /// ```
     /// # fn main() -> Result<(), str_rope::Error> {
@@ -187,7 +188,7 @@ impl Rope {
         Ok(unsafe { String::from_utf8_unchecked(copy) })
     }
 
-    /// The text from a boundary on, as far as its piece goes, and no further than to another boundary.
+    /// The text from a boundary on, as far as a chunk goes, and no further than to another boundary.
     #[inline]
     fn chunk_from(&self, start: usize, end: usize) -> Chunk {
         let mut len = 0;
@@ -196,15 +197,31 @@ impl Rope {
         Chunk { start, len, room }
     }
 
-    /// A room with the text from a boundary on, as far as its piece goes, and how many bytes that are.
+    /// A room with the text from a boundary on, and how many of its bytes are whole chars, so that they end at a boundary.
     ///
     /// It is a function of its own, and answers nothing but the room: so the compiler has the library write into the
     /// caller's room. Else the bytes would be moved once more.
     #[inline(never)]
     fn read(&self, start: usize, len: &mut usize) -> Room {
-        let mut room = [MaybeUninit::uninit(); MAX_PIECE];
-        // SAFETY: as `library` says, and the room may be written to. The answer is how many bytes were written.
-        *len = unsafe { str_rope_read(self.handle(), start, room.as_mut_ptr().cast(), room.len()) };
+        let mut room = [MaybeUninit::uninit(); MAX_CHUNK];
+        *len = self.fill(start, &mut room);
         room
+    }
+
+    /// Fills a room with the text from a boundary on, and answers how many of its bytes are whole chars.
+    #[inline(never)]
+    fn fill(&self, start: usize, room: &mut Room) -> usize {
+        // SAFETY: as `library` says, and the room may be written to.
+        let len = unsafe { str_rope_read(self.handle(), start, room.as_mut_ptr().cast(), room.len()) };
+        // SAFETY: the answer is how many bytes were written.
+        let written = unsafe { slice::from_raw_parts(room.as_ptr().cast::<u8>(), len) };
+        if len < room.len() {
+            return len;
+        }
+        // The text goes on, and its last char here may do so too: it is left to the next chunk.
+        written
+            .iter()
+            .rposition(|byte| byte & 0xC0 != 0x80)
+            .unwrap_or(len)
     }
 }

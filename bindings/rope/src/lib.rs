@@ -50,7 +50,7 @@ mod positions;
 mod rope;
 mod traits;
 
-pub use chunks::{Chunk, Chunks, MAX_PIECE};
+pub use chunks::{Chunk, Chunks, MAX_CHUNK};
 pub use errors::Error;
 pub use rope::{Rope, Scheme};
 pub use str_indices_positions::{Encoding, Position, Range};

@@ -1,5 +1,5 @@
 //! What other crates expect of a text.
-use crate::{Error, Rope, MAX_PIECE};
+use crate::{Error, Rope, MAX_CHUNK};
 use alloc::alloc::{handle_alloc_error, Layout};
 use alloc::string::{String, ToString};
 use core::fmt::{self, Write};
@@ -16,7 +16,7 @@ impl Default for Rope {
 impl Clone for Rope {
     fn clone(&self) -> Rope {
         self.try_clone()
-            .unwrap_or_else(|_| handle_alloc_error(Layout::new::<[u8; MAX_PIECE]>()))
+            .unwrap_or_else(|_| handle_alloc_error(Layout::new::<[u8; MAX_CHUNK]>()))
     }
 }
 
@@ -72,9 +72,9 @@ fn write_escaped(f: &mut fmt::Formatter<'_>, text: &str) -> fmt::Result {
 }
 
 impl Rope {
-    /// Whether a text stands at a byte index, where it has at most as many bytes as a piece.
+    /// Whether a text stands at a byte index, where it has at most as many bytes as a chunk.
     fn has_at(&self, at: usize, text: &str) -> bool {
-        let mut room = [0; MAX_PIECE];
+        let mut room = [0; MAX_CHUNK];
         let room = &mut room[..text.len()];
         self.copy_to(at..at + text.len(), room).is_ok() && room == text.as_bytes()
     }

@@ -5,7 +5,7 @@ use std::error::Error as _;
 use std::fs;
 use std::ops;
 use std::thread;
-use str_rope::{Chunk, Encoding, Error, Position, Range, Rope, MAX_PIECE};
+use str_rope::{Chunk, Encoding, Error, Position, Range, Rope, MAX_CHUNK};
 
 /// Nine bytes: a break of two, and a char of four.
 const TEXT: &str = "a\r\n🐸bc";
@@ -131,8 +131,8 @@ fn equal_texts_in_other_pieces_are_equal() {
 fn chunks_are_short_and_own_their_bytes() {
     let rope: Rope = TEXT.repeat(1000).parse().unwrap();
     let chunks: Vec<Chunk> = rope.chunks().collect();
-    assert!(chunks.iter().all(|chunk| chunk.len() <= MAX_PIECE));
-    assert!(chunks.len() <= 2 * rope.len_bytes() / MAX_PIECE + 1);
+    assert!(chunks.iter().all(|chunk| chunk.len() <= MAX_CHUNK));
+    assert!(chunks.len() <= rope.len_bytes() / (MAX_CHUNK - 4) + 1);
     drop(rope);
     let joined: String = chunks.iter().map(|chunk| &**chunk).collect();
     assert_eq!(joined, TEXT.repeat(1000));

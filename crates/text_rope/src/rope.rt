@@ -1,11 +1,11 @@
 //! A text that is kept in a balanced tree of its pieces.
-ghost use Rattle.std.specs.Prelude.{◌≡◌, ◌≢◌, ◌+◌, ◌-◌, ◌^◌, ◌<◌, ◌≤◌, ◌↔◌, ◌++◌, [], length, chars, Err, IsTrue, IsErr, IsErrOf, IsOkUnless, IsSome, IfSome, IfOk, OnOk, OnErr};
+ghost use Rattle.std.specs.Prelude.{◌≡◌, ◌≢◌, ◌+◌, ◌-◌, ◌^◌, ◌<◌, ◌≤◌, ◌↔◌, ◌++◌, [], length, chars, encode_utf8_all, Err, IsTrue, IsErr, IsErrOf, IsOkUnless, IsSome, IfSome, IfOk, OnOk, OnErr};
 ghost use Rattle.str_indices.specs.Schemes.{count, from_byte_idx, to_byte_idx};
 ghost use Rattle.str_indices.specs.Text.{size};
 ghost use Rattle.str_indices.specs.Relations.{IsBoundary};
 ghost use Rattle.piece_text.specs.Pieces.{PiecesState, joined};
 ghost use Rattle.text_rope.specs.Edits.{IsInserted, IsRemoved, IsReplaced, IsCutAt, IsChunkAt};
-ghost use Rattle.text_rope.specs.Chunks.{ChunksState, IsCopied};
+ghost use Rattle.text_rope.specs.Chunks.{ChunksState, IsCopied, IsRead};
 ghost use Rattle.text_rope.specs.Pieces.{max_piece};
 ghost use Rattle.text_rope.specs.declared.refusals.Refusal.TheVariants.{NotOrdered, NotBoundary, TooLong, NoMemory};
 
@@ -191,6 +191,16 @@ impl Rope {
         }
         let mut chunks = Chunks::of(&self.tree, range.start, range.end);
         Ok(copy_chunks(&mut chunks, room))
+    }
+
+    /// Writes the bytes from a byte index on to the beginning of a room, as far as there is room, and answers how many.
+    ///
+    /// The index may be any, and so may the last byte that is written: both may be inside a character. None are written
+    /// from the text's end on.
+    pub fn read_at(&self, byte_idx: usize, room: &mut [u8]) -> usize
+        ensures { IsRead (encode_utf8_all self.now) byte_idx result room.old room.new }
+    {
+        self.tree.read_at(self.len(), byte_idx, room)
     }
 
     /// Puts a text in at a byte index between characters.
