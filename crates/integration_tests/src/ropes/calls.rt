@@ -193,6 +193,18 @@ fn parts_that_are_none(rt: HostRuntime) -> Result<(), Fail> {
 }
 
 #[test]
+fn bytes_from_an_index(rt: HostRuntime) -> Result<(), Fail> {
+    let rope = Rope::from_str(rt.alloc(), "aéb🐸")?;
+    let mut room = *b"---";
+    assert_eq!(rt; rope.read_at(2, &mut room), 3);
+    assert_eq!(rt; room, *b"\xA9b\xF0");
+    assert_eq!(rt; rope.read_at(6, &mut room), 2);
+    assert_eq!(rt; room, *b"\x90\xB8\xF0");
+    assert_eq!(rt; rope.read_at(8, &mut room), 0);
+    Ok(())
+}
+
+#[test]
 fn parts_written_out(rt: HostRuntime) -> Result<(), Fail> {
     let rope = Rope::from_str(rt.alloc(), "aéb🐸")?;
     let mut room = *b"------";
