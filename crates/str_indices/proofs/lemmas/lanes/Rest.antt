@@ -1,5 +1,5 @@
 -- The last bytes of a text in one chunk, of which the lanes in front are left out.
-use Rattle.str_indices.proofs.lemmas.Common.{◌≡◌, ℕ, zero, suc, ◌+◌, ◌-◌, ◌≤◌, List, [], ◌∷◌, ◌++◌, take, drop, length, get_or, refl, arith, cases_lt, inl, inr, length-append, replicate, bit_and, ◌∙◌, ap, ◌<◌, sum, zip2, Each1, length-replicate, length-drop, get_or-drop, drop-append-le, drop-replicate, take-replicate, take_rest, sum_by-replicate, sum_by-append, sum_below, CountsUpTo, HasLanes, HasLaterLanes}
+use Rattle.str_indices.proofs.lemmas.Common.{◌≡◌, ℕ, zero, suc, ◌+◌, ◌-◌, ◌≤◌, List, [], ◌∷◌, ◌++◌, take, drop, length, get_or, refl, arith, cases_lt, inl, inr, length-append, replicate, bit_and, ◌∙◌, ap, ◌<◌, slice_set, add-one, sum, zip2, Each1, take-suc, length-replicate, length-drop, get_or-drop, drop-append-le, drop-replicate, take-replicate, take_more_set, take_rest, sum_by-replicate, sum_by-append, sum_below, CountsUpTo, HasLanes, HasLaterLanes}
 use Rattle.std.specs.Int.Bits.{and_zero_r}
 use Rattle.std.proofs.Math.Seq.{take-append-add}
 use Rattle.std.proofs.lemmas.Slice.{drop-append-drop}
@@ -47,6 +47,15 @@ last_lanes_stay (suc out) kept (x ∷ xs) small long =
 after_zeros : (P : ℕ → Type 0) → P 0 → (out : ℕ) (lanes : List ℕ) → Each1 P lanes → Each1 P (replicate out 0 ++ lanes)
 after_zeros P zeros zero lanes each = each
 after_zeros P zeros (suc out) lanes each = (zeros, after_zeros P zeros out lanes each)
+
+-- one byte more of a chunk that is put together
+pub byte_more : (bytes text : List ℕ) (at i byte : ℕ) → i < length bytes → at + i < length text
+    → byte ≡ get_or text (at + i) 0 → take i bytes ≡ take i (drop at text)
+    → take (i + 1) (slice_set bytes i byte) ≡ take (i + 1) (drop at text)
+byte_more bytes text at i byte room within is filled =
+    let here = get_or-drop at text i 0 in
+    let next = take-suc (drop at text) i 0 (grind (arith, length-drop)) in
+    rw (take_more_set bytes i byte room, add-one) (cc (filled, is, here, next))
 
 -- The last chunk before an end, of which the lanes from a place on are kept: all of them, or not the first.
 module _ (f : ℕ → ℕ) (end from size : ℕ) {lanes : List ℕ} (long : size ≤ end) (near : (from ≤ end) × (end ≤ from + size))
