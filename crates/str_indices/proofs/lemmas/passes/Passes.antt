@@ -1,7 +1,14 @@
 -- What leading bytes, chunks and the rest of a text add up to: the bounds of a whole pass.
-use Rattle.str_indices.proofs.lemmas.Common.{ℕ, ◌+◌, ◌-◌, ◌/◌, ◌≤◌, arith, le-div, div-le_self, div-mul-le_self, ProbeState, Reads, leading_bytes, pass_turns, pass_loads}
+use Rattle.str_indices.proofs.lemmas.Common.{◌≡◌, ℕ, ◌+◌, ◌-◌, ◌/◌, ◌≤◌, min, arith, le-div, div-le_self, div-mul-le_self, ProbeState, Reads, leading_bytes, pass_turns, pass_loads}
 use Rattle.str_indices.proofs.lemmas.passes.Costs.{chunk_read, loads_to_place}
 use Rattle.str_indices.proofs.lemmas.passes.Quotients.{div-add-le}
+
+-- a pass that counts in n bytes: leading bytes, then chunks, then the rest
+pub counting_pass : {size n : ℕ} (lead : ℕ) {old led chunked new : ProbeState} {first at t t' : ℕ} → 4 ≤ size
+    → first ≡ min lead n → Reads old led 0 t 0 0 → Reads led chunked first 0 ((at - first) / size) 0
+    → Reads chunked new 0 t' 0 0 → at ≤ n → t + t' ≤ pass_turns size lead n
+    → Reads old new (leading_bytes lead n) (pass_turns size lead n) (pass_loads size lead n) 0
+counting_pass lead least here leads chunks rests within few = grind (arith, le-div, div-mul-le_self)
 
 module _ {old peeked new : ProbeState} (size lead end n : ℕ) (least : 4 ≤ size) (le : end ≤ n)
     (peeks : Reads old peeked 0 0 0 3) where

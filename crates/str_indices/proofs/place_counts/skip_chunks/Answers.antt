@@ -1,5 +1,13 @@
-use Rattle.str_indices.proofs.lemmas.{◌+◌, ◌*◌, arith, counted_there, length, mul-le-mul_right, group_joined, subst, sum_below}
+use Rattle.str_indices.proofs.lemmas.{Each1-weaker, ◌+◌, ◌*◌, arith, counted_there, length, mul-le-mul_right, group_joined, subst, sum_below}
 use Rattle.str_indices.proofs.place_counts.skip_chunks.Goals as goal
+
+pub overflow_add-count : goal.overflow_add-count
+overflow_add-count g c =
+    let lanes = rw (c.groups.invariant.reads.text_kept, c.len-len.ensures.len) at c.add_chunks-added.ensures.lanes in
+    let fits = mul-le-mul_right {m = c.args.group} {n = g.row.LEAST} g.T.ByteChunk.SIZE c.requires.least.0 in
+    let all = c.requires.fits (c.groups.at.byte + c.args.group * g.T.ByteChunk.SIZE)
+    (omega (arith, rw c.SIZE.ensures at c.groups-test.true, fits)) in
+    omega (arith, c.groups.invariant.counted, lanes.added, c.sum_bytes.ensures, all)
 
 pub groups-preserved : goal.groups-preserved
 groups-preserved g c =
@@ -20,3 +28,8 @@ groups-preserved g c =
           (rw so_far.reads.text_kept at group.carried);
       reads = group_joined (omega arith) g.met.T.ByteChunk.lawful.least so_far.from_low so_far.reads group.reads;
     })
+
+pub sum_bytes-requires : goal.sum_bytes-requires
+sum_bytes-requires g c =
+    let lanes = c.add_chunks-added.ensures.lanes in
+    Each1-weaker _ _ (λ lane le. omega (arith, c.requires.room, g.met.T.ByteChunk.lawful.room, le)) _ lanes.small
