@@ -2,9 +2,8 @@
 //!
 //! One by one they would take a branch each, and where they end no processor foresees: of a short text that is most of
 //! the time. So the last bytes are put into a chunk, whose first lanes are then left out.
-ghost use Rattle.std.specs.Prelude.{◌≡◌, ◌+◌, ◌-◌, ◌<◌, ◌≤◌, ◌++◌, length, take, drop, replicate};
-ghost use Rattle.std.specs.Simd.Lanes.{Each1};
-ghost use Rattle.str_indices.specs.Prelude.{sum_below, CountsUpTo, FitsIn, Reads};
+ghost use Rattle.std.specs.Prelude.{◌≡◌, ◌+◌, ◌≤◌, length, take, drop};
+ghost use Rattle.str_indices.specs.Prelude.{sum_below, CountsUpTo, Reads};
 
 use crate::place_counts::{Cursor, PlaceCounts};
 use byte_chunk::{ByteChunk, Probe};
@@ -37,7 +36,9 @@ pub(crate) fn lanes_up_to<C: PlaceCounts<T>, T: ByteChunk>(
     let first = to - T::SIZE;
     let chunk = chunk_by_turns(probe, first);
     let counted = C::count_lanes(probe, chunk, first, end, from.carry);
-    last_lanes(counted.lanes, to - from.byte)
+    let left_out = T::SIZE - (to - from.byte);
+    let kept = T::load(&LEFT_OUT_AND_KEPT.as_flattened()[MOST_LANES - left_out..]);
+    counted.lanes.bitand(kept)
 }
 
 /// The chunk at `at`, for one turn a byte.
@@ -53,17 +54,4 @@ fn chunk_by_turns<T: ByteChunk>(probe: &mut Probe<'_, T>, at: usize) -> T
         bytes[i] = probe.turn(at + i);
     }
     T::load(&bytes)
-}
-
-/// The last `n` lanes of a chunk, which are small numbers, and 0 in the lanes before them.
-#[inline(always)]
-fn last_lanes<T: ByteChunk>(lanes: T, n: usize) -> T
-    requires some { n ≤ T.SIZE }
-    requires long { length (T.lanes lanes) ≡ T.SIZE }
-    requires small { Each1 (λ lane. lane ≤ 2) (drop (T.SIZE - n) (T.lanes lanes)) }
-    ensures { T.lanes result ≡ replicate (T.SIZE - n) 0 ++ drop (T.SIZE - n) (T.lanes lanes) }
-{
-    let left_out = T::SIZE - n;
-    let kept = T::load(&LEFT_OUT_AND_KEPT.as_flattened()[MOST_LANES - left_out..]);
-    lanes.bitand(kept)
 }

@@ -1,4 +1,4 @@
-use Rattle.str_indices.proofs.lemmas.{◌+◌, ◌*◌, ◌∙◌, ap, arith, Each1-weaker, length, mul-le-mul_right, groups_within, groups_and_rest, nothing_added, as_many, lanes_addable, lanes_added, nothing, chunk_read, counted_there, weaken, parts_addable, parts_added, parts_end, parts_within, room_exchanged, subst, sum_below, sums_exchanged}
+use Rattle.str_indices.proofs.lemmas.{◌+◌, ◌*◌, ◌∙◌, ap, arith, Each1-weaker, length, groups_within, groups_and_rest, nothing_added, as_many, lanes_addable, lanes_added, nothing, chunk_read, counted_there, weaken, parts_addable, parts_added, parts_end, parts_within, room_exchanged, subst, sum_below, sums_exchanged}
 use Rattle.str_indices.proofs.place_counts.count_in_groups.Goals as goal
 
 pub groups-init : goal.groups-init
@@ -11,9 +11,8 @@ groups-init g c = record {
 
 pub add_chunks-group-requires-clause-room : goal.add_chunks-group-requires-clause-room
 add_chunks-group-requires-clause-room g c =
-    let one = mul-le-mul_right {m = 1} {n = c.groups.counter + 1} (g.row.GROUP * g.C.PlaceCounts.MOST) (omega arith) in
-    let few = groups_within c.groups.counter c.args.chunks g.row.GROUP g.C.PlaceCounts.MOST (omega arith) in
-    omega (arith, one, few, c.requires.summable, g.met.T.ByteChunk.lawful.fits)
+    let one = groups_within 0 c.args.chunks g.row.GROUP g.C.PlaceCounts.MOST (omega arith) in
+    omega (arith, one, c.requires.summable, g.met.T.ByteChunk.lawful.fits)
 
 pub add_chunks-group-requires-clause-seen : goal.add_chunks-group-requires-clause-seen
 add_chunks-group-requires-clause-seen g c =
@@ -26,6 +25,11 @@ add-lanes-requires g c =
     let more = rw so_far.reads.text_kept at c.add_chunks-group.ensures.lanes in
     let few = groups_within c.groups.counter c.args.chunks g.row.GROUP g.C.PlaceCounts.MOST (omega arith) in
     search (lanes_addable so_far.lanes more 255 (omega (arith, few, c.requires.summable, g.met.T.ByteChunk.lawful.fits)), room_exchanged)
+
+pub overflow_mul-at : goal.overflow_mul-at
+overflow_mul-at g c =
+    let one = groups_within 0 c.args.chunks g.row.GROUP g.T.ByteChunk.SIZE (omega arith) in
+    rw c.SIZE.ensures (omega (arith, one, c.requires.seen, c.len.ensures.len))
 
 pub overflow_add-at : goal.overflow_add-at
 overflow_add-at g c =
