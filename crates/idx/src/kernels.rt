@@ -1,6 +1,6 @@
 // The kernels of the library, over each chunk type.
-ghost use Rattle.std.specs.Prelude.{◌≡◌, chars};
-ghost use Rattle.str_indices.specs.Schemes.{count, from_byte_idx, to_byte_idx};
+ghost use Rattle.std.specs.Prelude.{◌≡◌, ◌≤◌, chars, length};
+ghost use Rattle.str_indices.specs.Prelude.{cut, IsBoundary};
 ghost use Rattle.idx.specs.Calls.{answer_of};
 ghost use Rattle.idx.specs.Requests.{chunk_type_named};
 
@@ -64,69 +64,37 @@ impl Kernel {
 
 /// The number that the call's kernel answers for all of the text, over chunks of any type, where it walks the first
 /// `lead` bytes one by one.
-#[tactic(auto, using(str_indices::proofs::lemmas::Callers::whole_text))]
 fn answer_by_chunks<T: ByteChunk>(call: Call, text: &str, lead: usize) -> usize
     ensures { result ≡ answer_of call (chars text.now) }
 {
     let probe = &mut Probe::<T>::of(text);
+    let end = text_end(probe);
     match call {
-        Call::Count(scheme) => count_by_chunks(scheme, probe, lead),
-        Call::Surrogates => {
-            let end = probe.len();
-            utf16::count_surrogates_impl(probe, end, lead)
-        }
-        Call::From(scheme, index) => from_by_chunks(scheme, probe, index, lead),
-        Call::To(scheme, index) => to_by_chunks(scheme, probe, index, lead),
+        Call::Count(Scheme::Chars) => chars::count_impl(probe, end, lead),
+        Call::Count(Scheme::Utf16) => utf16::count_impl(probe, end, lead),
+        Call::Count(Scheme::Lf) => lines_lf::count_breaks_impl(probe, end, lead),
+        Call::Count(Scheme::Crlf) => lines_crlf::count_breaks_impl(probe, end, lead),
+        Call::Count(Scheme::Lines) => lines::count_breaks_impl(probe, end, lead),
+        Call::Surrogates => utf16::count_surrogates_impl(probe, end, lead),
+        Call::From(Scheme::Chars, byte) => chars::from_byte_idx_impl(probe, byte, lead),
+        Call::From(Scheme::Utf16, byte) => utf16::from_byte_idx_impl(probe, byte, lead),
+        Call::From(Scheme::Lf, byte) => lines_lf::from_byte_idx_impl(probe, byte, lead),
+        Call::From(Scheme::Crlf, byte) => lines_crlf::from_byte_idx_impl(probe, byte, lead),
+        Call::From(Scheme::Lines, byte) => lines::from_byte_idx_impl(probe, byte, lead),
+        Call::To(Scheme::Chars, index) => chars::to_byte_idx_impl(probe, index, lead),
+        Call::To(Scheme::Utf16, index) => utf16::to_byte_idx_impl(probe, index, lead),
+        Call::To(Scheme::Lf, index) => lines_lf::to_byte_idx_impl(probe, index, lead),
+        Call::To(Scheme::Crlf, index) => lines_crlf::to_byte_idx_impl(probe, index, lead),
+        Call::To(Scheme::Lines, index) => lines::to_byte_idx_impl(probe, index, lead),
     }
 }
 
-/// How many the scheme's kernel counts in the text of the probe.
+/// Where the text of the probe ends, which is the `end` of a count of all of it.
 #[tactic(auto, using(str_indices::proofs::lemmas::Callers::whole_text))]
-fn count_by_chunks<T: ByteChunk>(scheme: Scheme, probe: &mut Probe<'_, T>, lead: usize) -> usize
-    ensures { result ≡ count scheme (chars probe.old.text) }
+fn text_end<T: ByteChunk>(probe: &Probe<'_, T>) -> usize
+    ensures within { result ≤ length probe.now.text }
+    ensures boundary { IsBoundary (chars probe.now.text) result }
+    ensures whole { cut (chars probe.now.text) result ≡ chars probe.now.text }
 {
-    let end = probe.len();
-    match scheme {
-        Scheme::Chars => chars::count_impl(probe, end, lead),
-        Scheme::Utf16 => utf16::count_impl(probe, end, lead),
-        Scheme::Lf => lines_lf::count_breaks_impl(probe, end, lead),
-        Scheme::Crlf => lines_crlf::count_breaks_impl(probe, end, lead),
-        Scheme::Lines => lines::count_breaks_impl(probe, end, lead),
-    }
-}
-
-/// What the scheme's kernel answers for a byte index of the probe's text.
-fn from_by_chunks<T: ByteChunk>(
-    scheme: Scheme,
-    probe: &mut Probe<'_, T>,
-    byte: usize,
-    lead: usize,
-) -> usize
-    ensures { result ≡ from_byte_idx scheme (chars probe.old.text) byte }
-{
-    match scheme {
-        Scheme::Chars => chars::from_byte_idx_impl(probe, byte, lead),
-        Scheme::Utf16 => utf16::from_byte_idx_impl(probe, byte, lead),
-        Scheme::Lf => lines_lf::from_byte_idx_impl(probe, byte, lead),
-        Scheme::Crlf => lines_crlf::from_byte_idx_impl(probe, byte, lead),
-        Scheme::Lines => lines::from_byte_idx_impl(probe, byte, lead),
-    }
-}
-
-/// The byte index that the scheme's kernel answers for an index of the probe's text.
-fn to_by_chunks<T: ByteChunk>(
-    scheme: Scheme,
-    probe: &mut Probe<'_, T>,
-    index: usize,
-    lead: usize,
-) -> usize
-    ensures { result ≡ to_byte_idx scheme (chars probe.old.text) index }
-{
-    match scheme {
-        Scheme::Chars => chars::to_byte_idx_impl(probe, index, lead),
-        Scheme::Utf16 => utf16::to_byte_idx_impl(probe, index, lead),
-        Scheme::Lf => lines_lf::to_byte_idx_impl(probe, index, lead),
-        Scheme::Crlf => lines_crlf::to_byte_idx_impl(probe, index, lead),
-        Scheme::Lines => lines::to_byte_idx_impl(probe, index, lead),
-    }
+    probe.len()
 }
