@@ -9,8 +9,11 @@
 --                                      the lanes hold what is counted from one place up to another
 --     FitsIn counted n                 before no place up to n is more counted than n
 --     IsSteady counted n               nor, between two places up to n, much more than there are bytes
+--     SearchesOn counted_at carries text idx byte count carry
+--                                      a search for the byte with which more than idx are counted goes on from there
 use Rattle.std.specs.Prelude.{ℕ, ◌≡◌, ◌+◌, ◌-◌, ◌*◌, ◌<◌, ◌≤◌, List, drop, length, slice_index, sum}
 use Rattle.std.specs.Simd.Lanes.{Each1}
+use Rattle.str_indices.specs.Bytes.{sum_below}
 
 pub record HasLanes (size : ℕ) (f : ℕ → ℕ) (lanes : List ℕ) : Type 0 where
   pub long : length lanes ≡ size
@@ -51,3 +54,12 @@ FitsIn counted n = (place : ℕ) → place ≤ n → counted place ≤ n
 pub record IsSteady (counted : ℕ → ℕ) (n : ℕ) : Type 0 where
   pub fits : FitsIn counted n
   pub near : (at more : ℕ) → at + more ≤ n → counted (at + more) ≤ counted at + more + 1
+
+-- From the place `byte` on a search looks for the byte with which more than idx are counted: before it `count` are, no more
+-- than idx, and the chunk before it hands on that carry.
+pub record SearchesOn {C : Type 0} (counted_at : ℕ → List ℕ → ℕ → ℕ) (carries : List ℕ → ℕ → C → Type 0) (text : List ℕ)
+    (idx byte count : ℕ) (carry : C) : Type 0 where
+  pub within : byte ≤ length text
+  pub counted : count ≡ sum_below (counted_at (length text) text) byte
+  pub at_most : count ≤ idx
+  pub carried : carries text byte carry

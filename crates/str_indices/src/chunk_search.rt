@@ -5,7 +5,7 @@
 //! and the last of these is the place.
 ghost use Rattle.std.specs.Prelude.{◌≡◌, ◌+◌, ◌-◌, ◌*◌, ◌<◌, ◌≤◌, length, drop, map, slice_index, sum};
 ghost use Rattle.std.specs.Simd.Lanes.{Each1};
-ghost use Rattle.str_indices.specs.Prelude.{is_between, sum_below, CountsUpTo, FitsIn, HasLanes, Reads};
+ghost use Rattle.str_indices.specs.Prelude.{is_between, sum_below, CountsUpTo, FitsIn, HasLanes, Reads, SearchesOn};
 
 use crate::passes::walk;
 use crate::place_counts::{Cursor, PlaceCounts};
@@ -25,11 +25,8 @@ pub(crate) fn find_in_last<C: PlaceCounts<T>, T: ByteChunk>(
     from: Cursor<C::Carry>,
     idx: usize,
 ) -> usize
-    requires within { from.byte ≤ length probe.old.text }
     requires fits { let n = length probe.old.text in FitsIn (sum_below (C.counted_at n probe.old.text)) n }
-    requires counted { from.count ≡ sum_below (C.counted_at (length probe.old.text) probe.old.text) from.byte }
-    requires at_most { from.count ≤ idx }
-    requires carried { C.carries probe.old.text from.byte from.carry }
+    requires searches { SearchesOn C.counted_at C.carries probe.old.text idx from.byte from.count from.carry }
     ensures reached { (from.byte ≤ result) × (result ≤ length probe.old.text) × (result ≤ from.byte + T.SIZE) }
     ensures at_most { sum_below (C.counted_at (length probe.old.text) probe.old.text) result ≤ idx }
     ensures stopped { result < length probe.old.text → result < from.byte + T.SIZE

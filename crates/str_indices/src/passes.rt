@@ -3,7 +3,7 @@
 //! Each is leading bytes one by one, then whole chunks, then the rest. `lead` bytes, or as many of them as the pass
 //! covers, are walked before the first chunk.
 ghost use Rattle.std.specs.Prelude.{◌≡◌, ℕ, ◌+◌, ◌-◌, ◌*◌, ◌/◌, ◌<◌, ◌≤◌, length};
-ghost use Rattle.str_indices.specs.Prelude.{sum_below, FitsIn, IsSteady, Reads, Counts, Finds};
+ghost use Rattle.str_indices.specs.Prelude.{sum_below, FitsIn, IsSteady, Reads, Counts, Finds, SearchesOn};
 
 use crate::chunk_search::find_in_last;
 use crate::place_counts::{Cursor, PlaceCounts, count_chunks, skip_chunks};
@@ -104,11 +104,8 @@ fn find_from<C: PlaceCounts<T>, T: ByteChunk, const GROUP: usize, const LAST_GRO
     idx: usize,
 ) -> usize
     requires some { (0 < GROUP) × (0 < LAST_GROUP) }
-    requires within { from.byte ≤ length probe.old.text }
     requires steady { let n = length probe.old.text in IsSteady (sum_below (C.counted_at n probe.old.text)) n }
-    requires counted { from.count ≡ sum_below (C.counted_at (length probe.old.text) probe.old.text) from.byte }
-    requires at_most { from.count ≤ idx }
-    requires carried { C.carries probe.old.text from.byte from.carry }
+    requires searches { SearchesOn C.counted_at C.carries probe.old.text idx from.byte from.count from.carry }
     ensures reached { (from.byte ≤ result) × (result ≤ length probe.old.text) }
     ensures at_most { sum_below (C.counted_at (length probe.old.text) probe.old.text) result ≤ idx }
     ensures stopped { result < length probe.old.text
@@ -179,15 +176,10 @@ fn skip_unreachable<C: PlaceCounts<T>, T: ByteChunk, const GROUP: usize, const L
     idx: usize,
 ) -> Cursor<C::Carry>
     requires some { (0 < GROUP) × (0 < LAST_GROUP) }
-    requires within { from.byte ≤ length probe.old.text }
     requires steady { let n = length probe.old.text in IsSteady (sum_below (C.counted_at n probe.old.text)) n }
-    requires counted { from.count ≡ sum_below (C.counted_at (length probe.old.text) probe.old.text) from.byte }
-    requires at_most { from.count ≤ idx }
-    requires carried { C.carries probe.old.text from.byte from.carry }
-    ensures reached { (from.byte ≤ result.byte) × (result.byte ≤ length probe.old.text) }
-    ensures counted { result.count ≡ sum_below (C.counted_at (length probe.old.text) probe.old.text) result.byte }
-    ensures at_most { result.count ≤ idx }
-    ensures carried { C.carries probe.old.text result.byte result.carry }
+    requires searches { SearchesOn C.counted_at C.carries probe.old.text idx from.byte from.count from.carry }
+    ensures onward { from.byte ≤ result.byte }
+    ensures searches { SearchesOn C.counted_at C.carries probe.old.text idx result.byte result.count result.carry }
     ensures reads { Reads probe.old probe.new from.byte 0 ((result.byte - from.byte) / T.SIZE) 0 }
 {
     let len = probe.len();

@@ -2,7 +2,7 @@
 //!
 //! What hands lanes back is inlined, also where a function is long: else a chunk would go through memory each time.
 ghost use Rattle.std.specs.Prelude.{◌≡◌, ℕ, ◌+◌, ◌-◌, ◌*◌, ◌/◌, ◌<◌, ◌≤◌, ◌⊎◌, List, length, slice_index, take, drop};
-ghost use Rattle.str_indices.specs.Prelude.{byte_before, sum_below, AddsUp, FitsIn, HasLanes, HasLaterLanes, IsHandedOn, Reads};
+ghost use Rattle.str_indices.specs.Prelude.{byte_before, sum_below, AddsUp, FitsIn, HasLanes, HasLaterLanes, IsHandedOn, Reads, SearchesOn};
 
 use byte_chunk::{ByteChunk, Probe};
 
@@ -141,15 +141,10 @@ pub(crate) fn skip_chunks<C: PlaceCounts<T>, T: ByteChunk, const LEAST: usize>(
     requires some { 0 < group }
     requires room { group * C.MOST ≤ 4 }
     requires least { (group ≤ LEAST) × (LEAST ≤ 16) }
-    requires within { from.byte ≤ length probe.old.text }
     requires fits { let n = length probe.old.text in FitsIn (sum_below (C.counted_at n probe.old.text)) n }
-    requires counted { from.count ≡ sum_below (C.counted_at (length probe.old.text) probe.old.text) from.byte }
-    requires at_most { from.count ≤ idx }
-    requires carried { C.carries probe.old.text from.byte from.carry }
-    ensures reached { (from.byte ≤ result.byte) × (result.byte ≤ length probe.old.text) }
-    ensures counted { result.count ≡ sum_below (C.counted_at (length probe.old.text) probe.old.text) result.byte }
-    ensures at_most { result.count ≤ idx }
-    ensures carried { C.carries probe.old.text result.byte result.carry }
+    requires searches { SearchesOn C.counted_at C.carries probe.old.text idx from.byte from.count from.carry }
+    ensures onward { from.byte ≤ result.byte }
+    ensures searches { SearchesOn C.counted_at C.carries probe.old.text idx result.byte result.count result.carry }
     ensures stopped { (length probe.old.text < result.byte + LEAST * T.SIZE)
         ⊎ (idx < sum_below (C.counted_at (length probe.old.text) probe.old.text) (result.byte + group * T.SIZE)) }
     ensures reads { Reads probe.old probe.new from.byte 0 ((result.byte - from.byte) / T.SIZE + group) 0 }

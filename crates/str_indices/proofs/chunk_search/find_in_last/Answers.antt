@@ -19,7 +19,7 @@ pub overflow_sub-result-2 : goal.overflow_sub-result-2
 overflow_sub-result-2 g c =
     let lanes = rw c.len-len.ensures.len at c.lanes_up_to-lanes.ensures.lanes in
     let few = rw (c.MOST.ensures, c.SIZE-else-len-SIZE.ensures) at c.if-MOST-SIZE.false in
-    let place = found_place lanes (omega arith, omega arith) (omega arith) c.requires.counted c.requires.at_most
+    let place = found_place lanes (omega arith, omega arith) (omega arith) c.requires.searches.counted c.requires.searches.at_most
     c.sum_bytes-total.ensures c.if-total-more.false few c.sums_to_end.ensures
     (rw c.bytes_between_127-above.ensures at c.sum_bytes.ensures) in
     omega (arith, place.some)
@@ -28,7 +28,7 @@ pub overflow_add-result : goal.overflow_add-result
 overflow_add-result g c =
     let lanes = rw c.len-len.ensures.len at c.lanes_up_to-lanes.ensures.lanes in
     let few = rw (c.MOST.ensures, c.SIZE-else-len-SIZE.ensures) at c.if-MOST-SIZE.false in
-    let place = found_place lanes (omega arith, omega arith) (omega arith) c.requires.counted c.requires.at_most
+    let place = found_place lanes (omega arith, omega arith) (omega arith) c.requires.searches.counted c.requires.searches.at_most
     c.sum_bytes-total.ensures c.if-total-more.false few c.sums_to_end.ensures
     (rw c.bytes_between_127-above.ensures at c.sum_bytes.ensures) in
     omega (arith, place.some, place.within)
@@ -37,7 +37,7 @@ pub returns-clause-reached : goal.returns-clause-reached
 returns-clause-reached g c =
     let lanes = rw c.len-len.ensures.len at c.lanes_up_to-lanes.ensures.lanes in
     let few = rw (c.MOST.ensures, c.SIZE-else-len-SIZE.ensures) at c.if-MOST-SIZE.false in
-    let place = found_place lanes (omega arith, omega arith) (omega arith) c.requires.counted c.requires.at_most
+    let place = found_place lanes (omega arith, omega arith) (omega arith) c.requires.searches.counted c.requires.searches.at_most
     c.sum_bytes-total.ensures c.if-total-more.false few c.sums_to_end.ensures
     (rw c.bytes_between_127-above.ensures at c.sum_bytes.ensures) in
     let within = place.within in
@@ -47,7 +47,7 @@ pub returns-clause-at_most : goal.returns-clause-at_most
 returns-clause-at_most g c =
     let lanes = rw c.len-len.ensures.len at c.lanes_up_to-lanes.ensures.lanes in
     let few = rw (c.MOST.ensures, c.SIZE-else-len-SIZE.ensures) at c.if-MOST-SIZE.false in
-    let place = found_place lanes (omega arith, omega arith) (omega arith) c.requires.counted c.requires.at_most
+    let place = found_place lanes (omega arith, omega arith) (omega arith) c.requires.searches.counted c.requires.searches.at_most
     c.sum_bytes-total.ensures c.if-total-more.false few c.sums_to_end.ensures
     (rw c.bytes_between_127-above.ensures at c.sum_bytes.ensures) in
     rw c.SIZE-3.ensures place.at_most
@@ -56,7 +56,7 @@ pub returns-clause-stopped : goal.returns-clause-stopped
 returns-clause-stopped g c = λ inside near.
     let lanes = rw c.len-len.ensures.len at c.lanes_up_to-lanes.ensures.lanes in
     let few = rw (c.MOST.ensures, c.SIZE-else-len-SIZE.ensures) at c.if-MOST-SIZE.false in
-    let place = found_place lanes (omega arith, omega arith) (omega arith) c.requires.counted c.requires.at_most
+    let place = found_place lanes (omega arith, omega arith) (omega arith) c.requires.searches.counted c.requires.searches.at_most
     c.sum_bytes-total.ensures c.if-total-more.false few c.sums_to_end.ensures
     (rw c.bytes_between_127-above.ensures at c.sum_bytes.ensures) in
     rw c.SIZE-3.ensures (place.stopped (omega (arith, place.some, place.within)))

@@ -11,12 +11,15 @@ rounds-preserved g c =
     let there : at + steps ≡ round.result.byte = omega (arith, round.ensures.reached.0) in
     let near = rw c.SIZE.ensures at round.ensures.reached.1 in
     let few = rw there at (c.requires.steady.near at steps (omega (arith, near))) in
+    let sure = c.sure_chunks-chunks.ensures.sure (omega arith) in
     record {
       from_low = omega (arith, so_far.from_low, round.ensures.reached.0);
-      to_high = omega (arith, near);
-      counted = counted;
-      at_most = omega (arith, counted, few, so_far.counted, near, c.sure_chunks-chunks.ensures.sure (omega arith));
-      carried = rw so_far.reads.text_kept at round.ensures.carried;
+      searches = record {
+        within = omega (arith, near);
+        counted = counted;
+        at_most = omega (arith, counted, few, so_far.searches, near, sure);
+        carried = rw so_far.reads.text_kept at round.ensures.carried;
+      };
       reads = chunks_joined g.met.T.ByteChunk.lawful.least so_far.from_low round.ensures.reached.0 so_far.reads
           round.ensures.reads;
     }

@@ -1,14 +1,11 @@
-use Rattle.str_indices.proofs.lemmas.{◌≡◌, ◌-◌, ◌/◌, ◌≤◌, length, sum_below, Reads}
+use Rattle.str_indices.proofs.lemmas.{◌-◌, ◌/◌, ◌≤◌, Reads, SearchesOn}
 use Rattle.str_indices.proofs.passes.skip_unreachable.Given as goal
 
 abbrev pub invariant-rounds : goal.invariant-rounds
 invariant-rounds g l = record {
   from_low : l.initial.at.byte ≤ l.at.byte;
-  to_high : l.at.byte ≤ length l.initial.probe.text;
-  counted : l.at.count
-      ≡ sum_below (g.C.PlaceCounts.counted_at (length l.initial.probe.text) l.initial.probe.text) l.at.byte;
-  at_most : l.at.count ≤ l.idx;
-  carried : g.C.PlaceCounts.carries l.initial.probe.text l.at.byte l.at.carry;
+  searches : SearchesOn g.C.PlaceCounts.counted_at g.C.PlaceCounts.carries l.initial.probe.text l.idx l.at.byte l.at.count
+      l.at.carry;
   reads : Reads l.initial.probe l.probe l.initial.at.byte 0 ((l.at.byte - l.initial.at.byte) / g.T.ByteChunk.SIZE) 0;
 }
 

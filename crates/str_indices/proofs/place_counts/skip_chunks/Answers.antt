@@ -7,7 +7,7 @@ overflow_add-count g c =
     let fits = mul-le-mul_right {m = c.args.group} {n = g.row.LEAST} g.T.ByteChunk.SIZE c.requires.least.0 in
     let all = c.requires.fits (c.groups.at.byte + c.args.group * g.T.ByteChunk.SIZE)
     (omega (arith, rw c.SIZE.ensures at c.groups-test.true, fits)) in
-    omega (arith, c.groups.invariant.counted, lanes.added, c.sum_bytes.ensures, all)
+    omega (arith, c.groups.invariant.searches.counted, lanes.added, c.sum_bytes.ensures, all)
 
 pub groups-preserved : goal.groups-preserved
 groups-preserved g c =
@@ -20,12 +20,14 @@ groups-preserved g c =
     let before = sum_below (g.C.PlaceCounts.counted_at (length text) text) in
     rw c.SIZE-in-groups.ensures (record {
       from_low = omega (arith, so_far.from_low);
-      to_high = omega (arith, here, fits);
-      counted = counted_there before (c.groups.at.byte + c.args.group * g.T.ByteChunk.SIZE) (omega arith)
-          (omega (arith, so_far.counted, lanes.added, c.sum_bytes.ensures));
-      at_most = omega arith;
-      carried = subst (λ at. g.C.PlaceCounts.carries text at c.add_chunks-added.result.carry) (omega arith)
-          (rw so_far.reads.text_kept at group.carried);
+      searches = record {
+        within = omega (arith, here, fits);
+        counted = counted_there before (c.groups.at.byte + c.args.group * g.T.ByteChunk.SIZE) (omega arith)
+            (omega (arith, so_far.searches.counted, lanes.added, c.sum_bytes.ensures));
+        at_most = omega arith;
+        carried = subst (λ at. g.C.PlaceCounts.carries text at c.add_chunks-added.result.carry) (omega arith)
+            (rw so_far.reads.text_kept at group.carried);
+      };
       reads = group_joined (omega arith) g.met.T.ByteChunk.lawful.least so_far.from_low so_far.reads group.reads;
     })
 
