@@ -1,4 +1,4 @@
-use Rattle.str_indices.proofs.lemmas.{◌+◌, ◌*◌, get_or, HasLanes}
+use Rattle.str_indices.proofs.lemmas.Common.{◌+◌, ◌*◌, get_or, HasLanes}
 use Rattle.str_indices.proofs.chunk_search.move_back.Given as goal
 
 abbrev pub invariant-fours : goal.invariant-fours

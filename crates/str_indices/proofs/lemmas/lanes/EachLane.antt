@@ -1,7 +1,7 @@
 -- The lanes of a chunk by their places: what each call of a chunk leaves in a lane, and what the lanes add up to.
 use Rattle.str_indices.proofs.lemmas.Common.{◌≡◌, ◌≢◌, ℕ, suc, ◌+◌, ◌-◌, ◌<◌, ◌≤◌, Bool, true, false, List, [], ◌∷◌, ◌++◌, map, take, drop, replicate, length, get_or, bit_and, refl, arith, length-drop, slice_set, ◌∙◌, sum, not, ◌==◌, ◌&&◌, Each1, Each2, zip2, nat_tests, get_or-take, get_or-drop, get_or-map, get_or_past, get_or-append-add, get_or-replicate, get_or-set_same, get_or-set_other, length-append, length-map, length-take-le, length-replicate, length-set, sum_by-cons, zip2_splat, zip2_splat_left, zip2_of_maps, map-map, Each1-replicate, Each1-from_get_or, Each2-of, get_or-zip2, length-zip2, is_byte, flag, mark, sum_below, is_trailing, is_leading, HasLanes, mark-le}
 use Rattle.std.proofs.Math.ListN.{get_or-append}
-use Rattle.str_indices.proofs.lemmas.bytes.{sum_below-add, sum_below-front}
+use Rattle.str_indices.proofs.lemmas.bytes.Sums.{sum_below-add, sum_below-front}
 
 -- lanes that hold f of each place add up to f summed over the places
 pub sum_lanes : (f : ℕ → ℕ) (lanes : List ℕ) → ((j : ℕ) → j < length lanes → get_or lanes j 0 ≡ f j)

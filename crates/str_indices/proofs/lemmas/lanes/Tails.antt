@@ -1,6 +1,6 @@
 -- The sums of a chunk's lanes from each lane on, and which lane they find.
 use Rattle.str_indices.proofs.lemmas.Common.{◌≡◌, ℕ, zero, suc, ◌+◌, ◌-◌, ◌*◌, ◌/◌, ◌<◌, ◌≤◌, List, [], ◌∷◌, drop, map, length, get_or, refl, sym, subst, ap, arith, div-mul-le_self, mul-le-mul_right, cases_lt, inl, inr, nat_tests, add-zero, add-suc, ◌∙◌, ◌++◌, replicate, sum, zip2, Each1, Each2, length-drop, get_or-drop, get_or_past, sum_by-cons, ◌&&◌, nat_lt, flag-le, is_between, sum_below, CountsUpTo, HasLanes}
-use Rattle.str_indices.proofs.lemmas.bytes.{sum_below-add, sum_below-same, sum_below-still}
+use Rattle.str_indices.proofs.lemmas.bytes.Sums.{sum_below-add, sum_below-same, sum_below-still}
 use Rattle.str_indices.proofs.lemmas.lanes.EachLane.{lanes_at_most, Each2-lanes, lanes_map, lanes_same, lanes_shift, lanes_zip2, sum_lanes}
 
 -- what n lanes hold from one on, where past the last there is nothing

@@ -14,10 +14,10 @@ groups_within k chunks group weight more =
     mul-le-mul_right {m = (k + 1) * group} {n = chunks} weight (omega (arith, few, div-mul-le_self chunks group))
 
 -- the groups of some chunks, once they are counted up, and what is left over are all of them
-pub groups_and_rest : (k chunks group : ℕ) → k ≤ chunks / group → chunks / group ≤ k
-    → (k * group ≡ chunks / group * group) × (chunks / group * group + chunks % group ≡ chunks)
-groups_and_rest k chunks group few many =
-    let done : k ≡ chunks / group = omega (arith, few, many) in (ap (λ n. n * group) done, omega (arith, div-add-mod chunks group))
+pub groups_and_rest : {k : ℕ} (chunks group : ℕ) → k ≤ chunks / group → chunks / group ≤ k
+    → k * group + chunks % group ≡ chunks
+groups_and_rest {k} chunks group few many =
+    let done : k ≡ chunks / group = omega (arith, few, many) in rw done (omega (arith, div-add-mod chunks group))
 
 -- of two parts of some chunks the first ends at a place, and the second where all of them do
 module _ (from m n size : ℕ) {chunks middle : ℕ} (all : m + n ≡ chunks) (there : from + m * size ≡ middle) where

@@ -1,4 +1,4 @@
-use Rattle.str_indices.proofs.lemmas.{sym, add-one, ap, ◌∙◌, ◌≡◌, ◌+◌, inl, inr, true, false, nat_le, length, add-zero, arith, cases_lt, nat_tests, byte_before, sum_below, FitsIn, sum_below-next, sum_below-le-sum_below, byte_made, then_, weaken, place_after}
+use Rattle.str_indices.proofs.lemmas.{sym, add-one, ap, ◌∙◌, ◌≡◌, ◌+◌, length, arith, byte_before, sum_below, FitsIn, sum_below-next, sum_below-le-sum_below, byte_made, then_, weaken, walked_on}
 use Rattle.str_indices.proofs.passes.walk.Goals as goal
 
 pub overflow_add-count : goal.overflow_add-count
@@ -33,38 +33,14 @@ loop-i-preserved g c =
     let next : c.turn-byte.result ≡ byte_before text (c.loop-i.i + 1) = rw add-one byte in
     let made = byte_made c.turn-byte.ensures.state c.count_byte-count.ensures.reads in
     let reads = weaken (then_ so_far.reads made) (omega arith) (omega arith) (omega arith) (omega arith) in
-    elim (cases_lt c.args.idx count) [
-      | inl more ↦
-          let test : nat_le count c.args.idx ≡ false = grind (arith, nat_tests) in
-          let zero = rw test at c.from-place.ensures in
-          rw (zero, add-zero) (record {
-            from_low = omega (arith, so_far.from_low);
-            to_high = omega (arith, so_far.to_high);
-            counted = counted;
-            at_most = so_far.at_most;
-            stopped = λ inside. elim (cases_lt c.loop-i.place c.loop-i.i) [
-              | inl found ↦ so_far.stopped found
-              | inr here ↦ let same : c.loop-i.place ≡ c.loop-i.i = omega (arith, so_far.to_high) in
-                  rw same (omega (arith, counted))
-            ];
-            before = next;
-            reads = reads;
-          })
-      | inr few ↦
-          let test : nat_le count c.args.idx ≡ true = grind (arith, nat_tests) in
-          let one = rw test at c.from-place.ensures in
-          let here = place_after counted_at c.args.idx c.loop-i.place c.loop-i.i count so_far.to_high so_far.at_most
-          so_far.stopped counted (omega arith) in
-          rw (one, here) (record {
-            from_low = omega (arith, so_far.from_low);
-            to_high = omega arith;
-            counted = counted;
-            at_most = omega (arith, counted);
-            stopped = λ inside. absurd (omega arith);
-            before = next;
-            reads = reads;
-          })
-    ]
+    record {
+      from_low = omega (arith, so_far.from_low);
+      counted = counted;
+      walked = walked_on counted_at c.args.idx c.loop-i.place c.loop-i.i count c.from-place.result so_far.walked counted
+          c.from-place.ensures;
+      before = next;
+      reads = reads;
+    }
 
 pub returns-then-count-idx-clause-counted : goal.returns-then-count-idx-clause-counted
 returns-then-count-idx-clause-counted g c = λ few.

@@ -1,4 +1,4 @@
-use Rattle.str_indices.proofs.lemmas.{◌+◌, ◌*◌, ◌∙◌, ap, arith, Each1-weaker, length, groups_within, groups_and_rest, nothing_added, as_many, lanes_addable, lanes_added, nothing, chunk_read, counted_there, weaken, parts_addable, parts_added, parts_end, parts_within, room_exchanged, subst, sum_below, sums_exchanged}
+use Rattle.str_indices.proofs.lemmas.{◌+◌, ◌*◌, ◌∙◌, ap, arith, Each1-weaker, length, groups_within, groups_and_rest, nothing_added, as_many, lanes_addable, lanes_added, nothing, chunk_read, counted_there, weaken, parts_addable, parts_added, parts_end, parts_within, room_exchanged, subst, sum_below, sums_exchanged, sym}
 use Rattle.str_indices.proofs.place_counts.count_in_groups.Goals as goal
 
 pub groups-init : goal.groups-init
@@ -52,36 +52,35 @@ groups-preserved g c =
 pub add_chunks-single-requires-clause-seen : goal.add_chunks-single-requires-clause-seen
 add_chunks-single-requires-clause-seen g c =
     let so_far = c.groups.invariant in
-    let all = groups_and_rest c.groups.counter c.args.chunks g.row.GROUP c.groups.auto.counter-end c.groups-test.false in
-    let within = parts_within c.args.from.byte (c.groups.counter * g.row.GROUP) _ _ (omega (arith, all.0, all.1))
-    (omega (arith, so_far.place)) c.args.end c.requires.seen.0 in
+    let within = parts_within c.args.from.byte (c.groups.counter * g.row.GROUP) _ _
+    (groups_and_rest _ _ c.groups.auto.counter-end c.groups-test.false) (sym so_far.place) c.args.end c.requires.seen.0 in
     rw so_far.reads.text_kept (within, c.requires.seen.1)
 
 pub add-requires : goal.add-requires
 add-requires g c =
     let so_far = c.groups.invariant in
-    let all = groups_and_rest c.groups.counter c.args.chunks g.row.GROUP c.groups.auto.counter-end c.groups-test.false in
     search (
-      parts_addable {chunks = c.args.chunks} so_far.lanes (omega (arith, so_far.place)) (rw so_far.reads.text_kept at c.add_chunks-single.ensures.lanes)
-          (omega (arith, all.0, all.1)) 255 (omega (arith, c.requires.summable, g.met.T.ByteChunk.lawful.fits)),
+      parts_addable {chunks = c.args.chunks} so_far.lanes (sym so_far.place)
+          (rw so_far.reads.text_kept at c.add_chunks-single.ensures.lanes)
+          (groups_and_rest _ _ c.groups.auto.counter-end c.groups-test.false) 255 (omega (arith, c.requires.summable, g.met.T.ByteChunk.lawful.fits)),
       room_exchanged,
     )
 
 pub sum_bytes-requires : goal.sum_bytes-requires
 sum_bytes-requires g c =
     let so_far = c.groups.invariant in
-    let all = groups_and_rest c.groups.counter c.args.chunks g.row.GROUP c.groups.auto.counter-end c.groups-test.false in
-    let lanes = parts_added {chunks = c.args.chunks} so_far.lanes (omega (arith, so_far.place))
-    (rw so_far.reads.text_kept at c.add_chunks-single.ensures.lanes) (omega (arith, all.0, all.1))
+    let lanes = parts_added {chunks = c.args.chunks} so_far.lanes (sym so_far.place)
+    (rw so_far.reads.text_kept at c.add_chunks-single.ensures.lanes)
+    (groups_and_rest _ _ c.groups.auto.counter-end c.groups-test.false)
     {sums = g.T.ByteChunk.lanes c.add.result} (search (c.add.ensures, sums_exchanged)) in
     Each1-weaker _ _ (λ lane le. omega (arith, c.requires.summable, le)) _ lanes.small
 
 pub overflow_add-result-2 : goal.overflow_add-result-2
 overflow_add-result-2 g c =
     let so_far = c.groups.invariant in
-    let all = groups_and_rest c.groups.counter c.args.chunks g.row.GROUP c.groups.auto.counter-end c.groups-test.false in
-    let lanes = parts_added {chunks = c.args.chunks} so_far.lanes (omega (arith, so_far.place))
-    (rw so_far.reads.text_kept at c.add_chunks-single.ensures.lanes) (omega (arith, all.0, all.1))
+    let lanes = parts_added {chunks = c.args.chunks} so_far.lanes (sym so_far.place)
+    (rw so_far.reads.text_kept at c.add_chunks-single.ensures.lanes)
+    (groups_and_rest _ _ c.groups.auto.counter-end c.groups-test.false)
     {sums = g.T.ByteChunk.lanes c.add.result} (search (c.add.ensures, sums_exchanged)) in
     let fits = c.requires.fits (c.args.from.byte + c.args.chunks * g.T.ByteChunk.SIZE)
     (omega (arith, c.requires.seen)) in
@@ -90,9 +89,9 @@ overflow_add-result-2 g c =
 pub returns-clause-counted : goal.returns-clause-counted
 returns-clause-counted g c =
     let so_far = c.groups.invariant in
-    let all = groups_and_rest c.groups.counter c.args.chunks g.row.GROUP c.groups.auto.counter-end c.groups-test.false in
-    let lanes = parts_added {chunks = c.args.chunks} so_far.lanes (omega (arith, so_far.place))
-    (rw so_far.reads.text_kept at c.add_chunks-single.ensures.lanes) (omega (arith, all.0, all.1))
+    let lanes = parts_added {chunks = c.args.chunks} so_far.lanes (sym so_far.place)
+    (rw so_far.reads.text_kept at c.add_chunks-single.ensures.lanes)
+    (groups_and_rest _ _ c.groups.auto.counter-end c.groups-test.false)
     {sums = g.T.ByteChunk.lanes c.add.result} (search (c.add.ensures, sums_exchanged)) in
     rw c.SIZE-2.ensures (counted_there (sum_below (g.C.PlaceCounts.counted_at c.args.end c.args.probe.now.text))
     (c.args.from.byte + c.args.chunks * g.T.ByteChunk.SIZE) (omega arith)
@@ -101,7 +100,7 @@ returns-clause-counted g c =
 pub returns-clause-carried : goal.returns-clause-carried
 returns-clause-carried g c =
     let so_far = c.groups.invariant in
-    let all = groups_and_rest c.groups.counter c.args.chunks g.row.GROUP c.groups.auto.counter-end c.groups-test.false in
     rw c.SIZE-2.ensures (subst (λ at. g.C.PlaceCounts.carries c.args.probe.now.text at c.add_chunks-single.result.carry)
-    (parts_end c.args.from.byte (c.groups.counter * g.row.GROUP) _ g.T.ByteChunk.SIZE {chunks = c.args.chunks} (omega (arith, all.0, all.1))
-    (omega (arith, so_far.place)) ∙ omega arith) (rw so_far.reads.text_kept at c.add_chunks-single.ensures.carried))
+    (parts_end c.args.from.byte (c.groups.counter * g.row.GROUP) _ g.T.ByteChunk.SIZE {chunks = c.args.chunks}
+    (groups_and_rest _ _ c.groups.auto.counter-end c.groups-test.false) (sym so_far.place) ∙ omega arith)
+    (rw so_far.reads.text_kept at c.add_chunks-single.ensures.carried))
