@@ -1,4 +1,4 @@
--- What stands in the lanes of a chunk, by their places.
+-- What stands in the lanes of a chunk, by their places, and what is counted before a place of a text.
 --     HasLanes size f lanes            there are `size` lanes, and f of its place in each
 --     HasLaterLanes size f lanes       there are `size` lanes, and f of its place in each but the first
 --     IsHandedOn carries carry         some chunk hands that carry on
