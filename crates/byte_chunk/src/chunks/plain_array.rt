@@ -11,15 +11,6 @@ use std::array;
 #[derive(Clone, Copy)]
 pub struct Plain(pub [u8; 8]);
 
-impl Plain {
-    // A proof knows the length of an array that a call returns, and not of one behind a reference.
-    fn to_array(self) -> [u8; 8]
-        ensures { result ≡ self.0 }
-    {
-        self.0
-    }
-}
-
 impl ByteChunk for Plain {
     ghost SIZE = { 8 };
 
@@ -44,65 +35,56 @@ impl ByteChunk for Plain {
     }
 
     fn is_zero(&self) -> bool {
-        self.to_array() == [0; 8]
+        self.0 == [0; 8]
     }
 
     fn shift_back_lex(&self, n: usize) -> Self {
-        let lanes = self.to_array();
-        Plain(array::from_fn(|i| if i + n < 8 { lanes[i + n] } else { 0 }))
+        Plain(array::from_fn(|i| if i + n < 8 { self.0[i + n] } else { 0 }))
     }
 
     fn shift_across(&self, n: Self) -> Self {
-        let these = self.to_array();
-        let those = n.to_array();
-        Plain(array::from_fn(|i| if i == 0 { these[7] } else { those[i - 1] }))
+        Plain(array::from_fn(|i| if i == 0 { self.0[7] } else { n.0[i - 1] }))
     }
 
     fn shr(&self, n: usize) -> Self {
-        Plain(self.to_array().map(|lane| lane >> n))
+        Plain(self.0.map(|lane| lane >> n))
     }
 
     fn cmp_eq_byte(&self, byte: u8) -> Self {
-        Plain(self.to_array().map(|lane| u8::from(lane == byte)))
+        Plain(self.0.map(|lane| u8::from(lane == byte)))
     }
 
     fn bytes_between_127(&self, a: u8, b: u8) -> Self {
-        Plain(self.to_array().map(|lane| u8::from(a < lane && lane < b)))
+        Plain(self.0.map(|lane| u8::from(a < lane && lane < b)))
     }
 
     fn bitand(&self, other: Self) -> Self {
-        let these = self.to_array();
-        let those = other.to_array();
-        Plain(array::from_fn(|i| these[i] & those[i]))
+        Plain(array::from_fn(|i| self.0[i] & other.0[i]))
     }
 
     fn add(&self, other: Self) -> Self {
-        let these = self.to_array();
-        let those = other.to_array();
-        Plain(array::from_fn(|i| these[i] + those[i]))
+        Plain(array::from_fn(|i| self.0[i] + other.0[i]))
     }
 
     fn sub(&self, other: Self) -> Self {
-        let these = self.to_array();
-        let those = other.to_array();
-        Plain(array::from_fn(|i| these[i] - those[i]))
+        Plain(array::from_fn(|i| self.0[i] - other.0[i]))
     }
 
     fn inc_nth_from_end_lex_byte(&self, n: usize) -> Self {
-        let mut lanes = self.to_array();
+        let mut lanes = self.0;
         lanes[7 - n] += 1;
         Plain(lanes)
     }
 
     fn dec_last_lex_byte(&self) -> Self {
-        let mut lanes = self.to_array();
+        let mut lanes = self.0;
         lanes[7] -= 1;
         Plain(lanes)
     }
 
     fn sum_bytes(&self) -> usize {
         let mut total = 0;
-        for lane in self.to_array() {
+        for lane in self.0 {
             total += usize::from(lane);
         }
         total

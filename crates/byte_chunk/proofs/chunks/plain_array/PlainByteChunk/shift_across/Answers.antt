@@ -1,4 +1,4 @@
-use Rattle.byte_chunk.proofs.lemmas.{◌≡◌, ℕ, zero, suc, ◌+◌, ◌-◌, ◌<◌, List, [], ◌∷◌, nat_eq, if◌then◌else◌, get_or, drop, take, ◌++◌, refl, sym, ap, ap₂, ◌∙◌, rules, arith, nat_tests, drop_more, drop_all, length-take-le, get_or-take, list_of-calls}
+use Rattle.byte_chunk.proofs.lemmas.{◌≡◌, ℕ, zero, suc, ◌+◌, ◌-◌, ◌<◌, List, [], ◌∷◌, nat_eq, if◌then◌else◌, get_or, drop, take, ◌++◌, refl, sym, ap, ◌∙◌, rules, arith, nat_tests, drop_more, drop_all, length-take-le, get_or-take, list_of-calls}
 use Rattle.byte_chunk.proofs.chunks.plain_array.PlainByteChunk.shift_across.Goals as goal
 
 -- the lanes of a list that starts with x and goes on with the first n of ys
@@ -11,14 +11,13 @@ get_or-after x ys n (suc k) below =
 
 pub returns : goal.returns
 returns c =
-    let these = c.to_array-these in
-    let those = c.to_array-those in
-    let last : ℕ = get_or these.result 7 0 in
-    let lane_of : ℕ → ℕ = λ i. if nat_eq i 0 then last else get_or those.result (i - 1) 0 in
-    let end : drop 7 these.result ≡ last ∷ [] = drop_more these.result 7 0 (omega arith)
-    ∙ ap (λ l. last ∷ l) (drop_all 8 these.result (omega arith)) in
-    list_of-calls lane_of 8 (last ∷ take 7 those.result) c.from_fn.result (λ i lane left call. search rules)
-    (omega (arith, length-take-le 7 those.result))
-    (λ k below. get_or-after last those.result 7 k below) c.from_fn.ensures.items
-    ∙ ap (λ l. l ++ take 7 those.result) (sym end)
-    ∙ ap₂ (λ s t. drop 7 s ++ take 7 t) these.ensures those.ensures
+    let these = c.args.self.now.0 in
+    let those = c.args.n.0 in
+    let last : ℕ = get_or these 7 0 in
+    let lane_of : ℕ → ℕ = λ i. if nat_eq i 0 then last else get_or those (i - 1) 0 in
+    let end : drop 7 these ≡ last ∷ [] = drop_more these 7 0 (omega arith)
+    ∙ ap (λ l. last ∷ l) (drop_all 8 these (omega arith)) in
+    list_of-calls lane_of 8 (last ∷ take 7 those) c.from_fn.result (λ i lane left call. search rules)
+    (omega (arith, length-take-le 7 those))
+    (λ k below. get_or-after last those 7 k below) c.from_fn.ensures.items
+    ∙ ap (λ l. l ++ take 7 those) (sym end)
