@@ -146,7 +146,6 @@ impl<T: ByteChunk> PlaceCounts<T> for LineBreaks {
     const IS_DENSE: bool = false;
 
     fn count_byte(probe: &mut Probe<'_, T>, _before: u8, byte: u8, at: usize, end: usize) -> usize {
-        prove!(end <= probe.len());
         usize::from(match byte {
             LF | 0x0B | 0x0C => true,
             CR => peek_ahead(probe, at, 1, end) != LF,
@@ -165,7 +164,6 @@ impl<T: ByteChunk> PlaceCounts<T> for LineBreaks {
         end: usize,
         _carry: (),
     ) -> Counted<T, ()> {
-        prove!(end <= probe.len());
         let narrow_breaks = count_narrow_breaks(probe, chunk, at, end);
         Counted {
             lanes: add_wide_breaks(probe, chunk, narrow_breaks, at, end),
@@ -188,7 +186,6 @@ fn count_narrow_breaks<T: ByteChunk>(probe: &mut Probe<'_, T>, chunk: T, at: usi
     ensures reads { let last = slice_index probe.old.text (at + (T.SIZE - 1)) in
         Reads probe.old probe.new 0 0 0 (1 + flag (is_carriage_return last)) }
 {
-    prove!(end <= probe.len());
     let ascii_breaks = chunk.bytes_between_127(0x09, 0x0E);
     if chunk.cmp_eq_byte(CR).is_zero() {
         return ascii_breaks;
@@ -282,7 +279,6 @@ fn add_at_edge<T: ByteChunk>(probe: &mut Probe<'_, T>, breaks: T, at: usize, end
     ensures reads { let last = slice_index probe.old.text (at + (T.SIZE - 1)) in
         Reads probe.old probe.new 0 0 0 (3 - 2 * flag (is_carriage_return last)) }
 {
-    prove!(end <= probe.len());
     let last = at + (T::SIZE - 1);
     let byte = probe.peek(last);
     if byte == 0x80 {

@@ -102,7 +102,6 @@ pub(crate) fn count_chunks<
     ensures carried { C.carries probe.old.text result.byte result.carry }
     ensures reads { Reads probe.old probe.new from.byte 0 ((result.byte - from.byte) / T.SIZE) 0 }
 {
-    prove!(end <= probe.len());
     let size = T::SIZE;
     let most = chunks_of_round::<C, T, GROUP>();
     let mut at = from;

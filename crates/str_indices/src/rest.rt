@@ -32,7 +32,6 @@ pub(crate) fn lanes_up_to<C: PlaceCounts<T>, T: ByteChunk>(
     ensures lanes { CountsUpTo (sum_below (C.counted_at end probe.old.text)) C.MOST T.SIZE from.byte to (T.lanes result) }
     ensures reads { Reads probe.old probe.new 0 T.SIZE 0 0 }
 {
-    prove!(end <= probe.len());
     let first = to - T::SIZE;
     let chunk = chunk_by_turns(probe, first);
     let counted = C::count_lanes(probe, chunk, first, end, from.carry);
