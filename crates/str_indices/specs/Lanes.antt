@@ -9,6 +9,8 @@
 --                                      the lanes hold what is counted from one place up to another
 --     FitsIn counted n                 before no place up to n is more counted than n
 --     IsSteady counted n               nor, between two places up to n, much more than there are bytes
+--     CountsOn each carries byte count carry
+--                                      a count goes on from there
 --     SearchesOn counted_at carries text idx byte count carry
 --                                      a search for the byte with which more than idx are counted goes on from there
 use Rattle.std.specs.Prelude.{ℕ, ◌≡◌, ◌+◌, ◌-◌, ◌*◌, ◌<◌, ◌≤◌, List, drop, length, slice_index, sum}
@@ -54,6 +56,12 @@ FitsIn counted n = (place : ℕ) → place ≤ n → counted place ≤ n
 pub record IsSteady (counted : ℕ → ℕ) (n : ℕ) : Type 0 where
   pub fits : FitsIn counted n
   pub near : (at more : ℕ) → at + more ≤ n → counted (at + more) ≤ counted at + more + 1
+
+-- From the place `byte` on a count goes on: before it `count` are counted, which is the sum of `each` place's, and the chunk
+-- before it hands on that carry.
+pub record CountsOn {C : Type 0} (each : ℕ → ℕ) (carries : ℕ → C → Type 0) (byte count : ℕ) (carry : C) : Type 0 where
+  pub counted : count ≡ sum_below each byte
+  pub carried : carries byte carry
 
 -- From the place `byte` on a search looks for the byte with which more than idx are counted: before it `count` are, no more
 -- than idx, and the chunk before it hands on that carry.

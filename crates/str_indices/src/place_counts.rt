@@ -2,7 +2,7 @@
 //!
 //! What hands lanes back is inlined, also where a function is long: else a chunk would go through memory each time.
 ghost use Rattle.std.specs.Prelude.{◌≡◌, ℕ, ◌+◌, ◌-◌, ◌*◌, ◌/◌, ◌<◌, ◌≤◌, ◌⊎◌, List, length, slice_index, take, drop};
-ghost use Rattle.str_indices.specs.Prelude.{byte_before, sum_below, AddsUp, FitsIn, HasLanes, HasLaterLanes, IsHandedOn, Reads, SearchesOn};
+ghost use Rattle.str_indices.specs.Prelude.{byte_before, sum_below, AddsUp, CountsOn, FitsIn, HasLanes, HasLaterLanes, IsHandedOn, Reads, SearchesOn};
 
 use byte_chunk::{ByteChunk, Probe};
 
@@ -95,11 +95,10 @@ pub(crate) fn count_chunks<
     requires ordered { from.byte ≤ to }
     requires seen { (to ≤ end) × (end ≤ length probe.old.text) }
     requires fits { FitsIn (sum_below (C.counted_at end probe.old.text)) (length probe.old.text) }
-    requires counted { from.count ≡ sum_below (C.counted_at end probe.old.text) from.byte }
-    requires carried { C.carries probe.old.text from.byte from.carry }
+    requires counts { CountsOn (C.counted_at end probe.old.text) (C.carries probe.old.text) from.byte from.count from.carry }
     ensures reached { (from.byte ≤ result.byte) × (result.byte ≤ to) × (to < result.byte + T.SIZE) }
-    ensures counted { result.count ≡ sum_below (C.counted_at end probe.old.text) result.byte }
-    ensures carried { C.carries probe.old.text result.byte result.carry }
+    ensures counts { CountsOn (C.counted_at end probe.old.text) (C.carries probe.old.text) result.byte result.count
+        result.carry }
     ensures reads { Reads probe.old probe.new from.byte 0 ((result.byte - from.byte) / T.SIZE) 0 }
 {
     let size = T::SIZE;
@@ -177,11 +176,10 @@ fn count_in_groups<C: PlaceCounts<T>, T: ByteChunk, const GROUP: usize>(
     requires summable { chunks * C.MOST ≤ T.MAX_ACC }
     requires seen { (from.byte + chunks * T.SIZE ≤ end) × (end ≤ length probe.old.text) }
     requires fits { FitsIn (sum_below (C.counted_at end probe.old.text)) (length probe.old.text) }
-    requires counted { from.count ≡ sum_below (C.counted_at end probe.old.text) from.byte }
-    requires carried { C.carries probe.old.text from.byte from.carry }
+    requires counts { CountsOn (C.counted_at end probe.old.text) (C.carries probe.old.text) from.byte from.count from.carry }
     ensures byte { result.byte ≡ from.byte + chunks * T.SIZE }
-    ensures counted { result.count ≡ sum_below (C.counted_at end probe.old.text) result.byte }
-    ensures carried { C.carries probe.old.text result.byte result.carry }
+    ensures counts { CountsOn (C.counted_at end probe.old.text) (C.carries probe.old.text) result.byte result.count
+        result.carry }
     ensures reads { Reads probe.old probe.new from.byte 0 chunks 0 }
 {
     prove!(end <= probe.len());

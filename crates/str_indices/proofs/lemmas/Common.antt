@@ -20,7 +20,7 @@ pub use Rattle.byte_chunk.specs.ProbeState.{ProbeState}
 pub use Rattle.str_indices.specs.Breaks.{is_crlf, ends_separator, is_separator, is_break, narrow_break_at, next_line_at, separator_at, break_at, breaks_counted_before}
 pub use Rattle.str_indices.specs.Bytes.{sum_below, flag, mark, passing_before, is_trailing, is_leading, begins_four_bytes, units_begun, units_before, is_line_feed, is_carriage_return, byte_before, starts_break, break_start, breaks_before, is_middle}
 pub use Rattle.str_indices.specs.Joins.{ends_in_return, starts_with_feed, joins_crlf, seam_loss}
-pub use Rattle.str_indices.specs.Lanes.{HasLanes, HasLaterLanes, IsChunk, AddsUp, CountsUpTo, FitsIn, IsSteady, SearchesOn}
+pub use Rattle.str_indices.specs.Lanes.{HasLanes, HasLaterLanes, IsChunk, AddsUp, CountsUpTo, FitsIn, IsSteady, CountsOn, SearchesOn}
 pub use Rattle.str_indices.specs.Reads.{Reads, leading_bytes, pass_turns, pass_loads}
 pub use Rattle.str_indices.specs.Relations.{IsBoundary, IsEndOf, IsCrlfMiddle, IsBreakEnd, IsCharacterEnd, IsEnd, IsGreatestWeighed, IsGreatestWithin, IsLongestCut}
 pub use Rattle.str_indices.specs.SchemeGroups.{IsLineScheme, IsCharacterScheme}

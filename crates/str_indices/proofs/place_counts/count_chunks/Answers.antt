@@ -9,8 +9,7 @@ rounds-preserved g c =
     record {
       from_low = omega (arith, so_far.from_low, round.byte);
       to_high = omega (arith, here, round.byte);
-      counted = rw so_far.reads.text_kept at round.counted;
-      carried = rw so_far.reads.text_kept at round.carried;
+      counts = rw so_far.reads.text_kept at round.counts;
       reads = group_joined round.byte g.met.T.ByteChunk.lawful.least so_far.from_low so_far.reads round.reads;
     }
 

@@ -5,7 +5,7 @@ pub groups-init : goal.groups-init
 groups-init g c = record {
   place = omega arith;
   lanes = as_many (omega arith) (nothing_added c.zero-lanes.ensures);
-  carried = c.requires.carried;
+  carried = c.requires.counts.carried;
   reads = weaken (nothing c.args.probe.now c.args.from.byte) (omega arith) (omega arith) (omega arith) (omega arith);
 }
 
@@ -84,23 +84,22 @@ overflow_add-result-2 g c =
     {sums = g.T.ByteChunk.lanes c.add.result} (search (c.add.ensures, sums_exchanged)) in
     let fits = c.requires.fits (c.args.from.byte + c.args.chunks * g.T.ByteChunk.SIZE)
     (omega (arith, c.requires.seen)) in
-    omega (arith, lanes.added, c.sum_bytes.ensures, c.requires.counted, fits, c.len.ensures.len)
+    omega (arith, lanes.added, c.sum_bytes.ensures, c.requires.counts.counted, fits, c.len.ensures.len)
 
-pub returns-clause-counted : goal.returns-clause-counted
-returns-clause-counted g c =
+pub returns-clause-counts : goal.returns-clause-counts
+returns-clause-counts g c =
     let so_far = c.groups.invariant in
+    let all = groups_and_rest _ _ c.groups.auto.counter-end c.groups-test.false in
     let lanes = parts_added {chunks = c.args.chunks} so_far.lanes (sym so_far.place)
-    (rw so_far.reads.text_kept at c.add_chunks-single.ensures.lanes)
-    (groups_and_rest _ _ c.groups.auto.counter-end c.groups-test.false)
+    (rw so_far.reads.text_kept at c.add_chunks-single.ensures.lanes) all
     {sums = g.T.ByteChunk.lanes c.add.result} (search (c.add.ensures, sums_exchanged)) in
-    rw c.SIZE-2.ensures (counted_there (sum_below (g.C.PlaceCounts.counted_at c.args.end c.args.probe.now.text))
-    (c.args.from.byte + c.args.chunks * g.T.ByteChunk.SIZE) (omega arith)
-    (omega (arith, lanes.added, c.sum_bytes.ensures, c.requires.counted)))
-
-pub returns-clause-carried : goal.returns-clause-carried
-returns-clause-carried g c =
-    let so_far = c.groups.invariant in
-    rw c.SIZE-2.ensures (subst (λ at. g.C.PlaceCounts.carries c.args.probe.now.text at c.add_chunks-single.result.carry)
-    (parts_end c.args.from.byte (c.groups.counter * g.row.GROUP) _ g.T.ByteChunk.SIZE {chunks = c.args.chunks}
-    (groups_and_rest _ _ c.groups.auto.counter-end c.groups-test.false) (sym so_far.place) ∙ omega arith)
-    (rw so_far.reads.text_kept at c.add_chunks-single.ensures.carried))
+    let text = c.args.probe.now.text in
+    rw c.SIZE-2.ensures (record {
+      counted = counted_there (sum_below (g.C.PlaceCounts.counted_at c.args.end text))
+          (c.args.from.byte + c.args.chunks * g.T.ByteChunk.SIZE) (omega arith)
+          (omega (arith, lanes.added, c.sum_bytes.ensures, c.requires.counts.counted));
+      carried = subst (λ at. g.C.PlaceCounts.carries text at c.add_chunks-single.result.carry)
+          (parts_end c.args.from.byte (c.groups.counter * g.row.GROUP) _ g.T.ByteChunk.SIZE {chunks = c.args.chunks} all
+          (sym so_far.place) ∙ omega arith)
+          (rw so_far.reads.text_kept at c.add_chunks-single.ensures.carried);
+    })
