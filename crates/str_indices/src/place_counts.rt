@@ -101,6 +101,7 @@ pub(crate) fn count_chunks<
         result.carry }
     ensures reads { Reads probe.old probe.new from.byte 0 ((result.byte - from.byte) / T.SIZE) 0 }
 {
+    prove!(end <= probe.len());
     let size = T::SIZE;
     let most = chunks_of_round::<C, T, GROUP>();
     let mut at = from;
