@@ -3,7 +3,7 @@
 
 A wrong body is tried at one implementation of a call of `ByteChunk` and at one half of the C library. That stands for the
 others where these have the same clauses. So no implementation of the trait may state a clause of its own, which would
-take the place of the trait's; and the exports of the wide half and of the browser must have those of the narrow half.
+take the place of the trait's; and the exports of the wide half must have those of the narrow half, which the browser's are.
 Both searches are tried on edited texts too, in which they must find the fault. The last line printed is
 'N passed, M failed'.
 """
@@ -14,16 +14,15 @@ import sys
 from tally import Tally
 
 ROOT = pathlib.Path(__file__).resolve().parents[2]
-NARROW = ROOT / "crates/str_indices_c/src/lib.rt"
-OTHERS = {
-    ROOT / "crates/str_indices_c_wide/src/lib.rt": "wide",
-    ROOT / "bindings/web/exports.rt.txt": "browser",
-}
-# the positions; for the browser the file of the narrow half is taken as it is
-NARROW_POSITIONS = ROOT / "crates/str_indices_c/src/positions.rt"
-WIDE_POSITIONS = ROOT / "crates/str_indices_c_wide/src/positions.rt"
-# the narrow half alone has it, and the browser; no half of sixteen lanes or thirty-two is concerned
-WITHOUT_CHUNKS = {"wide": {"is_utf8"}, "browser": set()}
+NARROW = ROOT / "crates/str_indices_c/src"
+WIDE = ROOT / "crates/str_indices_c_wide/src"
+# the narrow half alone has it: no half of sixteen lanes or thirty-two is concerned
+WITHOUT_CHUNKS = {"is_utf8"}
+# each file of exports, how many the narrow half has there, and what one of its clauses is exchanged for
+FILES = [
+    ("lib.rt", 17, ("count Lf ", "count Crlf ")),
+    ("positions.rt", 13, ("position_at Utf8 ", "position_at Utf16 ")),
+]
 
 IMPL = re.compile(r"^impl ByteChunk for .*?^\}", re.MULTILINE | re.DOTALL)
 CLAUSE = re.compile(r"^\s+(requires|ensures)\b", re.MULTILINE)
@@ -51,33 +50,23 @@ def try_chunks(tally):
         tally.result(own_clauses(edited) > 0, f"{name} with a clause is refused")
 
 
-def try_exports(tally):
-    narrow = exports(NARROW.read_text(encoding="utf-8"))
-    tally.result(len(narrow) == 17, f"the narrow half has {len(narrow)} exports")
-    for path, half in OTHERS.items():
-        text = path.read_text(encoding="utf-8")
-        wanted = {name: clauses for name, clauses in narrow.items() if name not in WITHOUT_CHUNKS[half]}
-        tally.result(exports(text) == wanted, f"{path.relative_to(ROOT)} has the clauses of the narrow half")
-        for old, new in [("count Lf ", "count Crlf "), ("    ensures boundary", "    ensures limits")]:
-            edited = text.replace(old, new, 1)
-            tally.result(edited != text and exports(edited) != wanted, f"{path.relative_to(ROOT)} with {new.strip()} is refused")
-
-
-def try_positions(tally):
-    wanted = exports(NARROW_POSITIONS.read_text(encoding="utf-8"))
-    tally.result(len(wanted) == 13, f"the narrow half has {len(wanted)} exports of positions")
-    text = WIDE_POSITIONS.read_text(encoding="utf-8")
-    tally.result(exports(text) == wanted, f"{WIDE_POSITIONS.relative_to(ROOT)} has the clauses of the narrow half")
-    for old, new in [("position_at Utf8 ", "position_at Utf16 "), ("    ensures boundary", "    ensures limits")]:
+def try_exports(tally, name, number, exchange):
+    narrow = exports((NARROW / name).read_text(encoding="utf-8"))
+    tally.result(len(narrow) == number, f"the narrow half has {len(narrow)} exports in {name}")
+    path = WIDE / name
+    text = path.read_text(encoding="utf-8")
+    wanted = {export: clauses for export, clauses in narrow.items() if export not in WITHOUT_CHUNKS}
+    tally.result(exports(text) == wanted, f"{path.relative_to(ROOT)} has the clauses of the narrow half")
+    for old, new in [exchange, ("    ensures boundary", "    ensures limits")]:
         edited = text.replace(old, new, 1)
-        tally.result(edited != text and exports(edited) != wanted, f"{WIDE_POSITIONS.relative_to(ROOT)} with {new.strip()} is refused")
+        tally.result(edited != text and exports(edited) != wanted, f"{path.relative_to(ROOT)} with {new.strip()} is refused")
 
 
 def main():
     tally = Tally()
     try_chunks(tally)
-    try_exports(tally)
-    try_positions(tally)
+    for name, number, exchange in FILES:
+        try_exports(tally, name, number, exchange)
     return tally.end()
 
 

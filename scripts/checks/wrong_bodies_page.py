@@ -18,7 +18,7 @@ where the toolchain's gate tries them too, by the whole crate; the others stand 
 written by `scripts/checks/wrong_bodies.py --write`, and the gate fails where it is another.
 
 Where a call has many implementations, it has a wrong body for each way of computing it: by an array, by a number, by a
-vector. The same goes for the exports: those of the wide half and of the browser have none of their own.
+vector. The same goes for the exports: those of the wide half have none of their own, and a browser has the narrow half's.
 `scripts/checks/same_clauses.py` searches their texts: all have the clauses of the ones that are tried.
 """
 
