@@ -11,7 +11,7 @@ walk of its own would still be proved. Of each module one edit is tried at once.
 import sys
 
 from crate_copies import ROOT
-from refusals import Edit, try_all
+from refusals import Edit, Trial
 from tally import Tally
 
 CASES = ROOT / "refusals/own-walk"
@@ -27,15 +27,24 @@ def grouped(edits):
     return [[of_file[at] for of_file in by_file.values() if at < len(of_file)] for at in range(most)]
 
 
+def edits_of():
+    """The edits of each crate."""
+    return {folder.name: [Edit(path) for path in sorted(folder.glob("*.edit"))] for folder in sorted(CASES.iterdir())}
+
+
+def trial(cases):
+    return Trial({crate: grouped(edits) for crate, edits in cases.items()}, nothing_else=True)
+
+
 def main():
     tally = Tally()
-    cases = {folder.name: [Edit(path) for path in sorted(folder.glob("*.edit"))] for folder in sorted(CASES.iterdir())}
+    cases = edits_of()
     for crate, edits in cases.items():
         for edit in edits:
             (_, old, new), = edit.changes
             keeps = old.split("{")[0] == new.split("{")[0] and new.endswith("{ result ≡ result }")
             tally.result(keeps, f"own-walk {crate} {edit.name} strikes a clause and keeps its name")
-    for good, told in try_all({crate: grouped(edits) for crate, edits in cases.items()}, nothing_else=True):
+    for good, told in trial(cases).run():
         tally.result(good, f"own-walk {told}")
     return tally.end()
 

@@ -5,19 +5,20 @@ failure. scripts/least.txt has the least number of what is tried, of each script
 """
 import pathlib
 import re
+from typing import Optional, Tuple
 
 LEAST = pathlib.Path(__file__).resolve().parents[1] / "least.txt"
 SUMS = re.compile(r"([0-9]+) passed, ([0-9]+) failed(?:, ([0-9]+) skipped)?")
 
 
-def least(name):
+def least(name: str) -> int:
     """The least number of what is tried under that name; a name that the table has not is an error."""
     lines = LEAST.read_text(encoding="utf-8").splitlines()
     numbers = {line.partition(" ")[2]: line.partition(" ")[0] for line in lines if not line.startswith("#")}
     return int(numbers[name])
 
 
-def sums_of(output):
+def sums_of(output: str) -> Optional[Tuple[int, ...]]:
     """What passed, failed and was left out, by the last line of an output; None where that says nothing of it."""
     lines = output.rstrip().splitlines()
     found = SUMS.fullmatch(lines[-1]) if lines else None
@@ -25,28 +26,28 @@ def sums_of(output):
 
 
 class Tally:
-    def __init__(self):
+    def __init__(self) -> None:
         self.passed = 0
         self.failed = 0
         self.skipped = 0
 
-    def result(self, right, line):
+    def result(self, right: bool, line: str) -> bool:
         """Tells and counts one result, and answers whether it is right."""
         self.passed += right
         self.failed += not right
         print(f"{'ok' if right else 'FAILED'}: {line}", flush=True)
         return right
 
-    def enough(self, name, number, line):
+    def enough(self, name: str, number: int, line: str) -> bool:
         """One result: whether as many were right as the table wants under that name."""
         return self.result(number >= least(name), f"{line}: {number} of at least {least(name)}")
 
-    def leave_out(self, number, line):
+    def leave_out(self, number: int, line: str) -> None:
         """Tells and counts results that are left out, with the reason."""
         self.skipped += number
         print(f"skipped {number}: {line}", flush=True)
 
-    def end(self):
+    def end(self) -> int:
         """The last line; the answer is the script's exit status."""
         left_out = f", {self.skipped} skipped" if self.skipped else ""
         print(f"{self.passed} passed, {self.failed} failed{left_out}")

@@ -1,21 +1,21 @@
 #!/usr/bin/env python3
 """Tries wrong bodies: each must be refused by the function, and at the clause, that it names.
 
-A wrong body is an edit, as refusals.py reads them, of crates/CRATE/must-fail, which the toolchain's gate tries too and
-where it takes any refusal, or of refusals/bodies/CRATE. It fails where another function alone is refused, where none is,
-where another goal is open, and where only a name in a proof file is no longer there.
+A wrong body is an edit of refusals/bodies/CRATE, as refusals.py reads them. It fails where another function alone is
+refused, where none is, where another goal is open, and where only a name in a proof file is no longer there. The few of
+crates/CRATE/must-fail are tried by the gate of the toolchain, and gate_edits.py reads what that tells of them.
 
 Wrong bodies of several functions are tried at once, each by its own function: of another function a proof sees the
 contract alone. What changes more than the body of the named function is tried alone. docs/WRONG_BODIES.md lists them all,
-and must be what 'wrong_bodies.py --write' writes. A list of names tries those alone. The last line printed is
-'N passed, M failed'.
+and must be what 'wrong_bodies.py --write' writes. A list of names tries those alone, those of must-fail/ too. The last
+line printed is 'N passed, M failed'.
 """
 import re
 import sys
 
 import wrong_bodies_page
 from crate_copies import ROOT, stands_on
-from refusals import Edit, try_all
+from refusals import Edit, Trial, apply_together
 from tally import Tally
 
 # how many are tried at once
@@ -31,9 +31,9 @@ def edits_of(crate):
     return [Edit(path) for folder in folders for path in sorted(folder.glob("*.edit"))]
 
 
-def is_definition(edit):
-    """Whether the edit changes a definition, which lemmas refuse and no function: the toolchain's gate alone tries it."""
-    return not edit.function and all(file.startswith("specs/") for file, _, _ in edit.changes)
+def is_of_the_gate(edit):
+    """Whether the gate of the toolchain tries the edit."""
+    return edit.path.parent.name == "must-fail"
 
 
 def changes_a_body(crate, edit):
@@ -49,17 +49,32 @@ def changes_a_body(crate, edit):
     return True
 
 
+def fits(crate, group, edit):
+    """Whether the edit can be tried with the group: not too many, none of the same function, and each can be made."""
+    is_alone = edit.function not in [other.function for other in group]
+    return len(group) < MOST and is_alone and apply_together(ROOT / "crates" / crate, [*group, edit])
+
+
 def grouped(crate, edits):
     """The edits in groups that are tried at once, of one edit a function, and each other one alone."""
     groups = []
     for edit in [edit for edit in edits if changes_a_body(crate, edit)]:
-        fitting = (it for it in groups if len(it) < MOST and edit.function not in [other.function for other in it])
-        group = next(fitting, None)
+        group = next((group for group in groups if fits(crate, group, edit)), None)
         if group is None:
             group = []
             groups.append(group)
         group.append(edit)
     return groups + [[edit] for edit in edits if not changes_a_body(crate, edit)]
+
+
+def trial(edits, names=()):
+    """The edits that are tried: all but those that the gate of the toolchain tries, or those of these names."""
+    groups = {}
+    for crate, them in edits.items():
+        tried = [edit for edit in them if (edit.name in names if names else not is_of_the_gate(edit))]
+        if tried:
+            groups[crate] = grouped(crate, tried)
+    return Trial(groups)
 
 
 def main(words):
@@ -71,12 +86,7 @@ def main(words):
     tally = Tally()
     if not names:
         tally.result(wrong_bodies_page.is_written(edits), "docs/WRONG_BODIES.md lists them")
-    groups = {}
-    for crate, them in edits.items():
-        tried = [edit for edit in them if not is_definition(edit) and (not names or edit.name in names)]
-        if tried:
-            groups[crate] = grouped(crate, tried)
-    for good, told in try_all(groups):
+    for good, told in trial(edits, names).run():
         tally.result(good, told)
     return tally.end()
 

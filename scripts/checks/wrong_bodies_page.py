@@ -14,8 +14,9 @@ and that the prover must refuse. If one of them were still proved, the contract 
 there: a clause of that function, its type's invariant, or what a call in it asks. It does not count where another
 function is refused, or where a proof file names what is no longer there. Where the row names a proof, that goes step by
 step and names no clause; it would refuse any other body too. Those marked *gate* stand in `must-fail/` of their crate,
-where the toolchain's gate tries them too, by the whole crate; the others stand in `refusals/bodies/`. This page is
-written by `scripts/checks/wrong_bodies.py --write`, and the gate fails where it is another.
+where the toolchain's gate tries them by the whole crate, and `scripts/checks/gate_edits.py` reads what it tells of them; the
+others stand in `refusals/bodies/`. This page is written by `scripts/checks/wrong_bodies.py --write`, and the gate fails
+where it is another.
 
 Where a call has many implementations, it has a wrong body for each way of computing it: by an array, by a number, by a
 vector. The same goes for the exports: those of the wide half have none of their own, and a browser has the narrow half's.
@@ -86,7 +87,7 @@ def link(edit):
 
 
 def row(edit):
-    gate = ", *gate*" if "must-fail" in edit.path.parts else ""
+    gate = ", *gate*" if edit.path.parent.name == "must-fail" else ""
     return f"| `{edit.function}` | {told_goal(edit.goal)} | {link(edit)}{gate} |"
 
 

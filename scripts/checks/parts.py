@@ -1,0 +1,153 @@
+"""The parts of the gate that build and run what users have, with all that each of them reads.
+
+Each runs in a copy of the repository that holds only what is said here of it: a file that nobody named is missing there,
+so the part fails. What passed with nothing left out is kept, as kept.py says, by a name that is the sum of those files, of
+the crates with the toolchain, of the tools, and of the environment, which has no other variables than those named here.
+"""
+import ast
+import functools
+import os
+import pathlib
+import shutil
+import subprocess
+import sys
+from typing import Dict, List, NamedTuple, Tuple
+
+from crate_copies import crate_lines, stands_on, with_all_below
+from kept import crate_sum, files_of_crate, sum_of, sum_of_file, sums_of_files
+
+SCRIPTS = "scripts/checks"
+# what no part reads: what is made, and pages
+IGNORED = {".git", "out", "target", "__pycache__", "Cargo.lock"}
+PAGES = ".md"
+# the variables that a part has; beside them those by which the toolchain is told something
+VARIABLES = ["PATH", "HOME", "USER", "LANG", "LC_ALL", "TMPDIR", "RUSTUP_HOME", "CARGO_HOME", "STR_INDICES_ORIGINAL"]
+ORIGINAL = "STR_INDICES_ORIGINAL"
+# which packages there are, and which version of each
+PACKAGES = pathlib.Path("/var/lib/dpkg/status")
+# what says of a tool what it is, where the file on the path only hands on to it
+VERSIONS = {"cargo": ["cargo", "-vV"], "rustc": ["rustc", "-vV"]}
+
+
+class Part(NamedTuple):
+    """A script, after how many minutes it is taken to hang, and what it reads beside the scripts that it takes in: the
+    crates with all below them, files by patterns from the top, and the tools."""
+
+    script: str
+    minutes: int
+    crates: Tuple[str, ...]
+    files: Tuple[str, ...] = ()
+    tools: Tuple[str, ...] = ()
+
+
+FOR_C = ("str_indices_c", "str_indices_c_wide", "text_rope_c")
+BINUTILS = ("ar", "ld", "nm", "objcopy", "readelf")
+SHELL = ("bash", "sh", "install", "cmp")
+RUST = ("cargo", "rustc", "cc", "pkg-config")
+# what builds the libraries for C
+FUNCTIONS = tuple(f"bindings/c/{name}" for name in ("build_library", "choose_half.c", "include/*"))
+ROPE = tuple(f"bindings/c/{name}" for name in ("build_rope", "heap.c", "include/*"))
+CARGO_CRATES = (*(f"bindings/{name}/**/*" for name in ("rust", "positions", "rope", "original")), "bindings/find_library.rs")
+
+PARTS = (
+    Part("refused_growths.py", 60, ("piece_text", "text_rope"), ("tests/refused_*.rt.txt",)),
+    Part("test_program.py", 60, ("idx",), (), SHELL),
+    Part("failing_calls.py", 60, ("idx",), ("tests/failing_calls.c",), ("cc",)),
+    Part("test_c.py", 60, FOR_C, ("bindings/c/**/*",),
+         (*SHELL, *BINUTILS, "cc", "c++", "pkg-config", "cmake", "make", "valgrind", "qemu-x86_64")),
+    Part("test_rust.py", 60, FOR_C, (*FUNCTIONS, *ROPE, *CARGO_CRATES, "examples/rust/**/*", "bench/Cargo.toml",
+         "bench/build.rs", "bench/run", "bench/picture.py", "bench/src/**/*"), (*SHELL, *BINUTILS, *RUST)),
+    Part("test_browser.py", 60, ("str_indices_c", "position_mapper"), ("bindings/web/**/*", f"{SCRIPTS}/crate_copies.py"),
+         ("node", "chromium", "chromium-browser", "google-chrome", "bash")),
+    Part("test_positions.py", 30, ("str_indices_c", "str_indices_c_wide", "rope_positions"),
+         (*FUNCTIONS, "tests/rope_positions.rt.txt"), (*SHELL, *BINUTILS, "cc")),
+    Part("test_editor.py", 60, FOR_C, (*FUNCTIONS, *ROPE, *CARGO_CRATES, "examples/language_server/**/*", "tests/editor/*"),
+         (*SHELL, *BINUTILS, *RUST, "nvim")),
+)
+
+
+def scripts_of(root: pathlib.Path, script: str) -> List[pathlib.Path]:
+    """The script, and those of its folder that it takes in, directly or by another."""
+    folder = root / SCRIPTS
+    found, left = [], [folder / script]
+    while left:
+        path = left.pop()
+        found.append(path)
+        names = []
+        for node in ast.walk(ast.parse(path.read_text(encoding="utf-8"))):
+            names += [name.name for name in node.names] if isinstance(node, ast.Import) else []
+            names += [node.module] if isinstance(node, ast.ImportFrom) and node.module else []
+        paths = [folder / f"{name}.py" for name in dict.fromkeys(names)]
+        left += [other for other in paths if other.is_file() and other not in [*found, *left]]
+    return found
+
+
+def below(part: Part) -> List[str]:
+    """The crates of the part and all below them, lowest first."""
+    return list(dict.fromkeys(crate for name in part.crates for crate in with_all_below(name, stands_on())))
+
+
+def is_source(path: pathlib.PurePath) -> bool:
+    """Whether a path below the top is none that is made, and no page."""
+    return not IGNORED & set(path.parts) and path.suffix != PAGES
+
+
+def files(root: pathlib.Path, part: Part) -> List[pathlib.Path]:
+    """All files that the part reads but those of crates."""
+    named = [path for pattern in part.files for path in root.glob(pattern)]
+    scripts = [*scripts_of(root, part.script), root / "scripts/least.txt", root / "HANDLES"]
+    found = [path for path in [*named, *scripts] if path.is_file() or path.is_symlink()]
+    return sorted({path for path in found if is_source(path.relative_to(root))})
+
+
+def environment() -> Dict[str, str]:
+    """The variables that a part has."""
+    return {
+        name: value for name, value in os.environ.items()
+        if name in VARIABLES or name.startswith(("LC_", "RT_", "RATTLE_"))
+    }
+
+
+@functools.lru_cache(maxsize=None)
+def tool(name: str) -> Tuple[str, ...]:
+    """What a tool is: where it lies, a sum of it, and what it says of itself; nothing where it is not on the path."""
+    found = shutil.which(name)
+    if not found:
+        return ()
+    says = [name, *VERSIONS[name][1:]] if name in VERSIONS else []
+    said = subprocess.run(says, capture_output=True, text=True).stdout if says else ""
+    return os.path.realpath(found), sum_of_file(pathlib.Path(os.path.realpath(found))), said
+
+
+@functools.lru_cache(maxsize=None)
+def machine() -> str:
+    """A sum of what is installed, of the interpreter of the scripts, and of what the processor has."""
+    packages = sum_of_file(PACKAGES) if PACKAGES.is_file() else ""
+    told = pathlib.Path("/proc/cpuinfo").read_text(encoding="utf-8").splitlines()
+    return sum_of(packages, sys.version, next((line for line in told if line.startswith("flags")), ""))
+
+
+@functools.lru_cache(maxsize=None)
+def original() -> list:
+    """The files of the original's source, where a variable names its folder."""
+    folder = pathlib.Path(os.environ.get(ORIGINAL, ""))
+    return sums_of_files(folder, folder.rglob("*")) if os.environ.get(ORIGINAL) else []
+
+
+def name_of(root: pathlib.Path, part: Part) -> str:
+    """The name under which the part is kept, as it stands below that root."""
+    crates = [crate_sum(root, crate) for crate in part.crates]
+    tools = [(name, tool(name)) for name in sorted(set(part.tools))]
+    variables = sorted((name, value) for name, value in environment().items() if name != "TMPDIR")
+    return sum_of(part.script, sums_of_files(root, files(root, part)), crates, tools, machine(), variables, original())
+
+
+def copy(root: pathlib.Path, part: Part, folder: pathlib.Path) -> None:
+    """Puts what the part reads, and nothing else, into the folder, as a repository of its own."""
+    crates = below(part)
+    for path in [*files(root, part), *(file for crate in crates for file in files_of_crate(root, crate))]:
+        place = folder / path.relative_to(root)
+        place.parent.mkdir(parents=True, exist_ok=True)
+        shutil.copy2(path, place, follow_symlinks=False)
+    (folder / "crates.txt").write_text("".join(f"{crate_lines()[crate]}\n" for crate in crates), encoding="utf-8")
+    subprocess.run(["git", "init", "-q", "."], cwd=folder, check=True)
