@@ -25,6 +25,7 @@ RATTLE = {"rust", "antt"}
 OTHERS = {"sh", "c", "js", "toml", "text"}
 
 BLOCK = re.compile(r"^```(\w*)\n(.*?)^```$", re.MULTILINE | re.DOTALL)
+FENCE = re.compile(r"^\s*(?:```|~~~)", re.MULTILINE)
 FILE = re.compile(r"(?://|--) (crates/[\w/+.-]+)")
 LEFT_OUT = re.compile(r"(?://|--) \.\.(?: .*)?")
 ITEM = re.compile(r"^\s*(?:pub(?:\([\w ]+\))? )?(?:fn|impl|struct|enum|trait|const|mod|use|ghost)\b", re.MULTILINE)
@@ -225,7 +226,10 @@ def is_needed(lines, number):
 
 def try_page(tally, path):
     name = path.relative_to(ROOT)
-    for number, (language, block) in enumerate(BLOCK.findall(path.read_text(encoding="utf-8")), start=1):
+    text = path.read_text(encoding="utf-8")
+    blocks = BLOCK.findall(text)
+    tally.result(len(FENCE.findall(text)) == 2 * len(blocks), f"{name} has no fences but those of {len(blocks)} blocks")
+    for number, (language, block) in enumerate(blocks, start=1):
         fault = fault_of(language, block)
         if language in RATTLE or fault:
             tally.result(fault is None, f"{name}, block {number}" + (f": {fault}" if fault else ""))
