@@ -7,15 +7,15 @@
  * else: they write no memory, allocate none, keep nothing, and answer for
  * every text and every index.
  *
- * The library has each function twice, proved twice: over vectors of sixteen
- * bytes, its narrow half, and over vectors of thirty-two, its wide half. Which
- * one answers is chosen once, before main runs: for texts from 256 bytes on
- * the wide half, where the processor has what x86-64-v3 asks for (AVX2 and
- * more), and else the narrow half. The positions of str_indices_positions.h
- * go to the wide half from 1,536 bytes on. The environment variable
- * STR_INDICES_HALF, set to "narrow", leaves all texts to the narrow half, and
- * set to "wide" gives all of them to the wide half where the processor has it.
- * The answers are the same.
+ * The library has each count and each conversion twice, proved twice: over
+ * vectors of sixteen bytes, its narrow half, and over vectors of thirty-two,
+ * its wide half. Which one answers is chosen once, before main runs: for texts
+ * from 256 bytes on the wide half, where the processor has what x86-64-v3 asks
+ * for (AVX2 and more), and else the narrow half. The positions of
+ * str_indices_positions.h go to the wide half from 1,536 bytes on. The
+ * environment variable STR_INDICES_HALF, set to "narrow", leaves all texts to
+ * the narrow half, and set to "wide" gives all of them to the wide half where
+ * the processor has it. The answers are the same.
  *
  * A text is handed over as the address of its first byte and its length in
  * bytes. What the caller owes, in every call, and what nothing checks:
@@ -48,9 +48,8 @@ extern "C" {
  * here too. */
 bool str_indices_is_utf8(const char *text, size_t len);
 
-/* Whether the functions below, but for the four conversions that are named
- * above, answer for a text of `len` bytes by the wide half. A library that was
- * built without it answers false. */
+/* Whether the functions below answer for a text of `len` bytes by the wide
+ * half. A library that was built without it answers false. */
 bool str_indices_is_wide(size_t len);
 
 /*
