@@ -214,8 +214,37 @@ def try_crate_sums(folder: pathlib.Path) -> Results:
     os.environ["RT_SOMETHING"] = "1"
     yield kept.crate_sum(ROOT, "byte_chunk") != base["byte_chunk"], "another word for the toolchain is another sum"
     del os.environ["RT_SOMETHING"]
-    real, kept.toolchain = kept.toolchain, lambda: "another"
-    yield kept.crate_sum(ROOT, "byte_chunk") != base["byte_chunk"], "another toolchain is another sum"
+
+
+def kit_sum(kit: pathlib.Path) -> str:
+    """The sum of the toolchain whose command is found in that kit."""
+    path = os.environ["PATH"]
+    os.environ["PATH"] = f"{kit / 'bin'}:{path}"
+    kept.toolchain.cache_clear()
+    found = kept.toolchain()
+    os.environ["PATH"] = path
+    kept.toolchain.cache_clear()
+    return found
+
+
+def try_toolchains(folder: pathlib.Path) -> Results:
+    """What makes another toolchain of one."""
+    kit = folder / "kit"
+    for name in ["bin/rt", "bin/rattle", "KIT-ID", "rlibs/std.rlib", "logic_built/a"]:
+        (kit / name).parent.mkdir(parents=True, exist_ok=True)
+        (kit / name).write_text(name)
+        (kit / name).chmod(0o755)
+    first = kit_sum(kit)
+    shutil.copytree(kit, folder / "same")
+    yield kit_sum(folder / "same") == first, "the same kit in another folder has the same sum"
+    for name in ["bin/rattle", "KIT-ID", "rlibs/std.rlib"]:
+        (kit / name).write_text("another")
+        yield kit_sum(kit) != first, f"with another {name} it is another toolchain"
+        shutil.copy2(folder / "same" / name, kit / name)
+    yield kit_sum(kit) == first, "and the same again with what it had"
+    before = kept.crate_sum(ROOT, "byte_chunk")
+    real, kept.toolchain = kept.toolchain, lambda: first
+    yield kept.crate_sum(ROOT, "byte_chunk") != before, "another toolchain's entries are not taken"
     kept.toolchain = real
 
 
@@ -320,8 +349,8 @@ def try_verdicts(_: pathlib.Path) -> Results:
 
 
 GROUPS = [
-    try_readings, try_holes, try_goals, try_edits, try_gate, try_tally, try_crate_sums, try_entries, try_results, try_parts,
-    try_verdicts,
+    try_readings, try_holes, try_goals, try_edits, try_gate, try_tally, try_crate_sums, try_toolchains, try_entries,
+    try_results, try_parts, try_verdicts,
 ]
 
 
