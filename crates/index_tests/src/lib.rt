@@ -1,0 +1,12 @@
+//! Tests of chunks, indices and slices, as another crate calls them: tables of worked answers, and loops that compare the
+//! answers with a plain walk over the characters.
+//!
+//! They are a crate of their own, so that the libraries are proved without them.
+#![tactic(auto)]
+
+#[cfg(test)]
+mod chunks;
+#[cfg(test)]
+mod indices;
+#[cfg(test)]
+mod slices;

@@ -1,0 +1,10 @@
+use Rattle.std.proofs.Common.{◌∙◌, ap, chars}
+use Rattle.position_mapper.specs.Positions.{position_at}
+use Rattle.position_mapper.specs.declared.encodings.Encoding.TheVariants.{Utf16}
+use Rattle.piece_tests.proofs.positions.back_from_byte.Goals as goal
+
+pub returns : goal.returns
+returns c =
+    ap (λ p. p.line) c.position_of.ensures
+    ∙ ap (λ byte. (position_at Utf16 (chars c.args.text.now) byte).line) c.byte_of.ensures.answer
+    ∙ c.position_round_trip.ensures.line
