@@ -1,5 +1,5 @@
-use Rattle.piece_text.proofs.lemmas.{[], ◌∷◌, ◌∙◌, starts_text, line_feed, starts_with_feed-bytes}
-use Rattle.piece_text.proofs.summaries.starts_lf.Goals as goal
+use Rattle.text_summary.proofs.lemmas.{[], ◌∷◌, ◌∙◌, starts_text, line_feed, starts_with_feed-bytes}
+use Rattle.text_summary.proofs.summaries.starts_lf.Goals as goal
 
 pub returns : goal.returns
 returns c = starts_text c.starts_with.result (line_feed ∷ []) c.args.text.now c.starts_with.ensures.cases

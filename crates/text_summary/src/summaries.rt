@@ -1,11 +1,11 @@
 //! The summary of a text: its length, its counts, and how it starts and ends.
-ghost use Rattle.std.specs.Prelude.{◌≡◌, chars};
+ghost use Rattle.std.specs.Prelude.{◌≡◌, [], chars};
 ghost use Rattle.str_indices.specs.Joins.{starts_with_feed, ends_in_return};
 
 use crate::Scheme;
 use str_indices::{chars, lines, lines_crlf, lines_lf, utf16};
 
-/// What is known of a piece without its text.
+/// What is known of a text without its characters.
 #[derive(Clone, Copy)]
 pub struct Summary {
     /// How many bytes it has.
@@ -27,12 +27,15 @@ pub struct Summary {
 }
 
 impl Summary {
-    ghost use Rattle.piece_text.specs.Summaries.{summary_of, count_of};
+    ghost use Rattle.text_summary.specs.Summaries.{summary_of, count_of};
 
     /// The summary of a text.
     pub fn of(text: &str) -> Summary
         ensures { result ≡ summary_of (chars text.now) }
     {
+        if text.is_empty() {
+            return Summary::none();
+        }
         Summary {
             len: text.len(),
             chars: chars::count(text),
@@ -42,6 +45,22 @@ impl Summary {
             lines: lines::count_breaks(text),
             starts_lf: starts_lf(text),
             ends_cr: ends_cr(text),
+        }
+    }
+
+    /// The summary of the empty text.
+    pub fn none() -> Summary
+        ensures { result ≡ summary_of [] }
+    {
+        Summary {
+            len: 0,
+            chars: 0,
+            utf16: 0,
+            lf: 0,
+            crlf: 0,
+            lines: 0,
+            starts_lf: false,
+            ends_cr: false,
         }
     }
 
@@ -59,15 +78,15 @@ impl Summary {
     }
 }
 
-/// Whether the first character is LF.
-fn starts_lf(text: &str) -> bool
+/// Whether the first character of a text is LF.
+pub fn starts_lf(text: &str) -> bool
     ensures { result ≡ starts_with_feed (chars text.now) }
 {
     text.starts_with("\n")
 }
 
-/// Whether the last character is CR.
-fn ends_cr(text: &str) -> bool
+/// Whether the last character of a text is CR.
+pub fn ends_cr(text: &str) -> bool
     ensures { result ≡ ends_in_return (chars text.now) }
 {
     text.ends_with("\r")
