@@ -33,6 +33,7 @@ PROMISES = [
     ("Each call of a chunk answers lane by lane", "byte_chunk", r"(chunks|vectors)::.*", r".*", ""),
     ("A probe lends what it is asked for, and counts it once", "byte_chunk", r".*", r".*", ""),
     ("The program answers its words, and else says what is wrong", "idx", r".*", r".*", ""),
+    ("What a text weighs is known of two texts, of a changed one, and before a piece, by what each part weighs", "text_summary", r".*", r".*", ""),
     ("A text in pieces answers as the joined text, and a refusal changes nothing", "piece_text", r".*", r".*", ""),
     ("A rope answers as its text, changes it as asked, and a refusal changes nothing", "text_rope", r".*", r".*", ""),
     ("A position is a line and an offset on it, and back", "position_mapper", r".*", r".*", ""),

@@ -9,12 +9,11 @@ mod list;
 mod piece;
 mod queries;
 mod refusals;
-mod summaries;
 mod view;
 
 pub use list::PieceText;
 pub use queries::{count_in, from_in, to_in};
 pub use refusals::Refusal;
 pub use str_indices::Scheme;
-pub use summaries::Summary;
+pub use text_summary::Summary;
 pub use view::Pieces;

@@ -1,30 +1,11 @@
 //! The answers for the joined text, from the summaries of its pieces and the text of at most one.
-ghost use Rattle.std.specs.Prelude.{◌≡◌, ℕ, ◌+◌, ◌-◌, ◌<◌, ◌≤◌, List, length, take};
-ghost use Rattle.str_indices.specs.Text.{Text};
+ghost use Rattle.std.specs.Prelude.{◌≡◌, ℕ, ◌+◌, ◌-◌, ◌<◌, ◌≤◌, length, take};
 ghost use Rattle.str_indices.specs.Schemes.{count, from_byte_idx, to_byte_idx};
-ghost use Rattle.str_indices.specs.declared.Scheme.{Scheme};
-ghost use Rattle.str_indices.specs.Joins.{ends_in_return, starts_with_feed, seam_loss};
 ghost use Rattle.piece_text.specs.Pieces.{joined, piece_at};
-ghost use Rattle.piece_text.specs.Fronts.{IsFront};
+ghost use Rattle.text_summary.specs.Fronts.{IsFront};
 
 use crate::{Pieces, Scheme};
-
-/// What is known of the text before a piece: its bytes, its count, and whether it ends in CR.
-#[derive(Clone, Copy)]
-struct Front {
-    len: usize,
-    total: usize,
-    ends_cr: bool,
-}
-
-/// What a look at a piece tells.
-#[derive(Clone, Copy)]
-struct Look {
-    /// The count of the text before the piece, with what the seam takes off.
-    reached: usize,
-    /// What is known of the text before the next piece.
-    behind: Front,
-}
+use text_summary::{Front, Look};
 
 /// A piece, where it starts in the joined text, and which index in it is asked for.
 #[derive(Clone, Copy)]
@@ -42,7 +23,7 @@ pub fn count_in(p: &mut Pieces, s: Scheme) -> usize
     ensures looks_kept { p.old.looks ≤ p.new.looks }
     ensures reads { p.new.reads ≡ p.old.reads }
 {
-    let mut front = before_all();
+    let mut front = Front::none();
     for i in 0..p.len() {
         front = look_at(p, s, i, front).behind;
     }
@@ -58,7 +39,7 @@ pub fn from_in(p: &mut Pieces, s: Scheme, b: usize) -> usize
     ensures reads { p.new.reads ≤ p.old.reads + 1 }
     ensures reads_kept { p.old.reads ≤ p.new.reads }
 {
-    let mut front = before_all();
+    let mut front = Front::none();
     for i in 0..p.len() {
         let look = look_at(p, s, i, front);
         if b < look.behind.len {
@@ -98,7 +79,7 @@ fn piece_for(p: &mut Pieces, s: Scheme, k: usize) -> Asked
     ensures looks_kept { p.old.looks ≤ p.new.looks }
     ensures reads { p.new.reads ≡ p.old.reads }
 {
-    let mut front = before_all();
+    let mut front = Front::none();
     let mut asked = Asked {
         piece: 0,
         start: 0,
@@ -119,23 +100,12 @@ fn piece_for(p: &mut Pieces, s: Scheme, k: usize) -> Asked
     asked
 }
 
-/// What is known before the first piece.
-fn before_all() -> Front
-    ensures { (s : Scheme) (texts : List Text) → IsFront s texts 0 result }
-{
-    Front {
-        len: 0,
-        total: 0,
-        ends_cr: false,
-    }
-}
-
 /// Looks at piece `i`.
 fn look_at(p: &mut Pieces, s: Scheme, i: usize, front: Front) -> Look
     requires inside { i < length p.old.texts }
-    requires front { IsFront s p.old.texts i front }
+    requires front { IsFront s (joined (take i p.old.texts)) front }
     ensures state { p.new ≡ record p.old { looks = p.old.looks + 1 } }
-    ensures behind { IsFront s p.old.texts (i + 1) result.behind }
+    ensures behind { IsFront s (joined (take (i + 1) p.old.texts)) result.behind }
     ensures from_here { (b : ℕ) → front.len ≤ b → b < result.behind.len →
         from_byte_idx s (joined p.old.texts) b
         ≡ result.reached + from_byte_idx s (piece_at p.old.texts i) (b - front.len) }
@@ -147,26 +117,5 @@ fn look_at(p: &mut Pieces, s: Scheme, i: usize, front: Front) -> Look
         ≡ front.len + to_byte_idx s (piece_at p.old.texts i) (k - result.reached) }
 {
     let piece = p.summary(i);
-    let reached = front.total - lost_at_seam(s, front.ends_cr, piece.starts_lf);
-    let len = front.len + piece.len;
-    let total = reached + piece.count(s);
-    Look {
-        reached,
-        behind: Front {
-            len,
-            total,
-            ends_cr: piece.ends_cr,
-        },
-    }
-}
-
-/// How many breaks a seam takes off, by whether the text before it ends in CR and the text after it starts with LF.
-fn lost_at_seam(s: Scheme, ends_cr: bool, starts_lf: bool) -> usize
-    ensures { (a b : Text) → ends_cr ≡ ends_in_return a → starts_lf ≡ starts_with_feed b →
-        result ≡ seam_loss s a b }
-{
-    match s {
-        Scheme::Crlf | Scheme::Lines => usize::from(ends_cr && starts_lf),
-        Scheme::Chars | Scheme::Utf16 | Scheme::Lf => 0,
-    }
+    front.look(s, piece)
 }

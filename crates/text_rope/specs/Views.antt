@@ -3,7 +3,7 @@ use Rattle.std.specs.Prelude.{ℕ, ◌≡◌, ◌≢◌, ◌+◌, ◌^◌, ◌<�
 use Rattle.str_indices.specs.Text.{Text, size}
 use Rattle.piece_text.specs.Pieces.{joined, joined_size}
 use Rattle.piece_text.specs.Summaries.{summary_of}
-use Rattle.piece_text.specs.declared.summaries.Summary.{Summary}
+use Rattle.text_summary.specs.declared.summaries.Summary.{Summary}
 use Rattle.text_rope.specs.Shapes.{Seen, DifferByAtMost, fewest}
 use Rattle.text_rope.specs.declared.tree.Root.{Root}
 use Rattle.text_rope.specs.declared.tree.Root.TheVariants.{Leaf, Fork}

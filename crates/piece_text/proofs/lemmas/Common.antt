@@ -6,6 +6,7 @@ pub use Rattle.str_indices.proofs.lemmas.Callers.{IsCharBoundary-from_boundary, 
 pub use Rattle.str_indices.specs.Relations.{IsBoundary}
 pub use Rattle.str_indices.specs.Schemes.{count, from_byte_idx, to_byte_idx}
 pub use Rattle.str_indices.specs.Text.{Text, size, line_feed, carriage_return}
-pub use Rattle.piece_text.specs.Fronts.{IsFront}
 pub use Rattle.piece_text.specs.Pieces.{joined, joined_size, piece_at, as_pieces}
 pub use Rattle.piece_text.specs.Splits.{IsEdge, IsHalved, IsCut}
+pub use Rattle.text_summary.proofs.lemmas.Fronts.{TellsAt, tells_at}
+pub use Rattle.text_summary.specs.Fronts.{IsFront}

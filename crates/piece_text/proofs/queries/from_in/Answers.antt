@@ -4,7 +4,7 @@ use Rattle.piece_text.proofs.queries.from_in.Goals as goal
 -- nothing is before the first piece
 pub loop-i-init : goal.loop-i-init
 loop-i-init c =
-    let front = c.before_all-front.ensures c.args.s c.args.p.now.texts in
+    let front = c.none-front.ensures c.args.s in
     record { front = front; state = search rules; past = omega (arith, front.len) }
 
 -- the sum is the answer for the joined text

@@ -7,7 +7,7 @@ loop-i-init c =
     let s = c.args.s in
     let texts = c.args.p.now.texts in
     record {
-      front = c.before_all-front.ensures s texts;
+      front = c.none-front.ensures s;
       state = search rules;
       inside = c.requires;
       answer = omega (arith, to_byte_idx-le-size s [] c.args.k, to_byte_idx-zero s (piece_at texts 0));

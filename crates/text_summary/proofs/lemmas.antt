@@ -1,0 +1,12 @@
+pub mod Common
+pub mod Joining
+pub mod Summing
+pub mod Fronts
+pub mod Boundaries
+pub mod Changing
+pub use Common.*
+pub use Joining.*
+pub use Summing.*
+pub use Fronts.*
+pub use Boundaries.*
+pub use Changing.*

@@ -1,0 +1,126 @@
+-- A text with a part of it exchanged for another text.
+use Rattle.text_summary.proofs.lemmas.Common.{◌≡◌, ℕ, ◌+◌, ◌-◌, ◌≤◌, List, [], ◌++◌, take, drop, refl, arith, sym, ◌∙◌, ap, append_assoc, length-take-le, chars, IsUtf8, IsUtf8-take, Text, size, size-append, size-chars, chars-append, IsBoundary, IsCharBoundary-from_boundary, take-append-drop, IsReplaced}
+use Rattle.text_summary.proofs.lemmas.Boundaries.{parts_of, same_cut}
+
+-- the bytes of a text with those between two boundaries exchanged
+pub replaced_bytes : (bytes more whole : List ℕ) → IsUtf8 bytes → IsUtf8 more → (from to : ℕ) → from ≤ to
+    → IsBoundary (chars bytes) from → IsBoundary (chars bytes) to → whole ≡ take from bytes ++ (more ++ drop to bytes)
+    → IsReplaced (chars bytes) (chars whole) from to (chars more)
+replaced_bytes bytes more whole utf8 utf8_more from to order start end is =
+    let parts = parts_of (chars bytes) from to order start end in
+    let first = IsCharBoundary-from_boundary bytes utf8 from start in
+    let second = IsCharBoundary-from_boundary bytes utf8 to end in
+    let left = IsUtf8-take bytes from utf8 first in
+    let right = IsUtf8-take bytes to utf8 second in
+    let before : chars bytes ≡ chars (take from bytes) ++ chars (drop from bytes) =
+    ap chars (sym (take-append-drop from bytes)) ∙ chars-append (take from bytes) (drop from bytes) left in
+    let after : chars bytes ≡ chars (take to bytes) ++ chars (drop to bytes) =
+    ap chars (sym (take-append-drop to bytes)) ∙ chars-append (take to bytes) (drop to bytes) right in
+    let size_left = size-chars (take from bytes) left ∙ length-take-le from bytes first.0 in
+    let size_right = size-chars (take to bytes) right ∙ length-take-le to bytes second.0 in
+    let front = same_cut (chars (take from bytes)) (chars (drop from bytes)) parts.front (parts.middle ++ parts.back)
+    (sym before ∙ parts.parts) (size_left ∙ sym parts.start) in
+    let back = same_cut (chars (take to bytes)) (chars (drop to bytes)) (parts.front ++ parts.middle) parts.back
+    (sym after ∙ parts.parts ∙ sym (append_assoc parts.front parts.middle parts.back))
+    (size_right ∙ sym (size-append parts.front parts.middle ∙ parts.end)) in
+    record {
+      front = parts.front;
+      middle = parts.middle;
+      back = parts.back;
+      was = parts.parts;
+      start = parts.start;
+      end = parts.end;
+      is = ap chars is ∙ chars-append (take from bytes) (more ++ drop to bytes) left
+          ∙ ap (λ r. chars (take from bytes) ++ r) (chars-append more (drop to bytes) utf8_more)
+          ∙ ap (λ r. r ++ (chars more ++ chars (drop to bytes))) front.front
+          ∙ ap (λ r. parts.front ++ (chars more ++ r)) back.back;
+    }
+
+-- it has the bytes of what is left and of what came in
+pub size-replaced : (old new : Text) (from to : ℕ) (text : Text) → IsReplaced old new from to text
+    → size new + (to - from) ≡ size old + size text
+size-replaced old new from to text r = omega (
+  arith,
+  ap size r.was,
+  ap size r.is,
+  r.start,
+  r.end,
+  size-append r.front (r.middle ++ r.back),
+  size-append r.middle r.back,
+  size-append r.front (text ++ r.back),
+  size-append text r.back,
+)
+
+-- what is exchanged in a part of a text is exchanged in all
+pub replaced_within : (x old new y : Text) (from to first last : ℕ) (text : Text) → IsReplaced old new from to text
+    → size x + from ≡ first → size x + to ≡ last → IsReplaced (x ++ (old ++ y)) (x ++ (new ++ y)) first last text
+replaced_within x old new y from to first last text r first_is last_is =
+    let was : x ++ ((r.front ++ (r.middle ++ r.back)) ++ y) ≡ (x ++ r.front) ++ (r.middle ++ (r.back ++ y)) =
+    simp append_assoc in
+    let is : x ++ ((r.front ++ (text ++ r.back)) ++ y) ≡ (x ++ r.front) ++ (text ++ (r.back ++ y)) = simp append_assoc in
+    record {
+      front = x ++ r.front;
+      middle = r.middle;
+      back = r.back ++ y;
+      was = ap (λ p. x ++ (p ++ y)) r.was ∙ was;
+      start = omega (arith, size-append x r.front, r.start);
+      end = omega (arith, size-append x r.front, r.end);
+      is = ap (λ p. x ++ (p ++ y)) r.is ∙ is;
+    }
+
+-- all of a text between two others, exchanged
+pub replaced_whole : (x old new y : Text) (first last : ℕ) → size x ≡ first → size x + size old ≡ last
+    → IsReplaced (x ++ (old ++ y)) (x ++ (new ++ y)) first last new
+replaced_whole x old new y first last first_is last_is =
+    record { front = x; middle = old; back = y; was = refl; start = first_is; end = last_is; is = refl }
+
+-- nothing between a boundary and itself, exchanged for nothing
+pub replaced_nothing : (text : Text) (from to : ℕ) → from ≡ to → IsBoundary text from → IsReplaced text text from to []
+replaced_nothing text from to same at = record {
+  front = at.front;
+  middle = [];
+  back = at.back;
+  was = at.split;
+  start = at.place;
+  end = omega (arith, at.place);
+  is = at.split;
+}
+
+-- a text put in where a part was taken out before
+pub taken_then_put : (old mid new : Text) (from to : ℕ) (text : Text) → IsReplaced old mid from to []
+    → IsReplaced mid new from from text → IsReplaced old new from to text
+taken_then_put old mid new from to text out put =
+    let none : size put.middle ≡ 0 = omega (arith, put.start, put.end) in
+    let whole : out.front ++ out.back ≡ put.front ++ (put.middle ++ put.back) = sym out.is ∙ put.was in
+    let outer = same_cut out.front out.back put.front (put.middle ++ put.back) whole (out.start ∙ sym put.start) in
+    let inner = same_cut [] out.back put.middle put.back outer.back (sym none) in
+    record {
+      front = out.front;
+      middle = out.middle;
+      back = out.back;
+      was = out.was;
+      start = out.start;
+      end = out.end;
+      is = put.is ∙ ap (λ r. r ++ (text ++ put.back)) (sym outer.front) ∙ ap (λ r. out.front ++ (text ++ r)) (sym inner.back);
+    }
+
+-- a text put in before the part that is taken out then
+pub put_then_taken : (old mid new : Text) (from to start end : ℕ) (text : Text) → IsReplaced old mid from from text
+    → IsReplaced mid new start end [] → from + size text ≡ start → to + size text ≡ end → IsReplaced old new from to text
+put_then_taken old mid new from to start end text put out start_is end_is =
+    let none : size put.middle ≡ 0 = omega (arith, put.start, put.end) in
+    let bare = same_cut [] put.back put.middle put.back in
+    let empty : [] ≡ put.middle = (same_cut [] (put.middle ++ put.back) put.middle put.back refl (sym none)).front in
+    let whole : (put.front ++ text) ++ put.back ≡ out.front ++ (out.middle ++ out.back) =
+    append_assoc put.front text put.back ∙ sym put.is ∙ out.was in
+    let outer = same_cut (put.front ++ text) put.back out.front (out.middle ++ out.back) whole
+    (omega (arith, size-append put.front text, put.start, out.start)) in
+    record {
+      front = put.front;
+      middle = out.middle;
+      back = out.back;
+      was = put.was ∙ ap (λ r. put.front ++ (r ++ put.back)) (sym empty) ∙ ap (λ r. put.front ++ r) outer.back;
+      start = put.start;
+      end = omega (arith, put.start, out.start, out.end);
+      is = out.is ∙ ap (λ r. r ++ out.back) (sym outer.front) ∙ append_assoc put.front text out.back;
+    }

@@ -1,0 +1,54 @@
+-- What is known before a piece, and what a text answers by it.
+use Rattle.text_summary.proofs.lemmas.Common.{◌≡◌, ◌≢◌, ℕ, ◌+◌, ◌-◌, ◌<◌, ◌≤◌, List, [], ◌++◌, length, take, drop, refl, arith, ◌∙◌, ap, append_assoc, Text, size, from_byte_idx, to_byte_idx, size-append, is_joined, starts_with_feed-append, seam_loss-same, IsFront, IsLook, joined, piece_at, Scheme, Front, Look}
+use Rattle.text_summary.proofs.lemmas.Joining.{joined-split, joined-take, joined-drop}
+
+-- what a look at b after a tells of the answers of a, b and whatever comes then
+pub record Tells (s : Scheme) (a b c : Text) (look : Look) : Type 0 where
+  pub from_here : (i : ℕ) → size a ≤ i → i < look.behind.len
+      → from_byte_idx s (a ++ (b ++ c)) i ≡ look.reached + from_byte_idx s b (i - size a)
+  pub to_reached : (k : ℕ) → k ≤ look.reached → to_byte_idx s (a ++ (b ++ c)) k ≡ to_byte_idx s a k
+  pub to_here : (k : ℕ) → look.reached < k → to_byte_idx s (a ++ b) k ≡ size a + to_byte_idx s b (k - look.reached)
+
+pub tells : (s : Scheme) (a b c : Text) (look : Look) → b ≢ [] → IsLook s a b look → Tells s a b c look
+tells s a b c look some is =
+    let seam = is_joined s a b in
+    let reached = is.reached in
+    let within = seam.loss_within in
+    let same = seam_loss-same s a (b ++ c) a b refl (starts_with_feed-append b c some) in
+    let sizes = size-append a b in
+    record {
+      from_here = λ i past inside.
+          let place : size a + (i - size a) ≡ i = omega arith in
+          let own = rw place at (seam.from_behind (i - size a)) in
+          let whole = (is_joined s (a ++ b) c).from_before i (omega (arith, is.behind.len)) in
+          rw (← append_assoc a b c) (omega (arith, own, whole));
+      to_reached = λ k within. (is_joined s a (b ++ c)).to_before k (omega (arith, same));
+      to_here = λ k past. seam.to_behind k (k - look.reached) (omega arith) (omega arith);
+    }
+
+-- the same of a list of pieces, at piece i
+pub record TellsAt (s : Scheme) (texts : List Text) (i : ℕ) (front : Front) (look : Look) : Type 0 where
+  pub behind : IsFront s (joined (take (i + 1) texts)) look.behind
+  pub from_here : (b : ℕ) → front.len ≤ b → b < look.behind.len
+      → from_byte_idx s (joined texts) b ≡ look.reached + from_byte_idx s (piece_at texts i) (b - front.len)
+  pub to_reached : (k : ℕ) → k ≤ look.reached → to_byte_idx s (joined texts) k ≡ to_byte_idx s (joined (take i texts)) k
+  pub to_here : (k : ℕ) → look.reached < k → to_byte_idx s (joined (take (i + 1) texts)) k
+      ≡ front.len + to_byte_idx s (piece_at texts i) (k - look.reached)
+
+pub tells_at : (s : Scheme) (texts : List Text) (i : ℕ) (front : Front) (look : Look) → i < length texts
+    → piece_at texts i ≢ [] → IsFront s (joined (take i texts)) front
+    → IsLook s (joined (take i texts)) (piece_at texts i) look → TellsAt s texts i front look
+tells_at s texts i front look inside some front_is is =
+    let before = joined (take i texts) in
+    let piece = piece_at texts i in
+    let behind = joined (drop (i + 1) texts) in
+    let more = joined-take texts i inside in
+    let whole : joined texts ≡ before ++ (piece ++ behind) =
+    joined-split texts i ∙ ap (λ r. before ++ r) (joined-drop texts i inside) in
+    let own = tells s before piece behind look some is in
+    record {
+      behind = rw more is.behind;
+      from_here = λ b past inside. rw (whole, front_is.len) (own.from_here b (omega (arith, front_is.len)) inside);
+      to_reached = λ k within. rw whole (own.to_reached k within);
+      to_here = λ k past. rw (more, front_is.len) (own.to_here k past);
+    }

@@ -1,0 +1,41 @@
+-- What is known of the text before a piece.
+--     IsFront s a front        the bytes and the count of a, and whether it ends in CR
+--     IsLook s a b look        what a look at b tells after a
+--     IsBefore s front lf      it is known of some text, after which one comes that starts with LF or does not
+--     IsFollowed s front p     of some text after which one with the summary p comes, and both are not too long
+use Rattle.std.specs.Prelude.{Bool, ◌≡◌, ◌≢◌, ◌+◌, ◌-◌, ◌^◌, ◌<◌, [], ◌++◌}
+use Rattle.str_indices.specs.Text.{Text, size}
+use Rattle.str_indices.specs.Schemes.{count}
+use Rattle.str_indices.specs.declared.Scheme.{Scheme}
+use Rattle.str_indices.specs.Joins.{starts_with_feed, ends_in_return, seam_loss}
+use Rattle.text_summary.specs.Summaries.{summary_of}
+use Rattle.text_summary.specs.declared.summaries.Summary.{Summary}
+use Rattle.text_summary.specs.declared.fronts.Front.{Front}
+use Rattle.text_summary.specs.declared.fronts.Look.{Look}
+
+-- the bytes and the count of a text, and whether it ends in CR
+pub record IsFront (s : Scheme) (a : Text) (front : Front) : Type 0 where
+  pub len : front.len ≡ size a
+  pub total : front.total ≡ count s a
+  pub ends_cr : front.ends_cr ≡ ends_in_return a
+
+-- what a look at b tells after a
+pub record IsLook (s : Scheme) (a b : Text) (look : Look) : Type 0 where
+  pub reached : look.reached ≡ count s a - seam_loss s a b
+  pub behind : IsFront s (a ++ b) look.behind
+
+-- it is known of some text, after which one comes that starts with LF or does not
+pub record IsBefore (s : Scheme) (front : Front) (starts_lf : Bool) : Type 0 where
+  pub a : Text
+  pub b : Text
+  pub front_is : IsFront s a front
+  pub starts_is : starts_lf ≡ starts_with_feed b
+
+-- after that text comes another one with a summary, and both are not too long together
+pub record IsFollowed (s : Scheme) (front : Front) (piece : Summary) : Type 0 where
+  pub a : Text
+  pub b : Text
+  pub front_is : IsFront s a front
+  pub piece_is : piece ≡ summary_of b
+  pub some : b ≢ []
+  pub short : size a + size b < 2 ^ 63

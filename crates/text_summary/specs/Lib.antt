@@ -1,0 +1,4 @@
+pub mod Pieces
+pub mod Summaries
+pub mod Changes
+pub mod Fronts

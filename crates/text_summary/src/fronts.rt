@@ -1,0 +1,81 @@
+//! The text before a piece: what it counts, and how it ends.
+ghost use Rattle.std.specs.Prelude.{◌≡◌, ◌≢◌, ◌-◌, [], ◌++◌};
+ghost use Rattle.str_indices.specs.Text.{Text};
+ghost use Rattle.str_indices.specs.Schemes.{count};
+ghost use Rattle.str_indices.specs.Joins.{starts_with_feed, seam_loss};
+ghost use Rattle.str_indices.specs.declared.Scheme.{Scheme};
+ghost use Rattle.text_summary.specs.Summaries.{summary_of};
+ghost use Rattle.text_summary.specs.Fronts.{IsFront, IsLook, IsBefore, IsFollowed};
+
+use crate::{Scheme, Summary, lost_at_seam};
+
+/// What is known of the text before a piece: its bytes, its count in a scheme, and whether it ends in CR.
+#[derive(Clone, Copy)]
+pub struct Front {
+    /// How many bytes it has.
+    pub len: usize,
+    /// How many characters, UTF-16 code units or line breaks.
+    pub total: usize,
+    /// Whether its last character is CR.
+    pub ends_cr: bool,
+}
+
+/// What a look at a piece tells.
+#[derive(Clone, Copy)]
+pub struct Look {
+    /// The count of the text before the piece, less what the seam takes off.
+    pub reached: usize,
+    /// What is known of the text before the next piece.
+    pub behind: Front,
+}
+
+impl Front {
+    /// What is known before the first piece.
+    pub fn none() -> Front
+        ensures { (s : Scheme) → IsFront s [] result }
+    {
+        Front {
+            len: 0,
+            total: 0,
+            ends_cr: false,
+        }
+    }
+
+    /// What is known after a text with a summary.
+    pub fn of(s: Scheme, text: Summary) -> Front
+        ensures { (a : Text) → text ≡ summary_of a → IsFront s a result }
+    {
+        Front {
+            len: text.len,
+            total: text.count(s),
+            ends_cr: text.ends_cr,
+        }
+    }
+
+    /// The count of the text before, less what the seam takes off where the text after it starts with LF or not.
+    pub fn reached(self, s: Scheme, starts_lf: bool) -> usize
+        requires { IsBefore s self starts_lf }
+        ensures { (a b : Text) → IsFront s a self → starts_lf ≡ starts_with_feed b →
+            result ≡ count s a - seam_loss s a b }
+    {
+        self.total - lost_at_seam(s, self.ends_cr, starts_lf)
+    }
+
+    /// A look at the next piece.
+    pub fn look(self, s: Scheme, piece: Summary) -> Look
+        requires { IsFollowed s self piece }
+        ensures { (a b : Text) → IsFront s a self → piece ≡ summary_of b → b ≢ [] → IsLook s a b result }
+    {
+        let reached = self.reached(s, piece.starts_lf);
+        let len = self.len + piece.len;
+        let total = reached + piece.count(s);
+        Look {
+            reached,
+            behind: Front {
+                len,
+                total,
+                ends_cr: piece.ends_cr,
+            },
+        }
+    }
+}

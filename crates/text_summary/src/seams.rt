@@ -1,0 +1,61 @@
+//! Two texts, one after the other: a CR before an LF makes one break of two.
+ghost use Rattle.std.specs.Prelude.{◌≡◌, ◌≤◌, ◌++◌};
+ghost use Rattle.str_indices.specs.Text.{Text};
+ghost use Rattle.str_indices.specs.Joins.{starts_with_feed, ends_in_return, seam_loss};
+ghost use Rattle.text_summary.specs.Summaries.{summary_of, AreSummaries};
+
+use crate::{Scheme, Summary};
+
+/// How many breaks a seam takes off in a scheme, by whether the text before it ends in CR and the text after it starts
+/// with LF.
+pub fn lost_at_seam(s: Scheme, ends_cr: bool, starts_lf: bool) -> usize
+    ensures loss { (a b : Text) → ends_cr ≡ ends_in_return a → starts_lf ≡ starts_with_feed b →
+        result ≡ seam_loss s a b }
+    ensures small { result ≤ 1 }
+{
+    match s {
+        Scheme::Crlf | Scheme::Lines => usize::from(ends_cr && starts_lf),
+        Scheme::Chars | Scheme::Utf16 | Scheme::Lf => 0,
+    }
+}
+
+/// The summary of two texts, one after the other, by those of each.
+pub fn joined(front: Summary, after: Summary) -> Summary
+    requires { AreSummaries front after }
+    ensures { (a b : Text) → front ≡ summary_of a → after ≡ summary_of b → result ≡ summary_of (a ++ b) }
+{
+    let lost = lost_at_seam(Scheme::Crlf, front.ends_cr, after.starts_lf);
+    Summary {
+        len: front.len + after.len,
+        chars: front.chars + after.chars,
+        utf16: front.utf16 + after.utf16,
+        lf: front.lf + after.lf,
+        crlf: front.crlf - lost + after.crlf,
+        lines: front.lines - lost + after.lines,
+        starts_lf: joined_starts_lf(front, after.starts_lf),
+        ends_cr: joined_ends_cr(front.ends_cr, after),
+    }
+}
+
+/// Whether two texts, one after the other, start with LF, by the summary of the first and the start of the second.
+pub(crate) fn joined_starts_lf(front: Summary, starts_lf: bool) -> bool
+    ensures { (a b : Text) → front ≡ summary_of a → starts_lf ≡ starts_with_feed b →
+        result ≡ starts_with_feed (a ++ b) }
+{
+    if front.len == 0 {
+        starts_lf
+    } else {
+        front.starts_lf
+    }
+}
+
+/// Whether two texts, one after the other, end in CR, by the end of the first and the summary of the second.
+pub(crate) fn joined_ends_cr(ends_cr: bool, after: Summary) -> bool
+    ensures { (a b : Text) → ends_cr ≡ ends_in_return a → after ≡ summary_of b → result ≡ ends_in_return (a ++ b) }
+{
+    if after.len == 0 {
+        ends_cr
+    } else {
+        after.ends_cr
+    }
+}

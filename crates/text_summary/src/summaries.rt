@@ -1,0 +1,93 @@
+//! The summary of a text: its length, its counts, and how it starts and ends.
+ghost use Rattle.std.specs.Prelude.{◌≡◌, [], chars};
+ghost use Rattle.str_indices.specs.Joins.{starts_with_feed, ends_in_return};
+
+use crate::Scheme;
+use str_indices::{chars, lines, lines_crlf, lines_lf, utf16};
+
+/// What is known of a text without its characters.
+#[derive(Clone, Copy)]
+pub struct Summary {
+    /// How many bytes it has.
+    pub len: usize,
+    /// How many characters, the Unicode scalar values.
+    pub chars: usize,
+    /// How many UTF-16 code units.
+    pub utf16: usize,
+    /// How many LFs.
+    pub lf: usize,
+    /// How many line breaks by LF, CR and CRLF.
+    pub crlf: usize,
+    /// How many line breaks by all of the Rust crate's list.
+    pub lines: usize,
+    /// Whether its first character is LF.
+    pub starts_lf: bool,
+    /// Whether its last character is CR.
+    pub ends_cr: bool,
+}
+
+impl Summary {
+    ghost use Rattle.text_summary.specs.Summaries.{summary_of, count_of};
+
+    /// The summary of a text.
+    pub fn of(text: &str) -> Summary
+        ensures { result ≡ summary_of (chars text.now) }
+    {
+        if text.is_empty() {
+            return Summary::none();
+        }
+        Summary {
+            len: text.len(),
+            chars: chars::count(text),
+            utf16: utf16::count(text),
+            lf: lines_lf::count_breaks(text),
+            crlf: lines_crlf::count_breaks(text),
+            lines: lines::count_breaks(text),
+            starts_lf: starts_lf(text),
+            ends_cr: ends_cr(text),
+        }
+    }
+
+    /// The summary of the empty text.
+    pub fn none() -> Summary
+        ensures { result ≡ summary_of [] }
+    {
+        Summary {
+            len: 0,
+            chars: 0,
+            utf16: 0,
+            lf: 0,
+            crlf: 0,
+            lines: 0,
+            starts_lf: false,
+            ends_cr: false,
+        }
+    }
+
+    /// The count of a scheme.
+    pub fn count(&self, s: Scheme) -> usize
+        ensures { result ≡ count_of self.now s }
+    {
+        match s {
+            Scheme::Chars => self.chars,
+            Scheme::Utf16 => self.utf16,
+            Scheme::Lf => self.lf,
+            Scheme::Crlf => self.crlf,
+            Scheme::Lines => self.lines,
+        }
+    }
+}
+
+/// Whether the first character of a text is LF.
+pub fn starts_lf(text: &str) -> bool
+    ensures { result ≡ starts_with_feed (chars text.now) }
+{
+    text.starts_with("\n")
+}
+
+/// Whether the last character of a text is CR.
+pub fn ends_cr(text: &str) -> bool
+    ensures { result ≡ ends_in_return (chars text.now) }
+{
+    text.ends_with("\r")
+}
