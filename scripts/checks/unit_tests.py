@@ -144,24 +144,25 @@ def try_edits(folder: pathlib.Path) -> Results:
 
 def try_gate(_: pathlib.Path) -> Results:
     """What the gate of the toolchain tells of the edits in must-fail/."""
-    (crate, name), edit = next((key, edit) for key, edit in gate_edits.edits().items() if edit.goal == "returns")
+    (crate, name), edit = next((key, edit) for key, edit in gate_edits.edits().items() if edit.goal == "answer")
     (file, old, _), = edit.changes
     line = (ROOT / "crates" / crate / file).read_text(encoding="utf-8").partition(old)[0].count("\n") + 1
     label = f"rt: must-fail {crate}/{name}.edit: refused, as it must be"
-    at = f"note: {file}:{line}:5: it is not proved that (`returns`)"
+    at = f"note: {file}:{line}:5: it is not proved that (`returns-clause-answer`)"
+    proofs = refusals.proofs_of(edit.function)[0]
     answers = {
         f"{label}: {at}": True,
-        f"{label}: {at.replace('`returns`', '`returns-clause-other`')}": False,
-        f"{label}: note: {file}:1:1: it is not proved that (`returns`)": False,
-        f"{label}: {refusals.proofs_of(edit.function)[0]}Answers.antt:1:1: error: `returns`: no proof": True,
-        f"{label}: proofs/other/Answers.antt:1:1: error: `returns`: no proof": False,
+        f"{label}: {at.replace('answer', 'pass')}": False,
+        f"{label}: {at.replace(f':{line}:', ':1:')}": False,
+        f"{label}: {proofs}Answers.antt:1:1: error: `returns-clause-answer`: no proof": True,
+        f"{label}: proofs/other/Answers.antt:1:1: error: `returns-clause-answer`: no proof": False,
         f"{label} (only by a limit of the prover): {at}": False,
         f"rt: must-fail {crate}/{name}.edit: NOT REFUSED": False,
         "": False,
     }
     for told, right in answers.items():
-        found = {edit: right for right, edit in gate_edits.results(told + "\n")}
-        told_of_it = [right for line, right in found.items() if line.startswith(f"{crate} {name},")]
+        found = {line: refused for refused, line in gate_edits.results(told + "\n")}
+        told_of_it = [refused for line, refused in found.items() if line.startswith(f"{crate} {name},")]
         yield told_of_it == [right], f"the gate tells {told or 'nothing'}: {'right' if right else 'not at its clause'}"
 
 
@@ -206,7 +207,7 @@ def try_crate_sums(folder: pathlib.Path) -> Results:
     for path, crates in {
         "docs/GATE.md": [], "bindings/c/heap.c": [], "crates/text_rope/must-fail/x.edit": [], "crates/text_rope/out/x": [],
         "crates/text_rope/src/rope.rt": above["text_rope"], "crates/text_rope/proofs/new.antt": above["text_rope"],
-        "crates/str_indices/specs/new.antt": above["str_indices"], "crates/byte_chunk/src/lib.rt": sorted(base),
+        "crates/str_indices/specs/new.antt": above["str_indices"], "crates/byte_chunk/src/lib.rt": above["byte_chunk"],
         "crates/idx/src/main.rt": ["idx"], "HANDLES": sorted(base),
     }.items():
         changed = other_sums(root, path, base)
