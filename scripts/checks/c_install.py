@@ -10,6 +10,7 @@ import subprocess
 from pathlib import Path
 
 ROOT = Path(__file__).resolve().parents[2]
+VERSION = (ROOT / "VERSION").read_text(encoding="utf-8").strip()
 STORE = "lib/pauskern"
 # the folders in which a compiler, a linker and pkg-config look
 SEEN = ["include", "lib", "lib/pkgconfig"]
@@ -40,14 +41,14 @@ def write_command(path, text):
 
 
 class Copy:
-    """A copy of `install` with its stand-ins, in which the rope has that version."""
+    """A copy of `install` with its stand-ins, of that version or of the repository's."""
 
     def __init__(self, folder, version=None):
         self.folder = folder
         self.install_path = folder / "bindings/c/install"
         self.install_path.parent.mkdir(parents=True)
-        text = (ROOT / "bindings/c/install").read_text(encoding="utf-8")
-        write_command(self.install_path, text.replace("version=0.1.0", f"version={version}") if version else text)
+        shutil.copy(ROOT / "bindings/c/install", self.install_path)
+        (folder / "VERSION").write_text(f"{version or VERSION}\n", encoding="utf-8")
         shutil.copytree(ROOT / "bindings/c/include", self.install_path.parent / "include")
         for builder, archive in BUILDERS.items():
             write_command(self.install_path.parent / builder, BUILDER.replace("NAME", archive))
@@ -154,7 +155,7 @@ def try_again(tally, copy, folder):
     ends(tally, copy.install(prefix, "--only", "str_indices", "--narrow", SAYS="two"), 0, str(prefix), "--only")
     two = stands(prefix)
     changed = {path for path in one if two.get(path) != one[path]}
-    right = changed == {"lib/libstr_indices.a", *(f"lib/libstr_indices.so{end}" for end in ["", ".0", ".0.4.4"])}
+    right = changed == {"lib/libstr_indices.a", *(f"lib/libstr_indices.so{end}" for end in ["", ".0", f".{VERSION}"])}
     tally.result(right and copy.built() == built + 1, "--only builds one library, and the other stays as it was")
     tally.result(b"two --narrow" in two["lib/libstr_indices.a"], "--narrow is handed to what builds the library")
     ends(tally, copy.install(prefix, "--uninstall"), 0, str(prefix), "--uninstall")
@@ -180,7 +181,7 @@ def try_versions(tally, copy, older, folder):
     prefix = folder / "versions"
     done = [older.install(prefix), copy.install(prefix)]
     links = [path.name for path in (prefix / "lib").glob("libstr_rope.so*")]
-    wanted = [f"libstr_rope.so{end}" for end in ["", ".0", ".0.1.0"]]
+    wanted = [f"libstr_rope.so{end}" for end in ["", ".0", f".{VERSION}"]]
     right = all(run.returncode == 0 for run in done) and sorted(links) == wanted
     tally.result(right, "what an earlier install had besides is taken away")
     copy.install("--uninstall", prefix)
