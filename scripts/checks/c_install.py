@@ -91,6 +91,7 @@ def try_words(tally, copy, folder):
     (folder / "taken/include/str_rope.h").mkdir(parents=True)
     (folder / "own/lib").mkdir(parents=True)
     (folder / "own/lib/libstr_rope.a").touch()
+    (folder / "other" / STORE / "1").mkdir(parents=True)
     before = files(folder)
     p, below = folder / "p", folder / "file/prefix"
     for words, status, said, what in [
@@ -105,6 +106,8 @@ def try_words(tally, copy, folder):
         ([below], 1, "file cannot be written", "a prefix that is no folder"),
         ([folder / "taken"], 1, "str_rope.h already", "a folder where a file is to stand"),
         ([folder / "own"], 1, "libstr_rope.a already", "a file where one is to stand"),
+        ([folder / "other"], 1, "no install by this script has made it", "a folder of another's in the place of its own"),
+        (["--uninstall", folder / "other"], 1, "no install by this script", "--uninstall where that is another's"),
         (["--uninstall", p], 1, "nothing is installed", "--uninstall with nothing there"),
     ]:
         ends(tally, copy.install(*words), status, said, what)
