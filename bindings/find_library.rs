@@ -34,8 +34,8 @@ impl Library {
         format!("lib{}.a", self.name)
     }
 
-    /// Where the library is: in the folder that was named, else where this repository builds it, else where it is
-    /// installed; and where it is nowhere, it is built.
+    /// Where the library is: in the folder that was named, else where this repository builds it or a release has it, else
+    /// where it is installed; and where it is nowhere, it is built.
     fn folder(&self) -> Result<PathBuf, String> {
         let named = env::var_os(LIBRARY_FOLDER).filter(|folder| !folder.is_empty());
         if let Some(folder) = named.map(PathBuf::from) {
@@ -48,8 +48,9 @@ impl Library {
         }
         let repository = Path::new(env!("CARGO_MANIFEST_DIR")).join("../..");
         let built = repository.join("out");
-        if self.is_in(&built) {
-            return Ok(built);
+        let released = repository.join("lib");
+        if let Some(folder) = [&built, &released].into_iter().find(|folder| self.is_in(folder)) {
+            return Ok(folder.clone());
         }
         if let Some(installed) = self.installed_folder().filter(|folder| self.is_in(folder)) {
             return Ok(installed);

@@ -33,6 +33,18 @@ function glyph(char, code) {
   return { name: false, written: /\p{M}/u.test(char) ? `◌${char}` : char };
 }
 
+/** A char in its row, with its code point where its UTF-16 units do not say that. */
+function written(char, code) {
+  const shape = glyph(char, code);
+  const point = char.length > 1 ? `<small>U+${hex(code, 4)}</small>` : "";
+  const own = shape.name && point ? "" : shape.written;
+  return `<span class="${shape.name ? "glyph name" : "glyph"}">${own}${own && point ? " " : ""}${point}</span>`;
+}
+
+// what each row of the cells has; a reader hears it of each cell
+const HEADINGS =
+  '<div class="headings" aria-hidden="true"><span>bytes</span><span>char</span><span>UTF-16 units</span></div>';
+
 /** What a char is, and its places. */
 function said({ char, code, byte, bytes, place, unit, ends }) {
   const shape = NAMES.get(code) ?? escaped(char);
@@ -50,13 +62,12 @@ const HEX = Array.from({ length: 256 }, (_, byte) => hex(byte, 2));
 
 function drawn(cell) {
   const { char, code, bytes, ends } = cell;
-  const { name, written } = glyph(char, code);
   const units = char.length === 1 ? hex(code, 4) : `${hex(char.charCodeAt(0), 4)} ${hex(char.charCodeAt(1), 4)}`;
   const marks = ends.map(([, , kind]) => `<i class="mark ${kind}"></i>`).join("");
   return (
     `<div class="char of${bytes.length}" role="option" tabindex="-1" aria-selected="false" aria-label="${said(cell)}">` +
     `<span class="bytes">${Array.from(bytes, (byte) => HEX[byte]).join(" ")}</span>` +
-    `<span class="${name ? "glyph name" : "glyph"}">${written}</span>` +
+    written(char, code) +
     `<span class="units">${units}</span>${marks && `<span class="marks">${marks}</span>`}</div>`
   );
 }
@@ -108,7 +119,8 @@ export class Cells {
     const hadFocus = focused >= this.#first;
     this.#first = Math.max(0, Math.min(wanted, total - MOST_CHARS));
     this.#cells = this.#cellsFrom(this.#first);
-    this.#place.innerHTML = this.#blocks().map((cells) => this.#block(cells)).join("");
+    const blocks = this.#blocks().map((cells) => this.#block(cells));
+    this.#place.innerHTML = blocks.length ? HEADINGS + blocks.join("") : "";
     const elements = this.#place.querySelectorAll(".char");
     this.#cells.forEach((cell, i) => (cell.element = elements[i]));
     this.#marked = [];

@@ -13,6 +13,7 @@ const EXAMPLES = [
   ["Separators", "é\u0085x a\u2028b"],
   ["Nothing", ""],
 ];
+const OWN = "your own text";
 
 // the modules, with what is shown of each: its heading, what its indices are of, and that it counts pairs
 const SCHEMES = [
@@ -126,17 +127,17 @@ function makeConversions() {
     row.role = "row";
     row.dataset.module = module;
     headed(row, heading);
-    cell(row, "", "number count").dataset.label = "count";
+    cell(row, "", "number count").dataset.label = "how many";
     for (const [conversion, from, to] of [["fromByteIdx", "byte", unit], ["toByteIdx", unit, "byte"]]) {
       const asked = cell(row, "", "asked");
-      asked.dataset.label = conversion === "fromByteIdx" ? "from byte index" : "to byte index, from";
+      asked.dataset.label = from;
       const input = asked.appendChild(document.createElement("input"));
       input.inputMode = "numeric";
       input.autocomplete = "off";
       input.value = "0";
       input.dataset.conversion = conversion;
       input.ariaLabel = `${heading}: ${from} index, to ${to} index`;
-      cell(row, "", `number ${conversion}`).dataset.label = "answer";
+      cell(row, "", `number ${conversion}`).dataset.label = conversion === "fromByteIdx" ? `belongs to ${unit}` : "begins at byte";
       input.addEventListener("input", () => {
         showConversions();
         tell(`${input.ariaLabel}: ${row.querySelector(`.${conversion}`).textContent}`);
@@ -153,7 +154,7 @@ function showConversions() {
     for (const input of row.querySelectorAll("input")) {
       const index = indexIn(input);
       input.ariaInvalid = String(index === null);
-      const answer = index === null ? "no index" : text[input.dataset.conversion](module, index);
+      const answer = index === null ? "write a number, 0 or more" : text[input.dataset.conversion](module, index);
       row.querySelector(`.${input.dataset.conversion}`).textContent = answer;
     }
   }
@@ -189,11 +190,18 @@ function show() {
   const bytes = selection.map((unit) => text.toByteIdx("utf16", unit));
   showPlaces(bytes, changed);
   if (changed) {
+    nameExample();
     showConversions();
     byId("arrow").hidden = !field.holdsArrow;
   }
   showCells(bytes, changed);
   tell(place(bytes));
+}
+
+/** Names the example that the text is; a text that was edited is none. */
+function nameExample() {
+  const found = EXAMPLES.findIndex(([, example]) => example === text.string);
+  byId("example").selectedIndex = found < 0 ? EXAMPLES.length : found;
 }
 
 /** Draws the cells, after a change a little later: hundreds of them take longer than a letter in the field. */
@@ -228,7 +236,6 @@ function fail(message) {
 
 /** Puts an example in the field, with this range of units selected, and its first place in the fields for indices. */
 function choose(example, start, end) {
-  byId("example").selectedIndex = example;
   field.replaceAll(EXAMPLES[example][1]);
   field.select(start, end);
   const byte = text.toByteIdx("utf16", start);
@@ -270,7 +277,8 @@ function goToAddress() {
 
 function listen() {
   const picker = byId("example");
-  for (const [name] of EXAMPLES) picker.add(new Option(name));
+  for (const [name] of [...EXAMPLES, [OWN]]) picker.add(new Option(name));
+  picker.lastChild.hidden = true;
   picker.addEventListener("change", () => {
     fail("");
     choose(picker.selectedIndex, 0, 0);

@@ -12,12 +12,16 @@
 //
 // A text is a string, or its bytes as a `Uint8Array`. A string is encoded as UTF-8, where a lone surrogate becomes
 // U+FFFD; bytes that are not UTF-8 are a `TypeError`. An index is a number or a BigInt from 0 on, or `Infinity`, and
-// anything else a `RangeError`; each index past the end has an answer. Answers are numbers.
+// anything else a `RangeError`; each index past the end has an answer. Answers are numbers; `exactByteOf` and `byteRange`
+// answer `null` where there is none.
 
 const GREATEST = 2n ** 64n - 1n;
 
 // a position is two numbers of 64 bits
 const POSITION_SIZE = 16;
+// the place for what is not the text: a range, which is two positions, and after it an answer
+const ANSWER = 2 * POSITION_SIZE;
+const PLACE_SIZE = ANSWER + POSITION_SIZE;
 
 // a module that has one page of memory with 64-bit addresses
 const WIDE_MEMORY = new Uint8Array([0, 0x61, 0x73, 0x6d, 1, 0, 0, 0, 5, 3, 1, 4, 1]);
@@ -43,10 +47,16 @@ const FUNCTIONS = [
   ["positions.lineEnd", "line_end", askIndex],
   ["positions.utf8.positionOf", "utf8_position_of", askPositionOf],
   ["positions.utf8.byteOf", "utf8_byte_of", askByteOf],
+  ["positions.utf8.exactByteOf", "utf8_exact_byte_of", askExactByteOf],
+  ["positions.utf8.byteRange", "utf8_byte_range", askByteRange],
   ["positions.utf16.positionOf", "position_of", askPositionOf],
   ["positions.utf16.byteOf", "byte_of", askByteOf],
+  ["positions.utf16.exactByteOf", "exact_byte_of", askExactByteOf],
+  ["positions.utf16.byteRange", "byte_range", askByteRange],
   ["positions.utf32.positionOf", "utf32_position_of", askPositionOf],
   ["positions.utf32.byteOf", "utf32_byte_of", askByteOf],
+  ["positions.utf32.exactByteOf", "utf32_exact_byte_of", askExactByteOf],
+  ["positions.utf32.byteRange", "utf32_byte_range", askByteRange],
 ];
 
 /** Whether this engine has WebAssembly with 64-bit memory, which the functions want. */
@@ -105,11 +115,12 @@ class Kept {
   saved = null;
 }
 
-/** The exports, and their memory: a place for one position, and after it one text at a time. */
+/** The exports, and their memory: a place for what is asked and answered, and after it one text at a time. */
 class Machine {
   #exports;
   #memory;
   #place;
+  #view;
   #start;
   // the string or the kept bytes that lie in the memory now, where they are one of these, and how many bytes lie there
   #held = null;
@@ -118,8 +129,9 @@ class Machine {
   constructor(exports) {
     this.#exports = exports;
     this.#place = Number(exports.__heap_base.value);
-    this.#start = this.#place + POSITION_SIZE;
+    this.#start = this.#place + PLACE_SIZE;
     this.#memory = new Uint8Array(exports.memory.buffer);
+    this.#view = new DataView(exports.memory.buffer, this.#place, PLACE_SIZE);
   }
 
   /** Sees to it that the text lies in the memory, where it is checked; answers how many bytes it takes. */
@@ -160,18 +172,24 @@ class Machine {
     return narrow(this.#call(name, text, ...more));
   }
 
-  positionOf(name, text, byte) {
-    const length = this.put(text);
-    this.#exports[`str_indices_${name}`](BigInt(this.#place), BigInt(this.#start), BigInt(length), byte);
-    const place = new DataView(this.#memory.buffer, this.#place, POSITION_SIZE);
-    return { line: narrow(place.getBigUint64(0, true)), character: narrow(place.getBigUint64(8, true)) };
+  /** The same where none may be answered, which the exports say by the greatest number. */
+  numberOrNull(name, text, ...more) {
+    const number = BigInt.asUintN(64, this.#call(name, text, ...more));
+    return number === GREATEST ? null : Number(number);
   }
 
-  byteOf(name, text, line, character) {
-    const place = new DataView(this.#memory.buffer, this.#place, POSITION_SIZE);
-    place.setBigUint64(0, line, true);
-    place.setBigUint64(8, character, true);
-    return this.number(name, text, BigInt(this.#place));
+  /** The two numbers that the export answers for a text, by their address, and what it takes beside that. */
+  pair(name, text, ...more) {
+    const length = this.put(text);
+    const answer = BigInt(this.#place + ANSWER);
+    this.#exports[`str_indices_${name}`](answer, BigInt(this.#start), BigInt(length), ...more);
+    return [this.#view.getBigUint64(ANSWER, true), this.#view.getBigUint64(ANSWER + 8, true)];
+  }
+
+  /** Puts numbers into the place; answers their address. */
+  write(numbers) {
+    numbers.forEach((number, i) => this.#view.setBigUint64(8 * i, number, true));
+    return BigInt(this.#place);
   }
 
   #call(name, text, ...more) {
@@ -223,14 +241,33 @@ function askIndex(machine, name, text, index) {
 }
 
 function askPositionOf(machine, name, text, byte) {
-  return machine.positionOf(name, text, wideIndex(byte));
+  const [line, character] = machine.pair(name, text, wideIndex(byte));
+  return { line: Number(line), character: Number(character) };
 }
 
 function askByteOf(machine, name, text, position) {
+  return machine.number(name, text, machine.write(numbersOf(position)));
+}
+
+function askExactByteOf(machine, name, text, position) {
+  return machine.numberOrNull(name, text, machine.write(numbersOf(position)));
+}
+
+function askByteRange(machine, name, text, range) {
+  if (typeof range !== "object" || range === null) {
+    throw new TypeError("a range is an object with a start and an end");
+  }
+  const numbers = [...numbersOf(range.start), ...numbersOf(range.end)];
+  const [start, end] = machine.pair(name, text, machine.write(numbers));
+  return start === GREATEST ? null : { start: Number(start), end: Number(end) };
+}
+
+/** The line and the character of a position, as the exports take them. */
+function numbersOf(position) {
   if (typeof position !== "object" || position === null) {
     throw new TypeError("a position is an object with a line and a character");
   }
-  return machine.byteOf(name, text, wideIndex(position.line, "line"), wideIndex(position.character, "character"));
+  return [wideIndex(position.line, "line"), wideIndex(position.character, "character")];
 }
 
 /** A text that keeps its bytes, for many questions. */

@@ -27,6 +27,7 @@ CONVERSIONS = {
 }
 # addresses that name no place, and what is said of each
 NOWHERE = {"9:0-0": "there is no example 9", "1:50-60": "has 10 units", "1:5-3": "a range ends after it begins", "frog": "names no place"}
+NO_INDEX = "write a number, 0 or more"
 BUTTONS = {"CR": "0D", "CR LF": "0D 0A", "NEL": "C2 85", "LS": "E2 80 A8", "frog": "F0 9F 90 B8"}
 
 BYTES = "Array.from(document.querySelectorAll('#cells .bytes'), (one) => one.textContent).join(' ')"
@@ -36,6 +37,12 @@ CELLS = (
     ".join('+') + ['selected', 'cursor'].map((kind) => cell.classList.contains(kind) ? '/' + kind : '').join(''))"
 )
 ROWS = "Array.from(document.querySelectorAll('#places tbody tr'), (row) => [...row.cells].map((cell) => cell.textContent).join(' '))"
+HEADINGS = (
+    "(() => { const [rows, cell] = ['.headings', '.char'].map((one) => document.querySelector(`#cells ${one}`));"
+    " const tops = (one) => Array.from(one.querySelectorAll(':scope > span:not(.marks)'), (row) => row.getBoundingClientRect().top);"
+    " return [Array.from(rows.children, (row) => row.textContent).join(' '), tops(rows).join() === tops(cell).join()]; })()"
+)
+NAMED = "document.getElementById('example').selectedOptions[0].textContent"
 FIELD = "document.getElementById('text')"
 CONTROL, SHIFT = 2, 8
 # what is put into a memory of the functions is counted, from before the page's scripts run
@@ -121,8 +128,19 @@ class Trial:
         self.becomes(page, CELLS, expected, "cells, marks, what is selected, and the cursor")
         self.same(page.value("document.querySelector('.joined').textContent"), "0DCR000D0ALF000A", "CR LF are one block")
         page = opened(self.browser, f"{self.address}#0:12-14")
-        self.same(page.value(CELLS)[10:13], ["0D/CR/000D/", f"0A/LF/000A/{all_three}", "F0 9F 90 B8/🐸/D83D DC38//selected/cursor"], "a pair")
+        self.same(page.value(CELLS)[10:13], ["0D/CR/000D/", f"0A/LF/000A/{all_three}", "F0 9F 90 B8/🐸 U+1F438/D83D DC38//selected/cursor"], "a pair")
         self.same(page.value(CELLS)[18], "E2 80 A8/LS/2028/lines", "a line that ends by Unicode alone")
+        self.same(page.value(HEADINGS), ["bytes char UTF-16 units", True], "the rows of cells have headings, beside them")
+
+    def example(self):
+        """The example that is named, and what it is where the text is another."""
+        page = opened(self.browser, f"{self.address}#1:8-9")
+        self.becomes(page, NAMED, "A pair between letters", "an example is named")
+        page.value(f"{FIELD}.focus()")
+        page.key("x")
+        self.becomes(page, NAMED, "your own text", "a text that was edited is none")
+        page.key("z", ["undo"], CONTROL)
+        self.becomes(page, NAMED, "A pair between letters", "until that is taken back")
 
     def conversions(self):
         page = opened(self.browser, f"{self.address}#1:8-9")
@@ -135,7 +153,7 @@ class Trial:
             self.same(found, expected, f"conversions of {module}")
         asked = "document.querySelector('tr[data-module=utf16] input[data-conversion=toByteIdx]')"
         answer = "document.querySelector('tr[data-module=utf16] .toByteIdx').textContent"
-        for written, expected in [("9", "11"), ("18446744073709551616", "12"), ("x", "no index"), ("", "no index"), ("-1", "no index")]:
+        for written, expected in [("9", "11"), ("18446744073709551616", "12"), ("x", NO_INDEX), ("", NO_INDEX), ("-1", NO_INDEX)]:
             page.value(f"({asked}.value = '{written}', {asked}.dispatchEvent(new Event('input')))")
             self.same(page.value(answer), expected, f"UTF-16 unit {written or 'of nothing'} to a byte")
         self.same(page.value(f"{asked}.ariaInvalid"), "true", "what is no index is said to be none")
@@ -319,7 +337,7 @@ class Trial:
 def try_all(browser, page_file, tally, folder):
     trial = Trial(browser, page_file, tally, folder)
     parts = [
-        trial.places, trial.cells, trial.conversions, trial.buttons, trial.pastes, trial.drops, trial.readers,
+        trial.places, trial.cells, trial.example, trial.conversions, trial.buttons, trial.pastes, trial.drops, trial.readers,
         trial.keyboard, trial.widths, trial.without, trial.no_script, trial.long_texts,
     ]
     for part in parts:

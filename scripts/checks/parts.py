@@ -17,7 +17,7 @@ from crate_copies import crate_lines, stands_on, with_all_below
 from kept import crate_sum, files_of_crate, sum_of, sum_of_file, sums_of_files
 
 SCRIPTS = "scripts/checks"
-# what no part reads: what is made, and pages
+# what no part reads: what is made, and pages, but for those that it names
 IGNORED = {".git", "out", "target", "__pycache__", "Cargo.lock"}
 PAGES = ".md"
 # the variables that a part has; beside them those by which the toolchain is told something
@@ -48,17 +48,31 @@ RUST = ("cargo", "rustc", "cc", "pkg-config")
 FUNCTIONS = tuple(f"bindings/c/{name}" for name in ("build_library", "choose_half.c", "include/*"))
 ROPE = tuple(f"bindings/c/{name}" for name in ("build_rope", "heap.c", "include/*"))
 CARGO_CRATES = (*(f"bindings/{name}/**/*" for name in ("rust", "positions", "rope", "original")), "bindings/find_library.rs")
+# what scripts/release packs and runs beside these
+RELEASED = (
+    "bindings/c/install", "bindings/c/examples/*", "bindings/web/*", "release/**/*", "examples/**/*", "docs/man/*",
+    "VERSION", "LICENSE-*", "NOTICE", "scripts/release",
+    *(f"{SCRIPTS}/{name}.py" for name in ("man_pages", "crate_copies")),
+    *(f"bindings/{name}/README.md" for name in ("web", "rust", "positions", "rope")),
+    *(f"docs/{name}.md" for name in ("DEFINITIONS", "LAWS", "PROVED")),
+    "release/README.md", "CHANGELOG.md", "SECURITY.md",
+)
 
 PARTS = (
     Part("refused_growths.py", 60, ("piece_text", "text_rope"), ("tests/refused_*.rt.txt",)),
     Part("test_program.py", 60, ("idx",), (), SHELL),
     Part("failing_calls.py", 60, ("idx",), ("tests/failing_calls.c",), ("cc",)),
-    Part("test_c.py", 60, FOR_C, ("bindings/c/**/*",),
+    Part("test_c.py", 60, FOR_C, ("bindings/c/**/*", "VERSION"),
          (*SHELL, *BINUTILS, "cc", "c++", "pkg-config", "cmake", "make", "valgrind", "qemu-x86_64")),
+    Part("test_pages.py", 60, FOR_C, (*FUNCTIONS, *ROPE, "bindings/c/install", "VERSION", "bindings/c/examples/*",
+         *CARGO_CRATES, "examples/rust/**/*", "README.md", "bindings/c/README.md", "bindings/rope/README.md"),
+         (*SHELL, *BINUTILS, *RUST, "c++", "cmake", "make")),
+    Part("test_release.py", 90, (*FOR_C, "position_mapper", "idx"), (*FUNCTIONS, *ROPE, *CARGO_CRATES, *RELEASED),
+         (*SHELL, *BINUTILS, *RUST, "c++", "cmake", "make", "node", "groff", "git", "tar", "sha256sum")),
     Part("test_rust.py", 60, FOR_C, (*FUNCTIONS, *ROPE, *CARGO_CRATES, "examples/rust/**/*", "bench/Cargo.toml",
          "bench/build.rs", "bench/run", "bench/picture.py", "bench/src/**/*"), (*SHELL, *BINUTILS, *RUST)),
     Part("test_browser.py", 60, ("str_indices_c", "position_mapper"), ("bindings/web/**/*", f"{SCRIPTS}/crate_copies.py"),
-         ("node", "chromium", "chromium-browser", "google-chrome", "bash")),
+         ("node", "chromium", "chromium-browser", "google-chrome", "bash", "tsc", "esbuild", "rollup")),
     Part("test_positions.py", 30, ("str_indices_c", "str_indices_c_wide", "rope_positions"),
          (*FUNCTIONS, "tests/rope_positions.rt.txt"), (*SHELL, *BINUTILS, "cc")),
     Part("test_editor.py", 60, FOR_C, (*FUNCTIONS, *ROPE, *CARGO_CRATES, "examples/language_server/**/*", "tests/editor/*"),
@@ -87,9 +101,9 @@ def below(part: Part) -> List[str]:
     return list(dict.fromkeys(crate for name in part.crates for crate in with_all_below(name, stands_on())))
 
 
-def is_source(path: pathlib.PurePath) -> bool:
-    """Whether a path below the top is none that is made, and no page."""
-    return not IGNORED & set(path.parts) and path.suffix != PAGES
+def is_read(path: pathlib.PurePath, part: Part) -> bool:
+    """Whether a path below the top is none that is made, and no page that the part does not name."""
+    return not IGNORED & set(path.parts) and (path.suffix != PAGES or str(path) in part.files)
 
 
 def files(root: pathlib.Path, part: Part) -> List[pathlib.Path]:
@@ -97,7 +111,7 @@ def files(root: pathlib.Path, part: Part) -> List[pathlib.Path]:
     named = [path for pattern in part.files for path in root.glob(pattern)]
     scripts = [*scripts_of(root, part.script), root / "scripts/least.txt", root / "HANDLES"]
     found = [path for path in [*named, *scripts] if path.is_file() or path.is_symlink()]
-    return sorted({path for path in found if is_source(path.relative_to(root))})
+    return sorted({path for path in found if is_read(path.relative_to(root), part)})
 
 
 def environment() -> Dict[str, str]:

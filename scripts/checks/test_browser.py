@@ -1,7 +1,8 @@
 #!/usr/bin/env python3
 """Proves and builds the functions for a browser, and runs them and the page in Chromium and Node.
 
-Every function on worked answers and on random texts beside the engine's own strings, served as a site serves them; then
+Every function on worked answers and on random texts beside the engine's own strings, served as a site serves them; the
+module's types, and bundles of it; then
 the page as it is opened from the disk, driven by the browser's own protocol: what it shows at some cursors, what goes
 into its field, and what those have of it who hear it, or use a phone. Where no Chromium is on the path, it says so and
 only proves and builds. With `--pictures` it makes those of the page in docs/ anew. The last line printed is
@@ -22,12 +23,13 @@ import threading
 import page_tests
 from devtools import Browser
 from tally import Tally
+from web_package import BUNDLERS, OF_BUNDLER, try_bundles, try_types
 
 ROOT = pathlib.Path(__file__).resolve().parents[2]
 NAMES = ["chromium", "chromium-browser", "google-chrome"]
 # how many results there are of what Node and of what a Chromium is asked
-IN_NODE = 6
-IN_BROWSER = 103
+IN_NODE = 6 + OF_BUNDLER * len(BUNDLERS)
+IN_BROWSER = 107
 # no time is judged: an engine that hangs ends the script, also on a slow machine
 SECONDS = 600
 PICTURES = {"page.png": 1280, "page-390.png": 390}
@@ -109,7 +111,7 @@ def try_exchanges(folder, flags):
     tally.enough("exchanges of the module", seen, f"each of {found['tried']} exchanges of the module is seen{told}")
 
 
-def compare_in_node(folder):
+def compare_in_node(folder, built):
     """The module as a package of Node's, and what it says where 64-bit memory is behind a flag."""
     package = folder / "project/node_modules/str_indices"
     package.mkdir(parents=True)
@@ -127,6 +129,7 @@ def compare_in_node(folder):
     flags = [] if without.startswith("true") else [FLAG]
     done = node_answer(folder / "project", use, *flags)
     tally.result(done.stdout == "true 1\n", f"a package of Node's: {done.stdout.strip()}{done.stderr[-200:]}")
+    try_bundles(tally, built, folder / "project", ["node", *flags])
     done = node_answer(folder, f"console.log(await {COMPARE})", *flags)
     if tally.result(done.returncode == 0, "the comparison runs in Node"):
         judge("in Node", done.stdout)
@@ -138,11 +141,11 @@ def compare_in_node(folder):
 
 def check_types():
     """The types name what the module has."""
-    types = (ROOT / "bindings/web/str_indices.d.ts").read_text()
+    types = (ROOT / "bindings/web/str_indices.d.mts").read_text()
     module = (ROOT / "bindings/web/str_indices.mjs").read_text()
     names = {name for path in page_tests.functions_of(module) for name in path.split(".")}
     missing = sorted(name for name in names if f"readonly {name}:" not in types)
-    tally.result(len(names) == 16 and not missing, f"the types name the module's functions; missing: {missing}")
+    tally.result(len(names) == 18 and not missing, f"the types name the module's functions; missing: {missing}")
 
 
 def take_pictures(browser, page_file, folder):
@@ -169,13 +172,18 @@ def try_in_browser(program, built, pictures):
         take_pictures(browser, built / "index.html", ROOT / "docs" if pictures else folder)
 
 
+def try_package(built):
+    with tempfile.TemporaryDirectory() as folder:
+        try_types(tally, built, pathlib.Path(folder))
+
+
 def try_in_node(built):
     if shutil.which("node") is None:
         tally.leave_out(IN_NODE, "no node is on the path (Debian's package nodejs)")
         return
     with tempfile.TemporaryDirectory() as folder:
         fill(pathlib.Path(folder), built, build_web().MODULES)
-        compare_in_node(pathlib.Path(folder))
+        compare_in_node(pathlib.Path(folder), built)
 
 
 def main():
@@ -184,6 +192,7 @@ def main():
     right = tally.result(built.returncode == 0, "bindings/web/build, which proves the exports")
     check_types()
     if right:
+        try_package(pathlib.Path(built.stdout.splitlines()[-1]))
         try_in_node(pathlib.Path(built.stdout.splitlines()[-1]))
     if browser is None:
         tally.leave_out(IN_BROWSER, "no Chromium is on the path (Debian's package chromium)")

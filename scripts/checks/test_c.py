@@ -6,8 +6,9 @@ tables by each half of the library, and the worked answers by the library withou
 all of these once more from installed prefixes by pkg-config, over the shared object and the archive, and the example by
 CMake, where these commands are there. Texts of all lengths beside a plain model, which end and begin at pages that may
 not be read. Then the headers and the types of the functions, which half answers on which processor, what install does,
-each function exchanged for each other of its shape, and the rope, as the modules tell which try that. With --large the
-rope has texts of 100 MB. The last line printed is 'N passed, M failed', with what is left out.
+also where it is killed or the disk is full, each function exchanged for each other of its shape, and the rope, as the
+modules tell which try that. With --large the rope has texts of 100 MB. The last line printed is 'N passed, M failed', with
+what is left out.
 """
 import os
 import pathlib
@@ -24,6 +25,7 @@ from c_headers import try_headers
 from c_install import try_install
 from c_ropes import ROPES, try_ropes
 from exchanges import exchanging_library, try_exchanges
+from install_faults import try_faults
 from halves import ASKED, halves, has_wide_half, missing
 from tally import Tally, least, sums_of
 
@@ -155,8 +157,9 @@ def check_shared_object(prefix, library):
     """The shared object by its three names, the name that programs ask for, and the functions that it has for them."""
     shared, asked = prefix / f"lib/lib{library.name}.so", f"lib{library.name}.so.0"
     named = re.findall(r"\(SONAME\).*\[(.*)\]", told_by("readelf", "-d", shared))
-    of_version = re.fullmatch(rf"lib{library.name}\.so\.0\.\d+\.\d+", (prefix / "lib" / asked).readlink().name)
-    right = named == [asked] == [shared.readlink().name] and of_version
+    of_version = re.fullmatch(rf"lib{library.name}\.so\.0\.\d+\.\d+", shared.resolve().name)
+    links = [(prefix / "lib" / name).resolve() for name in [asked, shared.resolve().name]]
+    right = named == [asked] and of_version and links == 2 * [shared.resolve()]
     tally.result(bool(right), f"the shared object of {library.name} has its name and its links")
     names = {line.split()[-1] for line in told_by("nm", "-D", "--defined-only", shared).splitlines()}
     tally.result(names == set(declared(library)), f"it has the {len(names)} functions of the headers and no other")
@@ -280,8 +283,10 @@ def run_all(library, rope, folder, size):
     try_halves(tally, library, narrow, folder / "worked_answers_c", folder)
     (folder / "builds").mkdir()
     commands = copy_for_builds(folder / "builds")
-    try_install(tally, folder / "builds", commands)
     try_builds(tally, folder / "builds", commands)
+    (folder / "installs").mkdir()
+    try_install(tally, folder / "installs")
+    try_faults(tally, folder / "installs/faults")
     run_exchanged(library, folder)
     if rope:
         try_ropes(tally, rope, folder / "ropes", size)

@@ -40,6 +40,9 @@
 #include <stdbool.h>
 #include <stddef.h>
 
+/* The version of the header; that of the library is at the end of its file. */
+#define STR_INDICES_VERSION "0.4.4"
+
 #ifdef __cplusplus
 extern "C" {
 #endif

@@ -65,6 +65,9 @@
 
 #include <str_indices_positions.h> /* the types of positions */
 
+/* The version of the header; that of the library is at the end of its file. */
+#define STR_ROPE_VERSION "0.4.4"
+
 #ifdef __cplusplus
 extern "C" {
 #endif

@@ -55,7 +55,28 @@ const WORKED = [
   ["positions.utf16.byteOf", "ab\r\nc", { line: 0, character: 99 }, 2],
   ["positions.utf16.byteOf", "ab\r\nc", { line: 2n ** 64n, character: 0 }, 5],
   ["positions.utf16.byteOf", "ab\r\nc", { line: 1n, character: 2n ** 63n }, 5],
+  ["positions.utf8.exactByteOf", "a\ré🐸b", { line: 1, character: 6 }, 8],
+  ["positions.utf8.exactByteOf", "a\ré🐸b", { line: 1, character: 3 }, null],
+  ["positions.utf16.exactByteOf", "a\ré🐸b", { line: 1, character: 3 }, 8],
+  ["positions.utf16.exactByteOf", "a\ré🐸b", { line: 1, character: 2 }, null],
+  ["positions.utf32.exactByteOf", "a\ré🐸b", { line: 1, character: 2 }, 8],
+  ["positions.utf32.exactByteOf", "a\ré🐸b", { line: 1, character: 4 }, null],
+  ["positions.utf16.exactByteOf", "ab\r\nc", { line: 0, character: 2 }, 2],
+  ["positions.utf16.exactByteOf", "ab\r\nc", { line: 0, character: 3 }, null],
+  ["positions.utf16.exactByteOf", "ab\r\nc", { line: 2, character: 0 }, null],
+  ["positions.utf8.byteRange", "a\ré🐸b", places(1, 0, 1, 6), "2..8"],
+  ["positions.utf16.byteRange", "a\ré🐸b", places(1, 0, 1, 3), "2..8"],
+  ["positions.utf32.byteRange", "a\ré🐸b", places(1, 0, 1, 2), "2..8"],
+  ["positions.utf16.byteRange", "ab\r\nc", places(0, 1, 0, 99), "1..2"],
+  ["positions.utf16.byteRange", "ab\r\nc", places(0, 1, 2n ** 64n, 0), "1..5"],
+  ["positions.utf16.byteRange", "ab\r\nc", places(0, 2, 0, 1), null],
+  ["positions.utf16.byteRange", "ab\r\nc", places(1, 0, 0, 9), null],
 ];
+
+/** A range from a line and a character to another. */
+function places(line, character, endLine, endCharacter) {
+  return { start: { line, character }, end: { line: endLine, character: endCharacter } };
+}
 
 const CHARACTERS = ["a", "b", " ", "é", "せ", "🐸", "\n", "\r", "\r\n", "\v", "\f", "\u0085", "\u2028", "\u2029", "\u0084", "\u2027", "\ud83d"];
 const TEXTS = 250;
@@ -77,6 +98,12 @@ const countOf = (module) => (module in BREAKS ? "countBreaks" : "count");
 let passed = 0;
 let failed = 0;
 let told = [];
+
+/** An answer as the table says it. */
+function shownAnswer(found) {
+  if (typeof found !== "object" || found === null) return found;
+  return "line" in found ? `${found.line}:${found.character}` : `${found.start}..${found.end}`;
+}
 
 function same(answer, expected, what) {
   if (answer === expected) {
@@ -169,6 +196,8 @@ function comparePositions(indices, string) {
         const place = text.positions[encoding].positionOf(at);
         same(`${place.line}:${place.character}`, `${line}:${character}`, `${encoding} position of ${at} in ${JSON.stringify(string)}`);
         same(text.positions[encoding].byteOf({ line, character: BigInt(character) }), at, `${encoding} byte of ${line}:${character} in ${JSON.stringify(string)}`);
+        same(text.positions[encoding].exactByteOf({ line, character }), at, `${encoding} exact byte of ${line}:${character} in ${JSON.stringify(string)}`);
+        same(shownAnswer(text.positions[encoding].byteRange(places(0, 0, line, character))), `0..${at}`, `${encoding} bytes up to ${line}:${character} in ${JSON.stringify(string)}`);
         at += sizeOf(char);
         character += unitsOf(char);
       }
@@ -184,8 +213,7 @@ function compareWorked(indices) {
     const call = path.split(".").reduce((place, name) => place[name], indices);
     const known = path.split(".").reduce((place, name) => place[name], indices.text(text));
     for (const found of argument === null ? [call(text), known()] : [call(text, argument), known(argument)]) {
-      const shown = typeof found === "object" ? `${found.line}:${found.character}` : found;
-      same(shown, answer, `${path} of ${JSON.stringify(text)}`);
+      same(shownAnswer(found), answer, `${path} of ${JSON.stringify(text)}`);
     }
   }
 }
@@ -213,6 +241,8 @@ async function compareRefusals(indices) {
     [TypeError, /not UTF-8/, () => indices.text(new Uint8Array([0x61, 0xff]))],
     [TypeError, /a string or a Uint8Array/, () => indices.chars.count(7)],
     [TypeError, /a line and a character/, () => indices.positions.utf16.byteOf("a", 3)],
+    [TypeError, /a start and an end/, () => indices.positions.utf16.byteRange("a", null)],
+    [TypeError, /a line and a character/, () => indices.positions.utf16.byteRange("a", { start: { line: 0, character: 0 } })],
     [RangeError, /^-1 is no index/, () => indices.chars.toByteIdx("a", -1)],
     [RangeError, /^-1n is no index/, () => indices.chars.toByteIdx("a", -1n)],
     [RangeError, /^0.5 is no index/, () => indices.chars.toByteIdx("a", 0.5)],
@@ -221,8 +251,8 @@ async function compareRefusals(indices) {
     [RangeError, /^undefined is no index/, () => indices.chars.toByteIdx("a")],
     [RangeError, /^the string "1" is no line/, () => indices.positions.utf8.byteOf("a", { line: "1", character: 0 })],
     [RangeError, /^undefined is no character/, () => indices.positions.utf8.byteOf("a", { line: 1 })],
-    [RangeError, /does not fit the memory: at most 267386736 bytes/, () => indices.chars.count(new Uint8Array(267386737))],
-    [RangeError, /does not fit the memory/, () => indices.chars.count("é".repeat(133693369))],
+    [RangeError, /does not fit the memory: at most 267386704 bytes/, () => indices.chars.count(new Uint8Array(267386705))],
+    [RangeError, /does not fit the memory/, () => indices.chars.count("é".repeat(133693353))],
     [Error, /missing\.wasm cannot be read/, missing],
     [Error, /compare\.mjs is not the WebAssembly of str_indices/, () => load(new URL("compare.mjs", import.meta.url))],
     [Error, /handed over is not the WebAssembly/, () => load(new Uint8Array(8))],
@@ -236,7 +266,7 @@ async function compareRefusals(indices) {
     }
     same(thrown instanceof kind && message.test(thrown.message), true, `${call} throws ${kind.name}, ${thrown}`);
   }
-  same(indices.chars.count(new Uint8Array(267386736)), 267386736, "the longest text");
+  same(indices.chars.count(new Uint8Array(267386704)), 267386704, "the longest text");
   same(indices.chars.count("a"), 1, "after what was refused");
 }
 

@@ -16,14 +16,26 @@ export interface Place {
   readonly character: Index;
 }
 
+/** A part of a text as a language server names it, from its start up to its end. */
+export interface Places {
+  readonly start: Place;
+  readonly end: Place;
+}
+
+/** A part of a text by byte indices, from `start` up to `end`. */
+export interface Bytes {
+  readonly start: number;
+  readonly end: number;
+}
+
 /** What each function takes first: the text, or nothing on a text that is known. */
 type First = [text: Source] | [];
 
 export interface Conversions<Text extends First> {
   /** The index that a byte belongs to; past the end, that of the end. */
-  readonly fromByteIdx: (...args: [...Text, byteIndex: Index]) => number;
+  readonly fromByteIdx: (...args: [...text: Text, byteIndex: Index]) => number;
   /** The byte where what has this index begins; past the last one, the length of the text in bytes. */
-  readonly toByteIdx: (...args: [...Text, index: Index]) => number;
+  readonly toByteIdx: (...args: [...text: Text, index: Index]) => number;
 }
 
 export interface Chars<Text extends First> extends Conversions<Text> {
@@ -45,14 +57,18 @@ export interface Lines<Text extends First> extends Conversions<Text> {
 
 export interface Encoding<Text extends First> {
   /** The position of a byte; past the end, that of the end. */
-  readonly positionOf: (...args: [...Text, byteIndex: Index]) => Position;
+  readonly positionOf: (...args: [...text: Text, byteIndex: Index]) => Position;
   /** The byte of a position; past the end of its line, the line's end, before its break. */
-  readonly byteOf: (...args: [...Text, position: Place]) => number;
+  readonly byteOf: (...args: [...text: Text, position: Place]) => number;
+  /** The byte of a position that names a place; `null` where there is no such line, past the line's end or inside a char. */
+  readonly exactByteOf: (...args: [...text: Text, position: Place]) => number | null;
+  /** The bytes of a range, each as `byteOf` answers it; `null` where the end is before the start. */
+  readonly byteRange: (...args: [...text: Text, range: Places]) => Bytes | null;
 }
 
 export interface Positions<Text extends First> {
   /** The byte where the content of a line ends, before its break. */
-  readonly lineEnd: (...args: [...Text, line: Index]) => number;
+  readonly lineEnd: (...args: [...text: Text, line: Index]) => number;
   /** Offsets on a line in bytes. */
   readonly utf8: Encoding<Text>;
   /** Offsets on a line in UTF-16 code units, as a language server has them by default. */

@@ -1,0 +1,80 @@
+"""Runs the lines of a page as they stand there, in one shell and with nothing set, and reads what they print.
+
+A block of C whose first line names a file is that file. Where a line ends in a comment, that is what it prints. What a
+machine has no tool for is left out.
+"""
+import os
+import pathlib
+import re
+import shutil
+import subprocess
+
+BLOCK = re.compile(r"^```(\w+)\n(.*?)^```$", re.MULTILINE | re.DOTALL)
+NAME = re.compile(r"/\* (\w+\.c)\b")
+# what a line may want that not each machine has
+TOOLS = ["pkg-config", "cmake", "cargo", "c++", "node"]
+
+
+def blocks(text, begin=None, end=None):
+    """The blocks of a page from one of its texts up to another, each with its language."""
+    first = text.index(begin) if begin else 0
+    return BLOCK.findall(text[first : text.index(end, first) if end else len(text)])
+
+
+def environment(home, path):
+    """That of somebody who has set nothing; the toolchains of Rust and of Rattle are found as ever."""
+    kept = {name: value for name, value in os.environ.items() if name.startswith(("RT_", "RATTLE_"))}
+    for name, folder in [("RUSTUP_HOME", ".rustup"), ("CARGO_HOME", ".cargo")]:
+        kept[name] = os.environ.get(name, str(pathlib.Path.home() / folder))
+    return dict(kept, HOME=str(home), LANG="C.UTF-8", PATH=path)
+
+
+def links_statically(folder):
+    """Whether there is a C library to link a program with that starts alone."""
+    (folder / "empty.c").write_text("int main(void) { return 0; }\n", encoding="utf-8")
+    command = ["cc", "-static", "empty.c", "-o", "empty"]
+    return subprocess.run(command, cwd=folder, capture_output=True).returncode == 0
+
+
+def why_not(line, path, is_static):
+    """Why the line cannot run here, or None where it can."""
+    missing = [tool for tool in TOOLS if f"{tool} " in line and not shutil.which(tool, path=path)]
+    if missing:
+        return f"{missing[0]} is not on the path"
+    return "there is no static C library" if "cc -static" in line and not is_static else None
+
+
+def run_lines(lines, top, said, environment):
+    """Runs the lines in one shell; of each, its status and what it prints go into files, by its number."""
+    commands = "".join(
+        f"{{ {line}\n}} > '{said}/{at}' 2> '{said}/{at}.errors'; echo $? > '{said}/{at}.status'\n"
+        for at, line in enumerate(lines))
+    subprocess.run(["sh"], input=commands, cwd=top, env=environment, text=True)
+
+
+def judge(tally, page, at, line, said):
+    """Whether the line ended well, and printed what its comment says."""
+    command, _, wanted = line.partition("   # ")
+    printed, errors, status = ((said / f"{at}{end}").read_text(encoding="utf-8") for end in ["", ".errors", ".status"])
+    right = status == "0\n" and (not wanted or printed.strip() == wanted)
+    if not tally.result(right, f"{page}: {command}"):
+        print(status, printed[-2000:], errors[-2000:])
+
+
+def try_lines(tally, page, found, top, folder, path):
+    """All lines of those blocks of a page, at that top, with the programs that they show; the folder is empty."""
+    for name, text in [(NAME.match(text), text) for language, text in found if language == "c"]:
+        if name:
+            (top / name[1]).write_text(text, encoding="utf-8")
+    lines = [line for language, text in found if language == "sh" for line in text.splitlines()]
+    home, said = folder / "home", folder / "said"
+    home.mkdir()
+    said.mkdir()
+    is_static = links_statically(folder)
+    reasons = [why_not(line, path, is_static) for line in lines]
+    run_lines(["true" if why else line for line, why in zip(lines, reasons)], top, said, environment(home, path))
+    for at, (line, why) in enumerate(zip(lines, reasons)):
+        if why:
+            tally.leave_out(1, f"{page}: {line}, as {why}")
+        else:
+            judge(tally, page, at, line, said)
