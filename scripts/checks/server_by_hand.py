@@ -3,6 +3,9 @@
 The codes of errors are those of JSON-RPC 2.0 and of the Language Server Protocol 3.17.
 """
 import json
+import pathlib
+import random
+import re
 
 from language_client import Client, frame
 
@@ -11,6 +14,8 @@ PARSE_ERROR, INVALID_REQUEST, NO_METHOD, INVALID_PARAMS = -32700, -32600, -32601
 NOT_INITIALIZED, OUT_OF_STEP = -32002, -32803
 # more than the server takes
 TOO_LONG = 257 << 20
+# the memory by which a server may grow over a hundred thousand changes, in kB, where each text that comes goes again
+GROWTH = 1 << 10
 
 
 def methods(told):
@@ -40,9 +45,9 @@ def try_changes(program, tally):
         tally.result(text == "one \r\n🐸x\ny \r\n", f"two changes in one message: {text!r}")
         lines = [one["range"]["start"]["line"] for one in told[-1]["params"]["diagnostics"]]
         tally.result(lines == [0, 2], f"warnings after them: in lines {lines}")
-        client.change(URI, [((0, 0), (0, 1), "O"), (None, None, "a\tb"), ((0, 1), (0, 2), "-")])
+        client.change(URI, [((0, 0), (0, 1), "O"), (None, None, "a\tb"), ((0, 1), (0, 2), "-")], client.version)
         text = client.text(URI)
-        tally.result(text == "a-b", f"a whole text among changes: {text!r}")
+        tally.result(text == "a-b", f"a whole text among changes, under the version of those before: {text!r}")
         cleared = client.notify("textDocument/didClose", {"textDocument": {"uri": URI}})
         right = [message["params"] for message in cleared] == [{"uri": URI, "diagnostics": []}]
         tally.result(right, "a document that is closed has no warnings")
@@ -54,7 +59,6 @@ OUT = [
     ("a range past the end of its line", [((0, 4), (0, 4), "x")], 2),
     ("a range past the last line", [((2, 0), (2, 0), "x")], 2),
     ("a range inside a char", [((1, 1), (1, 2), "x")], 2),
-    ("a version that was there", [((0, 0), (0, 1), "x")], 1),
     ("an older version", [((0, 0), (0, 1), "x")], 0),
     ("a version that is none", [((0, 0), (0, 1), "x")], "2"),
     ("a change without a text", [((0, 0), (0, 1), "x"), ((0, 0), (0, 1), None)], 2),
@@ -212,8 +216,36 @@ def try_life(program, tally):
         tally.result(client.end(None) == 1, "a body that the end of the input cuts off is not executed")
 
 
+def memory(process):
+    """The memory of a process, in kB."""
+    status = pathlib.Path(f"/proc/{process.pid}/status").read_text(encoding="utf-8")
+    return int(re.search(r"VmRSS:\s+(\d+) kB", status)[1])
+
+
+def come_and_go(client, numbers):
+    """Fifty thousand changes, by which a text comes into a line and goes again."""
+    for _ in range(50):
+        lines = [numbers.randrange(20_000) for _ in range(500)]
+        client.change(URI, [
+            change for line in lines for change in [((line, 3), (line, 3), "x\n🐸 "), ((line, 3), (line + 1, 3), "")]
+        ])
+    return memory(client.server)
+
+
+def try_memory(program, tally):
+    """What a hundred thousand changes take of memory: as much as was taken after the first of them."""
+    text, numbers = "a line of some forty bytes, with a 🐸 \n" * 20_000, random.Random(59)
+    with Client(program) as client:
+        client.initialize({})
+        client.open(URI, text)
+        sizes = [come_and_go(client, numbers) for _ in range(3)]
+        tally.result(client.text(URI) == text, "a hundred and fifty thousand changes, and the text is as it was")
+        right = sizes[2] <= sizes[0] + GROWTH
+        tally.result(right, f"memory after the first 50,000 changes, and after each 50,000 more: {sizes} kB")
+
+
 TRIED = [
-    try_encodings, try_changes, try_out_of_step, try_lone_return, try_wrong, try_surrogates, try_batches, try_life,
+    try_encodings, try_changes, try_out_of_step, try_lone_return, try_wrong, try_surrogates, try_batches, try_life, try_memory,
 ]
 
 

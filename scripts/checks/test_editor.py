@@ -28,7 +28,7 @@ CHANGES_IN_EMACS = ROOT / "tests/editor/changes.el"
 # where Debian's packages put the sources of crates
 REGISTRY = pathlib.Path("/usr/share/cargo/registry")
 # how many results there are of what is tried without an editor, in Neovim and in Emacs
-BY_HAND = 78
+BY_HAND = 77
 IN_EDITOR = 32
 IN_EMACS = 8
 # how long a client speaks wrongly, and the seed of its random numbers
@@ -52,13 +52,16 @@ def lines_with(line_break, times):
 
 
 class Run:
-    """A run of the editor: the encodings that the client offers, if any, the one to be agreed on, and the line break."""
+    """A run of the editor: the encodings that the client offers, if any, the one to be agreed on, the line break, whether
+    it sends whole texts, and how many bytes it pastes.
+    """
 
-    def __init__(self, offered, encoding, line_break, whole=False):
+    def __init__(self, offered, encoding, line_break, whole=False, paste=PASTE):
         self.offered = offered
         self.encoding = encoding
         self.line_break = line_break
         self.whole = whole
+        self.paste = paste
 
     def name(self):
         ends = "CR LF" if self.line_break == "\r\n" else "LF"
@@ -70,12 +73,14 @@ class Run:
         debounce = 150 if self.line_break == "\r\n" else 0
         return {
             "program": str(program), "file": str(file), "offered": self.offered, "encoding": self.encoding, "seed": seed,
-            "whole": self.whole, "debounce": debounce, "edits": 300, "paste_at": 240, "paste": LONG_PASTE if seed == 1 else PASTE,
+            "whole": self.whole, "debounce": debounce, "edits": 300, "paste_at": 240, "paste": self.paste,
         }
 
 
 RUNS = [
-    *(Run([encoding], encoding, ends) for encoding in ["utf-8", "utf-16", "utf-32"] for ends in ["\n", "\r\n"]),
+    Run(["utf-8"], "utf-8", "\n", paste=LONG_PASTE),
+    Run(["utf-8"], "utf-8", "\r\n"),
+    *(Run([encoding], encoding, ends) for encoding in ["utf-16", "utf-32"] for ends in ["\n", "\r\n"]),
     Run(None, "utf-16", "\r\n"),
     Run(["unknown", "utf-8", "utf-16"], "utf-8", "\n", whole=True),
 ]

@@ -204,7 +204,7 @@ class WrongClient:
         self.counts["refused changes"] += 1
         events, version = self.refused_events(document), document.version
         if self.random.randrange(4) == 0:
-            events, version = [event((0, 0), (0, 0), "x")], self.random.choice([document.version - 1, -5, None, "7", 1.5])
+            events, version = [event((0, 0), (0, 0), "x")], self.random.choice([document.version - 2, -5, None, "7", 1.5])
             document.version -= 1
         document.text = None
         self.changed(uri, events, version)

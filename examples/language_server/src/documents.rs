@@ -41,10 +41,11 @@ impl Document {
         Ok(())
     }
 
-    /// Takes a version, which must be greater than the last one.
+    /// Takes a version, which must not be older than the last one. The protocol has it increase after each change; but
+    /// Neovim 0.7 sends changes that waited under the version of those before them.
     fn go_to(&mut self, version: i64) -> Result<(), Fault> {
         match self.version {
-            Some(last) if version <= last => Err(Fault::old_version(version, last)),
+            Some(last) if version < last => Err(Fault::old_version(version, last)),
             _ => {
                 self.version = Some(version);
                 Ok(())
