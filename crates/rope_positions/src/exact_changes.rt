@@ -17,11 +17,7 @@ use text_rope::{Refusal, Rope};
 /// before. It is `NotOrdered` where the range's end is before its start, or else `NotBoundary` where a position names no
 /// place, since the text has no such line, the offset is past the end of the line, or the unit is inside a char, or else
 /// `TooLong` where the text would have more than `isize::MAX` bytes, and else `NoMemory` where memory was refused.
-pub fn apply_exact(
-    rope: &mut Rope,
-    encoding: Encoding,
-    change: Change<'_>,
-) -> Result<(), Refusal>
+pub fn apply_exact(rope: &mut Rope, encoding: Encoding, change: Change<'_>) -> Result<(), Refusal>
     ensures ok { OnOk result (IfSome (exact_part_at encoding rope.old change.entry.range) (λ part.
         IsReplaced rope.old rope.new part.start part.end (chars change.entry.text.now))) }
     ensures whole { OnOk result (IfNone change.entry.range (rope.new ≡ chars change.entry.text.now)) }
@@ -53,11 +49,7 @@ fn is_ordered(range: Option<Range>) -> bool
 }
 
 /// The byte indices of the part that a change exchanges, or `None` where a position names no place.
-fn exact_part_of(
-    rope: &Rope,
-    encoding: Encoding,
-    range: Option<Range>,
-) -> Option<ops::Range<usize>>
+fn exact_part_of(rope: &Rope, encoding: Encoding, range: Option<Range>) -> Option<ops::Range<usize>>
     requires ordered { IsTrue (is_ordered range) }
     ensures part { result ≡ exact_part_at encoding rope.now range }
     ensures ordered { IfSome result (λ part. part.start ≤ part.end) }

@@ -16,7 +16,10 @@ pub enum Call<'a> {
     /// This server requests nothing, so it is of no use.
     Response,
     /// The id is null where it is none.
-    Invalid { id: Value, fault: Fault },
+    Invalid {
+        id: Value,
+        fault: Fault,
+    },
 }
 
 /// What a message is by its members.

@@ -222,7 +222,8 @@ impl<R: BufRead> Frames<R> {
 impl Header {
     /// Takes a line of the header.
     fn take(&mut self, line: &[u8]) -> Result<(), Fault> {
-        let (name, value) = field(line).ok_or_else(|| Fault::invalid_request("a header has a line that is no field"))?;
+        let (name, value) =
+            field(line).ok_or_else(|| Fault::invalid_request("a header has a line that is no field"))?;
         if name.eq_ignore_ascii_case(LENGTH) {
             let len = length(value).ok_or_else(|| Fault::invalid_request("a Content-Length is none, or too long"))?;
             if self.len.replace(len).is_some() {

@@ -49,7 +49,6 @@ fn unit_at(body: &[u8], at: usize) -> Option<u16> {
     u16::from_str_radix(digits, 16).ok()
 }
 
-
 fn is_high(unit: u16) -> bool {
     (0xD800..0xDC00).contains(&unit)
 }

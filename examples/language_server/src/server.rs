@@ -195,7 +195,10 @@ impl Server {
         let uri = protocol::uri(params)?;
         let document = self.documents.remove(uri);
         document.ok_or_else(|| Fault::invalid("open document"))?;
-        self.send("textDocument/publishDiagnostics", json!({ "uri": uri, "diagnostics": [] }));
+        self.send(
+            "textDocument/publishDiagnostics",
+            json!({ "uri": uri, "diagnostics": [] }),
+        );
         Ok(())
     }
 
@@ -223,7 +226,10 @@ impl Server {
         let lost = self.documents.insert(uri.to_string(), Document::out_of_step());
         if lost.map_or(true, |document| document.is_in_step()) {
             self.tell_of_loss(uri, fault);
-            self.send("textDocument/publishDiagnostics", json!({ "uri": uri, "diagnostics": [] }));
+            self.send(
+                "textDocument/publishDiagnostics",
+                json!({ "uri": uri, "diagnostics": [] }),
+            );
         }
     }
 
@@ -234,9 +240,14 @@ impl Server {
 
     /// Tells of CRs that stand alone, where a document did not have them before.
     fn tell_of_lone_returns(&mut self, uri: &str, had: bool) {
-        let has = self.documents.get(uri).and_then(|document| document.text().ok()).is_some_and(Text::has_lone_return);
+        let has = self
+            .documents
+            .get(uri)
+            .and_then(|document| document.text().ok())
+            .is_some_and(Text::has_lone_return);
         if has && !had {
-            let sentence = format!("{uri} has a CR without an LF: an editor that takes it for no line break means other lines");
+            let sentence =
+                format!("{uri} has a CR without an LF: an editor that takes it for no line break means other lines");
             self.tell("window/logMessage", 2, sentence);
         }
     }

@@ -51,12 +51,12 @@ impl Warnings {
 
     /// The first of them, as the protocol's diagnostics.
     pub fn to_json(&self) -> Result<Value, TryFromIntError> {
-        self.blanks.iter().take(MOST_SENT).map(Blanks::to_json).collect()
+        self.blanks.iter().take(MOST_SENT).map(|one| one.to_json()).collect()
     }
 }
 
 impl Blanks {
-    fn to_json(&self) -> Result<Value, TryFromIntError> {
+    fn to_json(self) -> Result<Value, TryFromIntError> {
         let at = |character| Position {
             line: self.line,
             character,
@@ -176,7 +176,9 @@ mod tests {
 
         fn text(&mut self, pieces: usize) -> String {
             const PIECES: [&str; 10] = [" ", "\t", "\r", "\n", "\r\n", "a", "é", "世", "🐸", "  \n"];
-            (0..self.below(pieces)).map(|_| PIECES[self.below(PIECES.len())]).collect()
+            (0..self.below(pieces))
+                .map(|_| PIECES[self.below(PIECES.len())])
+                .collect()
         }
 
         /// A position that names a place.
@@ -221,7 +223,10 @@ mod tests {
         let rope: Rope = "a \r\n🐸\t \r \n\n  ".parse().unwrap();
         let found = |encoding| {
             let blanks = Warnings::of(&rope, encoding).unwrap().blanks;
-            blanks.iter().map(|one| (one.line, one.start, one.end)).collect::<Vec<_>>()
+            blanks
+                .iter()
+                .map(|one| (one.line, one.start, one.end))
+                .collect::<Vec<_>>()
         };
         assert_eq!(found(Encoding::Utf8), [(0, 1, 2), (1, 4, 6), (2, 0, 1), (4, 0, 2)]);
         assert_eq!(found(Encoding::Utf16), [(0, 1, 2), (1, 2, 4), (2, 0, 1), (4, 0, 2)]);
