@@ -29,8 +29,8 @@ CHANGES_IN_EMACS = ROOT / "tests/editor/changes.el"
 REGISTRY = pathlib.Path("/usr/share/cargo/registry")
 # how many results there are of what is tried without an editor, in Neovim and in Emacs
 BY_HAND = 77
-IN_EDITOR = 32
-IN_EMACS = 8
+IN_EDITOR = 40
+IN_EMACS = 10
 # how long a client speaks wrongly, and the seed of its random numbers
 WRONG_SECONDS = 20
 WRONG_SEED = 59
@@ -115,6 +115,7 @@ def try_run(program, run, seed, folder):
     for what in ["edits", "texts", "hovers"]:
         number = 0 if found["wrong"] else found[what]
         tally.enough(f"{what} of changes.lua", number, f"{run.name()}: {what}")
+    try_limit(found, run.name(), run.whole)
     agreed_on = found.get("encoding")
     right = agreed_on == run.encoding and found.get("exit") == 0
     tally.result(right, f"{run.name()}: agreed on {agreed_on}, {found.get('changes')} changes sent, exit {found.get('exit')}")
@@ -162,7 +163,15 @@ def try_emacs_run(program, line_break, seed, folder):
     for what in ["edits", "texts", "hovers"]:
         number = 0 if found["wrong"] else found[what]
         tally.enough(f"{what} of changes.el", number, f"{name}: {what}")
+    try_limit(found, name, False)
     tally.result(found.get("exit") == 0, f"{name}: exit {found.get('exit')}")
+
+
+def try_limit(found, name, whole):
+    """After a CR alone an editor is out of step, unless it sends whole texts; the server has told of the CR."""
+    told, after = found.get("told"), found.get("after_return")
+    right = told == 1 and (after == "in step") == whole and after
+    tally.result(bool(right), f"{name}: a CR alone is told {told} times, and a change after it: {after}")
 
 
 def without_eglot():

@@ -12,7 +12,8 @@
 (require 'json)
 
 (defvar changes-job (json-parse-string (getenv "JOB") :object-type 'alist))
-(defvar changes-found (list (cons 'edits 0) (cons 'texts 0) (cons 'hovers 0) (cons 'wrong [])))
+(defvar changes-found (list (cons 'edits 0) (cons 'texts 0) (cons 'hovers 0) (cons 'told 0) (cons 'after_return "")
+                            (cons 'wrong [])))
 (defvar changes-server nil)
 
 ;; Chars of one to four bytes, chars that combine with the one before, and chars that some take for line breaks; no CR alone,
@@ -106,6 +107,24 @@
   (dotimes (_ hovers)
     (changes-compare-hover)))
 
+(cl-defmethod eglot-handle-notification :after (_server (_method (eql window/logMessage)) &rest _params)
+  "Counts what the server tells the client's log."
+  (changes-count 'told))
+
+(defun changes-return-alone ()
+  "A CR alone ends a line by the protocol, and none for the editor: a change after it is put elsewhere."
+  (goto-char (point-max))
+  (insert "\na\rb\nsecond\nthird\n")
+  (changes-compare-text)
+  (search-backward "second")
+  (delete-char 1)
+  (insert "S")
+  (let* ((text (buffer-substring-no-properties (point-min) (point-max)))
+         (asked (list :textDocument (eglot--TextDocumentIdentifier)))
+         (answer (ignore-errors (plist-get (changes-ask :pauskern/text asked) :text))))
+    (setf (alist-get 'after_return changes-found)
+          (cond ((not answer) "refused") ((string= text answer) "in step") (t "another text")))))
+
 (defun changes-run ()
   (find-file (changes-get 'file))
   (text-mode)
@@ -119,6 +138,7 @@
     (when (= 0 (random 4))
       (changes-compare 2)))
   (changes-compare 10)
+  (changes-return-alone)
   (changes-stop))
 
 (defun changes-stop ()
