@@ -4,11 +4,14 @@ import subprocess
 
 
 class Client:
-    """Runs a server, sends messages and waits for the one that answers each, however long that takes."""
+    """Runs a server, sends messages and waits for the answers, however long that takes."""
 
     def __init__(self, program):
         self.server = subprocess.Popen([program], stdin=subprocess.PIPE, stdout=subprocess.PIPE, stderr=subprocess.DEVNULL)
         self.number = 0
+        self.version = 1
+        # what the server told since it was looked at last, beside responses to requests
+        self.told = []
 
     def __enter__(self):
         return self
@@ -19,10 +22,13 @@ class Client:
         self.server.stdin.close()
         self.server.stdout.close()
 
-    def send(self, message):
-        content = json.dumps({"jsonrpc": "2.0", **message}).encode()
-        self.server.stdin.write(b"Content-Length: %d\r\n\r\n%s" % (len(content), content))
+    def write(self, data):
+        """Sends bytes, whatever they are."""
+        self.server.stdin.write(data)
         self.server.stdin.flush()
+
+    def send(self, message):
+        self.write(frame(json.dumps({"jsonrpc": "2.0", **message}).encode()))
 
     def next_message(self):
         """The next message of the server; an error where it has ended."""
@@ -31,35 +37,51 @@ class Client:
         return json.loads(self.server.stdout.read(lengths[0]))
 
     def request(self, method, params):
-        """The response, whose number must be the request's."""
+        """The response with the request's number. What the server tells before it is kept."""
         self.number += 1
         self.send({"id": self.number, "method": method, "params": params})
-        response = self.next_message()
-        if response.get("id") != self.number:
-            raise ValueError(f"no response to {method}: {response}")
-        return response
+        while True:
+            message = self.next_message()
+            if isinstance(message, dict) and message.get("id") == self.number:
+                return message
+            self.told.append(message)
 
     def error(self, method, params):
         """The code of the error that a request is answered with, or None."""
         return self.request(method, params).get("error", {}).get("code")
 
+    def said(self):
+        """What the server told since it was asked last, also by what it has not served yet."""
+        self.request("pauskern/nothing", None)
+        told, self.told = self.told, []
+        return told
+
     def notify(self, method, params):
-        """Sends a notification, and answers the one that comes back."""
+        """Sends a notification, and answers what the server tells by it."""
         self.send({"method": method, "params": params})
-        return self.next_message()
+        return self.said()
 
     def initialize(self, capabilities):
         return self.request("initialize", {"processId": None, "rootUri": None, "capabilities": capabilities})["result"]
 
-    def change(self, uri, changes):
+    def open(self, uri, text):
+        return self.notify("textDocument/didOpen", opened(uri, text))
+
+    def change(self, uri, changes, version=None):
         """Sends changes, each a start and an end by line and offset, or None twice for the whole text, and a text."""
+        self.version += 1
+        document = {"uri": uri, "version": self.version if version is None else version}
         events = [event(*change) for change in changes]
-        document = {"uri": uri, "version": 2}
         return self.notify("textDocument/didChange", {"textDocument": document, "contentChanges": events})
 
+    def ask(self, uri):
+        """The response to the question what the server has of a document."""
+        return self.request("pauskern/text", {"textDocument": {"uri": uri}})
+
     def text(self, uri):
-        """What the server has of a document."""
-        return self.request("pauskern/text", {"textDocument": {"uri": uri}})["result"]["text"]
+        """What the server has of a document, or the code of the error."""
+        answer = self.ask(uri)
+        return answer["result"]["text"] if "result" in answer else answer["error"]["code"]
 
     def end(self, method):
         """Sends a last notification, or none, and answers the server's exit status."""
@@ -67,6 +89,11 @@ class Client:
             self.send({"method": method})
         self.server.stdin.close()
         return self.server.wait()
+
+
+def frame(body, header=b""):
+    """A frame with a body, and more lines in its header."""
+    return b"%sContent-Length: %d\r\n\r\n%s" % (header, len(body), body)
 
 
 def event(start, end, text):

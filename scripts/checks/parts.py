@@ -76,7 +76,7 @@ PARTS = (
     Part("test_positions.py", 30, ("str_indices_c", "str_indices_c_wide", "rope_positions"),
          (*FUNCTIONS, "tests/rope_positions.rt.txt"), (*SHELL, *BINUTILS, "cc")),
     Part("test_editor.py", 60, FOR_C, (*FUNCTIONS, *ROPE, *CARGO_CRATES, "examples/language_server/**/*", "tests/editor/*"),
-         (*SHELL, *BINUTILS, *RUST, "nvim")),
+         (*SHELL, *BINUTILS, *RUST, "nvim", "emacs")),
 )
 
 

@@ -1,11 +1,13 @@
 #!/usr/bin/env python3
-"""Builds the language server of examples/language_server, speaks with it, and lets Neovim edit files with it.
+"""Builds the language server of examples/language_server, speaks with it, and lets editors edit files with it.
 
-By hand: what the server and its client agree on, what it does with changes and with messages that it cannot serve, and how
-it ends. In a headless Neovim, by tests/editor/changes.lua, in each position encoding, with line breaks of LF and of CR LF:
-some hundred random edits, with undo, redo and a paste of a megabyte. The server must have the editor's text, and tell of
-places and of blanks at the end of lines what the editor knows. Where cargo, the crate serde_json or Neovim is missing, what
-needs it is left out. The last line printed is 'N passed, M failed', with what is left out.
+By hand, by server_by_hand.py: what the server and its client agree on, and what it does with changes, with what is no
+message, and with messages that it cannot serve. By wrong_client.py: 20 seconds of random messages, right and wrong, where
+each right one must be answered. In a headless Neovim, by tests/editor/changes.lua, in each position encoding, with line
+breaks of LF and of CR LF: some hundred random edits, with undo, redo and a paste of megabytes; and so in Emacs with eglot,
+by tests/editor/changes.el. The server must have the editor's text, and tell of places and of blanks at the end of lines
+what the editor knows. Where cargo, the crate serde_json, Neovim or Emacs is missing, what needs it is left out. The last
+line printed is 'N passed, M failed', with what is left out.
 """
 import json
 import os
@@ -16,18 +18,27 @@ import subprocess
 import sys
 import tempfile
 
-from language_client import Client, opened
+from server_by_hand import try_by_hand
 from tally import Tally, least
+from wrong_client import try_wrong_client
 
 ROOT = pathlib.Path(__file__).resolve().parents[2]
 CHANGES = ROOT / "tests/editor/changes.lua"
+CHANGES_IN_EMACS = ROOT / "tests/editor/changes.el"
 # where Debian's packages put the sources of crates
 REGISTRY = pathlib.Path("/usr/share/cargo/registry")
-# how many results there are of what is tried by hand and in Neovim
-BY_HAND = 15
-IN_EDITOR = 32
+# how many results there are of what is tried without an editor, in Neovim and in Emacs
+BY_HAND = 77
+IN_EDITOR = 40
+IN_EMACS = 10
+# how long a client speaks wrongly, and the seed of its random numbers
+WRONG_SECONDS = 20
+WRONG_SEED = 59
 # the first Neovim that computes the changes of a buffer by itself, in each encoding
 NEOVIM = (0, 7)
+# how many bytes an editor pastes and takes back at once: in one run of Neovim and those of Emacs, and in the others
+LONG_PASTE = 5_000_000
+PASTE = 1_000_000
 # no time is judged: an editor that hangs is ended, also on a slow machine
 SECONDS = 900
 
@@ -41,13 +52,16 @@ def lines_with(line_break, times):
 
 
 class Run:
-    """A run of the editor: the encodings that the client offers, if any, the one to be agreed on, and the line break."""
+    """A run of the editor: the encodings that the client offers, if any, the one to be agreed on, the line break, whether
+    it sends whole texts, and how many bytes it pastes.
+    """
 
-    def __init__(self, offered, encoding, line_break, whole=False):
+    def __init__(self, offered, encoding, line_break, whole=False, paste=PASTE):
         self.offered = offered
         self.encoding = encoding
         self.line_break = line_break
         self.whole = whole
+        self.paste = paste
 
     def name(self):
         ends = "CR LF" if self.line_break == "\r\n" else "LF"
@@ -59,88 +73,39 @@ class Run:
         debounce = 150 if self.line_break == "\r\n" else 0
         return {
             "program": str(program), "file": str(file), "offered": self.offered, "encoding": self.encoding, "seed": seed,
-            "whole": self.whole, "debounce": debounce, "edits": 300, "paste_at": 240, "paste": 1_000_000,
+            "whole": self.whole, "debounce": debounce, "edits": 300, "paste_at": 240, "paste": self.paste,
         }
 
 
 RUNS = [
-    *(Run([encoding], encoding, ends) for encoding in ["utf-8", "utf-16", "utf-32"] for ends in ["\n", "\r\n"]),
+    Run(["utf-8"], "utf-8", "\n", paste=LONG_PASTE),
+    Run(["utf-8"], "utf-8", "\r\n"),
+    *(Run([encoding], encoding, ends) for encoding in ["utf-16", "utf-32"] for ends in ["\n", "\r\n"]),
     Run(None, "utf-16", "\r\n"),
     Run(["unknown", "utf-8", "utf-16"], "utf-8", "\n", whole=True),
 ]
 
 
-def agreed(program, offered):
-    """The encoding that the server chooses, where the client offers those."""
-    with Client(program) as client:
-        result = client.initialize({} if offered is None else {"general": {"positionEncodings": offered}})
-        return result["capabilities"]["positionEncoding"]
-
-
-def try_encodings(program):
-    for offered, expected in [
-        (None, "utf-16"), ([], "utf-16"), (["utf-32", "utf-8"], "utf-32"), (["utf-7", "utf-8"], "utf-8"), (["utf-7"], "utf-16"),
-    ]:
-        answer = agreed(program, offered)
-        tally.result(answer == expected, f"where a client offers {offered}, the encoding is {answer}")
-
-
-def try_changes(program):
-    """Changes one after another, each meant in the text that the one before left; one that is refused; and a whole text."""
-    with Client(program) as client:
-        client.initialize({})
-        warnings = client.notify("textDocument/didOpen", opened("file:///a", "one \r\n🐸two\r\n"))
-        place = [(one["range"]["start"], one["range"]["end"]) for one in warnings["params"]["diagnostics"]]
-        expected = [({"line": 0, "character": 3}, {"line": 0, "character": 4})]
-        tally.result(place == expected, f"a warning of a blank at the end of a line: {place}")
-        client.change("file:///a", [((1, 2), (1, 3), "x\n"), ((2, 0), (2, 99), "y")])
-        text = client.text("file:///a")
-        tally.result(text == "one \r\n🐸x\ny\r\n", f"two changes in one message: {text!r}")
-        told = client.change("file:///a", [((1, 1), (0, 0), "z")])
-        right = told["method"] == "window/logMessage" and client.text("file:///a") == text
-        tally.result(right, f"a range that ends before it starts: {told['params'].get('message')}")
-        client.change("file:///a", [(None, None, "a\tb")])
-        text = client.text("file:///a")
-        tally.result(text == "a\tb", f"a change of the whole text: {text!r}")
-        cleared = client.notify("textDocument/didClose", {"textDocument": {"uri": "file:///a"}})
-        right = cleared["params"] == {"uri": "file:///a", "diagnostics": []}
-        tally.result(right, "a document that is closed has no warnings")
-
-
-def try_refusals(program):
-    with Client(program) as client:
-        asked = {"textDocument": {"uri": "file:///a"}, "position": {"line": 0, "character": 0}}
-        early = client.error("textDocument/hover", asked)
-        client.initialize({})
-        codes = [early, client.error("textDocument/rename", {}), client.error("textDocument/hover", asked)]
-        tally.result(codes == [-32002, -32601, -32602], f"too early, unknown, of no document: {codes}")
-        nothing = client.request("shutdown", None)
-        late = client.error("textDocument/hover", asked)
-        right = nothing["result"] is None and late == -32600
-        tally.result(right, f"after a shutdown: {late}")
-        tally.result(client.end("exit") == 0, "an exit after a shutdown is a success")
-    with Client(program) as client:
-        tally.result(client.end("exit") == 1, "an exit without a shutdown is a failure")
-    with Client(program) as client:
-        tally.result(client.end(None) == 1, "an input that ends without an exit is a failure")
+def found_by(command, folder, job):
+    """What an editor found that ran a script for a job, and told as JSON on a line."""
+    homes = {f"XDG_{name}_HOME": str(folder) for name in ["CACHE", "CONFIG", "DATA", "STATE"]}
+    try:
+        done = subprocess.run(
+            command, env=dict(os.environ, JOB=json.dumps(job), **homes), stdin=subprocess.DEVNULL, capture_output=True,
+            text=True, timeout=SECONDS,
+        )
+    except subprocess.TimeoutExpired:
+        return {"wrong": [f"the editor took more than {SECONDS} seconds"]}
+    lines = [line for line in done.stdout.split("\n") if line.startswith("{")]
+    return json.loads(lines[-1]) if lines else {"wrong": [done.stdout[-500:] + done.stderr[-500:]]}
 
 
 def edit(program, run, seed, folder):
     """What changes.lua found."""
     file = folder / "text.txt"
     file.write_bytes(lines_with(run.line_break, 4).encode())
-    homes = {f"XDG_{name}_HOME": str(folder) for name in ["CACHE", "CONFIG", "DATA", "STATE"]}
-    job = json.dumps(run.job(program, file, seed))
     command = ["nvim", "--headless", "-u", "NONE", "-i", "NONE", "-n", "-c", f"luafile {CHANGES}", "-c", "cquit"]
-    try:
-        done = subprocess.run(
-            command, env=dict(os.environ, JOB=job, **homes), stdin=subprocess.DEVNULL, capture_output=True, text=True,
-            timeout=SECONDS,
-        )
-    except subprocess.TimeoutExpired:
-        return {"wrong": [f"the editor took more than {SECONDS} seconds"]}
-    lines = [line for line in done.stdout.split("\n") if line.startswith("{")]
-    return json.loads(lines[-1]) if lines else {"wrong": [done.stdout[-500:] + done.stderr[-500:]]}
+    return found_by(command, folder, run.job(program, file, seed))
 
 
 def try_run(program, run, seed, folder):
@@ -150,6 +115,7 @@ def try_run(program, run, seed, folder):
     for what in ["edits", "texts", "hovers"]:
         number = 0 if found["wrong"] else found[what]
         tally.enough(f"{what} of changes.lua", number, f"{run.name()}: {what}")
+    try_limit(found, run.name(), run.whole)
     agreed_on = found.get("encoding")
     right = agreed_on == run.encoding and found.get("exit") == 0
     tally.result(right, f"{run.name()}: agreed on {agreed_on}, {found.get('changes')} changes sent, exit {found.get('exit')}")
@@ -174,6 +140,46 @@ def without_neovim():
     if not version or tuple(map(int, version.groups())) < NEOVIM:
         return f"nvim is older than {'.'.join(map(str, NEOVIM))}: {told.splitlines()[:1]}"
     return None
+
+
+def try_in_emacs(program):
+    why = without_eglot()
+    if why:
+        tally.leave_out(IN_EMACS, why)
+        return
+    for seed, line_break in enumerate(["\n", "\r\n"], 1):
+        with tempfile.TemporaryDirectory() as folder:
+            try_emacs_run(program, line_break, seed, pathlib.Path(folder))
+
+
+def try_emacs_run(program, line_break, seed, folder):
+    file = folder / "text.txt"
+    file.write_bytes(lines_with(line_break, 4).encode())
+    job = {"program": str(program), "file": str(file), "seed": seed, "edits": 300, "paste": LONG_PASTE}
+    found = found_by(["emacs", "-Q", "--batch", "-l", str(CHANGES_IN_EMACS)], folder, job)
+    name = "Emacs, CR LF" if line_break == "\r\n" else "Emacs, LF"
+    for line in found["wrong"][:3]:
+        print(line[:1000])
+    for what in ["edits", "texts", "hovers"]:
+        number = 0 if found["wrong"] else found[what]
+        tally.enough(f"{what} of changes.el", number, f"{name}: {what}")
+    try_limit(found, name, False)
+    tally.result(found.get("exit") == 0, f"{name}: exit {found.get('exit')}")
+
+
+def try_limit(found, name, whole):
+    """After a CR alone an editor is out of step, unless it sends whole texts; the server has told of the CR."""
+    told, after = found.get("told"), found.get("after_return")
+    right = told == 1 and (after == "in step") == whole and after
+    tally.result(bool(right), f"{name}: a CR alone is told {told} times, and a change after it: {after}")
+
+
+def without_eglot():
+    """Why nothing is tried in Emacs, or None."""
+    if not shutil.which("emacs"):
+        return "no emacs is on the path (Debian's packages emacs-nox and elpa-eglot)"
+    done = subprocess.run(["emacs", "-Q", "--batch", "--eval", "(require 'eglot)"], capture_output=True)
+    return None if done.returncode == 0 else "emacs has no eglot (Debian's package elpa-eglot)"
 
 
 def source_flags():
@@ -205,11 +211,19 @@ def libraries():
     return pathlib.Path(done.stdout.splitlines()[-1]).parent
 
 
+def try_own_tests(server):
+    """The tests of the server's own, in Rust."""
+    done = cargo(server, "test", "--release")
+    passed = sum(map(int, re.findall(r"^test result: ok\. (\d+) passed", done.stdout, re.MULTILINE)))
+    if not tally.enough("tests of examples/language_server", passed, "tests of examples/language_server"):
+        print(done.stdout + done.stderr)
+
+
 def try_server(folder):
     """Builds the server, and tries it."""
     server = copy_of(folder)
     if cargo(server, "generate-lockfile").returncode != 0:
-        tally.leave_out(3 + BY_HAND + IN_EDITOR, "the crate serde_json is not at hand (Debian's package librust-serde-json-dev)")
+        tally.leave_out(3 + BY_HAND + IN_EDITOR + IN_EMACS, "the crate serde_json is not at hand (Debian's package librust-serde-json-dev)")
         return
     libraries_folder = libraries()
     if libraries_folder is None:
@@ -219,11 +233,12 @@ def try_server(folder):
     if not tally.result(done.returncode == 0, "examples/language_server builds"):
         print(done.stderr)
         return
+    try_own_tests(server)
     program = folder / "target/release/language_server"
-    try_encodings(program)
-    try_changes(program)
-    try_refusals(program)
+    try_by_hand(program, tally)
+    try_wrong_client(program, WRONG_SEED, WRONG_SECONDS, tally)
     try_in_editor(program)
+    try_in_emacs(program)
 
 
 def main():

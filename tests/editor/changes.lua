@@ -17,7 +17,7 @@ local PIECES = {
   "\u{10FFFF}", "\u{FFFD}", "\u{85}", "\u{2028}", "\u{2029}", "\u{B}", "\u{C}", "\u{FEFF}",
 }
 
-local found = { edits = 0, changes = 0, texts = 0, hovers = 0, warnings = 0, wrong = {} }
+local found = { edits = 0, changes = 0, texts = 0, hovers = 0, warnings = 0, told = 0, after_return = "", wrong = {} }
 local client
 
 -- Tells what is wrong, in ASCII, since a part of a text may begin or end inside a char.
@@ -222,6 +222,17 @@ local function compare(hovers)
   end
 end
 
+-- The limit: a CR alone ends a line by the protocol, and none for the editor. The server tells of it, and has the text. But
+-- a change on a line after it is put into another line, or refused; where whole texts are sent, it comes to its place.
+local function return_alone()
+  local count = vim.api.nvim_buf_line_count(0)
+  vim.api.nvim_buf_set_lines(0, count, count, true, { "a\rb", "second", "third" })
+  compare_text()
+  vim.api.nvim_buf_set_text(0, count + 1, 0, count + 1, 1, { "S" })
+  local answer = ask("pauskern/text", {})
+  found.after_return = answer and (answer.text == buffer_text() and "in step" or "another text") or "refused"
+end
+
 -- The run.
 
 local function capabilities()
@@ -247,6 +258,11 @@ local function start()
     capabilities = capabilities(),
     offset_encoding = job.encoding,
     flags = { allow_incremental_sync = not job.whole, debounce_text_changes = job.debounce },
+    handlers = {
+      ["window/logMessage"] = function()
+        found.told = found.told + 1
+      end,
+    },
     on_exit = function(code)
       found.exit = code
     end,
@@ -291,6 +307,7 @@ local function run()
     end
   end
   compare(20)
+  return_alone()
   stop()
 end
 

@@ -108,7 +108,8 @@ typedef enum str_rope_encoding {
 typedef enum str_rope_status {
     STR_ROPE_OK,           /* it is done */
     STR_ROPE_NOT_ORDERED,  /* the end of a part is before its start */
-    STR_ROPE_NOT_BOUNDARY, /* a byte index is inside a char, or past the end */
+    STR_ROPE_NOT_BOUNDARY, /* a byte index is inside a char, or past the end; or
+                              a position names no place */
     STR_ROPE_TOO_LONG,     /* the text would have more than PTRDIFF_MAX bytes,
                               or a part has more than the room for it */
     STR_ROPE_NO_MEMORY,    /* memory was refused */
@@ -254,6 +255,17 @@ str_indices_bytes str_rope_byte_range(str_rope *rope,
 str_rope_status str_rope_change(str_rope *rope, str_rope_encoding encoding,
                                 str_indices_range range, const char *text,
                                 size_t len);
+
+/* As str_rope_change, for a range whose positions each name a place, as
+ * str_rope_exact_byte_of has it: where one names none, the answer is
+ * STR_ROPE_NOT_BOUNDARY, and str_rope_change would cut it. So a server notices a
+ * client that is out of step. May answer STR_ROPE_NOT_ORDERED,
+ * STR_ROPE_NOT_BOUNDARY, STR_ROPE_TOO_LONG, STR_ROPE_NOT_UTF8 and, where `len`
+ * is not 0, STR_ROPE_NO_MEMORY. */
+str_rope_status str_rope_change_exact(str_rope *rope,
+                                      str_rope_encoding encoding,
+                                      str_indices_range range,
+                                      const char *text, size_t len);
 
 #ifdef __cplusplus
 }

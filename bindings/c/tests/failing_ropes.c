@@ -130,7 +130,7 @@ static int has_whole(str_rope *rope)
  * The calls.
  */
 
-typedef enum kind { ASSIGN, INSERT, REPLACE, CHANGE, SPLIT_OFF } kind;
+typedef enum kind { ASSIGN, INSERT, REPLACE, CHANGE, CHANGE_EXACT, SPLIT_OFF } kind;
 
 typedef struct call {
     const char *name;
@@ -150,6 +150,7 @@ static const call calls[] = {
     {"replace in a piece", REPLACE, WHOLE, 10000, 10001, 900},
     {"change", CHANGE, WHOLE, 20 * LINE, 200 * LINE, MOST_PUT},
     {"change of nothing", CHANGE, WHOLE, 20 * LINE, 20 * LINE, 900},
+    {"exact change", CHANGE_EXACT, WHOLE, 20 * LINE, 200 * LINE, MOST_PUT},
     {"split_off", SPLIT_OFF, WHOLE, 20001, WHOLE, 0},
 };
 
@@ -161,6 +162,7 @@ static str_rope_status make(const call *one, str_rope *rope, str_rope *rest)
     case INSERT: return str_rope_insert(rope, one->from, put, one->len);
     case REPLACE: return str_rope_replace(rope, one->from, one->to, put, one->len);
     case CHANGE: return str_rope_change(rope, STR_ROPE_ENCODING_UTF8, range, put, one->len);
+    case CHANGE_EXACT: return str_rope_change_exact(rope, STR_ROPE_ENCODING_UTF8, range, put, one->len);
     default: return str_rope_split_off(rope, one->from, rest);
     }
 }

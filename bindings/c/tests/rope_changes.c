@@ -347,7 +347,7 @@ static void checkpoint(str_rope *rope, const model *text)
  * Changes.
  */
 
-/* The part's bytes go and the text comes, in the rope by one call of three, and in the model. */
+/* The part's bytes go and the text comes, in the rope by one call of five, and in the model. */
 static void replace(str_rope *rope, model *text, size_t from, size_t to, const char *bytes, size_t len)
 {
     str_rope_encoding encoding = (str_rope_encoding)pick(ENCODINGS);
@@ -360,6 +360,8 @@ static void replace(str_rope *rope, model *text, size_t from, size_t to, const c
         status = str_rope_remove(rope, from, to);
     else if (meant.start == from && meant.end == to && pick(2) == 0)
         status = str_rope_change(rope, encoding, range, bytes, len);
+    else if (meant.start == from && meant.end == to)
+        status = str_rope_change_exact(rope, encoding, range, bytes, len);
     else
         status = str_rope_replace(rope, from, to, bytes, len);
     same(status == STR_ROPE_OK, "a change", from);

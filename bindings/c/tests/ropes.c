@@ -379,6 +379,34 @@ static void changes_by_positions(void)
         }
 }
 
+/* The same changes, where a position that names no place is refused: by hand, from the rows above and bytes_of_positions. */
+static void exact_changes(void)
+{
+    static const char text[] = "ab\r\n" FROG "c";
+    static const struct {
+        str_indices_range range;
+        const char *text, *left[ENCODINGS + 1]; /* no text where it is refused */
+    } rows[] = {
+        {{{1, 0}, {1, 2}}, "X", {"ab\r\nXc", NULL, "ab\r\nX", "ab\r\nX"}},
+        {{{1, 2}, {1, 4}}, "", {NULL, NULL, NULL, NULL}},
+        {{{1, 1}, {1, 1}}, "x", {NULL, NULL, "ab\r\n" FROG "xc", "ab\r\n" FROG "xc"}},
+        {{{1, 0}, {1, 4}}, "", {NULL, "ab\r\nc", NULL, NULL}},
+        {{{0, 9}, {0, 9}}, "!", {NULL, NULL, NULL, NULL}},
+        {{{0, 2}, {1, 0}}, "", {"ab" FROG "c", "ab" FROG "c", "ab" FROG "c", "ab" FROG "c"}},
+        {{{0, 0}, {2, 0}}, "", {NULL, NULL, NULL, NULL}},
+    };
+    for (size_t i = 0; i < NUMBER_OF(rows); i++)
+        for (size_t encoding = 0; encoding <= ENCODINGS; encoding++) {
+            const char *put = rows[i].text, *left = rows[i].left[encoding];
+            str_rope rope = WITH(text);
+            str_rope_status wanted = left ? STR_ROPE_OK : STR_ROPE_NOT_BOUNDARY;
+            same(str_rope_change_exact(&rope, (str_rope_encoding)encoding, rows[i].range, put, strlen(put)) == wanted,
+                 "change_exact", encoding, i);
+            has(&rope, left ? left : text, strlen(left ? left : text), "change_exact");
+            str_rope_free(&rope);
+        }
+}
+
 static void refusals_by_positions(void)
 {
     str_indices_range back = {{1, 0}, {0, 1}}, forth = {{0, 0}, {1, 0}};
@@ -386,6 +414,8 @@ static void refusals_by_positions(void)
     same(str_rope_change(&rope, STR_ROPE_ENCODING_UTF16, back, "\200", 1) == STR_ROPE_NOT_UTF8, "change", 1, 0);
     same(str_rope_change(&rope, STR_ROPE_ENCODING_UTF8, back, "x", 1) == STR_ROPE_NOT_ORDERED, "change", 1, 0);
     same(str_rope_change(&rope, STR_ROPE_ENCODING_UTF32, forth, "\343\201", 2) == STR_ROPE_NOT_UTF8, "change", 0, 1);
+    same(str_rope_change_exact(&rope, STR_ROPE_ENCODING_UTF16, back, "\200", 1) == STR_ROPE_NOT_UTF8, "change_exact", 1, 0);
+    same(str_rope_change_exact(&rope, STR_ROPE_ENCODING_UTF8, back, "x", 1) == STR_ROPE_NOT_ORDERED, "change_exact", 1, 0);
     HAS(&rope, lines, "what refusals leave");
     str_rope_free(&rope);
 }
@@ -405,6 +435,7 @@ int main(void)
     bytes_of_positions();
     ranges_and_lines();
     changes_by_positions();
+    exact_changes();
     refusals_by_positions();
     printf("%d passed, %d failed\n", passed, failed);
     return failed != 0;

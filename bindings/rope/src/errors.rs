@@ -9,7 +9,7 @@ use core::fmt;
 pub enum Error {
     /// The end of a range is before its start.
     NotOrdered,
-    /// A byte index is past the end, or inside a char.
+    /// A byte index is past the end, or inside a char; or a position names no place.
     NotBoundary,
     /// The text would have more than `isize::MAX` bytes; or the room for a part is shorter than the part.
     TooLong,
@@ -21,7 +21,7 @@ impl fmt::Display for Error {
     fn fmt(&self, f: &mut fmt::Formatter<'_>) -> fmt::Result {
         f.write_str(match self {
             Error::NotOrdered => "the end of a range is before its start",
-            Error::NotBoundary => "a byte index is past the end of the text or inside a char",
+            Error::NotBoundary => "a place is past the end of the text or of its line, or inside a char",
             Error::TooLong => "the text, or a part of it, is too long",
             Error::NoMemory => "memory was refused",
         })

@@ -44,4 +44,5 @@ extern "C" {
     pub fn str_rope_exact_byte_of(rope: *mut Handle, encoding: u32, position: Position) -> usize;
     pub fn str_rope_byte_range(rope: *mut Handle, encoding: u32, range: Range) -> Bytes;
     pub fn str_rope_change(rope: *mut Handle, encoding: u32, range: Range, text: *const u8, len: usize) -> u32;
+    pub fn str_rope_change_exact(rope: *mut Handle, encoding: u32, range: Range, text: *const u8, len: usize) -> u32;
 }

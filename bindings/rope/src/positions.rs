@@ -112,4 +112,30 @@ impl Rope {
         // SAFETY: as `library` says.
         result_of(unsafe { str_rope_change(self.handle(), number, range, text.as_ptr(), text.len()) })
     }
+
+    /// Exchanges what stands in a range for a text, as [`Rope::change`], where each of its positions names a place.
+    ///
+    /// Where one names none, as [`Rope::exact_byte_of`] has it, it is [`Error::NotBoundary`], and the text is as it was.
+    /// So a server notices a client that is out of step, and asks it for the whole text.
+    ///
+    /// ```
+    /// use str_rope::{Encoding, Error, Position, Range, Rope};
+    ///
+    /// # fn main() -> Result<(), Error> {
+    /// let mut rope: Rope = "one\ntwo".parse()?;
+    /// let (start, past) = (Position { line: 1, character: 0 }, Position { line: 1, character: 4 });
+    /// let refused = rope.change_exact(Encoding::Utf16, Range { start, end: past }, "2");
+    /// assert_eq!(refused, Err(Error::NotBoundary));
+    ///
+    /// let end = Position { line: 1, character: 3 };
+    /// rope.change_exact(Encoding::Utf16, Range { start, end }, "2")?;
+    /// assert_eq!(rope, "one\n2");
+    /// # Ok(())
+    /// # }
+    /// ```
+    pub fn change_exact(&mut self, encoding: Encoding, range: Range, text: &str) -> Result<(), Error> {
+        let number = number_of(encoding);
+        // SAFETY: as `library` says.
+        result_of(unsafe { str_rope_change_exact(self.handle(), number, range, text.as_ptr(), text.len()) })
+    }
 }

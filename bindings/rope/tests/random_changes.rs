@@ -1,7 +1,7 @@
 //! Random changes of a rope beside the same of a `String`: every question answers as `std` or a plain walk does.
 mod model;
 use model::*;
-use str_rope::{Encoding, Position, Range, Rope, Scheme};
+use str_rope::{Encoding, Error, Position, Range, Rope, Scheme};
 
 /// A rope, and the text that it should have.
 struct Pair {
@@ -92,7 +92,15 @@ impl Pair {
             self.rope.byte_range(encoding, Range { start, end }),
             Some(bytes.clone())
         );
-        self.rope.change(encoding, Range { start, end }, &text).unwrap();
+        let range = Range { start, end };
+        let is_exact = |position| exact_byte_of(encoding, &self.text, position).is_some();
+        if is_exact(start) && is_exact(end) {
+            self.rope.change_exact(encoding, range, &text).unwrap();
+        } else {
+            let refused = self.rope.change_exact(encoding, range, &text);
+            assert_eq!(refused, Err(Error::NotBoundary));
+            self.rope.change(encoding, range, &text).unwrap();
+        }
         self.text.replace_range(bytes, &text);
     }
 

@@ -1,8 +1,11 @@
 -- Changes of a text, as a language server's client tells them.
-use Rattle.std.specs.Prelude.{ℕ, Option, Some, None}
+--     part_at e text range          the byte indices of the part that a change exchanges
+--     is_ordered range              whether the end of a change's range is not before its start
+--     exact_part_at e text range    the byte indices of that part, where each of the range's positions names a place
+use Rattle.std.specs.Prelude.{ℕ, Bool, true, Option, Some, None, ◌&&◌, if◌then◌else◌}
 use Rattle.std.specs.declared.ops.Range as bytes
 use Rattle.str_indices.specs.Text.{Text, size}
-use Rattle.position_mapper.specs.Positions.{byte_range_at}
+use Rattle.position_mapper.specs.Positions.{byte_range_at, is_at_or_before, is_exact}
 use Rattle.position_mapper.specs.declared.Range.{Range}
 use Rattle.position_mapper.specs.declared.encodings.Encoding.{Encoding}
 
@@ -10,3 +13,14 @@ use Rattle.position_mapper.specs.declared.encodings.Encoding.{Encoding}
 abbrev pub part_at : Encoding → Text → Option Range → Option (bytes.Range ℕ)
 part_at e text (Some range) = byte_range_at e text range
 part_at e text None = Some (record { start = 0; end = size text })
+
+-- whether the end of a change's range is not before its start; a change of the whole text has none
+abbrev pub is_ordered : Option Range → Bool
+is_ordered (Some range) = is_at_or_before range.start range.end
+is_ordered None = true
+
+-- the byte indices of that part, where each of the range's positions names a place
+abbrev pub exact_part_at : Encoding → Text → Option Range → Option (bytes.Range ℕ)
+exact_part_at e text (Some range) =
+    if is_exact e text range.start && is_exact e text range.end then byte_range_at e text range else None
+exact_part_at e text None = part_at e text None

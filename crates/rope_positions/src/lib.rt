@@ -6,11 +6,13 @@
 
 mod breaks;
 mod changes;
+mod exact_changes;
 mod questions;
 mod ropes;
 mod units;
 
 pub use changes::{Change, apply};
+pub use exact_changes::apply_exact;
 pub use position_mapper::{Encoding, Position, Range};
 pub use questions::{byte_of_in, byte_range_in, exact_byte_of_in, line_end_in, position_of_in};
 pub use ropes::{byte_of, byte_range, exact_byte_of, line_end, position_of};

@@ -7,6 +7,7 @@
 #![tactic(auto)]
 
 mod changes;
+mod exact_changes;
 mod handles;
 mod loose;
 mod numbers;

@@ -1,50 +1,116 @@
-//! One open document: its text as a rope.
-use crate::protocol::{self, Fault};
+//! One open document: its text as a rope, or that the server does not know it.
+use crate::faults::Fault;
+use crate::protocol::{self, Change};
+use crate::warnings::{number_of_lines, Warnings};
 use serde_json::{json, Value};
-use std::ops;
-use str_rope::{Encoding, Position, Range, Rope, Scheme};
+use str_rope::{Encoding, Position, Rope, Scheme};
 
-/// At most so many warnings are sent for a document.
-const MOST_WARNINGS: usize = 1000;
-
+/// A document that a client has open.
 pub struct Document {
-    rope: Rope,
-    version: Value,
+    /// The last version that the client told, if it told one.
+    version: Option<i64>,
+    /// None, where the document is out of step: no answer is given from a text that may be another than the client's.
+    text: Option<Text>,
 }
 
 impl Document {
+    /// A document whose text the server does not know.
+    pub fn out_of_step() -> Document {
+        Document {
+            version: None,
+            text: None,
+        }
+    }
+
     /// The document that a client opens, which is a `TextDocumentItem`.
-    pub fn opened(item: &Value) -> Result<Document, Fault> {
-        let rope = protocol::string(item, "text")?.parse()?;
-        let version = item["version"].clone();
-        Ok(Document { rope, version })
+    pub fn opened(encoding: Encoding, item: &Value) -> Result<Document, Fault> {
+        let version = protocol::version(item)?;
+        let text = Text::of(encoding, protocol::string(item, "text")?)?;
+        Ok(Document {
+            version: Some(version),
+            text: Some(text),
+        })
     }
 
-    /// Applies the changes of a `textDocument/didChange`, one after another. One that is refused ends the list: each of
-    /// those after it is meant in the text that it would have left.
+    /// Applies the changes of a `textDocument/didChange`: all of them, or the document is out of step.
     pub fn change(&mut self, encoding: Encoding, params: &Value) -> Result<(), Fault> {
-        let changes = params["contentChanges"]
-            .as_array()
-            .ok_or_else(|| Fault::invalid("contentChanges"))?;
-        for change in changes {
-            self.apply(encoding, change)?;
-        }
-        self.version = params["textDocument"]["version"].clone();
+        let text = self.text.take();
+        let changes = protocol::changes(params)?;
+        self.go_to(protocol::version(&params["textDocument"])?)?;
+        self.text = Some(changed(text, encoding, &changes)?);
         Ok(())
     }
 
-    /// Applies one change: of a range, or of the whole text where it has none.
-    fn apply(&mut self, encoding: Encoding, change: &Value) -> Result<(), Fault> {
-        let text = protocol::string(change, "text")?;
-        match &change["range"] {
-            Value::Null => self.rope.assign(text)?,
-            range => self.rope.change(encoding, protocol::range(range)?, text)?,
+    /// Takes a version, which must not be older than the last one. The protocol has it increase after each change; but
+    /// Neovim 0.7 sends changes that waited under the version of those before them.
+    fn go_to(&mut self, version: i64) -> Result<(), Fault> {
+        match self.version {
+            Some(last) if version < last => Err(Fault::old_version(version, last)),
+            _ => {
+                self.version = Some(version);
+                Ok(())
+            }
         }
+    }
+
+    pub fn is_in_step(&self) -> bool {
+        self.text.is_some()
+    }
+
+    /// The text, or the error of each request about it.
+    pub fn text(&self) -> Result<&Text, Fault> {
+        self.text.as_ref().ok_or_else(Fault::out_of_step)
+    }
+
+    /// The parameters of a `textDocument/publishDiagnostics`: none, where the document is out of step.
+    pub fn warnings(&self, uri: &str) -> Result<Value, Fault> {
+        let warnings = match &self.text {
+            Some(text) => text.warnings.to_json()?,
+            None => json!([]),
+        };
+        Ok(json!({ "uri": uri, "version": self.version, "diagnostics": warnings }))
+    }
+}
+
+/// A text after changes, each of which is meant in the text that the one before it left. Where one has no range, those
+/// before it leave nothing.
+fn changed(text: Option<Text>, encoding: Encoding, changes: &[Change<'_>]) -> Result<Text, Fault> {
+    let whole = changes.iter().rposition(|change| change.range.is_none());
+    let (mut text, rest) = match whole {
+        Some(at) => (Text::of(encoding, changes[at].text)?, &changes[at + 1..]),
+        None => (text.ok_or_else(Fault::out_of_step)?, changes),
+    };
+    for change in rest {
+        text.change(encoding, change)?;
+    }
+    Ok(text)
+}
+
+/// The text of a document, with its warnings.
+pub struct Text {
+    rope: Rope,
+    warnings: Warnings,
+}
+
+impl Text {
+    fn of(encoding: Encoding, text: &str) -> Result<Text, Fault> {
+        let rope = text.parse()?;
+        let warnings = Warnings::of(&rope, encoding)?;
+        Ok(Text { rope, warnings })
+    }
+
+    /// Applies a change that has a range. It is refused where a position names no place: then the client has another text.
+    fn change(&mut self, encoding: Encoding, change: &Change<'_>) -> Result<(), Fault> {
+        let range = change.range.ok_or_else(|| Fault::invalid("range"))?;
+        let lines_before = number_of_lines(&self.rope);
+        self.rope.change_exact(encoding, range, change.text)?;
+        self.warnings.changed(&self.rope, encoding, range, lines_before)?;
         Ok(())
     }
 
-    pub fn text(&self) -> String {
-        self.rope.to_string()
+    /// Whether a CR stands without an LF: the protocol takes it for a line break, and some editors do not.
+    pub fn has_lone_return(&self) -> bool {
+        self.rope.count(Scheme::Lf) < self.rope.count(Scheme::Crlf)
     }
 
     /// What a place is by each index, as a `Hover`.
@@ -55,61 +121,10 @@ impl Document {
         let value = format!("byte {byte}\nchar {char}\nUTF-16 code unit {unit}\nline {line}");
         json!({ "contents": { "kind": "plaintext", "value": value } })
     }
-
-    /// The parameters of a `textDocument/publishDiagnostics`: a warning of each line that ends in blanks.
-    pub fn warnings(&self, encoding: Encoding, uri: &str) -> Result<Value, Fault> {
-        let warnings = self
-            .trailing_blanks()
-            .into_iter()
-            .map(|bytes| self.warning(encoding, bytes));
-        let warnings = warnings.collect::<Result<Vec<Value>, Fault>>()?;
-        Ok(json!({ "uri": uri, "version": self.version, "diagnostics": warnings }))
-    }
-
-    fn warning(&self, encoding: Encoding, bytes: ops::Range<usize>) -> Result<Value, Fault> {
-        let start = self.rope.position_of(encoding, bytes.start);
-        let end = self.rope.position_of(encoding, bytes.end);
-        let range = protocol::range_to_json(Range { start, end })?;
-        Ok(
-            json!({ "range": range, "severity": 2, "source": "language_server", "message": "blanks at the end of a line" }),
-        )
-    }
-
-    /// Where the first lines that end in blanks have them. It goes through the whole text after each message with changes,
-    /// since the protocol wants all warnings of a document at once; a server for large texts would keep them by line.
-    fn trailing_blanks(&self) -> Vec<ops::Range<usize>> {
-        let mut blanks = Blanks::default();
-        for chunk in self.rope.chunks() {
-            chunk.bytes().for_each(|byte| blanks.take(byte));
-            if blanks.found.len() >= MOST_WARNINGS {
-                break;
-            }
-        }
-        blanks.take(b'\n');
-        blanks.found.truncate(MOST_WARNINGS);
-        blanks.found
-    }
 }
 
-/// A search for blanks before the end of a line, byte by byte.
-#[derive(Default)]
-struct Blanks {
-    found: Vec<ops::Range<usize>>,
-    /// Where the blanks began that stand before the next byte.
-    since: Option<usize>,
-    at: usize,
-}
-
-impl Blanks {
-    fn take(&mut self, byte: u8) {
-        self.since = match byte {
-            b' ' | b'\t' => self.since.or(Some(self.at)),
-            b'\n' | b'\r' => {
-                self.found.extend(self.since.map(|since| since..self.at));
-                None
-            }
-            _ => None,
-        };
-        self.at += 1;
+impl std::fmt::Display for Text {
+    fn fmt(&self, f: &mut std::fmt::Formatter<'_>) -> std::fmt::Result {
+        self.rope.fmt(f)
     }
 }

@@ -1,23 +1,38 @@
 //! A small language server over a rope. It speaks the Language Server Protocol 3.17 on standard input and output.
 //!
 //! It keeps each open document as a rope and applies the client's changes to it, warns of blanks at the end of a line,
-//! and tells in a hover which byte, char, UTF-16 code unit and line a place is.
+//! and tells in a hover which byte, char, UTF-16 code unit and line a place is. Where a change cannot be what the client
+//! means, it answers nothing about that document until it has the whole text again.
+mod calls;
 mod documents;
-mod messages;
+mod faults;
+mod frames;
+mod json;
 mod protocol;
 mod server;
+mod warnings;
 
+use frames::Frames;
 use server::Server;
-use std::error::Error;
-use std::io::{stdin, stdout};
+use std::io::{self, stdin, stdout};
 use std::process::ExitCode;
 
-fn main() -> Result<ExitCode, Box<dyn Error>> {
-    let (mut input, mut output) = (stdin().lock(), stdout().lock());
+fn main() -> io::Result<ExitCode> {
+    let (mut frames, mut output) = (Frames::new(stdin().lock()), stdout().lock());
     let mut server = Server::default();
-    while let Some(message) = messages::read(&mut input)? {
-        for answer in server.take(&message) {
-            messages::write(&mut output, &answer)?;
+    while let Some(frame) = frames.next()? {
+        let is_message = match frame {
+            Ok(body) => server.take(body),
+            Err(fault) => {
+                server.refuse(fault);
+                true
+            }
+        };
+        if !is_message {
+            frames.reject();
+        }
+        for answer in server.outgoing() {
+            frames::write(&mut output, &answer)?;
         }
         if let Some(code) = server.exit_code() {
             return Ok(code);

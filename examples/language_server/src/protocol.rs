@@ -1,66 +1,14 @@
-//! What the protocol has as JSON, and why a message is refused.
+//! What the protocol has as JSON.
+use crate::faults::Fault;
 use serde_json::{json, Value};
-use std::fmt;
 use std::num::TryFromIntError;
 use str_rope::{Encoding, Position, Range};
 
-/// Why a message is refused: a code of the protocol, and a sentence for people.
-#[derive(Debug)]
-pub struct Fault {
-    code: i32,
-    sentence: String,
-}
-
-impl Fault {
-    pub fn not_initialized() -> Fault {
-        Fault::new(-32002, "the server is not initialized")
-    }
-
-    pub fn invalid_request(sentence: &str) -> Fault {
-        Fault::new(-32600, sentence)
-    }
-
-    pub fn no_such_method(method: &str) -> Fault {
-        Fault::new(-32601, format!("there is no method {method}"))
-    }
-
-    pub fn invalid(what: &str) -> Fault {
-        Fault::new(
-            -32602,
-            format!("there is no {what}, or it is not what the protocol says"),
-        )
-    }
-
-    fn new(code: i32, sentence: impl Into<String>) -> Fault {
-        let sentence = sentence.into();
-        Fault { code, sentence }
-    }
-
-    /// The error of a response.
-    pub fn to_json(&self) -> Value {
-        json!({ "code": self.code, "message": self.sentence })
-    }
-}
-
-impl fmt::Display for Fault {
-    fn fmt(&self, f: &mut fmt::Formatter<'_>) -> fmt::Result {
-        f.write_str(&self.sentence)
-    }
-}
-
-impl From<str_rope::Error> for Fault {
-    fn from(error: str_rope::Error) -> Fault {
-        match error {
-            str_rope::Error::NoMemory => Fault::new(-32603, error.to_string()),
-            _ => Fault::new(-32602, error.to_string()),
-        }
-    }
-}
-
-impl From<TryFromIntError> for Fault {
-    fn from(_: TryFromIntError) -> Fault {
-        Fault::new(-32603, "a position is past what the protocol can say")
-    }
+/// A change of a text: one of the protocol's `contentChanges`.
+pub struct Change<'a> {
+    /// None, where the text is the whole one.
+    pub range: Option<Range>,
+    pub text: &'a str,
 }
 
 /// The encodings that the server has, each with the protocol's name.
@@ -115,11 +63,32 @@ pub fn range(value: &Value) -> Result<Range, Fault> {
     Ok(Range { start, end })
 }
 
-fn position_to_json(position: Position) -> Result<Value, Fault> {
+/// The version of a document.
+pub fn version(document: &Value) -> Result<i64, Fault> {
+    document["version"].as_i64().ok_or_else(|| Fault::invalid("version"))
+}
+
+/// The changes of a `textDocument/didChange`.
+pub fn changes(params: &Value) -> Result<Vec<Change<'_>>, Fault> {
+    let list = params["contentChanges"].as_array();
+    let list = list.ok_or_else(|| Fault::invalid("contentChanges"))?;
+    list.iter().map(change).collect()
+}
+
+fn change(event: &Value) -> Result<Change<'_>, Fault> {
+    let text = string(event, "text")?;
+    let range = match &event["range"] {
+        Value::Null => None,
+        places => Some(range(places)?),
+    };
+    Ok(Change { range, text })
+}
+
+fn position_to_json(position: Position) -> Result<Value, TryFromIntError> {
     let (line, character) = position.to_u32()?;
     Ok(json!({ "line": line, "character": character }))
 }
 
-pub fn range_to_json(range: Range) -> Result<Value, Fault> {
+pub fn range_to_json(range: Range) -> Result<Value, TryFromIntError> {
     Ok(json!({ "start": position_to_json(range.start)?, "end": position_to_json(range.end)? }))
 }

@@ -1,6 +1,9 @@
 //! The server: which message does what.
-use crate::documents::Document;
-use crate::protocol::{self, Fault};
+use crate::calls::{call, notification, response, Call};
+use crate::documents::{Document, Text};
+use crate::faults::Fault;
+use crate::json::{self, Unreadable};
+use crate::protocol;
 use serde_json::{json, Value};
 use std::collections::HashMap;
 use std::process::ExitCode;
@@ -12,6 +15,8 @@ pub struct Server {
     /// The encoding of positions, on which the server and its client agree when the server is initialized.
     encoding: Encoding,
     phase: Phase,
+    /// What is to be sent to the client.
+    outbox: Vec<Value>,
 }
 
 /// How far the server is in its life.
@@ -25,15 +30,9 @@ enum Phase {
 }
 
 impl Server {
-    /// Takes a message and answers what is to be sent to the client.
-    pub fn take(&mut self, message: &Value) -> Vec<Value> {
-        let (method, params) = (message["method"].as_str().unwrap_or_default(), &message["params"]);
-        match message.get("id") {
-            // It is a response, and this server requests nothing.
-            Some(_) if method.is_empty() => Vec::new(),
-            Some(id) => vec![response(id, self.request(method, params))],
-            None => self.notified(method, params),
-        }
+    /// What is to be sent to the client since this was asked last.
+    pub fn outgoing(&mut self) -> std::vec::Drain<'_, Value> {
+        self.outbox.drain(..)
     }
 
     /// How the program ends, where the client wants it to.
@@ -45,35 +44,101 @@ impl Server {
         }
     }
 
+    /// Takes a body; whether it is a message.
+    pub fn take(&mut self, body: &[u8]) -> bool {
+        match json::read(body) {
+            Ok(Value::Array(batch)) => self.take_batch(&batch),
+            Ok(message) => {
+                let answer = self.answer(&message);
+                self.outbox.extend(answer);
+            }
+            Err(unreadable) => {
+                let is_meant = unreadable.meant.is_some();
+                self.take_unreadable(unreadable);
+                return is_meant;
+            }
+        }
+        true
+    }
+
+    /// Takes what is no frame, or no message.
+    pub fn refuse(&mut self, fault: Fault) {
+        self.outbox.push(response(&Value::Null, Err(fault)));
+    }
+
+    /// Takes a batch of JSON-RPC: its responses are sent as one.
+    fn take_batch(&mut self, batch: &[Value]) {
+        if batch.is_empty() {
+            return self.refuse(Fault::invalid_request("a batch is empty"));
+        }
+        let responses: Vec<Value> = batch.iter().filter_map(|message| self.answer(message)).collect();
+        if !responses.is_empty() {
+            self.outbox.push(Value::Array(responses));
+        }
+    }
+
+    /// Takes a message that is refused for a lone surrogate, or for more. A document that it would change is out of step.
+    fn take_unreadable(&mut self, unreadable: Unreadable) {
+        let meant = unreadable.meant.unwrap_or_default();
+        self.outbox.push(response(&meant["id"], Err(unreadable.fault)));
+        let Ok(uri) = protocol::uri(&meant["params"]) else {
+            return;
+        };
+        let is_lost = match meant["method"].as_str() {
+            Some("textDocument/didOpen") => self.phase == Phase::Initialized,
+            Some("textDocument/didChange") => self.documents.contains_key(uri),
+            _ => false,
+        };
+        if is_lost {
+            self.lose(uri, &Fault::parse_error("its text is no Unicode text"));
+        }
+    }
+
+    /// Takes a message, and answers the response, where it has one.
+    fn answer(&mut self, message: &Value) -> Option<Value> {
+        if self.exit_code().is_some() {
+            return None;
+        }
+        match call(message) {
+            Call::Request { id, method, params } => Some(response(id, self.request(method, params))),
+            Call::Invalid { id, fault } => Some(response(&id, Err(fault))),
+            Call::Response => None,
+            Call::Notification { method, params } => {
+                self.notified(method, params);
+                None
+            }
+        }
+    }
+
     fn request(&mut self, method: &str, params: &Value) -> Result<Value, Fault> {
         match (&self.phase, method) {
             (Phase::Started, "initialize") => Ok(self.initialize(params)),
             (Phase::Started, _) => Err(Fault::not_initialized()),
+            (Phase::Initialized, "initialize") => Err(Fault::invalid_request("the server is initialized already")),
             (Phase::Initialized, "shutdown") => Ok(self.shut_down()),
             (Phase::Initialized, "textDocument/hover") => self.hover(params),
             // No method of the protocol: a test asks by it what the server has of a document.
-            (Phase::Initialized, "pauskern/text") => Ok(json!({ "text": self.document(params)?.text() })),
+            (Phase::Initialized, "pauskern/text") => Ok(json!({ "text": self.text(params)?.to_string() })),
             (Phase::Initialized, _) => Err(Fault::no_such_method(method)),
             _ => Err(Fault::invalid_request("the server is shut down")),
         }
     }
 
-    /// Takes a notification, which has no response: where it is refused, the client's log is told.
-    fn notified(&mut self, method: &str, params: &Value) -> Vec<Value> {
-        let warnings = match (&self.phase, method) {
-            (_, "exit") => Ok(self.exit()),
-            (Phase::Initialized, "textDocument/didOpen") => self.open(params).map(Some),
-            (Phase::Initialized, "textDocument/didChange") => self.change(params).map(Some),
-            (Phase::Initialized, "textDocument/didClose") => self.close(params).map(Some),
-            _ => Ok(None),
-        };
-        match warnings {
-            Ok(None) => Vec::new(),
-            Ok(Some(warnings)) => vec![notification("textDocument/publishDiagnostics", warnings)],
-            Err(fault) => {
-                let told = json!({ "type": 1, "message": format!("{method}: {fault}") });
-                vec![notification("window/logMessage", told)]
+    /// Takes a notification, which has no response: where it is refused, the client's log is told. A request is answered
+    /// before the next message is read, so there is nothing to do for `$/cancelRequest`.
+    fn notified(&mut self, method: &str, params: &Value) {
+        let taken = match (&self.phase, method) {
+            (_, "exit") => {
+                self.phase = Phase::Exited(self.phase == Phase::ShutDown);
+                Ok(())
             }
+            (Phase::Initialized, "textDocument/didOpen") => self.open(params),
+            (Phase::Initialized, "textDocument/didChange") => self.change(params),
+            (Phase::Initialized, "textDocument/didClose") => self.close(params),
+            _ => Ok(()),
+        };
+        if let Err(fault) = taken {
+            self.tell("window/logMessage", 1, format!("{method}: {fault}"));
         }
     }
 
@@ -96,58 +161,102 @@ impl Server {
         Value::Null
     }
 
-    /// It is a failure where no shutdown came before.
-    fn exit(&mut self) -> Option<Value> {
-        self.phase = Phase::Exited(self.phase == Phase::ShutDown);
-        None
+    fn open(&mut self, params: &Value) -> Result<(), Fault> {
+        let uri = protocol::uri(params)?;
+        match Document::opened(self.encoding, &params["textDocument"]) {
+            Ok(document) => {
+                self.documents.insert(uri.to_string(), document);
+                self.tell_of_lone_returns(uri, false);
+                self.publish(uri)
+            }
+            Err(fault) => {
+                self.lose(uri, &fault);
+                Ok(())
+            }
+        }
     }
 
-    fn open(&mut self, params: &Value) -> Result<Value, Fault> {
+    fn change(&mut self, params: &Value) -> Result<(), Fault> {
         let uri = protocol::uri(params)?;
-        let document = Document::opened(&params["textDocument"])?;
-        let warnings = document.warnings(self.encoding, uri);
-        self.documents.insert(uri.to_string(), document);
-        warnings
-    }
-
-    fn change(&mut self, params: &Value) -> Result<Value, Fault> {
-        let uri = protocol::uri(params)?;
-        let document = self
-            .documents
-            .get_mut(uri)
-            .ok_or_else(|| Fault::invalid("open document"))?;
-        document.change(self.encoding, params)?;
-        document.warnings(self.encoding, uri)
+        let document = self.documents.get_mut(uri);
+        let document = document.ok_or_else(|| Fault::invalid("open document"))?;
+        let (was_in_step, had_returns) = (document.is_in_step(), document.text().is_ok_and(Text::has_lone_return));
+        match document.change(self.encoding, params) {
+            Ok(()) => self.tell_of_lone_returns(uri, had_returns),
+            Err(fault) if was_in_step => self.tell_of_loss(uri, &fault),
+            // It was told already.
+            Err(_) => return Ok(()),
+        }
+        self.publish(uri)
     }
 
     /// Forgets a document, and takes its warnings back.
-    fn close(&mut self, params: &Value) -> Result<Value, Fault> {
+    fn close(&mut self, params: &Value) -> Result<(), Fault> {
         let uri = protocol::uri(params)?;
-        self.documents
-            .remove(uri)
-            .ok_or_else(|| Fault::invalid("open document"))?;
-        Ok(json!({ "uri": uri, "diagnostics": [] }))
+        let document = self.documents.remove(uri);
+        document.ok_or_else(|| Fault::invalid("open document"))?;
+        self.send(
+            "textDocument/publishDiagnostics",
+            json!({ "uri": uri, "diagnostics": [] }),
+        );
+        Ok(())
     }
 
     fn hover(&self, params: &Value) -> Result<Value, Fault> {
         let position = protocol::position(&params["position"])?;
-        Ok(self.document(params)?.hover(self.encoding, position))
+        Ok(self.text(params)?.hover(self.encoding, position))
     }
 
-    fn document(&self, params: &Value) -> Result<&Document, Fault> {
-        self.documents
-            .get(protocol::uri(params)?)
-            .ok_or_else(|| Fault::invalid("open document"))
+    fn text(&self, params: &Value) -> Result<&Text, Fault> {
+        let document = self.documents.get(protocol::uri(params)?);
+        document.ok_or_else(|| Fault::invalid("open document"))?.text()
     }
-}
 
-fn response(id: &Value, result: Result<Value, Fault>) -> Value {
-    match result {
-        Ok(result) => json!({ "jsonrpc": "2.0", "id": id, "result": result }),
-        Err(fault) => json!({ "jsonrpc": "2.0", "id": id, "error": fault.to_json() }),
+    /// Sends a document's warnings.
+    fn publish(&mut self, uri: &str) -> Result<(), Fault> {
+        if let Some(document) = self.documents.get(uri) {
+            let warnings = document.warnings(uri)?;
+            self.send("textDocument/publishDiagnostics", warnings);
+        }
+        Ok(())
     }
-}
 
-fn notification(method: &str, params: Value) -> Value {
-    json!({ "jsonrpc": "2.0", "method": method, "params": params })
+    /// A document is out of step from now on, and its warnings are taken back.
+    fn lose(&mut self, uri: &str, fault: &Fault) {
+        let lost = self.documents.insert(uri.to_string(), Document::out_of_step());
+        if lost.map_or(true, |document| document.is_in_step()) {
+            self.tell_of_loss(uri, fault);
+            self.send(
+                "textDocument/publishDiagnostics",
+                json!({ "uri": uri, "diagnostics": [] }),
+            );
+        }
+    }
+
+    fn tell_of_loss(&mut self, uri: &str, fault: &Fault) {
+        let sentence = format!("{uri} is out of step, since {fault}. Open it again, or send its whole text.");
+        self.tell("window/showMessage", 1, sentence);
+    }
+
+    /// Tells of CRs that stand alone, where a document did not have them before.
+    fn tell_of_lone_returns(&mut self, uri: &str, had: bool) {
+        let has = self
+            .documents
+            .get(uri)
+            .and_then(|document| document.text().ok())
+            .is_some_and(Text::has_lone_return);
+        if has && !had {
+            let sentence =
+                format!("{uri} has a CR without an LF: an editor that takes it for no line break means other lines");
+            self.tell("window/logMessage", 2, sentence);
+        }
+    }
+
+    fn tell(&mut self, method: &str, kind: u8, sentence: String) {
+        self.send(method, json!({ "type": kind, "message": sentence }));
+    }
+
+    fn send(&mut self, method: &str, params: Value) {
+        self.outbox.push(notification(method, params));
+    }
 }

@@ -1,11 +1,13 @@
--- What a change of the whole text makes of it.
-use Rattle.std.specs.Prelude.{OnOk, IfNone, Option, Result}
+-- What a change of the whole text makes of it, and the part of a range whose positions name places.
+use Rattle.std.specs.Prelude.{OnOk, IfNone, IsTrue, Option, Result}
 use Rattle.std.proofs.Common.{Ok, Err}
 use Rattle.std.specs.declared.ops.Range as bytes
-use Rattle.rope_positions.proofs.lemmas.Common.{Some, None, ◌≡◌, ℕ, [], ◌∷◌, ◌++◌, ◌∙◌, ap, arith, refl, append-nil, len_utf8_bounds, size-append, size-cons, Text, size, Encoding}
+use Rattle.rope_positions.proofs.lemmas.Common.{Some, None, ◌≡◌, ◌≤◌, ℕ, [], ◌∷◌, ◌++◌, ◌∙◌, inl, inr, ap, arith, refl, append-nil, len_utf8_bounds, size-append, size-cons, Text, size, Position, Encoding, byte_at, exact_byte_at, byte_range_in_order}
+use Rattle.std.proofs.lemmas.Bool.{cases_Bool}
 use Rattle.position_mapper.specs.declared.Range.{Range}
+use Rattle.position_mapper.specs.Positions.{is_at_or_before, is_exact}
 use Rattle.text_rope.specs.Edits.{IsReplaced}
-use Rattle.rope_positions.specs.Changes.{part_at}
+use Rattle.rope_positions.specs.Changes.{exact_part_at, part_at}
 
 -- a text of no byte is empty
 none_of : (cs : Text) → size cs ≡ 0 → cs ≡ []
@@ -27,6 +29,26 @@ whole_changed e old new text (Some range) part is replaced = tt
 whole_changed e old new text None part is replaced =
     let whole : part ≡ record { start = 0; end = size old } = cc in
     all_replaced old new text (rw whole at replaced)
+
+pub whole_exactly_changed : (e : Encoding) (old new text : Text) (range : Option Range) (part : bytes.Range ℕ)
+    → Some part ≡ exact_part_at e old range → IsReplaced old new part.start part.end text → IfNone range (new ≡ text)
+whole_exactly_changed e old new text (Some range) part is replaced = tt
+whole_exactly_changed e old new text None part is replaced = whole_changed e old new text None part is replaced
+
+-- the byte of a position that names a place is that of the position
+exact_byte : (e : Encoding) (cs : Text) (p : Position) (byte : ℕ) → Some byte ≡ exact_byte_at e cs p → byte ≡ byte_at e cs p
+exact_byte e cs p byte is = elim (cases_Bool (is_exact e cs p)) [
+  | inl exact ↦ let same = rw exact at is in cc
+  | inr not_exact ↦ let none = rw not_exact at is in cc
+]
+
+-- so the bytes of a range that is in order are in order
+pub exact_in_order : (e : Encoding) (cs : Text) (range : Range) (from to : ℕ)
+    → IsTrue (is_at_or_before range.start range.end) → Some from ≡ exact_byte_at e cs range.start
+    → Some to ≡ exact_byte_at e cs range.end → from ≤ to
+exact_in_order e cs range from to ordered start end =
+    let le : byte_at e cs range.start ≤ byte_at e cs range.end = rw ordered at (byte_range_in_order e cs range) in
+    omega (arith, le, exact_byte e cs range.start from start, exact_byte e cs range.end to end)
 
 -- what follows from what is so where there was no refusal
 pub on_ok : {A E P Q : Type 0} (result : Result A E) → OnOk result P → (P → Q) → OnOk result Q

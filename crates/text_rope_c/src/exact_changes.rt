@@ -1,0 +1,85 @@
+// Changes of a text whose range has to name a place.
+ghost use Rattle.std.specs.Prelude.{◌≡◌, ◌≢◌, ◌+◌, ◌-◌, ◌^◌, ◌≤◌, ◌↔◌, [], length, chars, Some, IfSome, IsSome, IsNone, IsSomeAnd, IsErrOf, IsUtf8, OnOk, OnErr};
+ghost use Rattle.str_indices.specs.Text.{size};
+ghost use Rattle.position_mapper.specs.Positions.{byte_range_at};
+ghost use Rattle.rope_positions.specs.Changes.{exact_part_at};
+ghost use Rattle.text_rope.specs.Edits.{IsReplaced};
+ghost use Rattle.text_rope.specs.declared.refusals.Refusal.TheVariants.{NotOrdered, NotBoundary, TooLong, NoMemory};
+ghost use Rattle.text_rope_c.specs.Numbers.{done, encoding_of, no_memory, not_boundary, not_ordered, not_utf8, too_long};
+
+use crate::handles::{kept, put, taken};
+use crate::numbers::{NOT_UTF8, encoding_at, status_at};
+use crate::slot::Slot;
+use position_mapper::{Encoding, Range};
+use rope_positions::{Change, apply_exact};
+use std::alloc::Global;
+use text_rope::{Refusal, Rope};
+
+/// Exchanges a range for a text, as a client of a language server tells it, where each of its positions names a place.
+///
+/// The status is `not_utf8` where the bytes are not UTF-8, or else `not_ordered` where the range's end is before its
+/// start, or else `not_boundary` where a position names no place, or else `too_long` where the text would have more than
+/// `isize::MAX` bytes, and else `no_memory` where memory was refused.
+#[unsafe(no_mangle)]
+pub extern "C" fn str_rope_change_exact(
+    alloc: Global,
+    rope: &mut Slot,
+    encoding: u32,
+    range: Range,
+    text: &[u8],
+) -> u32
+    ensures done { result ≡ done → IfSome (exact_part_at (encoding_of encoding) rope.old.text (Some range))
+        (λ part. IsReplaced rope.old.text rope.new.text part.start part.end (chars text.now)) }
+    ensures refused { result ≢ done → rope.new.text ≡ rope.old.text }
+    ensures not_utf8 { (result ≡ not_utf8) ↔ (¬ (IsUtf8 text.now)) }
+    ensures not_ordered { (result ≡ not_ordered)
+        ↔ (IsUtf8 text.now × IsNone (byte_range_at (encoding_of encoding) rope.old.text range)) }
+    ensures not_boundary { (result ≡ not_boundary)
+        ↔ (IsUtf8 text.now × (IsSome (byte_range_at (encoding_of encoding) rope.old.text range)
+        × IsNone (exact_part_at (encoding_of encoding) rope.old.text (Some range)))) }
+    ensures too_long { (result ≡ too_long) ↔ (IsUtf8 text.now
+        × IsSomeAnd (exact_part_at (encoding_of encoding) rope.old.text (Some range)) (λ part.
+        2 ^ 63 + (part.end - part.start) ≤ size rope.old.text + length text.now)) }
+    ensures no_memory { result ≡ no_memory → chars text.now ≢ [] }
+    ensures known { result ≤ not_utf8 }
+{
+    match str::from_utf8(text) {
+        Ok(text) => status_at(changed(alloc, rope, encoding_at(encoding), range, text)),
+        Err(_) => NOT_UTF8,
+    }
+}
+
+fn changed(
+    alloc: Global,
+    rope: &mut Slot,
+    encoding: Encoding,
+    range: Range,
+    text: &str,
+) -> Result<(), Refusal>
+    ensures ok { OnOk result (IfSome (exact_part_at encoding rope.old.text (Some range)) (λ part.
+        IsReplaced rope.old.text rope.new.text part.start part.end (chars text.now))) }
+    ensures err { OnErr result (rope.new.text ≡ rope.old.text) }
+    ensures not_ordered { IsErrOf result NotOrdered ↔ IsNone (byte_range_at encoding rope.old.text range) }
+    ensures not_boundary { IsErrOf result NotBoundary ↔ (IsSome (byte_range_at encoding rope.old.text range)
+        × IsNone (exact_part_at encoding rope.old.text (Some range))) }
+    ensures too_long { IsErrOf result TooLong ↔ IsSomeAnd (exact_part_at encoding rope.old.text (Some range)) (λ part.
+        2 ^ 63 + (part.end - part.start) ≤ size rope.old.text + length text.now) }
+    ensures no_memory { IsErrOf result NoMemory → chars text.now ≢ [] }
+{
+    let change = Change {
+        range: Some(range),
+        text,
+    };
+    match taken(alloc, rope) {
+        None => {
+            let mut whole = Rope::new(alloc);
+            apply_exact(&mut whole, encoding, change)?;
+            kept(alloc, rope, whole)
+        }
+        Some(mut inner) => {
+            let answer = apply_exact(&mut inner, encoding, change);
+            put(alloc, rope, inner);
+            answer
+        }
+    }
+}

@@ -1,0 +1,254 @@
+"""What a language server does with messages that are written by hand: right ones, wrong ones, and what is no message.
+
+The codes of errors are those of JSON-RPC 2.0 and of the Language Server Protocol 3.17.
+"""
+import json
+import pathlib
+import random
+import re
+
+from language_client import Client, frame
+
+URI = "file:///a"
+PARSE_ERROR, INVALID_REQUEST, NO_METHOD, INVALID_PARAMS = -32700, -32600, -32601, -32602
+NOT_INITIALIZED, OUT_OF_STEP = -32002, -32803
+# more than the server takes
+TOO_LONG = 257 << 20
+# the memory by which a server may grow over a hundred thousand changes, in kB, where each text that comes goes again
+GROWTH = 1 << 10
+
+
+def methods(told):
+    return [message.get("method") for message in told]
+
+
+def try_encodings(program, tally):
+    for offered, expected in [
+        (None, "utf-16"), ([], "utf-16"), (["utf-32", "utf-8"], "utf-32"), (["utf-7", "utf-8"], "utf-8"), (["utf-7"], "utf-16"),
+    ]:
+        with Client(program) as client:
+            result = client.initialize({} if offered is None else {"general": {"positionEncodings": offered}})
+            answer = result["capabilities"]["positionEncoding"]
+        tally.result(answer == expected, f"where a client offers {offered}, the encoding is {answer}")
+
+
+def try_changes(program, tally):
+    """Changes one after another, each meant in the text that the one before left, and whole texts between them."""
+    with Client(program) as client:
+        client.initialize({})
+        warnings = client.open(URI, "one \r\n🐸two\r\n")[-1]
+        place = [(one["range"]["start"], one["range"]["end"]) for one in warnings["params"]["diagnostics"]]
+        expected = [({"line": 0, "character": 3}, {"line": 0, "character": 4})]
+        tally.result(place == expected, f"a warning of a blank at the end of a line: {place}")
+        told = client.change(URI, [((1, 2), (1, 3), "x\n"), ((2, 0), (2, 2), "y ")])
+        text = client.text(URI)
+        tally.result(text == "one \r\n🐸x\ny \r\n", f"two changes in one message: {text!r}")
+        lines = [one["range"]["start"]["line"] for one in told[-1]["params"]["diagnostics"]]
+        tally.result(lines == [0, 2], f"warnings after them: in lines {lines}")
+        client.change(URI, [((0, 0), (0, 1), "O"), (None, None, "a\tb"), ((0, 1), (0, 2), "-")], client.version)
+        text = client.text(URI)
+        tally.result(text == "a-b", f"a whole text among changes, under the version of those before: {text!r}")
+        cleared = client.notify("textDocument/didClose", {"textDocument": {"uri": URI}})
+        right = [message["params"] for message in cleared] == [{"uri": URI, "diagnostics": []}]
+        tally.result(right, "a document that is closed has no warnings")
+
+
+# changes of "one\n🐸 two" that no client in step sends, with their version, which follows 1
+OUT = [
+    ("the second of three ends before it starts", [((0, 0), (0, 0), "x"), ((1, 1), (0, 0), "z"), ((0, 0), (0, 0), "y")], 2),
+    ("a range past the end of its line", [((0, 4), (0, 4), "x")], 2),
+    ("a range past the last line", [((2, 0), (2, 0), "x")], 2),
+    ("a range inside a char", [((1, 1), (1, 2), "x")], 2),
+    ("an older version", [((0, 0), (0, 1), "x")], 0),
+    ("a version that is none", [((0, 0), (0, 1), "x")], "2"),
+    ("a change without a text", [((0, 0), (0, 1), "x"), ((0, 0), (0, 1), None)], 2),
+]
+
+
+def try_out_of_step(program, tally):
+    """The client hears once that a document is out of step, nothing is answered from it, and a whole text mends that."""
+    for what, changes, version in OUT:
+        with Client(program) as client:
+            client.initialize({})
+            client.open(URI, "one\n🐸 two")
+            heard = methods(client.change(URI, changes, version))
+            lost = client.text(URI)
+            later = methods(client.change(URI, [((0, 0), (0, 1), "x")], 3))
+            right = heard == ["window/showMessage", "textDocument/publishDiagnostics"] and later == []
+            tally.result(right and lost == OUT_OF_STEP, f"{what}: the client hears {heard}, then {later}, and {lost}")
+            client.change(URI, [(None, None, "whole"), ((0, 0), (0, 1), "W")], 4)
+            texts = [client.text(URI)]
+            client.change(URI, changes, version)
+            client.open(URI, "again")
+            texts.append(client.text(URI))
+            tally.result(texts == ["Whole", "again"], f"{what}: in step again by a whole text, and by opening: {texts}")
+
+
+def try_lone_return(program, tally):
+    """The limit: an editor that takes a CR alone for no line break means other lines, and its client is told so once."""
+    with Client(program) as client:
+        client.initialize({})
+        heard = methods(client.open(URI, "a\rb\nc"))
+        right = heard == ["window/logMessage", "textDocument/publishDiagnostics"]
+        tally.result(right, f"a CR alone is told to the client's log: {heard}")
+        heard = methods(client.change(URI, [((1, 0), (1, 1), "x")]))
+        text = client.text(URI)
+        right = text == "a\rx\nc" and heard == ["textDocument/publishDiagnostics"]
+        tally.result(right, f"line 1 is after the CR, also for an editor that means the line after the LF: {text!r}")
+        client.change(URI, [((3, 0), (3, 0), "y")])
+        tally.result(client.text(URI) == OUT_OF_STEP, "a line that only the other has is out of step")
+
+
+def hover(uri=URI, line=0):
+    return {"method": "textDocument/hover", "params": {"textDocument": {"uri": uri}, "position": {"line": line, "character": 0}}}
+
+
+def body(message):
+    return json.dumps({"jsonrpc": "2.0", **message}).encode()
+
+
+# what is no frame or no message, and the code of the error that it gets
+WRONG = [
+    ("a body that is no JSON", frame(b"{\"jsonrpc\": "), PARSE_ERROR),
+    ("an empty body", frame(b""), PARSE_ERROR),
+    ("a body that is not UTF-8", frame(body({"method": "\xff"}).replace(b"\\u00ff", b"\xff")), PARSE_ERROR),
+    ("a body of a thousand arrays", frame(b"[" * 1000 + b"]" * 1000), PARSE_ERROR),
+    ("a body with more after it", frame(body({"method": "x"}) + b"}"), PARSE_ERROR),
+    ("a length that is too small", b"Content-Length: 9\r\n\r\n" + body({"method": "x"}), PARSE_ERROR),
+    ("a length that is too great", b"Content-Length: 200\r\n\r\n" + body({"method": "x"}), PARSE_ERROR),
+    ("a length of 200 MB", b"Content-Length: 200000000\r\n\r\n" + body({"method": "x"}), PARSE_ERROR),
+    ("a length that is more than is taken", b"Content-Length: %d\r\n\r\n" % TOO_LONG, INVALID_REQUEST),
+    ("a length of 2^63", b"Content-Length: 9223372036854775808\r\n\r\n", INVALID_REQUEST),
+    ("a length of 30 digits", b"Content-Length: " + b"9" * 30 + b"\r\n\r\n", INVALID_REQUEST),
+    ("a negative length", b"Content-Length: -1\r\n\r\n", INVALID_REQUEST),
+    ("a length with a sign", b"Content-Length: +2\r\n\r\n{}", INVALID_REQUEST),
+    ("a length of no digits", b"Content-Length: \r\n\r\n", INVALID_REQUEST),
+    ("two lengths", frame(body({"method": "x"}), b"Content-Length: 7\r\n"), INVALID_REQUEST),
+    ("a header with no length", b"Content-Type: x\r\n\r\n{}", INVALID_REQUEST),
+    ("a header line without a colon", b"hello\r\nContent-Type: x\r\n\r\n", INVALID_REQUEST),
+    ("a header of 100 kB in one line", b"x" * 100_000, INVALID_REQUEST),
+    ("a header of 100 kB in lines", b"x: y\r\n" * 20_000, INVALID_REQUEST),
+    ("a header that is not UTF-8", b"\xff: y\r\n\r\n", INVALID_REQUEST),
+    ("a body that is said to be UTF-16", frame(body({"method": "x"}), b"Content-Type: a; charset=utf-16\r\n"), INVALID_REQUEST),
+    ("a message that is a number", frame(b"1"), INVALID_REQUEST),
+    ("an empty batch", frame(b"[]"), INVALID_REQUEST),
+    ("a message of JSON-RPC 1.0", frame(b'{"jsonrpc": "1.0", "method": "x"}'), INVALID_REQUEST),
+    ("a message with no method", frame(body({})), INVALID_REQUEST),
+    ("a method that is a number", frame(body({"method": 1, "params": "bar"})), INVALID_REQUEST),
+    ("params that are a string", frame(body({"method": "x", "params": "bar"})), INVALID_REQUEST),
+    ("an id that is an object", frame(body({"id": {}, "method": "x"})), INVALID_REQUEST),
+]
+
+
+def try_wrong(program, tally):
+    """Each wrong thing gets one error, and the request after it an answer, from a document that is still there."""
+    with Client(program) as client:
+        client.initialize({})
+        client.open(URI, "kept")
+        for what, data, code in WRONG:
+            client.write(data)
+            codes = [message.get("error", {}).get("code") for message in client.said()]
+            text = client.text(URI)
+            tally.result(codes == [code] and text == "kept", f"{what}: {codes}, and then {text!r}")
+
+
+def try_surrogates(program, tally):
+    """Half of a pair is JSON and no Unicode text: what it changes is out of step, and a request hears by its id."""
+    with Client(program) as client:
+        client.initialize({})
+        client.open(URI, "kept")
+        client.send({"id": "half", "method": "pauskern/text", "params": {"textDocument": {"uri": "\ud83d"}}})
+        answers = [(message.get("id"), message.get("error", {}).get("code")) for message in client.said()]
+        right = answers == [("half", PARSE_ERROR)] and client.text(URI) == "kept"
+        tally.result(right, f"a request with half a pair: {answers}")
+        client.change(URI, [((0, 0), (0, 0), "\U0001f438")])
+        text = client.text(URI)
+        tally.result(text == "\U0001f438kept", f"a pair by two escapes: {text!r}")
+        heard = client.change(URI, [((0, 0), (0, 0), "\\\ud83d")])
+        codes = [message.get("error", {}).get("code") for message in heard]
+        right = codes == [PARSE_ERROR, None, None] and client.text(URI) == OUT_OF_STEP
+        tally.result(right, f"a change with half a pair: {codes}, and the document is out of step")
+        heard = client.open("file:///b", "\udc38")
+        right = "window/showMessage" in methods(heard) and client.text("file:///b") == OUT_OF_STEP
+        tally.result(right, "a document that is opened with half a pair is out of step")
+
+
+def try_batches(program, tally):
+    with Client(program) as client:
+        client.initialize({})
+        client.open(URI, "kept")
+        batch = [{"jsonrpc": "2.0", **message} for message in [
+            {"id": 77, **hover()}, {"method": "$/cancelRequest", "params": {"id": 77}}, {"id": "x", "method": "$/unknown"},
+        ]]
+        client.write(frame(json.dumps([*batch, 1]).encode()))
+        answers = [[one.get("id", 0), "result" in one, one.get("error", {}).get("code")] for one in client.said()[0]]
+        expected = [[77, True, None], ["x", False, NO_METHOD], [None, False, INVALID_REQUEST]]
+        tally.result(answers == expected, f"a batch is answered by one: {answers}")
+        client.write(frame(json.dumps(batch[1:2]).encode()))
+        tally.result(client.said() == [], "a batch of notifications is not answered")
+        client.send({"id": 5, "result": None})
+        client.send({"method": "$/unknown"})
+        tally.result(client.said() == [], "a response, and a notification that is not known, are passed over")
+
+
+def try_life(program, tally):
+    with Client(program) as client:
+        early = client.error("textDocument/hover", hover()["params"])
+        client.send({"method": "textDocument/didOpen", "params": {"textDocument": {"uri": URI, "version": 1, "text": ""}}})
+        client.initialize({})
+        codes = [early, client.error("textDocument/rename", {}), client.error("textDocument/hover", hover()["params"])]
+        tally.result(codes == [NOT_INITIALIZED, NO_METHOD, INVALID_PARAMS], f"too early, unknown, of no document: {codes}")
+        again = client.error("initialize", {"capabilities": {}})
+        tally.result(again == INVALID_REQUEST, f"a second initialize: {again}")
+        nothing = client.request("shutdown", None)
+        late = client.error("textDocument/hover", hover()["params"])
+        right = nothing["result"] is None and late == INVALID_REQUEST
+        tally.result(right, f"after a shutdown: {late}")
+        tally.result(client.end("exit") == 0, "an exit after a shutdown is a success")
+    with Client(program) as client:
+        tally.result(client.end("exit") == 1, "an exit without a shutdown is a failure")
+    with Client(program) as client:
+        tally.result(client.end(None) == 1, "an input that ends without an exit is a failure")
+    with Client(program) as client:
+        client.initialize({})
+        client.request("shutdown", None)
+        client.write(frame(body({"method": "exit"}) + b" ")[:-1])
+        tally.result(client.end(None) == 1, "a body that the end of the input cuts off is not executed")
+
+
+def memory(process):
+    """The memory of a process, in kB."""
+    status = pathlib.Path(f"/proc/{process.pid}/status").read_text(encoding="utf-8")
+    return int(re.search(r"VmRSS:\s+(\d+) kB", status)[1])
+
+
+def come_and_go(client, numbers):
+    """Fifty thousand changes, by which a text comes into a line and goes again."""
+    for _ in range(50):
+        lines = [numbers.randrange(20_000) for _ in range(500)]
+        client.change(URI, [
+            change for line in lines for change in [((line, 3), (line, 3), "x\n🐸 "), ((line, 3), (line + 1, 3), "")]
+        ])
+    return memory(client.server)
+
+
+def try_memory(program, tally):
+    """What a hundred thousand changes take of memory: as much as was taken after the first of them."""
+    text, numbers = "a line of some forty bytes, with a 🐸 \n" * 20_000, random.Random(59)
+    with Client(program) as client:
+        client.initialize({})
+        client.open(URI, text)
+        sizes = [come_and_go(client, numbers) for _ in range(3)]
+        tally.result(client.text(URI) == text, "a hundred and fifty thousand changes, and the text is as it was")
+        right = sizes[2] <= sizes[0] + GROWTH
+        tally.result(right, f"memory after the first 50,000 changes, and after each 50,000 more: {sizes} kB")
+
+
+TRIED = [
+    try_encodings, try_changes, try_out_of_step, try_lone_return, try_wrong, try_surrogates, try_batches, try_life, try_memory,
+]
+
+
+def try_by_hand(program, tally):
+    for one in TRIED:
+        one(program, tally)

@@ -1,0 +1,167 @@
+;;; changes.el --- edits a file with eglot attached, and compares  -*- lexical-binding: t -*-
+;;
+;; Edits a file as a user does, with a language server attached by eglot, and compares what the server has with what the
+;; editor has: the text, and the indices of places. Emacs runs it, where it has eglot:
+;;
+;;     emacs -Q --batch -l changes.el
+;;
+;; The environment variable JOB has what to do, as JSON: the server's program, the file, the number of edits, the length of
+;; a paste, and the seed of the random numbers. What was found is printed as JSON.
+
+(require 'eglot)
+(require 'json)
+
+(defvar changes-job (json-parse-string (getenv "JOB") :object-type 'alist))
+(defvar changes-found (list (cons 'edits 0) (cons 'texts 0) (cons 'hovers 0) (cons 'told 0) (cons 'after_return "")
+                            (cons 'wrong [])))
+(defvar changes-server nil)
+
+;; Chars of one to four bytes, chars that combine with the one before, and chars that some take for line breaks; no CR alone,
+;; which Emacs takes for no line break and the protocol does.
+(defvar changes-pieces
+  ["a" "word" " " "  " "\t" "é" "e\u0301" "せ" "世界" "🐸" "🐸\ufe0f" "👩\u200d🚀" "\U0010ffff" "\u0085" "\u2028" "\u000b" "\f" "\n" "\n\n"])
+
+(defun changes-get (name)
+  (alist-get name changes-job))
+
+(defun changes-count (name)
+  (setf (alist-get name changes-found) (1+ (alist-get name changes-found))))
+
+(defun changes-wrong (what expected answer)
+  "Tells that WHAT was ANSWER and not EXPECTED, in ASCII."
+  (let ((told (json-encode-string (format "%s: expected %S, answered %S" what expected answer))))
+    (setf (alist-get 'wrong changes-found)
+          (vconcat (alist-get 'wrong changes-found) (vector (encode-coding-string told 'us-ascii))))))
+
+(defun changes-text (most)
+  "A random text of at most MOST pieces."
+  (mapconcat (lambda (_) (aref changes-pieces (random (length changes-pieces)))) (make-list (random (1+ most)) nil) ""))
+
+(defun changes-place ()
+  "Goes to a random place, and answers it."
+  (goto-char (+ (point-min) (random (1+ (buffer-size))))))
+
+(defun changes-edit ()
+  "A random edit, as commands make it."
+  (undo-boundary)
+  (changes-place)
+  (setq last-command nil)
+  (let ((end (min (point-max) (+ (point) (random 40)))))
+    (ignore-errors
+      (pcase (random 14)
+        ((or 0 1 2) (insert (changes-text 12)))
+        (3 (delete-region (point) end))
+        (4 (upcase-region (point) end))
+        (5 (kill-line) (changes-place) (yank))
+        (6 (kill-whole-line))
+        (7 (transpose-chars 1))
+        (8 (delete-indentation))
+        (9 (newline 2))
+        (10 (save-restriction (narrow-to-region (point) end) (while (search-forward "a" nil t) (replace-match "🐸b"))))
+        (11 (subst-char-in-region (point) end ?a ?é))
+        (12 (sort-lines nil (point) end))
+        (_ (undo)))))
+  (changes-count 'edits))
+
+(defun changes-paste (len)
+  "Puts in a text of LEN bytes at the least, and takes it back."
+  (undo-boundary)
+  (changes-place)
+  (let ((line (concat (make-string 90 ?x) "🐸 \n")))
+    (insert (mapconcat #'identity (make-list (1+ (/ len 95)) line) "")))
+  (changes-compare 4)
+  (undo-boundary)
+  (setq last-command nil)
+  (undo)
+  (changes-compare 4))
+
+(defun changes-ask (method params)
+  "What the server answers, after it has heard of all changes."
+  (eglot--signal-textDocument/didChange)
+  (jsonrpc-request changes-server method params :timeout 60))
+
+(defun changes-compare-text ()
+  (let ((text (buffer-substring-no-properties (point-min) (point-max)))
+        (answer (plist-get (changes-ask :pauskern/text (list :textDocument (eglot--TextDocumentIdentifier))) :text)))
+    (unless (string= text answer)
+      (changes-wrong (format "text after %d edits" (alist-get 'edits changes-found)) (length text) (length answer)))
+    (changes-count 'texts)))
+
+(defun changes-units (text)
+  "The UTF-16 code units of TEXT."
+  (apply #'+ (length text) (mapcar (lambda (char) (if (< #xffff char) 1 0)) text)))
+
+(defun changes-compare-hover ()
+  (changes-place)
+  (let* ((before (buffer-substring-no-properties (point-min) (point)))
+         (expected (format "byte %d\nchar %d\nUTF-16 code unit %d\nline %d" (1- (position-bytes (point))) (length before)
+                           (changes-units before) (1- (line-number-at-pos))))
+         (answer (changes-ask :textDocument/hover (eglot--TextDocumentPositionParams)))
+         (value (plist-get (plist-get answer :contents) :value)))
+    (unless (string= expected value)
+      (changes-wrong (format "hover at %d" (point)) expected value))
+    (changes-count 'hovers)))
+
+(defun changes-compare (hovers)
+  (changes-compare-text)
+  (dotimes (_ hovers)
+    (changes-compare-hover)))
+
+(cl-defmethod eglot-handle-notification :after (_server (_method (eql window/logMessage)) &rest _params)
+  "Counts what the server tells the client's log."
+  (changes-count 'told))
+
+(defun changes-return-alone ()
+  "A CR alone ends a line by the protocol, and none for the editor: a change after it is put elsewhere."
+  (goto-char (point-max))
+  (insert "\na\rb\nsecond\nthird\n")
+  (changes-compare-text)
+  (search-backward "second")
+  (delete-char 1)
+  (insert "S")
+  (let* ((text (buffer-substring-no-properties (point-min) (point-max)))
+         (asked (list :textDocument (eglot--TextDocumentIdentifier)))
+         (answer (ignore-errors (plist-get (changes-ask :pauskern/text asked) :text))))
+    (setf (alist-get 'after_return changes-found)
+          (cond ((not answer) "refused") ((string= text answer) "in step") (t "another text")))))
+
+(defun changes-run ()
+  (find-file (changes-get 'file))
+  (text-mode)
+  (buffer-enable-undo)
+  (setq changes-server (apply #'eglot--connect (eglot--guess-contact)))
+  (changes-compare 4)
+  (dotimes (count (changes-get 'edits))
+    (when (= count (/ (changes-get 'edits) 2))
+      (changes-paste (changes-get 'paste)))
+    (changes-edit)
+    (when (= 0 (random 4))
+      (changes-compare 2)))
+  (changes-compare 10)
+  (changes-return-alone)
+  (changes-stop))
+
+(defun changes-stop ()
+  "Ends the server as eglot does, but for killing it."
+  (let ((process (jsonrpc--process changes-server)))
+    (jsonrpc-request changes-server :shutdown nil :timeout 60)
+    (jsonrpc-notify changes-server :exit nil)
+    (with-timeout (60 nil)
+      (while (process-live-p process)
+        (accept-process-output process 0.1)))
+    (push (cons 'exit (process-exit-status process)) changes-found)))
+
+(setq eglot-sync-connect 60
+      eglot-autoreconnect nil
+      eglot-events-buffer-size 0
+      undo-outer-limit nil
+      undo-limit 100000000
+      undo-strong-limit 100000000
+      inhibit-message t
+      eglot-server-programs (list (cons 'text-mode (list (changes-get 'program)))))
+(prefer-coding-system 'utf-8)
+(random (format "%s" (changes-get 'seed)))
+(condition-case fault
+    (changes-run)
+  (error (changes-wrong "the run" "no fault" fault)))
+(princ (concat (json-encode changes-found) "\n"))
