@@ -275,7 +275,7 @@ def try_parts(folder: pathlib.Path) -> Results:
         "docs/GATE.md": set(), "README.md": set(), "crates/idx/src/main.rt": {"test_program.py", "failing_calls.py"},
         "bindings/c/heap.c": {"test_c.py", "test_rust.py", "test_editor.py"}, "bindings/web/page.css": {"test_browser.py"},
         "tests/editor/changes.lua": {"test_editor.py"}, "scripts/checks/exchanges.py": {"test_c.py", "test_rust.py"},
-        "scripts/checks/position_model.py": {"test_positions.py"},
+        "scripts/checks/position_model.py": {"test_positions.py", "test_editor.py"},
     }.items():
         file = root / path
         text = file.read_bytes()
