@@ -156,7 +156,7 @@ def try_emacs_run(program, line_break, seed, folder):
     file = folder / "text.txt"
     file.write_bytes(lines_with(line_break, 4).encode())
     job = {"program": str(program), "file": str(file), "seed": seed, "edits": 300, "paste": LONG_PASTE}
-    found = found_by(["emacs", "-Q", "--batch", "-l", str(CHANGES_IN_EMACS)], folder, job)
+    found = found_by(["emacs", "--batch", "-l", str(CHANGES_IN_EMACS)], folder, job)
     name = "Emacs, CR LF" if line_break == "\r\n" else "Emacs, LF"
     for line in found["wrong"][:3]:
         print(line[:1000])
@@ -178,7 +178,7 @@ def without_eglot():
     """Why nothing is tried in Emacs, or None."""
     if not shutil.which("emacs"):
         return "no emacs is on the path (Debian's packages emacs-nox and elpa-eglot)"
-    done = subprocess.run(["emacs", "-Q", "--batch", "--eval", "(require 'eglot)"], capture_output=True)
+    done = subprocess.run(["emacs", "--batch", "--eval", "(require 'eglot)"], capture_output=True)
     return None if done.returncode == 0 else "emacs has no eglot (Debian's package elpa-eglot)"
 
 

@@ -3,7 +3,7 @@
 ;; Edits a file as a user does, with a language server attached by eglot, and compares what the server has with what the
 ;; editor has: the text, and the indices of places. Emacs runs it, where it has eglot:
 ;;
-;;     emacs -Q --batch -l changes.el
+;;     emacs --batch -l changes.el
 ;;
 ;; The environment variable JOB has what to do, as JSON: the server's program, the file, the number of edits, the length of
 ;; a paste, and the seed of the random numbers. What was found is printed as JSON.

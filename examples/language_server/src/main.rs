@@ -14,11 +14,11 @@ mod warnings;
 
 use frames::Frames;
 use server::Server;
-use std::io::{self, stdin, stdout};
+use std::io::{self, stdin, stdout, BufWriter};
 use std::process::ExitCode;
 
 fn main() -> io::Result<ExitCode> {
-    let (mut frames, mut output) = (Frames::new(stdin().lock()), stdout().lock());
+    let (mut frames, mut output) = (Frames::new(stdin().lock()), BufWriter::new(stdout().lock()));
     let mut server = Server::default();
     while let Some(frame) = frames.next()? {
         let is_message = match frame {
