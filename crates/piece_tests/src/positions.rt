@@ -34,12 +34,12 @@ fn back_from_byte(text: &str, position: Position) -> Position
 
 /// Compares the byte index that a row of a table asks for.
 fn assert_byte(rt: &impl Abort, found: usize, wanted: usize, row: usize) {
-    assert_eq!(rt; found, wanted, "row {row}");
+    assert!(rt; found == wanted, "row {row}: {found}");
 }
 
 /// Compares the position and the byte index that a row of a table asks for.
 fn assert_both(rt: &impl Abort, found: (Position, usize), wanted: (Position, usize), row: usize) {
-    assert_eq!(rt; found, wanted, "row {row}");
+    assert!(rt; found == wanted, "row {row}: {found:?}");
 }
 
 /// Texts, lines, and where the lines end.
@@ -192,17 +192,27 @@ const EXACT: [(usize, usize, Option<usize>); 10] = [
     (usize::MAX, usize::MAX, None),
 ];
 
+/// Compares the byte that an exact position names, where it names one.
+fn assert_place(rt: &impl Abort, found: Option<usize>, wanted: Option<usize>, row: usize) {
+    assert!(rt; found == wanted, "row {row}: {found:?}");
+}
+
 #[test]
 fn an_exact_position_names_a_place(rt: HostRuntime) {
     for i in 0..EXACT.len() {
         let (line, character, byte) = EXACT[i];
         let found = Encoding::Utf16.exact_byte_of(TEXT, at(line, character));
-        assert_eq!(&rt; found, byte, "row {i}");
+        assert_place(&rt, found, byte, i);
     }
     // A last line that is empty is there, and the one after it is not.
-    assert_eq!(&rt; Encoding::Utf8.exact_byte_of("a\n", at(1, 0)), Some(2));
-    assert_eq!(&rt; Encoding::Utf8.exact_byte_of("a\n", at(2, 0)), None);
-    assert_eq!(&rt; Encoding::Utf32.exact_byte_of("", at(0, 0)), Some(0));
+    assert_place(
+        &rt,
+        Encoding::Utf8.exact_byte_of("a\n", at(1, 0)),
+        Some(2),
+        0,
+    );
+    assert_place(&rt, Encoding::Utf8.exact_byte_of("a\n", at(2, 0)), None, 1);
+    assert_place(&rt, Encoding::Utf32.exact_byte_of("", at(0, 0)), Some(0), 2);
 }
 
 /// Offsets in bytes that are inside a char, past the end of a line and past the last line, and their bytes.
@@ -233,6 +243,16 @@ const RANGES: [((usize, usize), (usize, usize), Option<&str>); 10] = [
     ((usize::MAX, 0), (0, 0), None),
 ];
 
+/// Compares the text of a range, and whether it has bytes at all.
+fn assert_part(rt: &impl Abort, range: Range, part: Option<&str>, row: usize) {
+    let found = text_of(Encoding::Utf16, TEXT, range);
+    let has_bytes = byte_range(TEXT, range).is_some();
+    assert!(rt;
+        found == part && has_bytes == part.is_some(),
+        "row {row}: {found:?}"
+    );
+}
+
 #[test]
 fn a_range_is_from_its_start_to_its_end(rt: HostRuntime) {
     for i in 0..RANGES.len() {
@@ -241,12 +261,7 @@ fn a_range_is_from_its_start_to_its_end(rt: HostRuntime) {
             start: at(start.0, start.1),
             end: at(end.0, end.1),
         };
-        assert_eq!(&rt; text_of(Encoding::Utf16, TEXT, range), part, "row {i}");
-        assert_eq!(&rt;
-            byte_range(TEXT, range).is_some(),
-            part.is_some(),
-            "row {i}"
-        );
+        assert_part(&rt, range, part, i);
     }
 }
 

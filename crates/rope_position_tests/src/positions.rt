@@ -60,6 +60,10 @@ fn text_of(alloc: Global, rope: &Rope) -> Result<String, AllocError> {
     Ok(text)
 }
 
+fn assert_text(rt: &impl Abort, found: &str, wanted: &str) {
+    assert!(rt; found == wanted, "{found:?}");
+}
+
 /// A plain text after a change.
 fn changed(
     alloc: Global,
@@ -114,30 +118,67 @@ fn next_change(random: &mut Random, text: &str) -> Change<'static> {
     }
 }
 
+/// What is answered at a byte and at a position.
+type Answers = (Position, usize, Option<usize>);
+
+fn answers_of_rope(rope: &Rope, encoding: Encoding, byte: usize, position: Position) -> Answers {
+    (
+        position_of(rope, encoding, byte),
+        byte_of(rope, encoding, position),
+        exact_byte_of(rope, encoding, position),
+    )
+}
+
+fn answers_of_text(text: &str, encoding: Encoding, byte: usize, position: Position) -> Answers {
+    (
+        encoding.position_of(text, byte),
+        encoding.byte_of(text, position),
+        encoding.exact_byte_of(text, position),
+    )
+}
+
+fn assert_same_in(
+    rt: &impl Abort,
+    rope: &Rope,
+    text: &str,
+    encoding: Encoding,
+    (byte, position): (usize, Position),
+) {
+    let found = answers_of_rope(rope, encoding, byte, position);
+    let wanted = answers_of_text(text, encoding, byte, position);
+    assert!(rt; found == wanted, "{text:?} {byte} {position:?}: {found:?}");
+}
+
+fn assert_same_line_end(rt: &impl Abort, rope: &Rope, text: &str, line: usize) {
+    let found = line_end(rope, line);
+    let wanted = position_mapper::line_end(text, line);
+    assert!(rt; found == wanted, "{text:?} {line}: {found}");
+}
+
 /// Compares what is answered at a byte and at a position.
 fn assert_same_at(rt: &impl Abort, rope: &Rope, text: &str, byte: usize, position: Position) {
-    let end = position_mapper::line_end(text, position.line);
-    assert_eq!(rt; line_end(rope, position.line), end, "{text:?} {position:?}");
+    assert_same_line_end(rt, rope, text, position.line);
     for encoding in ENCODINGS {
-        let wanted = encoding.position_of(text, byte);
-        assert_eq!(rt;
-            position_of(rope, encoding, byte),
-            wanted,
-            "{text:?} {byte}"
-        );
-        let wanted = encoding.byte_of(text, position);
-        assert_eq!(rt;
-            byte_of(rope, encoding, position),
-            wanted,
-            "{text:?} {position:?}"
-        );
-        let wanted = encoding.exact_byte_of(text, position);
-        assert_eq!(rt;
-            exact_byte_of(rope, encoding, position),
-            wanted,
-            "{text:?} {position:?}"
-        );
+        assert_same_in(rt, rope, text, encoding, (byte, position));
     }
+}
+
+/// Makes a change of both that is chosen from the seed, and compares what is answered then.
+fn change_both(
+    rt: &impl Abort,
+    alloc: Global,
+    random: &mut Random,
+    rope: &mut Rope,
+    text: &mut String,
+) -> Result<(), Fail> {
+    let encoding = ENCODINGS[random.next() % ENCODINGS.len()];
+    let change = next_change(random, text);
+    *text = changed(alloc, text, encoding, change)?;
+    apply(rope, encoding, change)?;
+    let byte = random.below(text.len().saturating_add(3));
+    let position = some_position(random, rope.count(text_rope::Scheme::Crlf));
+    assert_same_at(rt, rope, text, byte, position);
+    Ok(())
 }
 
 #[test]
@@ -146,15 +187,9 @@ fn answers_stay_those_of_the_text(rt: HostRuntime) -> Result<(), Fail> {
     let mut text = String::new(rt.alloc());
     let mut random = Random::new(0x706f_7369);
     for i in 0..CHANGES {
-        let encoding = ENCODINGS[random.next() % ENCODINGS.len()];
-        let change = next_change(&mut random, &text);
-        text = changed(rt.alloc(), &text, encoding, change)?;
-        apply(&mut rope, encoding, change)?;
-        let byte = random.below(text.len().saturating_add(3));
-        let position = some_position(&mut random, rope.count(text_rope::Scheme::Crlf));
-        assert_same_at(&rt, &rope, &text, byte, position);
+        change_both(&rt, rt.alloc(), &mut random, &mut rope, &mut text)?;
         if i % 20 == 0 {
-            assert_eq!(rt; text_of(rt.alloc(), &rope)?, text, "change {i}");
+            assert_text(&rt, &text_of(rt.alloc(), &rope)?, &text);
         }
     }
     Ok(())
@@ -171,27 +206,39 @@ fn two_pieces(alloc: Global) -> Result<(String, String), AllocError> {
     Ok((front, back))
 }
 
+fn assert_piece_starts(rt: &impl Abort, rope: &Rope, byte: usize) {
+    let start = rope.chunk_at(byte).map(|chunk| chunk.start);
+    assert!(rt; start == Some(byte), "{start:?}");
+}
+
 #[test]
 fn a_break_of_two_pieces_is_one(rt: HostRuntime) -> Result<(), Fail> {
     let (front, back) = two_pieces(rt.alloc())?;
     let mut rope = Rope::from_str(rt.alloc(), &front)?;
     rope.append(&mut Rope::from_str(rt.alloc(), &back)?)?;
     let seam = front.len();
-    assert_eq!(rt; rope.chunk_at(seam).map(|chunk| chunk.start), Some(seam));
-    let mut text = front;
-    text.push_str(&back)?;
+    assert_piece_starts(&rt, &rope, seam);
+    let text = [front.as_str(), back.as_str()].concat(rt.alloc())?;
     let line = str_indices::lines_crlf::from_byte_idx(&text, seam);
     for i in 0..12 {
+        let byte = seam.saturating_sub(6).saturating_add(i);
         let position = at(line.saturating_add(i % 3), i % 4);
-        assert_same_at(
-            &rt,
-            &rope,
-            &text,
-            seam.saturating_sub(6).saturating_add(i),
-            position,
-        );
+        assert_same_at(&rt, &rope, &text, byte, position);
     }
     Ok(())
+}
+
+fn assert_refused(rt: &impl Abort, rope: &mut Rope, encoding: Encoding, range: Range) {
+    let change = Change {
+        range: Some(range),
+        text: "c",
+    };
+    let found = apply(rope, encoding, change);
+    let bytes = byte_range(rope, encoding, range);
+    assert!(rt;
+        found == Err(Refusal::NotOrdered) && bytes.is_none(),
+        "{found:?}"
+    );
 }
 
 #[test]
@@ -202,14 +249,8 @@ fn a_range_that_ends_before_it_starts_is_refused(rt: HostRuntime) -> Result<(), 
         end: at(0, 1),
     };
     for encoding in ENCODINGS {
-        let change = Change {
-            range: Some(backward),
-            text: "c",
-        };
-        let refused = apply(&mut rope, encoding, change);
-        assert_eq!(rt; refused, Err(Refusal::NotOrdered));
-        assert_eq!(rt; byte_range(&rope, encoding, backward), None);
-        assert_eq!(rt; text_of(rt.alloc(), &rope)?.as_str(), "a\r\nb");
+        assert_refused(&rt, &mut rope, encoding, backward);
+        assert_text(&rt, &text_of(rt.alloc(), &rope)?, "a\r\nb");
     }
     Ok(())
 }
@@ -229,7 +270,7 @@ fn a_change_has_a_range_or_is_the_whole_text(rt: HostRuntime) -> Result<(), Fail
             text: "-",
         };
         let rope = opened_and_changed(rt.alloc(), "a\r\n🐸b", Encoding::Utf16, change)?;
-        assert_eq!(rt; text_of(rt.alloc(), &rope)?.as_str(), wanted);
+        assert_text(&rt, &text_of(rt.alloc(), &rope)?, wanted);
     }
     Ok(())
 }

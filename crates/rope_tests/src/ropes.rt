@@ -95,27 +95,31 @@ impl Both {
 /// Compares the answers of one scheme at a byte, and where what it counts there begins.
 fn assert_same_by(rt: &impl Abort, rope: &Rope, text: &str, s: Scheme, byte_idx: usize) {
     let k = s.from_byte_idx(text, byte_idx);
-    assert_eq!(rt; rope.from_byte_idx(s, byte_idx), k, "{s:?} {byte_idx}");
-    assert_eq!(rt; rope.to_byte_idx(s, k), s.to_byte_idx(text, k), "{s:?} {k}");
+    let found = (rope.from_byte_idx(s, byte_idx), rope.to_byte_idx(s, k));
+    let wanted = (k, s.to_byte_idx(text, k));
+    assert!(rt; found == wanted, "{s:?} {byte_idx}: {found:?}");
 }
 
 /// Compares the answers at a byte.
 fn assert_same_at(rt: &impl Abort, rope: &Rope, text: &str, byte_idx: usize) {
-    let found = rope.is_char_boundary(byte_idx);
-    assert_eq!(rt; found, text.is_char_boundary(byte_idx), "{byte_idx}");
+    let is_same = rope.is_char_boundary(byte_idx) == text.is_char_boundary(byte_idx);
+    assert!(rt; is_same, "{byte_idx}");
     for s in SCHEMES {
         assert_same_by(rt, rope, text, s, byte_idx);
     }
 }
 
+fn assert_same_count(rt: &impl Abort, rope: &Rope, text: &str, s: Scheme) {
+    let found = rope.count(s);
+    assert!(rt; found == s.count(text), "{s:?} {found}");
+}
+
 /// Compares what is answered of the whole text.
 fn assert_same_counts(rt: &impl Abort, rope: &Rope, text: &str) {
-    assert_eq!(rt;
-        (rope.len(), rope.is_empty()),
-        (text.len(), text.is_empty())
-    );
+    let found = (rope.len(), rope.is_empty());
+    assert!(rt; found == (text.len(), text.is_empty()), "{found:?}");
     for s in SCHEMES {
-        assert_eq!(rt; rope.count(s), s.count(text), "{s:?}");
+        assert_same_count(rt, rope, text, s);
     }
 }
 
@@ -133,11 +137,8 @@ fn assert_same_pieces(
         whole.push_str(piece)?;
         pieces = pieces.saturating_add(1);
     }
-    assert!(rt; whole.as_str() == text);
-    assert!(rt;
-        pieces.saturating_mul(256) <= text.len().saturating_add(1_024),
-        "{pieces}"
-    );
+    let are_few = pieces.saturating_mul(256) <= text.len().saturating_add(1_024);
+    assert!(rt; whole.as_str() == text && are_few, "{pieces}");
     Ok(pieces)
 }
 

@@ -4,6 +4,7 @@ ghost use Rattle.str_indices.specs.Schemes.{count};
 ghost use Rattle.str_indices.specs.declared.Scheme.TheVariants.{Crlf};
 
 use std::alloc::Global;
+use std::process::Abort;
 use text_rope::{Refusal, Rope, Scheme};
 
 /// How many line breaks two texts have, one after the other.
@@ -16,6 +17,11 @@ pub fn breaks_of(alloc: Global, first: &str, second: &str) -> Result<usize, Refu
     Ok(text.count(Scheme::Crlf))
 }
 
+fn assert_breaks(rt: &impl Abort, alloc: Global, first: &str, second: &str, wanted: usize) {
+    let found = breaks_of(alloc, first, second);
+    assert!(rt; found == Ok(wanted), "{first:?} {second:?} {found:?}");
+}
+
 #[test]
 fn a_break_of_two_texts_is_one(rt: HostRuntime) {
     let rows = [
@@ -26,7 +32,6 @@ fn a_break_of_two_texts_is_one(rt: HostRuntime) {
         ("\r\n", "", 1),
     ];
     for (first, second, breaks) in rows {
-        let found = breaks_of(rt.alloc(), first, second);
-        assert_eq!(rt; found, Ok(breaks), "{first:?} {second:?}");
+        assert_breaks(&rt, rt.alloc(), first, second, breaks);
     }
 }

@@ -5,7 +5,7 @@ use std::process::Abort;
 use std::test::Fail;
 use text_rope::Refusal::{NotBoundary, NotOrdered, TooLong};
 use text_rope::Scheme::{self, Chars, Crlf, Lf, Lines, Utf16};
-use text_rope::{Refusal, Rope, count_in, from_in, is_boundary_in, to_in};
+use text_rope::{Chunk, Refusal, Rope, count_in, from_in, is_boundary_in, to_in};
 
 /// A text with its five counts, and for each scheme a byte index with its answer, and an index with its byte.
 type Row = (
@@ -46,25 +46,45 @@ const ROWS: [Row; 3] = [
     ),
 ];
 
+/// Compares a count, an index and a byte with those of a row.
+fn assert_found(rt: &impl Abort, s: Scheme, found: [usize; 3], wanted: [usize; 3]) {
+    assert!(rt; found == wanted, "{s:?} {found:?}");
+}
+
+/// Asks a rope.
+fn ask(rope: &Rope, s: Scheme, byte_idx: usize, idx: usize) -> [usize; 3] {
+    [
+        rope.count(s),
+        rope.from_byte_idx(s, byte_idx),
+        rope.to_byte_idx(s, idx),
+    ]
+}
+
+/// Asks the view of a rope.
+fn ask_view(rope: &Rope, s: Scheme, byte_idx: usize, idx: usize) -> [usize; 3] {
+    let view = &mut rope.view();
+    [
+        count_in(view, s),
+        from_in(view, s, byte_idx),
+        to_in(view, s, idx),
+    ]
+}
+
+fn assert_length(rt: &impl Abort, rope: &Rope, text: &str) {
+    let found = (rope.len(), rope.view().len(), rope.is_empty());
+    assert!(rt;
+        found == (text.len(), text.len(), text.is_empty()),
+        "{found:?}"
+    );
+}
+
 /// Asks a rope, and its view.
 fn assert_row(rt: &impl Abort, rope: &Rope, row: &Row) {
-    assert_eq!(rt; rope.len(), row.0.len());
-    assert_eq!(rt; rope.view().len(), row.0.len());
-    assert_eq!(rt; rope.is_empty(), row.0.is_empty());
+    assert_length(rt, rope, row.0);
     for (s, count, (byte_idx, from), (idx, to)) in row.1 {
-        let found = (
-            rope.count(s),
-            rope.from_byte_idx(s, byte_idx),
-            rope.to_byte_idx(s, idx),
-        );
-        assert_eq!(rt; found, (count, from, to), "{s:?}");
-        let view = &mut rope.view();
-        let found = (
-            count_in(view, s),
-            from_in(view, s, byte_idx),
-            to_in(view, s, idx),
-        );
-        assert_eq!(rt; found, (count, from, to), "{s:?}");
+        let wanted = [count, from, to];
+        assert_found(rt, s, ask(rope, s, byte_idx, idx), wanted);
+        assert_found(rt, s, ask_view(rope, s, byte_idx, idx), wanted);
     }
 }
 
@@ -76,14 +96,25 @@ fn questions(rt: HostRuntime) -> Result<(), Fail> {
     Ok(())
 }
 
+/// Asks a rope, and its view, whether a byte is a boundary.
+fn assert_boundary(rt: &impl Abort, rope: &Rope, byte_idx: usize, wanted: bool) {
+    let found = [
+        rope.is_char_boundary(byte_idx),
+        is_boundary_in(&mut rope.view(), byte_idx),
+    ];
+    assert!(rt; found == [wanted; 2], "{byte_idx}");
+}
+
+fn assert_boundaries(rt: &impl Abort, rope: &Rope, wanted: [bool; 5]) {
+    for i in 0..5 {
+        assert_boundary(rt, rope, i, wanted[i]);
+    }
+}
+
 #[test]
 fn boundaries(rt: HostRuntime) -> Result<(), Fail> {
     let rope = Rope::from_str(rt.alloc(), "aé")?;
-    let wanted = [true, true, false, true, false];
-    for i in 0..5 {
-        assert_eq!(rt; rope.is_char_boundary(i), wanted[i], "{i}");
-        assert_eq!(rt; is_boundary_in(&mut rope.view(), i), wanted[i], "{i}");
-    }
+    assert_boundaries(&rt, &rope, [true, true, false, true, false]);
     Ok(())
 }
 
@@ -129,18 +160,18 @@ fn changes(rt: HostRuntime) {
     }
 }
 
-/// Compares the piece that a byte is in with that part of the text.
-fn assert_chunk_at(rt: &impl Abort, rope: &Rope, text: &str, byte_idx: usize) {
-    let Some(chunk) = rope.chunk_at(byte_idx) else {
-        assert!(rt; text.len() <= byte_idx, "{byte_idx}");
-        return;
-    };
+/// Whether the piece that a byte is in is that part of the text.
+fn is_part(text: &str, byte_idx: usize, chunk: Chunk<'_>) -> bool {
     let end = chunk.start.saturating_add(chunk.text.len());
-    assert!(rt; chunk.start <= byte_idx && byte_idx < end, "{byte_idx}");
-    assert!(rt;
-        text.get(chunk.start..end) == Some(chunk.text),
-        "{byte_idx}"
-    );
+    chunk.start <= byte_idx && byte_idx < end && text.get(chunk.start..end) == Some(chunk.text)
+}
+
+fn assert_chunk_at(rt: &impl Abort, rope: &Rope, text: &str, byte_idx: usize) {
+    let is_right = match rope.chunk_at(byte_idx) {
+        None => text.len() <= byte_idx,
+        Some(chunk) => is_part(text, byte_idx, chunk),
+    };
+    assert!(rt; is_right, "{byte_idx}");
 }
 
 /// What is between two bytes of a rope, from its pieces.
@@ -152,6 +183,18 @@ fn part(alloc: Global, rope: &Rope, from: usize, to: usize) -> Result<String, Fa
     Ok(part)
 }
 
+fn assert_part(
+    rt: &impl Abort,
+    alloc: Global,
+    rope: &Rope,
+    text: &str,
+    (from, to): (usize, usize),
+) -> Result<(), Fail> {
+    let found = part(alloc, rope, from, to)?;
+    assert!(rt; text.get(from..to) == Some(found.as_str()), "{from} {to}");
+    Ok(())
+}
+
 #[test]
 fn pieces_of_a_text(rt: HostRuntime) -> Result<(), Fail> {
     let text = lines(rt.alloc(), 60)?;
@@ -160,63 +203,117 @@ fn pieces_of_a_text(rt: HostRuntime) -> Result<(), Fail> {
         assert_chunk_at(&rt, &rope, &text, byte_idx);
     }
     let len = text.len();
-    for (from, to) in [(0, 0), (0, len), (5, 6), (1, len / 60 * 59), (len, len)] {
-        let found = part(rt.alloc(), &rope, from, to)?;
-        assert!(rt; text.get(from..to) == Some(found.as_str()), "{from} {to}");
+    for part in [(0, 0), (0, len), (5, 6), (1, len / 60 * 59), (len, len)] {
+        assert_part(&rt, rt.alloc(), &rope, &text, part)?;
     }
     Ok(())
+}
+
+fn assert_piece(rt: &impl Abort, found: Option<&str>, wanted: Option<&str>) {
+    assert!(rt; found == wanted, "{found:?}");
 }
 
 #[test]
 fn pieces_one_by_one(rt: HostRuntime) -> Result<(), Fail> {
     let rope = Rope::from_str(rt.alloc(), "aéb")?;
     let mut pieces = rope.chunks_in(1..3)?;
-    assert_eq!(rt; pieces.next_chunk(), Some("é"));
-    assert_eq!(rt; pieces.next_chunk(), None);
-    assert_eq!(rt; pieces.next_chunk(), None);
+    assert_piece(&rt, pieces.next_chunk(), Some("é"));
+    assert_piece(&rt, pieces.next_chunk(), None);
+    assert_piece(&rt, pieces.next_chunk(), None);
     Ok(())
+}
+
+/// Ranges that are no part of a text, and what they are refused with.
+const NO_PARTS: [(usize, usize, Refusal); 4] = [
+    (1, 0, NotOrdered),
+    (9, 8, NotOrdered),
+    (0, 2, NotBoundary),
+    (3, 4, NotBoundary),
+];
+
+fn assert_no_part(rt: &impl Abort, rope: &Rope, from: usize, to: usize, wanted: Refusal) {
+    let found = rope.chunks_in(from..to).err();
+    assert!(rt; found == Some(wanted), "{from} {to} {found:?}");
+}
+
+fn assert_no_parts(rt: &impl Abort, rope: &Rope) {
+    for (from, to, refusal) in NO_PARTS {
+        assert_no_part(rt, rope, from, to, refusal);
+    }
 }
 
 #[test]
 fn parts_that_are_none(rt: HostRuntime) -> Result<(), Fail> {
     let rope = Rope::from_str(rt.alloc(), "aé")?;
-    for (from, to, refusal) in [
-        (1, 0, NotOrdered),
-        (9, 8, NotOrdered),
-        (0, 2, NotBoundary),
-        (3, 4, NotBoundary),
-    ] {
-        let found = rope.chunks_in(from..to).err();
-        assert_eq!(rt; found, Some(refusal), "{from} {to}");
-    }
+    assert_no_parts(&rt, &rope);
     Ok(())
+}
+
+/// Byte indices, how many bytes are read there, and the room then.
+const READS: [(usize, usize, [u8; 3]); 3] = [
+    (2, 3, *b"\xA9b\xF0"),
+    (6, 2, *b"\x90\xB8\xF0"),
+    (8, 0, *b"\x90\xB8\xF0"),
+];
+
+fn assert_read(
+    rt: &impl Abort,
+    rope: &Rope,
+    byte_idx: usize,
+    room: &mut [u8; 3],
+    wanted: (usize, [u8; 3]),
+) {
+    let found = (rope.read_at(byte_idx, room), *room);
+    assert!(rt; found == wanted, "{byte_idx} {found:?}");
+}
+
+fn assert_reads(rt: &impl Abort, rope: &Rope) {
+    let mut room = *b"---";
+    for (byte_idx, len, bytes) in READS {
+        assert_read(rt, rope, byte_idx, &mut room, (len, bytes));
+    }
 }
 
 #[test]
 fn bytes_from_an_index(rt: HostRuntime) -> Result<(), Fail> {
     let rope = Rope::from_str(rt.alloc(), "aéb🐸")?;
-    let mut room = *b"---";
-    assert_eq!(rt; rope.read_at(2, &mut room), 3);
-    assert_eq!(rt; room, *b"\xA9b\xF0");
-    assert_eq!(rt; rope.read_at(6, &mut room), 2);
-    assert_eq!(rt; room, *b"\x90\xB8\xF0");
-    assert_eq!(rt; rope.read_at(8, &mut room), 0);
+    assert_reads(&rt, &rope);
     Ok(())
+}
+
+/// Ranges, and what a call says that writes them out into six bytes.
+const WRITTEN: [(usize, usize, Result<usize, Refusal>); 4] = [
+    (1, 4, Ok(3)),
+    (2, 1, Err(NotOrdered)),
+    (0, 2, Err(NotBoundary)),
+    (0, 8, Err(TooLong)),
+];
+
+fn assert_written(
+    rt: &impl Abort,
+    rope: &Rope,
+    from: usize,
+    to: usize,
+    room: &mut [u8; 6],
+    wanted: Result<usize, Refusal>,
+) {
+    let found = rope.copy_to(from..to, room);
+    assert!(rt;
+        found == wanted && str::from_utf8(room).ok() == Some("éb---"),
+        "{from} {to} {found:?}"
+    );
+}
+
+fn assert_all_written(rt: &impl Abort, rope: &Rope) {
+    let mut room = *b"------";
+    for (from, to, result) in WRITTEN {
+        assert_written(rt, rope, from, to, &mut room, result);
+    }
 }
 
 #[test]
 fn parts_written_out(rt: HostRuntime) -> Result<(), Fail> {
     let rope = Rope::from_str(rt.alloc(), "aéb🐸")?;
-    let mut room = *b"------";
-    assert_eq!(rt; rope.copy_to(1..4, &mut room), Ok(3));
-    assert_eq!(rt; str::from_utf8(&room).ok(), Some("éb---"));
-    for (from, to, refusal) in [(2, 1, NotOrdered), (0, 2, NotBoundary), (0, 8, TooLong)] {
-        assert_eq!(rt;
-            rope.copy_to(from..to, &mut room),
-            Err(refusal),
-            "{from} {to}"
-        );
-    }
-    assert_eq!(rt; str::from_utf8(&room).ok(), Some("éb---"));
+    assert_all_written(&rt, &rope);
     Ok(())
 }
