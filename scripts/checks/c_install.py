@@ -53,9 +53,11 @@ class Copy:
         for builder, archive in BUILDERS.items():
             write_command(self.install_path.parent / builder, BUILDER.replace("NAME", archive))
         write_command(folder / "cc", COMPILER)
+        (folder / "temporary").mkdir()
 
     def environment(self, **variables):
-        return dict(os.environ, CC=str(self.folder / "cc"), **variables)
+        """What a run that is killed leaves of its own work stays in the copy."""
+        return dict(os.environ, CC=str(self.folder / "cc"), TMPDIR=str(self.folder / "temporary"), **variables)
 
     def install(self, *words, before=(), **variables):
         """The run, with words before it where it is to be run by something else."""
