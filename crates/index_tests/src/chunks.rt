@@ -7,7 +7,7 @@ use std::simd::prelude::*;
 use std::test::Fail;
 
 mod double_word;
-mod half_word;
+pub(crate) mod half_word;
 mod vectors;
 mod wide_vectors;
 pub(crate) mod widest;

@@ -16,7 +16,7 @@ const LEADS: [usize; 41] = [
 ];
 
 /// Those at which a chunk begins or ends elsewhere.
-const FEW_LEADS: [usize; 12] = [0, 1, 2, 3, 5, 7, 8, 15, 16, 31, 32, 40];
+const FEW_LEADS: [usize; 14] = [0, 1, 2, 3, 5, 7, 8, 9, 10, 15, 16, 31, 32, 40];
 
 const TEXTS: [&str; 6] = [
     "Hel🐸lo world! こん🐸にち🐸🐸は!",
@@ -124,26 +124,28 @@ fn compare_front(rt: &impl Abort, call: Call, text: &str, end: usize, leads: &[u
     }
 }
 
-fn compare_call(rt: &impl Abort, call: Call, text: &str, index: usize, leads: &[usize]) {
-    compare_whole(rt, call, text, index, leads);
-    compare_front(rt, call, text, index, leads);
-}
-
-fn compare(rt: &impl Abort, text: &str, index: usize, leads: &[usize]) {
-    compare_call(rt, Call::Surrogates, text, index, leads);
+/// Compares the counts of all of the text.
+fn compare_counts(rt: &impl Abort, text: &str, leads: &[usize]) {
+    compare_whole(rt, Call::Surrogates, text, text.len(), leads);
     for scheme in SCHEMES {
-        compare_call(rt, Call::Count(scheme), text, index, leads);
-        compare_call(rt, Call::From(scheme, index), text, index, leads);
-        compare_call(rt, Call::To(scheme, index), text, index, leads);
+        compare_whole(rt, Call::Count(scheme), text, text.len(), leads);
     }
 }
 
-/// Compares the kernels with the walk at the least indices, and from `first` to past the text's end.
-fn compare_from(rt: &impl Abort, text: &str, first: usize, leads: &[usize]) {
-    for index in 0..4 {
-        compare(rt, text, index, leads);
+/// Compares what is answered at an index, and counted before it.
+fn compare(rt: &impl Abort, text: &str, index: usize, leads: &[usize]) {
+    compare_front(rt, Call::Surrogates, text, index, leads);
+    for scheme in SCHEMES {
+        compare_front(rt, Call::Count(scheme), text, index, leads);
+        compare_whole(rt, Call::From(scheme, index), text, index, leads);
+        compare_whole(rt, Call::To(scheme, index), text, index, leads);
     }
-    for index in first..text.len() + 2 {
+}
+
+/// Compares the kernels with the walk at every index up to past the text's end, and at the greatest.
+fn compare_everywhere(rt: &impl Abort, text: &str, leads: &[usize]) {
+    compare_counts(rt, text, leads);
+    for index in 0..usize::max(4, text.len() + 2) {
         compare(rt, text, index, leads);
     }
     compare(rt, text, usize::MAX, leads);
@@ -152,7 +154,7 @@ fn compare_from(rt: &impl Abort, text: &str, first: usize, leads: &[usize]) {
 #[test]
 fn thirty_two_lanes_answer_as_the_walk(rt: HostRuntime) {
     for text in TEXTS {
-        compare_from(&rt, text, 4, &LEADS);
+        compare_everywhere(&rt, text, &LEADS);
     }
 }
 
@@ -163,10 +165,9 @@ fn compare_around(
     letters: usize,
     middle: &str,
 ) -> Result<(), Fail> {
-    let mut text = "a".repeat(alloc, letters)?;
-    text.push_str(middle)?;
-    text.push('b')?;
-    compare_from(rt, &text, letters.saturating_sub(2), &FEW_LEADS);
+    let front = "a".repeat(alloc, letters)?;
+    let text = [front.as_str(), middle, "b"].concat(alloc)?;
+    compare_everywhere(rt, &text, &FEW_LEADS);
     Ok(())
 }
 
@@ -180,10 +181,22 @@ fn thirty_two_lanes_see_each_break_at_every_edge(rt: HostRuntime) -> Result<(), 
     Ok(())
 }
 
-/// Compares them for a character repeated, at its last places.
+/// Compares them for a character repeated, where as many as these are counted or have as many bytes.
 fn compare_repeated(rt: &impl Abort, alloc: Global, unit: &str, times: usize) -> Result<(), Fail> {
     let text = unit.repeat(alloc, times)?;
-    for index in [times.saturating_sub(1), times, text.len(), usize::MAX] {
+    compare_counts(rt, &text, &FEW_LEADS);
+    for index in [
+        1,
+        1024,
+        1025,
+        4096,
+        4097,
+        4098,
+        8193,
+        12290,
+        text.len(),
+        usize::MAX,
+    ] {
         compare(rt, &text, index, &FEW_LEADS);
     }
     Ok(())

@@ -1,6 +1,7 @@
 //! Chunks and leading bytes that end anywhere in a text.
+use super::answers::all_answer_everywhere;
 use super::rows::{self, Asked};
-use super::walk::{self, cut, surrogate_pairs};
+use crate::chunks::half_word::HalfWord;
 use crate::chunks::widest::Widest;
 use byte_chunk::{ByteChunk, Plain};
 use std::alloc::{AllocError, Global};
@@ -8,7 +9,6 @@ use std::process::Abort;
 use std::simd::{u8x16, u8x32};
 use std::test::Fail;
 use str_indices::Scheme;
-use test_support::SCHEMES;
 
 /// Numbers of leading bytes, up to more than a chunk and the longest character have.
 const LEADS: [usize; 45] = [
@@ -17,7 +17,7 @@ const LEADS: [usize; 45] = [
 ];
 
 /// Those at which a chunk begins or ends elsewhere.
-const FEW_LEADS: [usize; 13] = [0, 1, 2, 3, 5, 7, 8, 15, 16, 31, 32, 63, 64];
+const FEW_LEADS: [usize; 15] = [0, 1, 2, 3, 5, 7, 8, 9, 10, 15, 16, 31, 32, 63, 64];
 
 /// Texts with chars of one to four bytes and with every kind of line break.
 const TEXTS: [&str; 6] = [
@@ -49,102 +49,15 @@ const MIDDLES: [(&str, [usize; 3]); 16] = [
     ("\u{1F438}", [0, 0, 0]),
 ];
 
-/// What the kernels of a scheme are to answer for an index.
-#[derive(Clone, Copy)]
-struct Answers {
-    /// The count before that byte, where the counting kernel takes it as an end.
-    before: Option<usize>,
-    from: usize,
-    to: usize,
-}
-
-/// The count before the byte by the plain walk, where the counting kernel takes it as an end.
-fn walked_before(scheme: Scheme, text: &str, index: usize) -> Option<usize> {
-    let anywhere = matches!(scheme, Scheme::Lf | Scheme::Crlf) && index <= text.len();
-    if anywhere || text.is_char_boundary(index) {
-        Some(walk::from_byte_idx(scheme, cut(text, index), index))
-    } else {
-        None
-    }
-}
-
-/// The answers of the plain walk.
-fn walked(scheme: Scheme, text: &str, index: usize) -> Answers {
-    Answers {
-        before: walked_before(scheme, text, index),
-        from: walk::from_byte_idx(scheme, text, index),
-        to: walk::to_byte_idx(scheme, text, index),
-    }
-}
-
-/// Compares the kernels over one type of chunk with the answers.
-fn compare<T: ByteChunk>(rt: &impl Abort, asked: Asked, answers: &Answers) {
-    rows::count_is::<T>(rt, asked, answers.before);
-    rows::from_is::<T>(rt, asked, answers.from);
-    rows::to_is::<T>(rt, asked, answers.to);
-}
-
-/// Compares the kernels with the answers after any number of leading bytes.
-fn compare_after<T: ByteChunk>(
-    rt: &impl Abort,
-    scheme: Scheme,
-    text: &str,
-    index: usize,
-    leads: &[usize],
-    answers: &Answers,
-) {
-    for &lead in leads {
-        let asked = Asked::new(scheme, text, index, lead);
-        compare::<T>(rt, asked, answers);
-    }
-}
-
-/// Compares the kernels of a scheme with the plain walk, at the least indices, and from `first` to past the text's end.
-fn answer_as_the_walk<T: ByteChunk>(
-    rt: &impl Abort,
-    scheme: Scheme,
-    text: &str,
-    first: usize,
-    leads: &[usize],
-) {
-    for index in 0..usize::max(4, text.len() + 2) {
-        if index < 4 || index >= first {
-            compare_after::<T>(rt, scheme, text, index, leads, &walked(scheme, text, index));
-        }
-    }
-}
-
-/// The surrogate pairs before a byte by the plain walk, where the byte is at a character.
-fn walked_pairs(text: &str, end: usize) -> Option<usize> {
-    Some(surrogate_pairs(text.get(..end)?))
-}
-
-fn count_pairs_after<T: ByteChunk>(rt: &impl Abort, text: &str, index: usize, leads: &[usize]) {
-    let pairs = walked_pairs(text, index);
-    for &lead in leads {
-        let asked = Asked::new(Scheme::Utf16, text, index, lead);
-        rows::pairs_are::<T>(rt, asked, pairs);
-    }
-}
-
-fn count_pairs_as_the_walk<T: ByteChunk>(
-    rt: &impl Abort,
-    text: &str,
-    first: usize,
-    leads: &[usize],
-) {
-    for end in first..text.len() + 1 {
-        count_pairs_after::<T>(rt, text, end, leads);
-    }
-}
-
 fn texts_answer_as_the_walk<T: ByteChunk>(rt: &impl Abort) {
     for text in TEXTS {
-        count_pairs_as_the_walk::<T>(rt, text, 0, &LEADS);
-        for scheme in SCHEMES {
-            answer_as_the_walk::<T>(rt, scheme, text, 4, &LEADS);
-        }
+        all_answer_everywhere::<T>(rt, text, &LEADS);
     }
+}
+
+#[test]
+fn half_words_answer_as_a_plain_walk(rt: HostRuntime) {
+    texts_answer_as_the_walk::<HalfWord>(&rt);
 }
 
 #[test]
@@ -179,8 +92,10 @@ fn sixty_four_lanes_answer_as_a_plain_walk(rt: HostRuntime) {
 
 /// `letters` times `a`, the middle, and `b`.
 fn surround(alloc: Global, letters: usize, middle: &str) -> Result<String, AllocError> {
-    let front = "a".repeat(alloc, letters)?;
-    [&front, middle, "b"].concat(alloc)
+    let mut text = "a".repeat(alloc, letters)?;
+    text.push_str(middle)?;
+    text.push('b')?;
+    Ok(text)
 }
 
 /// Where a line module's conversions go, with `breaks` breaks after so many letters.
@@ -206,43 +121,59 @@ fn around_breaks(letters: usize, middle: &str, breaks: usize, index: usize) -> (
     (from, to)
 }
 
-/// Compares the kernels of a line module with the table, at the least indices, and from shortly before the middle on.
-fn answer_as_the_table<T: ByteChunk>(
+/// Compares the plain walk with what the line modules answer at an index, by the numbers of breaks.
+fn walk_sees_breaks_at(
     rt: &impl Abort,
-    scheme: Scheme,
     text: &str,
     letters: usize,
     middle: &str,
-    breaks: usize,
+    breaks: [usize; 3],
+    index: usize,
 ) {
-    for index in 0..usize::max(4, text.len() + 2) {
-        if index < 4 || index + 2 >= letters {
-            let (from, to) = around_breaks(letters, middle, breaks, index);
-            let before = if index == text.len() {
-                Some(breaks)
-            } else {
-                walked_before(scheme, text, index)
-            };
-            let answers = Answers { before, from, to };
-            compare_after::<T>(rt, scheme, text, index, &FEW_LEADS, &answers);
-        }
+    let [lf, crlf, lines] = breaks;
+    for (scheme, breaks) in [
+        (Scheme::Lf, lf),
+        (Scheme::Crlf, crlf),
+        (Scheme::Lines, lines),
+    ] {
+        let (from, to) = around_breaks(letters, middle, breaks, index);
+        rows::walk_is(rt, Asked::at(scheme, text, index), from, to);
     }
 }
 
+/// The same at every index up to past the text's end, and at the greatest.
+fn walk_sees_breaks(rt: &impl Abort, text: &str, letters: usize, middle: &str, breaks: [usize; 3]) {
+    for index in 0..text.len() + 2 {
+        walk_sees_breaks_at(rt, text, letters, middle, breaks, index);
+    }
+    walk_sees_breaks_at(rt, text, letters, middle, breaks, usize::MAX);
+}
+
+fn walk_sees_each_break_behind(rt: &impl Abort, alloc: Global, letters: usize) -> Result<(), Fail> {
+    for (middle, breaks) in MIDDLES {
+        let text = surround(alloc, letters, middle)?;
+        walk_sees_breaks(rt, &text, letters, middle, breaks);
+    }
+    Ok(())
+}
+
+#[test]
+fn the_walk_sees_each_break(rt: HostRuntime) -> Result<(), Fail> {
+    for letters in 0..73 {
+        walk_sees_each_break_behind(&rt, rt.alloc(), letters)?;
+    }
+    Ok(())
+}
+
+/// Compares the kernels at every index of each text that has so many letters before the middle.
 fn middles_behind<T: ByteChunk>(
     rt: &impl Abort,
     alloc: Global,
     letters: usize,
 ) -> Result<(), Fail> {
-    let first = letters.saturating_sub(2);
-    for (middle, [lf, crlf, lines]) in MIDDLES {
-        let text = &surround(alloc, letters, middle)?;
-        count_pairs_as_the_walk::<T>(rt, text, first, &FEW_LEADS);
-        answer_as_the_walk::<T>(rt, Scheme::Chars, text, first, &FEW_LEADS);
-        answer_as_the_walk::<T>(rt, Scheme::Utf16, text, first, &FEW_LEADS);
-        answer_as_the_table::<T>(rt, Scheme::Lf, text, letters, middle, lf);
-        answer_as_the_table::<T>(rt, Scheme::Crlf, text, letters, middle, crlf);
-        answer_as_the_table::<T>(rt, Scheme::Lines, text, letters, middle, lines);
+    for (middle, _) in MIDDLES {
+        let text = surround(alloc, letters, middle)?;
+        all_answer_everywhere::<T>(rt, &text, &FEW_LEADS);
     }
     Ok(())
 }
@@ -258,6 +189,11 @@ fn middles_behind_each<T: ByteChunk>(
         middles_behind::<T>(rt, alloc, letters)?;
     }
     Ok(())
+}
+
+#[test]
+fn half_words_see_each_break_at_every_edge(rt: HostRuntime) -> Result<(), Fail> {
+    middles_behind_each::<HalfWord>(&rt, rt.alloc(), 0, 41)
 }
 
 #[test]

@@ -1,5 +1,7 @@
 //! Texts that fill every lane of a round, over and over.
+use super::answers::all_answer_as_the_walk;
 use super::rows::{self, Asked};
+use crate::chunks::half_word::HalfWord;
 use crate::chunks::widest::Widest;
 use byte_chunk::{ByteChunk, Plain};
 use std::alloc::Global;
@@ -19,6 +21,9 @@ const REPEATED: [(&str, usize, [usize; 5]); 7] = [
     ("\u{2028}", 4097, [4097, 4097, 0, 0, 4097]),
     ("\u{1F438}", 1025, [1025, 2050, 0, 0, 0]),
 ];
+
+/// The indices before, at and past the last of a character that is repeated so often, by what is counted and by bytes.
+const INDICES: [usize; 5] = [1, 4096, 4098, 8193, 12290];
 
 /// A repeated character, its scheme, a byte or an index, and the index or the byte that it is given.
 type Row = (&'static str, usize, Scheme, usize, usize);
@@ -41,6 +46,11 @@ const TO: &[Row] = &[
     ("é", 4097, Scheme::Utf16, 4096, 8192),
     ("\r", 4097, Scheme::Crlf, 4096, 4096),
     ("\n", 4097, Scheme::Lf, 4096, 4096),
+    ("\n", 4097, Scheme::Lf, 4098, 4097),
+    ("\n", 4097, Scheme::Crlf, 4096, 4096),
+    ("\n", 4097, Scheme::Crlf, 4098, 4097),
+    ("\n", 4097, Scheme::Lines, 4096, 4096),
+    ("\n", 4097, Scheme::Lines, 4098, 4097),
     ("\r\n", 4097, Scheme::Lf, 4096, 8192),
     ("\r\n", 4097, Scheme::Lf, 4097, 8194),
     ("\r\n", 4097, Scheme::Crlf, 4096, 8192),
@@ -111,14 +121,27 @@ fn convert_each<T: ByteChunk>(rt: &impl Abort, alloc: Global) -> Result<(), Fail
     Ok(())
 }
 
+/// Compares all kernels with the plain walk on a break repeated.
+fn answer_as_the_walk<T: ByteChunk>(rt: &impl Abort, alloc: Global) -> Result<(), Fail> {
+    for unit in ["\n", "\r", "\r\n", "\u{2028}"] {
+        let text = unit.repeat(alloc, 4097)?;
+        for index in INDICES {
+            all_answer_as_the_walk::<T>(rt, &text, index, &[0, 1, 31]);
+        }
+    }
+    Ok(())
+}
+
 fn fill_lanes<T: ByteChunk>(rt: &impl Abort, alloc: Global) -> Result<(), Fail> {
     count_each::<T>(rt, alloc)?;
     count_frogs::<T>(rt, alloc)?;
+    answer_as_the_walk::<T>(rt, alloc)?;
     convert_each::<T>(rt, alloc)
 }
 
 #[test]
 fn full_lanes_answer_over_every_chunk(rt: HostRuntime) -> Result<(), Fail> {
+    fill_lanes::<HalfWord>(&rt, rt.alloc())?;
     fill_lanes::<Plain>(&rt, rt.alloc())?;
     fill_lanes::<usize>(&rt, rt.alloc())?;
     fill_lanes::<u128>(&rt, rt.alloc())?;

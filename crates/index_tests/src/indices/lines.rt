@@ -27,6 +27,8 @@ const SEPARATOR_BEHIND_THIRTY: &str = "aaaaaaaaaaaaaaaaaaaaaaaaaaaaaa\u{2028}b";
 
 const CRLF_BEHIND_SEVEN: &str = "aaaaaaa\r\nbbbbbbb";
 
+const CRLF_BEFORE_THE_LAST: &str = "aaaaaaa\r\nb";
+
 const CRLF_BEHIND_THIRTY_ONE: &str = "aaaaaaaaaaaaaaaaaaaaaaaaaaaaaaa\r\nb";
 
 const TEXTS: &[(&str, usize)] = &[
@@ -140,6 +142,9 @@ const AFTER_ANY_LEAD: KernelRows = KernelRows {
         (CRLF_BEHIND_SEVEN, 9, 1),
         (CRLF_BEHIND_SEVEN, 8, 1),
         (CRLF_BEHIND_SEVEN, 7, 0),
+        (CRLF_BEFORE_THE_LAST, 8, 1),
+        (CRLF_BEFORE_THE_LAST, 9, 1),
+        (CRLF_BEFORE_THE_LAST, 10, 1),
         (CRLF_BEHIND_THIRTY_ONE, 34, 1),
         (CRLF_BEHIND_THIRTY_ONE, 32, 1),
         (CRLF_BEHIND_THIRTY_ONE, 31, 0),
@@ -152,6 +157,9 @@ const AFTER_ANY_LEAD: KernelRows = KernelRows {
         (SEPARATOR_BEHIND_THIRTY, 33, 1),
         (CRLF_BEHIND_SEVEN, 8, 0),
         (CRLF_BEHIND_SEVEN, 9, 1),
+        (CRLF_BEFORE_THE_LAST, 8, 0),
+        (CRLF_BEFORE_THE_LAST, 9, 1),
+        (CRLF_BEFORE_THE_LAST, 10, 1),
         (CRLF_BEHIND_THIRTY_ONE, 32, 0),
         (CRLF_BEHIND_THIRTY_ONE, 33, 1),
     ],
@@ -162,6 +170,8 @@ const AFTER_ANY_LEAD: KernelRows = KernelRows {
         (SEPARATOR_BEHIND_THIRTY, 1, 33),
         (SEPARATOR_BEHIND_THIRTY, 2, 34),
         (CRLF_BEHIND_SEVEN, 1, 9),
+        (CRLF_BEFORE_THE_LAST, 1, 9),
+        (CRLF_BEFORE_THE_LAST, 2, 10),
         (CRLF_BEHIND_THIRTY_ONE, 1, 33),
         (CRLF_BEHIND_THIRTY_ONE, 2, 34),
     ],

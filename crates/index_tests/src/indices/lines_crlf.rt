@@ -15,6 +15,8 @@ const BREAKS_AROUND_CRLF: &str = "\r\r\n\n";
 
 const CRLF_ACROSS_CHUNKS: &str = "aaaaaaa\r\nbbbbbbb";
 
+const CRLF_BEFORE_THE_LAST: &str = "aaaaaaa\r\nb";
+
 const CRLF_ACROSS_32: &str = "aaaaaaaaaaaaaaaaaaaaaaaaaaaaaaa\r\nb";
 
 const TEXTS: &[(&str, usize)] = &[
@@ -135,6 +137,9 @@ const AFTER_ANY_LEAD: KernelRows = KernelRows {
         ("a\r\nb", 4, 1),
         (BREAKS_AROUND_CRLF, 4, 3),
         (CRLF_ACROSS_CHUNKS, 16, 1),
+        (CRLF_BEFORE_THE_LAST, 8, 1),
+        (CRLF_BEFORE_THE_LAST, 9, 1),
+        (CRLF_BEFORE_THE_LAST, 10, 1),
         (CRLF_ACROSS_32, 31, 0),
         (CRLF_ACROSS_32, 32, 1),
         (CRLF_ACROSS_32, 33, 1),
@@ -143,6 +148,9 @@ const AFTER_ANY_LEAD: KernelRows = KernelRows {
     from: &[
         (CRLF_ACROSS_CHUNKS, 8, 0),
         (CRLF_ACROSS_CHUNKS, 9, 1),
+        (CRLF_BEFORE_THE_LAST, 8, 0),
+        (CRLF_BEFORE_THE_LAST, 9, 1),
+        (CRLF_BEFORE_THE_LAST, 10, 1),
         (CRLF_ACROSS_32, 32, 0),
         (CRLF_ACROSS_32, 33, 1),
     ],
@@ -150,6 +158,8 @@ const AFTER_ANY_LEAD: KernelRows = KernelRows {
         (CRLF_ACROSS_CHUNKS, 0, 0),
         (CRLF_ACROSS_CHUNKS, 1, 9),
         (CRLF_ACROSS_CHUNKS, 2, 16),
+        (CRLF_BEFORE_THE_LAST, 1, 9),
+        (CRLF_BEFORE_THE_LAST, 2, 10),
         (CRLF_ACROSS_32, 1, 33),
         (CRLF_ACROSS_32, 2, 34),
     ],

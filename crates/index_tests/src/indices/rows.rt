@@ -1,5 +1,6 @@
 //! Loops over tables of worked answers: each row is compared with what the functions of a scheme answer.
-use super::kernels;
+use super::{kernels, walk};
+use crate::chunks::half_word::HalfWord;
 use crate::chunks::widest::Widest;
 use byte_chunk::{ByteChunk, Plain};
 use std::alloc::Global;
@@ -174,6 +175,14 @@ pub fn pairs_are<T: ByteChunk>(rt: &impl Abort, asked: Asked, want: Option<usize
     same(rt, "pairs before", asked, found, want);
 }
 
+/// Asserts the index that the plain walk gives a byte, and the byte that it gives an index.
+pub fn walk_is(rt: &impl Abort, asked: Asked, from: usize, to: usize) {
+    let found = walk::from_byte_idx(asked.scheme, asked.text, asked.index);
+    same_at(rt, "from", asked, found, from);
+    let found = walk::to_byte_idx(asked.scheme, asked.text, asked.index);
+    same_at(rt, "to", asked, found, to);
+}
+
 fn count_after<T: ByteChunk>(rt: &impl Abort, scheme: Scheme, rows: &[Row], lead: usize) {
     for &(text, index, count) in rows {
         count_is::<T>(rt, Asked::new(scheme, text, index, lead), Some(count));
@@ -202,6 +211,7 @@ fn answer_after_each_lead<T: ByteChunk>(rt: &impl Abort, rows: &KernelRows) {
 
 /// Compares the kernels over every type of chunk with the rows.
 pub fn answer_over_each_chunk(rt: &impl Abort, rows: &KernelRows) {
+    answer_after_each_lead::<HalfWord>(rt, rows);
     answer_after_each_lead::<Plain>(rt, rows);
     answer_after_each_lead::<usize>(rt, rows);
     answer_after_each_lead::<u128>(rt, rows);

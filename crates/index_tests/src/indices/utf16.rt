@@ -1,4 +1,5 @@
 use super::rows::{self, Asked, KernelRows, RangeRow, RepeatedRow, Row};
+use crate::chunks::half_word::HalfWord;
 use crate::chunks::widest::Widest;
 use byte_chunk::{ByteChunk, Plain};
 use std::process::Abort;
@@ -91,6 +92,7 @@ fn count_pairs<T: ByteChunk>(rt: &impl Abort, lead: usize) {
 #[test]
 fn kernels_count_pairs_after_any_lead(rt: HostRuntime) {
     for lead in 0..22 {
+        count_pairs::<HalfWord>(&rt, lead);
         count_pairs::<Plain>(&rt, lead);
         count_pairs::<usize>(&rt, lead);
         count_pairs::<u128>(&rt, lead);

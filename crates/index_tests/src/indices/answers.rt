@@ -1,0 +1,91 @@
+//! All kernels beside the plain walk.
+use super::rows::{self, Asked};
+use super::walk::{self, cut, surrogate_pairs};
+use byte_chunk::ByteChunk;
+use std::process::Abort;
+use str_indices::Scheme;
+use test_support::SCHEMES;
+
+/// What the kernels of a scheme are to answer for an index.
+#[derive(Clone, Copy)]
+pub struct Answers {
+    /// The count before that byte, where the counting kernel takes it as an end.
+    pub before: Option<usize>,
+    pub from: usize,
+    pub to: usize,
+}
+
+/// The count before the byte by the plain walk, where the counting kernel takes it as an end.
+pub fn walked_before(scheme: Scheme, text: &str, index: usize) -> Option<usize> {
+    let anywhere = matches!(scheme, Scheme::Lf | Scheme::Crlf) && index <= text.len();
+    if anywhere || text.is_char_boundary(index) {
+        Some(walk::from_byte_idx(scheme, cut(text, index), index))
+    } else {
+        None
+    }
+}
+
+/// The answers of the plain walk.
+pub fn walked(scheme: Scheme, text: &str, index: usize) -> Answers {
+    Answers {
+        before: walked_before(scheme, text, index),
+        from: walk::from_byte_idx(scheme, text, index),
+        to: walk::to_byte_idx(scheme, text, index),
+    }
+}
+
+/// The surrogate pairs before a byte by the plain walk, where the byte is at a character.
+fn walked_pairs(text: &str, end: usize) -> Option<usize> {
+    Some(surrogate_pairs(text.get(..end)?))
+}
+
+/// Compares the kernels of a scheme over one type of chunk with the plain walk, after any of these numbers of leading bytes.
+fn answer_as_the_walk<T: ByteChunk>(
+    rt: &impl Abort,
+    scheme: Scheme,
+    text: &str,
+    index: usize,
+    leads: &[usize],
+) {
+    let answers = walked(scheme, text, index);
+    for &lead in leads {
+        let asked = Asked::new(scheme, text, index, lead);
+        rows::count_is::<T>(rt, asked, answers.before);
+        rows::from_is::<T>(rt, asked, answers.from);
+        rows::to_is::<T>(rt, asked, answers.to);
+    }
+}
+
+/// The same of the kernel that counts surrogate pairs.
+fn count_pairs_as_the_walk<T: ByteChunk>(
+    rt: &impl Abort,
+    text: &str,
+    index: usize,
+    leads: &[usize],
+) {
+    let pairs = walked_pairs(text, index);
+    for &lead in leads {
+        rows::pairs_are::<T>(rt, Asked::new(Scheme::Utf16, text, index, lead), pairs);
+    }
+}
+
+/// The same of all kernels.
+pub fn all_answer_as_the_walk<T: ByteChunk>(
+    rt: &impl Abort,
+    text: &str,
+    index: usize,
+    leads: &[usize],
+) {
+    count_pairs_as_the_walk::<T>(rt, text, index, leads);
+    for scheme in SCHEMES {
+        answer_as_the_walk::<T>(rt, scheme, text, index, leads);
+    }
+}
+
+/// The same at every index up to past the text's end, and at the greatest.
+pub fn all_answer_everywhere<T: ByteChunk>(rt: &impl Abort, text: &str, leads: &[usize]) {
+    for index in 0..usize::max(4, text.len() + 2) {
+        all_answer_as_the_walk::<T>(rt, text, index, leads);
+    }
+    all_answer_as_the_walk::<T>(rt, text, usize::MAX, leads);
+}
