@@ -2,7 +2,7 @@
 //!
 //! A line break is LF (U+000A), VT (U+000B), FF (U+000C), CR (U+000D), CR LF as one, U+0085, U+2028 or U+2029: the
 //! characters of the Unicode Standard's Annex 14 that the Rust crate `str_indices` lists.
-ghost use Rattle.std.specs.Prelude.{◌≡◌, refl, ◌+◌, ◌-◌, ◌*◌, ◌/◌, ◌%◌, ◌<◌, ◌≤◌, ◌==◌, ◌&&◌, ◌⊎◌, ℕ, IsCharBoundary, chars, length, map, min, slice_index, take, drop};
+ghost use Rattle.std.specs.Prelude.{◌≡◌, ◌+◌, ◌-◌, ◌*◌, ◌/◌, ◌<◌, ◌≤◌, ◌==◌, ◌&&◌, ◌⊎◌, ℕ, IsCharBoundary, chars, length, map, min, slice_index, take, drop};
 ghost use Rattle.std.proofs.Common.{lit≤, lit<};
 ghost use Rattle.std.specs.Simd.Lanes.{Each1};
 ghost use Rattle.str_indices.specs.Prelude.{is_between, is_byte, cut, size, count, from_byte_idx, to_byte_idx, Lines, IsBoundary, flag, is_carriage_return, is_middle, break_at-le, is_crlf, is_separator, narrow_break_at, next_line_at, separator_at, break_at, breaks_counted_before, ends_separator, HasLanes, IsChunk, Reads, Counts, Finds};
@@ -139,9 +139,11 @@ impl<T: ByteChunk> PlaceCounts<T> for LineBreaks {
 
     ghost MOST = { 1 };
 
-    ghost GROUP = { 2 };
+    ghost GROUP = { 1 };
 
     ghost STEP = { 2 };
+
+    ghost LAST_STEP = { 2 };
 
     ghost counted_at = { λ end text. break_at (take end text) };
 
@@ -149,9 +151,11 @@ impl<T: ByteChunk> PlaceCounts<T> for LineBreaks {
 
     const MOST: usize = 1;
 
-    const GROUP: usize = 2;
+    const GROUP: usize = 1;
 
     const STEP: usize = 2;
+
+    const LAST_STEP: usize = 2;
 
     const IS_DENSE: bool = false;
 
@@ -181,7 +185,7 @@ impl<T: ByteChunk> PlaceCounts<T> for LineBreaks {
 
     ghost bounded = { (lit< tt, lit≤ tt, λ end text. break_at-le (take end text)) };
 
-    ghost grouped = { (lit< tt, lit≤ tt, lit< tt, refl) };
+    ghost grouped = { (lit< tt, lit≤ tt, lit< tt, lit< tt) };
 }
 
 /// 1 in each lane of the chunk at `at` in which a break is counted.

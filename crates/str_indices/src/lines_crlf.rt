@@ -2,7 +2,7 @@
 //!
 //! The Unicode Standard's Annex 14 lists the characters that break lines; of those in the Rust crate's list only LF
 //! and CR count here.
-ghost use Rattle.std.specs.Prelude.{◌≡◌, refl, ◌+◌, ◌-◌, ◌/◌, ◌%◌, ◌<◌, ◌≤◌, ◌⊎◌, ℕ, ◌∷◌, [], Bool, IsCharBoundary, chars, drop, length, min};
+ghost use Rattle.std.specs.Prelude.{◌≡◌, ◌+◌, ◌-◌, ◌/◌, ◌<◌, ◌≤◌, ◌⊎◌, ℕ, ◌∷◌, [], Bool, IsCharBoundary, chars, drop, length, min};
 ghost use Rattle.std.proofs.Common.{lit≤, lit<};
 ghost use Rattle.str_indices.specs.Prelude.{cut, count, from_byte_idx, to_byte_idx, Crlf, flag, mark, is_carriage_return, byte_before, starts_break, break_start, breaks_before, is_middle, break_start-le, Reads, Counts, Finds};
 
@@ -107,6 +107,8 @@ impl<T: ByteChunk> PlaceCounts<T> for BreakStarts {
 
     ghost STEP = { 4 };
 
+    ghost LAST_STEP = { 4 };
+
     ghost counted_at = { λ _. break_start };
 
     ghost carries = { λ text at returns.
@@ -117,6 +119,8 @@ impl<T: ByteChunk> PlaceCounts<T> for BreakStarts {
     const GROUP: usize = 2;
 
     const STEP: usize = 4;
+
+    const LAST_STEP: usize = 4;
 
     const IS_DENSE: bool = false;
 
@@ -140,5 +144,5 @@ impl<T: ByteChunk> PlaceCounts<T> for BreakStarts {
 
     ghost bounded = { (lit< tt, lit≤ tt, λ _. break_start-le) };
 
-    ghost grouped = { (lit< tt, lit≤ tt, lit< tt, refl) };
+    ghost grouped = { (lit< tt, lit≤ tt, lit< tt, lit< tt) };
 }

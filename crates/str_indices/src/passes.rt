@@ -53,16 +53,12 @@ pub(crate) fn find_first<C: PlaceCounts<T>, T: ByteChunk>(
     ensures first { (d : ℕ) → d < result → sum_below (C.counted_at (length probe.old.text) probe.old.text) d < idx }
     ensures reads { Finds probe.old probe.new T.SIZE lead (length probe.old.text) result 0 }
 {
-    let led = count_breaks_up_to::<C, T>(probe, lead, idx);
-    if led.count == idx {
-        return led.place;
+    let Walked { place: byte, count } = count_breaks_up_to::<C, T>(probe, lead, idx);
+    if count == idx {
+        return byte;
     }
-    let carry = C::carry_at(probe, lead);
-    let after_lead = Cursor {
-        byte: lead,
-        count: led.count,
-        carry,
-    };
+    let carry = C::carry_at(probe, byte);
+    let after_lead = Cursor { byte, count, carry };
     let last = find_from::<C, T>(probe, after_lead, idx - 1);
     if last < probe.len() { last + 1 } else { last }
 }
@@ -146,7 +142,7 @@ fn find_from<C: PlaceCounts<T>, T: ByteChunk>(
 {
     let after_sure = skip_unreachable::<C, T>(probe, from, idx);
     let after_groups = skip_groups::<C, T>(probe, after_sure, idx);
-    let after_chunks = skip_chunks::<C, T>(probe, after_groups, idx, 1);
+    let after_chunks = skip_chunks::<C, T>(probe, after_groups, idx, 1, 1);
     find_in_last::<C, T>(probe, after_chunks, idx)
 }
 
@@ -228,8 +224,8 @@ fn skip_unreachable<C: PlaceCounts<T>, T: ByteChunk>(
 
 /// Skips groups from a position on, while with them no more than `idx` are counted.
 ///
-/// Several groups are looked at in one step, as many as every chunk type sums. Where a step reaches the index, no group
-/// is looked at again.
+/// Several are looked at in one step, as many as every chunk type sums, while two steps are left. Then groups are looked at
+/// one by one; but none where a step reached the index, where a step has one group, or where a group is a single chunk.
 #[inline(always)]
 fn skip_groups<C: PlaceCounts<T>, T: ByteChunk>(
     probe: &mut Probe<'_, T>,
@@ -242,12 +238,14 @@ fn skip_groups<C: PlaceCounts<T>, T: ByteChunk>(
     ensures searches { SearchesOn C.counted_at C.carries probe.old.text idx result.byte result.count result.carry }
     ensures reads { Reads probe.old probe.new from.byte 0 ((result.byte - from.byte) / T.SIZE + 4) 0 }
 {
+    let group = C::GROUP;
     let step = 4 / C::MOST;
-    let after_steps = skip_chunks::<C, T>(probe, from, idx, step);
-    if step * T::SIZE <= probe.len() - after_steps.byte {
+    let least = if group < step { 2 * step } else { step };
+    let after_steps = skip_chunks::<C, T>(probe, from, idx, step, least);
+    if group == 1 || group == step || least * T::SIZE <= probe.len() - after_steps.byte {
         return after_steps;
     }
-    skip_chunks::<C, T>(probe, after_steps, idx, C::GROUP)
+    skip_chunks::<C, T>(probe, after_steps, idx, group, group)
 }
 
 /// How many whole chunks of so many bytes count at most so much, whatever is in them.

@@ -20,6 +20,8 @@ pub(crate) trait PlaceCounts<T: ByteChunk> {
 
     ghost STEP: { ℕ };
 
+    ghost LAST_STEP: { ℕ };
+
     ghost counted_at: { ℕ → List ℕ → ℕ → ℕ };
 
     ghost carries: { List ℕ → ℕ → Self.Carry → Type 0 };
@@ -32,6 +34,9 @@ pub(crate) trait PlaceCounts<T: ByteChunk> {
 
     /// How many chunks, in whole groups, are added in one step.
     const STEP: usize;
+
+    /// How many are in the last round, in which a short text has all its chunks.
+    const LAST_STEP: usize;
 
     /// Whether nearly as much is counted as there are bytes, so that a search gains by skipping what surely is too little.
     const IS_DENSE: bool;
@@ -74,7 +79,7 @@ pub(crate) trait PlaceCounts<T: ByteChunk> {
 
     ghost bounded: { (0 < MOST) × (MOST ≤ 2) × ((end : ℕ) (text : List ℕ) (n : ℕ) → counted_at end text n ≤ MOST) };
 
-    ghost grouped: { (0 < GROUP) × (GROUP * MOST ≤ 4) × (0 < STEP) × (STEP % GROUP ≡ 0) };
+    ghost grouped: { (0 < GROUP) × (GROUP * MOST ≤ 4) × (0 < STEP) × (0 < LAST_STEP) };
 }
 
 /// The lanes in which was counted, and what is handed on.
@@ -116,10 +121,10 @@ pub(crate) fn count_chunks<C: PlaceCounts<T>, T: ByteChunk>(
     let most = chunks_of_round::<C, T>();
     let mut at = from;
     'rounds: while most * size <= to - at.byte {
-        at = count_in_steps::<C, T>(probe, at, most, end);
+        at = count_in_steps::<C, T>(probe, at, most, C::STEP, end);
     }
     let left = (to - at.byte) / size;
-    count_in_steps::<C, T>(probe, at, left, end)
+    count_in_steps::<C, T>(probe, at, left, C::LAST_STEP, end)
 }
 
 /// The most chunks that a round has: so few that what they count in a lane can be summed, and no part of a step unless
@@ -137,29 +142,32 @@ fn chunks_of_round<C: PlaceCounts<T>, T: ByteChunk>() -> usize
     }
 }
 
-/// Skips groups of so many chunks from a position on, while with them no more than `idx` are counted.
+/// Skips groups of so many chunks from a position on, while with them no more than `idx` are counted and at least so many
+/// chunks are left.
 #[inline(always)]
 pub(crate) fn skip_chunks<C: PlaceCounts<T>, T: ByteChunk>(
     probe: &mut Probe<'_, T>,
     from: Cursor<C::Carry>,
     idx: usize,
     group: usize,
+    least: usize,
 ) -> Cursor<C::Carry>
     requires some { 0 < group }
     requires room { group * C.MOST ≤ 4 }
+    requires least { (group ≤ least) × (least ≤ 8) }
     requires fits { let n = length probe.old.text in FitsIn (sum_below (C.counted_at n probe.old.text)) n }
     requires searches { SearchesOn C.counted_at C.carries probe.old.text idx from.byte from.count from.carry }
     ensures onward { from.byte ≤ result.byte }
     ensures searches { SearchesOn C.counted_at C.carries probe.old.text idx result.byte result.count result.carry }
-    ensures stopped { (length probe.old.text < result.byte + group * T.SIZE)
+    ensures stopped { (length probe.old.text < result.byte + least * T.SIZE)
         ⊎ (idx < sum_below (C.counted_at (length probe.old.text) probe.old.text) (result.byte + group * T.SIZE)) }
     ensures reads { Reads probe.old probe.new from.byte 0 ((result.byte - from.byte) / T.SIZE + group) 0 }
-    ensures reads_at_end { length probe.old.text < result.byte + group * T.SIZE →
+    ensures reads_at_end { length probe.old.text < result.byte + least * T.SIZE →
         Reads probe.old probe.new from.byte 0 ((result.byte - from.byte) / T.SIZE) 0 }
 {
     let len = probe.len();
     let mut at = from;
-    'groups: while group * T::SIZE <= len - at.byte {
+    'groups: while least * T::SIZE <= len - at.byte {
         let added = add_chunks::<C, T>(probe, at.byte, group, len, at.carry);
         let count = at.count + added.lanes.sum_bytes();
         if count > idx {
@@ -174,14 +182,17 @@ pub(crate) fn skip_chunks<C: PlaceCounts<T>, T: ByteChunk>(
 
 /// Counts on from a position in so many chunks, which are so few that what they count in a lane can be summed.
 ///
-/// The lanes of steps of some groups are added, and then those of what is left. Of the text the bytes before `end` are seen.
+/// The lanes of steps of so many chunks are added, and then those of what is left. Of the text the bytes before `end` are
+/// seen.
 #[inline(always)]
 fn count_in_steps<C: PlaceCounts<T>, T: ByteChunk>(
     probe: &mut Probe<'_, T>,
     from: Cursor<C::Carry>,
     chunks: usize,
+    step: usize,
     end: usize,
 ) -> Cursor<C::Carry>
+    requires some { 0 < step }
     requires summable { chunks * C.MOST ≤ T.MAX_ACC }
     requires seen { (from.byte + chunks * T.SIZE ≤ end) × (end ≤ length probe.old.text) }
     requires fits { FitsIn (sum_below (C.counted_at end probe.old.text)) (length probe.old.text) }
@@ -192,12 +203,11 @@ fn count_in_steps<C: PlaceCounts<T>, T: ByteChunk>(
     ensures reads { Reads probe.old probe.new from.byte 0 chunks 0 }
 {
     prove!(end <= probe.len());
-    let step = C::STEP;
     let mut lanes = T::zero();
     let mut at = from.byte;
     let mut carry = from.carry;
     'steps: for _ in 0..chunks / step {
-        let groups = add_in_groups::<C, T>(probe, at, step, end, carry);
+        let groups = add_chunks::<C, T>(probe, at, step, end, carry);
         lanes = lanes.add(groups.lanes);
         carry = groups.carry;
         at += step * T::SIZE;

@@ -1,5 +1,5 @@
 //! LF, CR, and what a byte weighs by itself, beside its form for all lanes of a chunk.
-ghost use Rattle.std.specs.Prelude.{◌≡◌, refl, ℕ, ◌*◌, ◌%◌, ◌<◌, ◌≤◌, length, map, slice_index};
+ghost use Rattle.std.specs.Prelude.{◌≡◌, ℕ, ◌*◌, ◌<◌, ◌≤◌, length, map, slice_index};
 ghost use Rattle.std.proofs.Common.{lit≤, lit<};
 ghost use Rattle.str_indices.specs.Prelude.{mark, is_trailing, is_leading, begins_four_bytes, is_line_feed, units_begun, mark-le, units_begun-le};
 
@@ -19,11 +19,16 @@ pub(crate) trait ByteWeight {
 
     ghost GROUP: { ℕ };
 
+    ghost LAST_STEP: { ℕ };
+
     /// The greatest weight of a byte.
     const MOST: usize;
 
     /// How many chunks a group has.
     const GROUP: usize;
+
+    /// How many chunks are added in one step of the last round.
+    const LAST_STEP: usize;
 
     /// Whether most bytes, or every second or third, have a weight.
     const IS_DENSE: bool;
@@ -39,7 +44,7 @@ pub(crate) trait ByteWeight {
 
     ghost bounded: { (0 < MOST) × (MOST ≤ 2) × ((byte : ℕ) → weight byte ≤ MOST) };
 
-    ghost grouped: { (0 < GROUP) × (GROUP * MOST ≤ 4) × (16 % GROUP ≡ 0) };
+    ghost grouped: { (0 < GROUP) × (GROUP * MOST ≤ 4) × (0 < LAST_STEP) };
 }
 
 /// 1 for each LF.
@@ -52,9 +57,13 @@ impl ByteWeight for LineFeeds {
 
     ghost GROUP = { 4 };
 
+    ghost LAST_STEP = { 4 };
+
     const MOST: usize = 1;
 
     const GROUP: usize = 4;
+
+    const LAST_STEP: usize = 4;
 
     const IS_DENSE: bool = false;
 
@@ -68,7 +77,7 @@ impl ByteWeight for LineFeeds {
 
     ghost bounded = { (lit< tt, lit≤ tt, mark-le is_line_feed) };
 
-    ghost grouped = { (lit< tt, lit≤ tt, refl) };
+    ghost grouped = { (lit< tt, lit≤ tt, lit< tt) };
 }
 
 /// 1 for each byte that begins a char.
@@ -81,9 +90,13 @@ impl ByteWeight for LeadingBytes {
 
     ghost GROUP = { 4 };
 
+    ghost LAST_STEP = { 4 };
+
     const MOST: usize = 1;
 
     const GROUP: usize = 4;
+
+    const LAST_STEP: usize = 4;
 
     const IS_DENSE: bool = true;
 
@@ -98,7 +111,7 @@ impl ByteWeight for LeadingBytes {
 
     ghost bounded = { (lit< tt, lit≤ tt, mark-le is_leading) };
 
-    ghost grouped = { (lit< tt, lit≤ tt, refl) };
+    ghost grouped = { (lit< tt, lit≤ tt, lit< tt) };
 }
 
 /// 1 for each byte that begins a char of four bytes, which takes a surrogate pair.
@@ -111,9 +124,13 @@ impl ByteWeight for FourByteLeads {
 
     ghost GROUP = { 4 };
 
+    ghost LAST_STEP = { 8 };
+
     const MOST: usize = 1;
 
     const GROUP: usize = 4;
+
+    const LAST_STEP: usize = 8;
 
     const IS_DENSE: bool = false;
 
@@ -127,7 +144,7 @@ impl ByteWeight for FourByteLeads {
 
     ghost bounded = { (lit< tt, lit≤ tt, mark-le begins_four_bytes) };
 
-    ghost grouped = { (lit< tt, lit≤ tt, refl) };
+    ghost grouped = { (lit< tt, lit≤ tt, lit< tt) };
 }
 
 /// For each byte that begins a char the UTF-16 code units of that char, 1 or 2.
@@ -140,9 +157,13 @@ impl ByteWeight for Units {
 
     ghost GROUP = { 2 };
 
+    ghost LAST_STEP = { 8 };
+
     const MOST: usize = 2;
 
     const GROUP: usize = 2;
+
+    const LAST_STEP: usize = 8;
 
     const IS_DENSE: bool = true;
 
@@ -157,7 +178,7 @@ impl ByteWeight for Units {
 
     ghost bounded = { (lit< tt, lit≤ tt, units_begun-le) };
 
-    ghost grouped = { (lit< tt, lit≤ tt, refl) };
+    ghost grouped = { (lit< tt, lit≤ tt, lit< tt) };
 }
 
 /// The weight of each byte, by itself.
@@ -172,6 +193,8 @@ impl<B: ByteWeight, T: ByteChunk> PlaceCounts<T> for Weights<B> {
 
     ghost STEP = { 16 };
 
+    ghost LAST_STEP = { B.LAST_STEP };
+
     ghost counted_at = { λ _ text n. B.weight (slice_index text n) };
 
     ghost carries = { λ _ _ _. Unit {0} };
@@ -181,6 +204,8 @@ impl<B: ByteWeight, T: ByteChunk> PlaceCounts<T> for Weights<B> {
     const GROUP: usize = B::GROUP;
 
     const STEP: usize = 16;
+
+    const LAST_STEP: usize = B::LAST_STEP;
 
     const IS_DENSE: bool = B::IS_DENSE;
 

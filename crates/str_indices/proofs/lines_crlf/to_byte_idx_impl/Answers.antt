@@ -13,7 +13,7 @@ at_place g c =
     let place = c.find_first-place in
     let outside = rw place.ensures.reads.text_kept at c.is_not_crlf_middle.ensures.middle in
     let begins = line_begins c.args.probe.now.text c.len.ensures.utf8 c.args.idx place.result place.ensures.reached
-        place.ensures.stopped place.ensures.first in
+    place.ensures.stopped place.ensures.first in
     grind (arith, outside, c.if-is_not_crlf_middle.true, begins)
 
 -- or after the LF of a CRLF there
@@ -23,7 +23,7 @@ after_place g c =
     let place = c.find_first-place in
     let inside = rw place.ensures.reads.text_kept at c.is_not_crlf_middle.ensures.middle in
     let begins = line_begins c.args.probe.now.text c.len.ensures.utf8 c.args.idx place.result place.ensures.reached
-        place.ensures.stopped place.ensures.first in
+    place.ensures.stopped place.ensures.first in
     grind (arith, inside, c.if-is_not_crlf_middle.false, begins)
 
 pub returns-then-is_not_crlf_middle-clause-answer : goal.returns-then-is_not_crlf_middle-clause-answer

@@ -1,4 +1,4 @@
-use Rattle.str_indices.proofs.lemmas.{◌+◌, ◌*◌, ◌∙◌, ap, arith, Each1-weaker, length, groups_within, groups_and_rest, nothing_added, as_many, lanes_addable, lanes_added, nothing, chunk_read, counted_there, weaken, parts_addable, parts_added, parts_end, parts_within, room_exchanged, subst, sum_below, sums_exchanged, sym}
+use Rattle.str_indices.proofs.lemmas.{◌*◌, ◌∙◌, ap, arith, length, groups_within, groups_and_rest, nothing_added, as_many, lanes_addable, lanes_added, nothing, chunk_read, weaken, parts_addable, parts_added, parts_end, parts_within, room_exchanged, subst, sums_exchanged, sym}
 use Rattle.str_indices.proofs.place_counts.add_in_groups.Goals as goal
 
 pub groups-init : goal.groups-init

@@ -9,37 +9,37 @@ steps-init g c = record {
   reads = weaken (nothing c.args.probe.now c.args.from.byte) (omega arith) (omega arith) (omega arith) (omega arith);
 }
 
-pub add_in_groups-groups-requires-clause-room : goal.add_in_groups-groups-requires-clause-room
-add_in_groups-groups-requires-clause-room g c =
-    let one = groups_within 0 c.args.chunks c.STEP-step.result g.C.PlaceCounts.MOST (omega arith) in
+pub add_chunks-groups-requires-clause-room : goal.add_chunks-groups-requires-clause-room
+add_chunks-groups-requires-clause-room g c =
+    let one = groups_within 0 c.args.chunks c.args.step g.C.PlaceCounts.MOST (omega arith) in
     omega (arith, one, c.requires.summable, g.met.T.ByteChunk.lawful.fits)
 
-pub add_in_groups-groups-requires-clause-seen : goal.add_in_groups-groups-requires-clause-seen
-add_in_groups-groups-requires-clause-seen g c =
-    let few = groups_within c.steps.counter c.args.chunks c.STEP-step.result g.T.ByteChunk.SIZE (omega arith) in
+pub add_chunks-groups-requires-clause-seen : goal.add_chunks-groups-requires-clause-seen
+add_chunks-groups-requires-clause-seen g c =
+    let few = groups_within c.steps.counter c.args.chunks c.args.step g.T.ByteChunk.SIZE (omega arith) in
     omega (arith, few, c.requires.seen, c.steps.invariant.place, ap length c.steps.invariant.reads.text_kept)
 
 pub add-lanes-requires : goal.add-lanes-requires
 add-lanes-requires g c =
     let so_far = c.steps.invariant in
-    let more = rw so_far.reads.text_kept at c.add_in_groups-groups.ensures.lanes in
-    let few = groups_within c.steps.counter c.args.chunks c.STEP-step.result g.C.PlaceCounts.MOST (omega arith) in
+    let more = rw so_far.reads.text_kept at c.add_chunks-groups.ensures.lanes in
+    let few = groups_within c.steps.counter c.args.chunks c.args.step g.C.PlaceCounts.MOST (omega arith) in
     search (lanes_addable so_far.lanes more 255 (omega (arith, few, c.requires.summable, g.met.T.ByteChunk.lawful.fits)), room_exchanged)
 
 pub overflow_mul-at : goal.overflow_mul-at
 overflow_mul-at g c =
-    let one = groups_within 0 c.args.chunks c.STEP-step.result g.T.ByteChunk.SIZE (omega arith) in
+    let one = groups_within 0 c.args.chunks c.args.step g.T.ByteChunk.SIZE (omega arith) in
     rw c.SIZE.ensures (omega (arith, one, c.requires.seen, c.len.ensures.len))
 
 pub overflow_add-at : goal.overflow_add-at
 overflow_add-at g c =
-    let few = groups_within c.steps.counter c.args.chunks c.STEP-step.result g.T.ByteChunk.SIZE (omega arith) in
+    let few = groups_within c.steps.counter c.args.chunks c.args.step g.T.ByteChunk.SIZE (omega arith) in
     rw c.SIZE.ensures (omega (arith, few, c.requires.seen, c.steps.invariant.place))
 
 pub steps-preserved : goal.steps-preserved
 steps-preserved g c =
     let so_far = c.steps.invariant in
-    let groups = c.add_in_groups-groups.ensures in
+    let groups = c.add_chunks-groups.ensures in
     rw c.SIZE.ensures (record {
       place = omega (arith, so_far.place);
       lanes = as_many (omega arith) (lanes_added so_far.lanes (rw so_far.reads.text_kept at groups.lanes)
@@ -52,7 +52,7 @@ steps-preserved g c =
 pub add_in_groups-rest-requires-clause-seen : goal.add_in_groups-rest-requires-clause-seen
 add_in_groups-rest-requires-clause-seen g c =
     let so_far = c.steps.invariant in
-    let within = parts_within c.args.from.byte (c.steps.counter * c.STEP-step.result) _ _
+    let within = parts_within c.args.from.byte (c.steps.counter * c.args.step) _ _
     (groups_and_rest _ _ c.steps.auto.counter-end c.steps-test.false) (sym so_far.place) c.args.end c.requires.seen.0 in
     rw so_far.reads.text_kept (within, c.requires.seen.1)
 
@@ -99,7 +99,7 @@ returns-clause-counts g c =
           (c.args.from.byte + c.args.chunks * g.T.ByteChunk.SIZE) (omega arith)
           (omega (arith, lanes.added, c.sum_bytes.ensures, c.requires.counts.counted));
       carried = subst (λ at. g.C.PlaceCounts.carries text at c.add_in_groups-rest.result.carry)
-          (parts_end c.args.from.byte (c.steps.counter * c.STEP-step.result) _ g.T.ByteChunk.SIZE {chunks = c.args.chunks} all
+          (parts_end c.args.from.byte (c.steps.counter * c.args.step) _ g.T.ByteChunk.SIZE {chunks = c.args.chunks} all
           (sym so_far.place) ∙ omega arith)
           (rw so_far.reads.text_kept at c.add_in_groups-rest.ensures.carried);
     })
