@@ -4,7 +4,7 @@ ghost use Rattle.str_indices.specs.Prelude.{cut, count, from_byte_idx, to_byte_i
 
 use crate::passes::{count_up_to, find};
 use crate::places::boundary_at_or_before;
-use crate::weights::{GROUP, LAST_GROUP, LeadingBytes, Weights};
+use crate::weights::{LeadingBytes, Weights};
 use byte_chunk::{ByteChunk, Chunk, Probe};
 
 /// How many chars the text has, in time linear in its length. An empty text has none.
@@ -49,19 +49,23 @@ pub fn count_impl<T: ByteChunk>(probe: &mut Probe<'_, T>, end: usize, lead: usiz
     ensures pass { Counts probe.old probe.new T.SIZE lead end 0 }
 {
     prove!(end <= probe.len());
-    count_up_to::<Weights<LeadingBytes>, T, GROUP, LAST_GROUP>(probe, end, lead)
+    count_up_to::<Weights<LeadingBytes>, T>(probe, end, lead)
 }
 
 /// Converts a byte index to a char index, as [`from_byte_idx`], over chunks of any type.
 ///
 /// `lead` bytes, or as many of them as the pass covers, are walked one by one before the first chunk.
 #[tactic(auto, using(crate::proofs::lemmas::schemes::CharBytes::chars_up_to))]
-pub fn from_byte_idx_impl<T: ByteChunk>(probe: &mut Probe<'_, T>, byte: usize, lead: usize) -> usize
-    ensures answer { result ≡ from_byte_idx Chars (chars probe.old.text) byte }
+pub fn from_byte_idx_impl<T: ByteChunk>(
+    probe: &mut Probe<'_, T>,
+    byte_idx: usize,
+    lead: usize,
+) -> usize
+    ensures answer { result ≡ from_byte_idx Chars (chars probe.old.text) byte_idx }
     ensures text { probe.new.text ≡ probe.old.text }
-    ensures pass { Counts probe.old probe.new T.SIZE lead (min byte (length probe.old.text)) 3 }
+    ensures pass { Counts probe.old probe.new T.SIZE lead (min byte_idx (length probe.old.text)) 3 }
 {
-    let end = boundary_at_or_before(probe, byte);
+    let end = boundary_at_or_before(probe, byte_idx);
     count_impl(probe, end, lead)
 }
 
@@ -75,5 +79,5 @@ pub fn to_byte_idx_impl<T: ByteChunk>(probe: &mut Probe<'_, T>, idx: usize, lead
     ensures pass { Finds probe.old probe.new T.SIZE lead (length probe.old.text) result 3 }
 {
     let first_chunk = lead.min(probe.len());
-    find::<Weights<LeadingBytes>, T, GROUP, LAST_GROUP>(probe, idx, first_chunk)
+    find::<Weights<LeadingBytes>, T>(probe, idx, first_chunk)
 }

@@ -9,12 +9,9 @@ ghost use Rattle.str_indices.specs.Prelude.{is_between, is_byte, cut, size, coun
 
 use crate::passes::{count_up_to, find_first};
 use crate::place_counts::{Counted, PlaceCounts};
-use crate::places::{boundary_at_or_after, boundary_at_or_before, is_crlf_middle};
+use crate::places::{boundary_at_or_after, boundary_at_or_before, is_not_crlf_middle};
 use crate::weights::{CR, LF};
 use byte_chunk::{ByteChunk, Chunk, Probe};
-
-/// How many chunks are added in one step.
-const GROUP: usize = 2;
 
 /// How many line breaks the text has, in time linear in its length.
 ///
@@ -60,21 +57,26 @@ pub fn count_breaks_impl<T: ByteChunk>(probe: &mut Probe<'_, T>, end: usize, lea
     ensures pass { Counts probe.old probe.new T.SIZE lead end 0 }
 {
     prove!(end <= probe.len());
-    count_up_to::<LineBreaks, T, GROUP, GROUP>(probe, end, lead)
+    count_up_to::<LineBreaks, T>(probe, end, lead)
 }
 
 /// Converts a byte index to a line index, over chunks of any type, after `lead` bytes that are walked one by one.
 #[tactic(auto, using(crate::proofs::lemmas::schemes::LineBytes::lines_up_to))]
-pub fn from_byte_idx_impl<T: ByteChunk>(probe: &mut Probe<'_, T>, byte: usize, lead: usize) -> usize
-    ensures answer { result ≡ from_byte_idx Lines (chars probe.old.text) byte }
+pub fn from_byte_idx_impl<T: ByteChunk>(
+    probe: &mut Probe<'_, T>,
+    byte_idx: usize,
+    lead: usize,
+) -> usize
+    ensures answer { result ≡ from_byte_idx Lines (chars probe.old.text) byte_idx }
     ensures text { probe.new.text ≡ probe.old.text }
-    ensures pass { Counts probe.old probe.new T.SIZE lead (min byte (length probe.old.text)) 3 }
+    ensures pass { Counts probe.old probe.new T.SIZE lead (min byte_idx (length probe.old.text)) 3 }
 {
-    let end = boundary_at_or_before(probe, byte);
+    let end = boundary_at_or_before(probe, byte_idx);
     prove!(end <= probe.len());
     // Where the boundary is before the byte, a char of several bytes begins there, so no peek is needed.
-    let inside_crlf = end >= byte && is_crlf_middle(probe, end);
-    count_breaks_impl(probe, end, lead) - usize::from(inside_crlf)
+    let is_outside_crlf = end < byte_idx || is_not_crlf_middle(probe, end);
+    let breaks = count_breaks_impl(probe, end, lead);
+    if is_outside_crlf { breaks } else { breaks - 1 }
 }
 
 /// Converts a line index to a byte index, over chunks of any type, after `lead` bytes that are walked one by one.
@@ -85,7 +87,7 @@ pub fn to_byte_idx_impl<T: ByteChunk>(probe: &mut Probe<'_, T>, idx: usize, lead
     ensures pass { Finds probe.old probe.new T.SIZE lead (length probe.old.text) result 3 }
 {
     let first_chunk = lead.min(probe.len());
-    let place = find_first::<LineBreaks, T, GROUP, GROUP>(probe, idx, first_chunk);
+    let place = find_first::<LineBreaks, T>(probe, idx, first_chunk);
     boundary_at_or_after(probe, place)
 }
 
@@ -137,11 +139,23 @@ impl<T: ByteChunk> PlaceCounts<T> for LineBreaks {
 
     ghost MOST = { 1 };
 
+    ghost GROUP = { 1 };
+
+    ghost STEP = { 2 };
+
+    ghost LAST_STEP = { 2 };
+
     ghost counted_at = { λ end text. break_at (take end text) };
 
     ghost carries = { λ _ _ _. Unit {0} };
 
     const MOST: usize = 1;
+
+    const GROUP: usize = 1;
+
+    const STEP: usize = 2;
+
+    const LAST_STEP: usize = 2;
 
     const IS_DENSE: bool = false;
 
@@ -155,7 +169,6 @@ impl<T: ByteChunk> PlaceCounts<T> for LineBreaks {
 
     fn carry_at(_probe: &mut Probe<'_, T>, _at: usize) {}
 
-    /// It peeks only where some lane is CR, C2 or E2: at the last two bytes of the chunk and the two after it.
     #[inline(always)]
     fn count_lanes(
         probe: &mut Probe<'_, T>,
@@ -164,14 +177,34 @@ impl<T: ByteChunk> PlaceCounts<T> for LineBreaks {
         end: usize,
         _carry: (),
     ) -> Counted<T, ()> {
-        let narrow_breaks = count_narrow_breaks(probe, chunk, at, end);
         Counted {
-            lanes: add_wide_breaks(probe, chunk, narrow_breaks, at, end),
+            lanes: count_breaks_in_chunk(probe, chunk, at, end),
             carry: (),
         }
     }
 
     ghost bounded = { (lit< tt, lit≤ tt, λ end text. break_at-le (take end text)) };
+
+    ghost grouped = { (lit< tt, lit≤ tt, lit< tt, lit< tt) };
+}
+
+/// 1 in each lane of the chunk at `at` in which a break is counted.
+///
+/// It peeks only where some lane is CR, C2 or E2: at the last two bytes of the chunk and the two after it.
+#[inline(always)]
+fn count_breaks_in_chunk<T: ByteChunk>(
+    probe: &mut Probe<'_, T>,
+    chunk: T,
+    at: usize,
+    end: usize,
+) -> T
+    requires seen { (at + T.SIZE ≤ end) × (end ≤ length probe.old.text) }
+    requires chunk { T.lanes chunk ≡ take T.SIZE (drop at probe.old.text) }
+    ensures lanes { HasLanes T.SIZE (λ j. break_at (take end probe.old.text) (at + j)) (T.lanes result) }
+    ensures reads { Reads probe.old probe.new 0 0 0 4 }
+{
+    let narrow_breaks = count_narrow_breaks(probe, chunk, at, end);
+    add_wide_breaks(probe, chunk, narrow_breaks, at, end)
 }
 
 /// 1 in each lane of the chunk at `at` that is a break of one byte or the LF of CR LF.

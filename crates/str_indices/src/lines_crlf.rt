@@ -8,12 +8,9 @@ ghost use Rattle.str_indices.specs.Prelude.{cut, count, from_byte_idx, to_byte_i
 
 use crate::passes::{count_up_to, find_first};
 use crate::place_counts::{Counted, PlaceCounts};
-use crate::places::{byte_before, is_crlf_middle};
+use crate::places::{byte_before, is_not_crlf_middle};
 use crate::weights::{CR, LF};
 use byte_chunk::{ByteChunk, Chunk, Probe};
-
-/// How many chunks are added in one step.
-const GROUP: usize = 4;
 
 /// How many line breaks the text has, LF, CR and CRLF, which is one break, in time linear in its length.
 ///
@@ -61,19 +58,24 @@ pub fn count_breaks_impl<T: ByteChunk>(probe: &mut Probe<'_, T>, end: usize, lea
     ensures pass { Counts probe.old probe.new T.SIZE lead end 0 }
 {
     prove!(end <= probe.len());
-    count_up_to::<BreakStarts, T, GROUP, GROUP>(probe, end, lead)
+    count_up_to::<BreakStarts, T>(probe, end, lead)
 }
 
 /// Converts a byte index to a line index, over chunks of any type, after `lead` bytes that are walked one by one.
 #[tactic(auto, using(crate::proofs::lemmas::schemes::CrlfBytes::breaks_by_cut))]
-pub fn from_byte_idx_impl<T: ByteChunk>(probe: &mut Probe<'_, T>, byte: usize, lead: usize) -> usize
-    ensures answer { result ≡ from_byte_idx Crlf (chars probe.old.text) byte }
+pub fn from_byte_idx_impl<T: ByteChunk>(
+    probe: &mut Probe<'_, T>,
+    byte_idx: usize,
+    lead: usize,
+) -> usize
+    ensures answer { result ≡ from_byte_idx Crlf (chars probe.old.text) byte_idx }
     ensures text { probe.new.text ≡ probe.old.text }
-    ensures pass { Counts probe.old probe.new T.SIZE lead (min byte (length probe.old.text)) 3 }
+    ensures pass { Counts probe.old probe.new T.SIZE lead (min byte_idx (length probe.old.text)) 3 }
 {
-    let end = byte.min(probe.len());
-    let inside_crlf = is_crlf_middle(probe, end);
-    count_breaks_impl(probe, end, lead) - usize::from(inside_crlf)
+    let end = byte_idx.min(probe.len());
+    let is_outside_crlf = is_not_crlf_middle(probe, end);
+    let breaks = count_breaks_impl(probe, end, lead);
+    if is_outside_crlf { breaks } else { breaks - 1 }
 }
 
 /// Converts a line index to a byte index, over chunks of any type, after `lead` bytes that are walked one by one.
@@ -84,8 +86,12 @@ pub fn to_byte_idx_impl<T: ByteChunk>(probe: &mut Probe<'_, T>, idx: usize, lead
     ensures pass { Finds probe.old probe.new T.SIZE lead (length probe.old.text) result 3 }
 {
     let first_chunk = lead.min(probe.len());
-    let place = find_first::<BreakStarts, T, GROUP, GROUP>(probe, idx, first_chunk);
-    place + usize::from(is_crlf_middle(probe, place))
+    let place = find_first::<BreakStarts, T>(probe, idx, first_chunk);
+    if is_not_crlf_middle(probe, place) {
+        place
+    } else {
+        place + 1
+    }
 }
 
 /// The breaks that start in the lanes of a chunk, 1 each. A chunk hands on 1 in each lane that is CR, of which the chunk
@@ -97,12 +103,24 @@ impl<T: ByteChunk> PlaceCounts<T> for BreakStarts {
 
     ghost MOST = { 1 };
 
+    ghost GROUP = { 2 };
+
+    ghost STEP = { 4 };
+
+    ghost LAST_STEP = { 4 };
+
     ghost counted_at = { λ _. break_start };
 
     ghost carries = { λ text at returns.
         drop (T.SIZE - 1) (T.lanes returns) ≡ mark is_carriage_return (byte_before text at) ∷ [] };
 
     const MOST: usize = 1;
+
+    const GROUP: usize = 2;
+
+    const STEP: usize = 4;
+
+    const LAST_STEP: usize = 4;
 
     const IS_DENSE: bool = false;
 
@@ -125,4 +143,6 @@ impl<T: ByteChunk> PlaceCounts<T> for BreakStarts {
     }
 
     ghost bounded = { (lit< tt, lit≤ tt, λ _. break_start-le) };
+
+    ghost grouped = { (lit< tt, lit≤ tt, lit< tt, lit< tt) };
 }

@@ -6,7 +6,7 @@ ghost use Rattle.std.specs.Prelude.{◌≡◌, ◌+◌, ◌-◌, ◌/◌, ◌<�
 ghost use Rattle.str_indices.specs.Prelude.{cut, count, from_byte_idx, to_byte_idx, Lf, passing_before, is_line_feed, Counts, Finds};
 
 use crate::passes::{count_up_to, find_first};
-use crate::weights::{GROUP, LAST_GROUP, LineFeeds, Weights};
+use crate::weights::{LineFeeds, Weights};
 use byte_chunk::{ByteChunk, Chunk, Probe};
 
 /// How many line breaks the text has, in time linear in its length.
@@ -53,17 +53,21 @@ pub fn count_breaks_impl<T: ByteChunk>(probe: &mut Probe<'_, T>, end: usize, lea
     ensures pass { Counts probe.old probe.new T.SIZE lead end 0 }
 {
     prove!(end <= probe.len());
-    count_up_to::<Weights<LineFeeds>, T, GROUP, LAST_GROUP>(probe, end, lead)
+    count_up_to::<Weights<LineFeeds>, T>(probe, end, lead)
 }
 
 /// Converts a byte index to a line index, over chunks of any type, after `lead` bytes that are walked one by one.
 #[tactic(auto, using(crate::proofs::lemmas::schemes::LineFeedBytes::line_of_byte))]
-pub fn from_byte_idx_impl<T: ByteChunk>(probe: &mut Probe<'_, T>, byte: usize, lead: usize) -> usize
-    ensures answer { result ≡ from_byte_idx Lf (chars probe.old.text) byte }
+pub fn from_byte_idx_impl<T: ByteChunk>(
+    probe: &mut Probe<'_, T>,
+    byte_idx: usize,
+    lead: usize,
+) -> usize
+    ensures answer { result ≡ from_byte_idx Lf (chars probe.old.text) byte_idx }
     ensures text { probe.new.text ≡ probe.old.text }
-    ensures pass { Counts probe.old probe.new T.SIZE lead (min byte (length probe.old.text)) 3 }
+    ensures pass { Counts probe.old probe.new T.SIZE lead (min byte_idx (length probe.old.text)) 3 }
 {
-    let end = byte.min(probe.len());
+    let end = byte_idx.min(probe.len());
     count_breaks_impl(probe, end, lead)
 }
 
@@ -75,5 +79,5 @@ pub fn to_byte_idx_impl<T: ByteChunk>(probe: &mut Probe<'_, T>, idx: usize, lead
     ensures pass { Finds probe.old probe.new T.SIZE lead (length probe.old.text) result 3 }
 {
     let first_chunk = lead.min(probe.len());
-    find_first::<Weights<LineFeeds>, T, GROUP, LAST_GROUP>(probe, idx, first_chunk)
+    find_first::<Weights<LineFeeds>, T>(probe, idx, first_chunk)
 }

@@ -11,19 +11,15 @@ use crate::places::byte_before;
 use crate::rest::lanes_up_to;
 use byte_chunk::{ByteChunk, Probe};
 
-/// The fewest chunks that a search takes in groups, or without a look at what it has so far.
+/// The fewest chunks that a search skips without a look at what it has so far.
 const LEAST: usize = 8;
 
 /// What is counted before `end`, of the text the bytes before it seen.
-///
-/// Chunks are added in groups of `GROUP`, and of `LAST_GROUP` in the last round, in which a short text has all its chunks.
-pub(crate) fn count_up_to<
-    C: PlaceCounts<T>,
-    T: ByteChunk,
-    const GROUP: usize,
-    const LAST_GROUP: usize,
->(probe: &mut Probe<'_, T>, end: usize, lead: usize) -> usize
-    requires some { (0 < GROUP) × (0 < LAST_GROUP) }
+pub(crate) fn count_up_to<C: PlaceCounts<T>, T: ByteChunk>(
+    probe: &mut Probe<'_, T>,
+    end: usize,
+    lead: usize,
+) -> usize
     requires within { end ≤ length probe.old.text }
     requires fits { FitsIn (sum_below (C.counted_at end probe.old.text)) (length probe.old.text) }
     ensures counted { result ≡ sum_below (C.counted_at end probe.old.text) end }
@@ -37,19 +33,18 @@ pub(crate) fn count_up_to<
     }
     let carry = C::carry_at(probe, byte);
     let after_lead = Cursor { byte, count, carry };
-    let after_chunks = count_chunks::<C, T, GROUP, LAST_GROUP>(probe, after_lead, end, end);
+    let after_chunks = count_chunks::<C, T>(probe, after_lead, end, end);
     let rest = lanes_up_to::<C, T>(probe, after_chunks, end, end);
     after_chunks.count + rest.sum_bytes()
 }
 
 /// The first place before which `idx` are counted, or the end of the text where fewer are.
-pub(crate) fn find_first<
-    C: PlaceCounts<T>,
-    T: ByteChunk,
-    const GROUP: usize,
-    const LAST_GROUP: usize,
->(probe: &mut Probe<'_, T>, idx: usize, lead: usize) -> usize
-    requires some { (0 < GROUP) × (0 < LAST_GROUP) }
+pub(crate) fn find_first<C: PlaceCounts<T>, T: ByteChunk>(
+    probe: &mut Probe<'_, T>,
+    idx: usize,
+    lead: usize,
+) -> usize
+    requires single { C.MOST ≡ 1 }
     requires within { lead ≤ length probe.old.text }
     requires steady { let n = length probe.old.text in IsSteady (sum_below (C.counted_at n probe.old.text)) n }
     ensures reached { result ≤ length probe.old.text }
@@ -58,20 +53,54 @@ pub(crate) fn find_first<
     ensures first { (d : ℕ) → d < result → sum_below (C.counted_at (length probe.old.text) probe.old.text) d < idx }
     ensures reads { Finds probe.old probe.new T.SIZE lead (length probe.old.text) result 0 }
 {
-    if idx == 0 {
-        return 0;
+    let Walked { place: byte, count } = count_breaks_up_to::<C, T>(probe, lead, idx);
+    if count == idx {
+        return byte;
     }
-    let last = find::<C, T, GROUP, LAST_GROUP>(probe, idx - 1, lead);
+    let carry = C::carry_at(probe, byte);
+    let after_lead = Cursor { byte, count, carry };
+    let last = find_from::<C, T>(probe, after_lead, idx - 1);
     if last < probe.len() { last + 1 } else { last }
 }
 
+/// Counts breaks byte by byte from the beginning of the text on, in so many bytes at most, and stops after the byte that
+/// reaches so many breaks: the place where it stops, and the breaks before it. For no break it walks no byte.
+#[inline(always)]
+fn count_breaks_up_to<C: PlaceCounts<T>, T: ByteChunk>(
+    probe: &mut Probe<'_, T>,
+    bytes: usize,
+    breaks: usize,
+) -> Walked
+    requires single { C.MOST ≡ 1 }
+    requires within { bytes ≤ length probe.old.text }
+    requires fits { let n = length probe.old.text in FitsIn (sum_below (C.counted_at n probe.old.text)) n }
+    ensures reached { result.place ≤ bytes }
+    ensures counted { result.count ≡ sum_below (C.counted_at (length probe.old.text) probe.old.text) result.place }
+    ensures at_most { result.count ≤ breaks }
+    ensures stopped { result.place < bytes → result.count ≡ breaks }
+    ensures first { (d : ℕ) → d < result.place → sum_below (C.counted_at (length probe.old.text) probe.old.text) d < breaks }
+    ensures reads { Reads probe.old probe.new 0 (bytes + 1) 0 0 }
+{
+    if breaks == 0 {
+        return Walked { place: 0, count: 0 };
+    }
+    let len = probe.len();
+    let walked = walk::<C, T>(probe, 0, 0, bytes, len, breaks - 1);
+    if walked.place < bytes {
+        return Walked {
+            place: walked.place + 1,
+            count: breaks,
+        };
+    }
+    walked
+}
+
 /// The first byte with which more than `idx` are counted, or the end of the text where no more are.
-pub(crate) fn find<C: PlaceCounts<T>, T: ByteChunk, const GROUP: usize, const LAST_GROUP: usize>(
+pub(crate) fn find<C: PlaceCounts<T>, T: ByteChunk>(
     probe: &mut Probe<'_, T>,
     idx: usize,
     lead: usize,
 ) -> usize
-    requires some { (0 < GROUP) × (0 < LAST_GROUP) }
     requires within { lead ≤ length probe.old.text }
     requires steady { let n = length probe.old.text in IsSteady (sum_below (C.counted_at n probe.old.text)) n }
     ensures reached { result ≤ length probe.old.text }
@@ -91,19 +120,18 @@ pub(crate) fn find<C: PlaceCounts<T>, T: ByteChunk, const GROUP: usize, const LA
         count,
         carry,
     };
-    find_from::<C, T, GROUP, LAST_GROUP>(probe, after_lead, idx)
+    find_from::<C, T>(probe, after_lead, idx)
 }
 
 /// The first byte from a position on with which more than `idx` are counted, or the end of the text where no more are.
 ///
-/// It looks at chunks in groups while at least `LEAST` are left, then one by one, and searches the one that reaches the index.
+/// It looks at chunks in groups, then one by one, and searches the one that reaches the index.
 #[inline(always)]
-fn find_from<C: PlaceCounts<T>, T: ByteChunk, const GROUP: usize, const LAST_GROUP: usize>(
+fn find_from<C: PlaceCounts<T>, T: ByteChunk>(
     probe: &mut Probe<'_, T>,
     from: Cursor<C::Carry>,
     idx: usize,
 ) -> usize
-    requires some { (0 < GROUP) × (0 < LAST_GROUP) }
     requires steady { let n = length probe.old.text in IsSteady (sum_below (C.counted_at n probe.old.text)) n }
     requires searches { SearchesOn C.counted_at C.carries probe.old.text idx from.byte from.count from.carry }
     ensures reached { (from.byte ≤ result) × (result ≤ length probe.old.text) }
@@ -112,9 +140,9 @@ fn find_from<C: PlaceCounts<T>, T: ByteChunk, const GROUP: usize, const LAST_GRO
         → idx < sum_below (C.counted_at (length probe.old.text) probe.old.text) (result + 1) }
     ensures reads { Reads probe.old probe.new from.byte (T.SIZE + 1) ((result - from.byte) / T.SIZE + 5) 0 }
 {
-    let after_sure = skip_unreachable::<C, T, GROUP, LAST_GROUP>(probe, from, idx);
-    let after_groups = skip_chunks::<C, T, LEAST>(probe, after_sure, idx, 4 / C::MOST);
-    let after_chunks = skip_chunks::<C, T, 1>(probe, after_groups, idx, 1);
+    let after_sure = skip_unreachable::<C, T>(probe, from, idx);
+    let after_groups = skip_groups::<C, T>(probe, after_sure, idx);
+    let after_chunks = skip_chunks::<C, T>(probe, after_groups, idx, 1, 1);
     find_in_last::<C, T>(probe, after_chunks, idx)
 }
 
@@ -170,12 +198,11 @@ pub(crate) fn walk<C: PlaceCounts<T>, T: ByteChunk>(
 ///
 /// Between two places at most one more is counted than there are bytes.
 #[inline(always)]
-fn skip_unreachable<C: PlaceCounts<T>, T: ByteChunk, const GROUP: usize, const LAST_GROUP: usize>(
+fn skip_unreachable<C: PlaceCounts<T>, T: ByteChunk>(
     probe: &mut Probe<'_, T>,
     from: Cursor<C::Carry>,
     idx: usize,
 ) -> Cursor<C::Carry>
-    requires some { (0 < GROUP) × (0 < LAST_GROUP) }
     requires steady { let n = length probe.old.text in IsSteady (sum_below (C.counted_at n probe.old.text)) n }
     requires searches { SearchesOn C.counted_at C.carries probe.old.text idx from.byte from.count from.carry }
     ensures onward { from.byte ≤ result.byte }
@@ -190,9 +217,35 @@ fn skip_unreachable<C: PlaceCounts<T>, T: ByteChunk, const GROUP: usize, const L
             break;
         }
         let to = at.byte + chunks * T::SIZE;
-        at = count_chunks::<C, T, GROUP, LAST_GROUP>(probe, at, to, len);
+        at = count_chunks::<C, T>(probe, at, to, len);
     }
     at
+}
+
+/// Skips groups from a position on, while with them no more than `idx` are counted.
+///
+/// Several are looked at in one step, as many as every chunk type sums, while two steps are left. Then groups are looked at
+/// one by one; but none where a step reached the index, where a step has one group, or where a group is a single chunk.
+#[inline(always)]
+fn skip_groups<C: PlaceCounts<T>, T: ByteChunk>(
+    probe: &mut Probe<'_, T>,
+    from: Cursor<C::Carry>,
+    idx: usize,
+) -> Cursor<C::Carry>
+    requires fits { let n = length probe.old.text in FitsIn (sum_below (C.counted_at n probe.old.text)) n }
+    requires searches { SearchesOn C.counted_at C.carries probe.old.text idx from.byte from.count from.carry }
+    ensures onward { from.byte ≤ result.byte }
+    ensures searches { SearchesOn C.counted_at C.carries probe.old.text idx result.byte result.count result.carry }
+    ensures reads { Reads probe.old probe.new from.byte 0 ((result.byte - from.byte) / T.SIZE + 4) 0 }
+{
+    let group = C::GROUP;
+    let step = 4 / C::MOST;
+    let least = if group < step { 2 * step } else { step };
+    let after_steps = skip_chunks::<C, T>(probe, from, idx, step, least);
+    if group == 1 || group == step || least * T::SIZE <= probe.len() - after_steps.byte {
+        return after_steps;
+    }
+    skip_chunks::<C, T>(probe, after_steps, idx, group, group)
 }
 
 /// How many whole chunks of so many bytes count at most so much, whatever is in them.

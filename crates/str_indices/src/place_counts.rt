@@ -1,7 +1,7 @@
 //! What is counted at each place of a text, and its sums over whole chunks.
 //!
 //! What hands lanes back is inlined, also where a function is long: else a chunk would go through memory each time.
-ghost use Rattle.std.specs.Prelude.{◌≡◌, ℕ, ◌+◌, ◌-◌, ◌*◌, ◌/◌, ◌<◌, ◌≤◌, ◌⊎◌, List, length, slice_index, take, drop};
+ghost use Rattle.std.specs.Prelude.{◌≡◌, ℕ, ◌+◌, ◌-◌, ◌*◌, ◌/◌, ◌%◌, ◌<◌, ◌≤◌, ◌⊎◌, List, length, slice_index, take, drop};
 ghost use Rattle.str_indices.specs.Prelude.{byte_before, sum_below, AddsUp, CountsOn, FitsIn, HasLanes, HasLaterLanes, IsHandedOn, Reads, SearchesOn};
 
 use byte_chunk::{ByteChunk, Probe};
@@ -16,12 +16,27 @@ pub(crate) trait PlaceCounts<T: ByteChunk> {
 
     ghost MOST: { ℕ };
 
+    ghost GROUP: { ℕ };
+
+    ghost STEP: { ℕ };
+
+    ghost LAST_STEP: { ℕ };
+
     ghost counted_at: { ℕ → List ℕ → ℕ → ℕ };
 
     ghost carries: { List ℕ → ℕ → Self.Carry → Type 0 };
 
     /// The most that is counted at one place.
     const MOST: usize;
+
+    /// How many chunks a group has.
+    const GROUP: usize;
+
+    /// How many chunks, in whole groups, are added in one step.
+    const STEP: usize;
+
+    /// How many are in the last round, in which a short text has all its chunks.
+    const LAST_STEP: usize;
 
     /// Whether nearly as much is counted as there are bytes, so that a search gains by skipping what surely is too little.
     const IS_DENSE: bool;
@@ -63,6 +78,8 @@ pub(crate) trait PlaceCounts<T: ByteChunk> {
         ensures reads { Reads probe.old probe.new 0 0 0 4 };
 
     ghost bounded: { (0 < MOST) × (MOST ≤ 2) × ((end : ℕ) (text : List ℕ) (n : ℕ) → counted_at end text n ≤ MOST) };
+
+    ghost grouped: { (0 < GROUP) × (GROUP * MOST ≤ 4) × (0 < STEP) × (0 < LAST_STEP) };
 }
 
 /// The lanes in which was counted, and what is handed on.
@@ -83,15 +100,13 @@ pub(crate) struct Cursor<C> {
 /// Counts in the whole chunks from a position on that end at or before `to`, in rounds of as many chunks as fit and in a
 /// last round of what is left.
 ///
-/// The last one, in which a short text has all its chunks, adds them in groups of `LAST_GROUP`, and the others of `GROUP`.
 /// Of the text the bytes before `end` are seen.
-pub(crate) fn count_chunks<
-    C: PlaceCounts<T>,
-    T: ByteChunk,
-    const GROUP: usize,
-    const LAST_GROUP: usize,
->(probe: &mut Probe<'_, T>, from: Cursor<C::Carry>, to: usize, end: usize) -> Cursor<C::Carry>
-    requires some { (0 < GROUP) × (0 < LAST_GROUP) }
+pub(crate) fn count_chunks<C: PlaceCounts<T>, T: ByteChunk>(
+    probe: &mut Probe<'_, T>,
+    from: Cursor<C::Carry>,
+    to: usize,
+    end: usize,
+) -> Cursor<C::Carry>
     requires ordered { from.byte ≤ to }
     requires seen { (to ≤ end) × (end ≤ length probe.old.text) }
     requires fits { FitsIn (sum_below (C.counted_at end probe.old.text)) (length probe.old.text) }
@@ -103,54 +118,56 @@ pub(crate) fn count_chunks<
 {
     prove!(end <= probe.len());
     let size = T::SIZE;
-    let most = chunks_of_round::<C, T, GROUP>();
+    let most = chunks_of_round::<C, T>();
     let mut at = from;
     'rounds: while most * size <= to - at.byte {
-        at = count_in_groups::<C, T, GROUP>(probe, at, most, end);
+        at = count_in_steps::<C, T>(probe, at, most, C::STEP, end);
     }
     let left = (to - at.byte) / size;
-    count_in_groups::<C, T, LAST_GROUP>(probe, at, left, end)
+    count_in_steps::<C, T>(probe, at, left, C::LAST_STEP, end)
 }
 
-/// The most chunks that a round has: so few that what they count in a lane can be summed, and no part of a group unless
+/// The most chunks that a round has: so few that what they count in a lane can be summed, and no part of a step unless
 /// not even one fits.
-fn chunks_of_round<C: PlaceCounts<T>, T: ByteChunk, const GROUP: usize>() -> usize
-    requires { 0 < GROUP }
+fn chunks_of_round<C: PlaceCounts<T>, T: ByteChunk>() -> usize
     ensures some { 0 < result }
     ensures few { result ≤ 255 }
     ensures summable { result * C.MOST ≤ T.MAX_ACC }
 {
     let fitting = T::MAX_ACC / C::MOST;
-    if fitting < GROUP {
+    if fitting < C::STEP {
         fitting
     } else {
-        fitting / GROUP * GROUP
+        fitting / C::STEP * C::STEP
     }
 }
 
-/// Skips groups of so many chunks from a position on, while with them no more than `idx` are counted and at least `LEAST`
+/// Skips groups of so many chunks from a position on, while with them no more than `idx` are counted and at least so many
 /// chunks are left.
 #[inline(always)]
-pub(crate) fn skip_chunks<C: PlaceCounts<T>, T: ByteChunk, const LEAST: usize>(
+pub(crate) fn skip_chunks<C: PlaceCounts<T>, T: ByteChunk>(
     probe: &mut Probe<'_, T>,
     from: Cursor<C::Carry>,
     idx: usize,
     group: usize,
+    least: usize,
 ) -> Cursor<C::Carry>
     requires some { 0 < group }
     requires room { group * C.MOST ≤ 4 }
-    requires least { (group ≤ LEAST) × (LEAST ≤ 16) }
+    requires least { (group ≤ least) × (least ≤ 8) }
     requires fits { let n = length probe.old.text in FitsIn (sum_below (C.counted_at n probe.old.text)) n }
     requires searches { SearchesOn C.counted_at C.carries probe.old.text idx from.byte from.count from.carry }
     ensures onward { from.byte ≤ result.byte }
     ensures searches { SearchesOn C.counted_at C.carries probe.old.text idx result.byte result.count result.carry }
-    ensures stopped { (length probe.old.text < result.byte + LEAST * T.SIZE)
+    ensures stopped { (length probe.old.text < result.byte + least * T.SIZE)
         ⊎ (idx < sum_below (C.counted_at (length probe.old.text) probe.old.text) (result.byte + group * T.SIZE)) }
     ensures reads { Reads probe.old probe.new from.byte 0 ((result.byte - from.byte) / T.SIZE + group) 0 }
+    ensures reads_at_end { length probe.old.text < result.byte + least * T.SIZE →
+        Reads probe.old probe.new from.byte 0 ((result.byte - from.byte) / T.SIZE) 0 }
 {
     let len = probe.len();
     let mut at = from;
-    'groups: while LEAST * T::SIZE <= len - at.byte {
+    'groups: while least * T::SIZE <= len - at.byte {
         let added = add_chunks::<C, T>(probe, at.byte, group, len, at.carry);
         let count = at.count + added.lanes.sum_bytes();
         if count > idx {
@@ -165,15 +182,17 @@ pub(crate) fn skip_chunks<C: PlaceCounts<T>, T: ByteChunk, const LEAST: usize>(
 
 /// Counts on from a position in so many chunks, which are so few that what they count in a lane can be summed.
 ///
-/// The lanes of groups of `GROUP` are added, and then those of what is left. Of the text the bytes before `end` are seen.
+/// The lanes of steps of so many chunks are added, and then those of what is left. Of the text the bytes before `end` are
+/// seen.
 #[inline(always)]
-fn count_in_groups<C: PlaceCounts<T>, T: ByteChunk, const GROUP: usize>(
+fn count_in_steps<C: PlaceCounts<T>, T: ByteChunk>(
     probe: &mut Probe<'_, T>,
     from: Cursor<C::Carry>,
     chunks: usize,
+    step: usize,
     end: usize,
 ) -> Cursor<C::Carry>
-    requires some { 0 < GROUP }
+    requires some { 0 < step }
     requires summable { chunks * C.MOST ≤ T.MAX_ACC }
     requires seen { (from.byte + chunks * T.SIZE ≤ end) × (end ≤ length probe.old.text) }
     requires fits { FitsIn (sum_below (C.counted_at end probe.old.text)) (length probe.old.text) }
@@ -187,16 +206,50 @@ fn count_in_groups<C: PlaceCounts<T>, T: ByteChunk, const GROUP: usize>(
     let mut lanes = T::zero();
     let mut at = from.byte;
     let mut carry = from.carry;
-    'groups: for _ in 0..chunks / GROUP {
-        let group = add_chunks::<C, T>(probe, at, GROUP, end, carry);
-        lanes = lanes.add(group.lanes);
-        carry = group.carry;
-        at += GROUP * T::SIZE;
+    'steps: for _ in 0..chunks / step {
+        let groups = add_chunks::<C, T>(probe, at, step, end, carry);
+        lanes = lanes.add(groups.lanes);
+        carry = groups.carry;
+        at += step * T::SIZE;
     }
-    let single = add_chunks::<C, T>(probe, at, chunks % GROUP, end, carry);
+    let rest = add_in_groups::<C, T>(probe, at, chunks % step, end, carry);
     Cursor {
         byte: from.byte + chunks * T::SIZE,
-        count: from.count + lanes.add(single.lanes).sum_bytes(),
+        count: from.count + lanes.add(rest.lanes).sum_bytes(),
+        carry: rest.carry,
+    }
+}
+
+/// Adds what is counted in the lanes of so many chunks, group by group, and then of the chunks that fill no group.
+#[inline(always)]
+fn add_in_groups<C: PlaceCounts<T>, T: ByteChunk>(
+    probe: &mut Probe<'_, T>,
+    from: usize,
+    chunks: usize,
+    end: usize,
+    mut carry: C::Carry,
+) -> Counted<T, C::Carry>
+    requires room { chunks * C.MOST ≤ 255 }
+    requires seen { (from + chunks * T.SIZE ≤ end) × (end ≤ length probe.old.text) }
+    requires carried { C.carries probe.old.text from carry }
+    ensures lanes { AddsUp (sum_below (C.counted_at end probe.old.text)) C.MOST T.SIZE from (from + chunks * T.SIZE) chunks
+        (T.lanes result.lanes) }
+    ensures carried { C.carries probe.old.text (from + chunks * T.SIZE) result.carry }
+    ensures reads { Reads probe.old probe.new from 0 chunks 0 }
+{
+    prove!(end <= probe.len());
+    let size = C::GROUP;
+    let mut lanes = T::zero();
+    let mut at = from;
+    'groups: for _ in 0..chunks / size {
+        let group = add_chunks::<C, T>(probe, at, size, end, carry);
+        lanes = lanes.add(group.lanes);
+        carry = group.carry;
+        at += size * T::SIZE;
+    }
+    let single = add_chunks::<C, T>(probe, at, chunks % size, end, carry);
+    Counted {
+        lanes: lanes.add(single.lanes),
         carry: single.carry,
     }
 }

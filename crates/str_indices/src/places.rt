@@ -42,15 +42,15 @@ pub(crate) fn byte_before<T: ByteChunk>(probe: &mut Probe<'_, T>, at: usize) -> 
     probe.turn(at - 1)
 }
 
-/// Whether a byte index stands between CR and LF, by at most two peeks.
-pub(crate) fn is_crlf_middle<T: ByteChunk>(probe: &mut Probe<'_, T>, byte_idx: usize) -> bool
-    ensures middle { result ≡ is_middle probe.old.text byte_idx }
+/// Whether a byte index stands anywhere but between CR and LF, by at most two peeks.
+pub(crate) fn is_not_crlf_middle<T: ByteChunk>(probe: &mut Probe<'_, T>, byte_idx: usize) -> bool
+    ensures middle { result ≡ not (is_middle probe.old.text byte_idx) }
     ensures reads { Reads probe.old probe.new 0 0 0 2 }
 {
     if byte_idx == 0 || byte_idx >= probe.len() {
-        return false;
+        return true;
     }
-    probe.peek(byte_idx) == LF && probe.peek(byte_idx - 1) == CR
+    probe.peek(byte_idx) != LF || probe.peek(byte_idx - 1) != CR
 }
 
 /// The least boundary at or after a byte, by at most three peeks.

@@ -7,7 +7,7 @@ ghost use Rattle.str_indices.specs.Prelude.{cut, count, from_byte_idx, to_byte_i
 
 use crate::passes::{count_up_to, find};
 use crate::places::boundary_at_or_before;
-use crate::weights::{FourByteLeads, GROUP, LAST_GROUP, Units, Weights};
+use crate::weights::{FourByteLeads, Units, Weights};
 use byte_chunk::{ByteChunk, Chunk, Probe};
 
 /// How many UTF-16 code units the text would take, in time linear in its length.
@@ -61,7 +61,7 @@ pub fn count_impl<T: ByteChunk>(probe: &mut Probe<'_, T>, end: usize, lead: usiz
     ensures pass { Counts probe.old probe.new T.SIZE lead end 0 }
 {
     prove!(end <= probe.len());
-    count_up_to::<Weights<Units>, T, GROUP, LAST_GROUP>(probe, end, lead)
+    count_up_to::<Weights<Units>, T>(probe, end, lead)
 }
 
 /// Counts the surrogate pairs of the text before `end`, over chunks of any type, after `lead` bytes that are walked
@@ -81,18 +81,22 @@ pub fn count_surrogates_impl<T: ByteChunk>(
         Reads probe.old probe.new first (pass_turns T.SIZE lead (end - 3)) ((end - first) / T.SIZE) 0 }
 {
     prove!(end <= probe.len());
-    count_up_to::<Weights<FourByteLeads>, T, GROUP, LAST_GROUP>(probe, end.saturating_sub(3), lead)
+    count_up_to::<Weights<FourByteLeads>, T>(probe, end.saturating_sub(3), lead)
 }
 
 /// Converts a byte index to a UTF-16 code unit index, over chunks of any type, after `lead` bytes that are walked one
 /// by one.
 #[tactic(auto, using(crate::proofs::lemmas::schemes::UnitBytes::units_up_to))]
-pub fn from_byte_idx_impl<T: ByteChunk>(probe: &mut Probe<'_, T>, byte: usize, lead: usize) -> usize
-    ensures answer { result ≡ from_byte_idx Utf16 (chars probe.old.text) byte }
+pub fn from_byte_idx_impl<T: ByteChunk>(
+    probe: &mut Probe<'_, T>,
+    byte_idx: usize,
+    lead: usize,
+) -> usize
+    ensures answer { result ≡ from_byte_idx Utf16 (chars probe.old.text) byte_idx }
     ensures text { probe.new.text ≡ probe.old.text }
-    ensures pass { Counts probe.old probe.new T.SIZE lead (min byte (length probe.old.text)) 3 }
+    ensures pass { Counts probe.old probe.new T.SIZE lead (min byte_idx (length probe.old.text)) 3 }
 {
-    let end = boundary_at_or_before(probe, byte);
+    let end = boundary_at_or_before(probe, byte_idx);
     count_impl(probe, end, lead)
 }
 
@@ -105,5 +109,5 @@ pub fn to_byte_idx_impl<T: ByteChunk>(probe: &mut Probe<'_, T>, idx: usize, lead
     ensures pass { Finds probe.old probe.new T.SIZE lead (length probe.old.text) result 3 }
 {
     let first_chunk = lead.min(probe.len());
-    find::<Weights<Units>, T, GROUP, LAST_GROUP>(probe, idx, first_chunk)
+    find::<Weights<Units>, T>(probe, idx, first_chunk)
 }

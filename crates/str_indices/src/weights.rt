@@ -1,5 +1,5 @@
 //! LF, CR, and what a byte weighs by itself, beside its form for all lanes of a chunk.
-ghost use Rattle.std.specs.Prelude.{◌≡◌, ℕ, ◌<◌, ◌≤◌, length, map, slice_index};
+ghost use Rattle.std.specs.Prelude.{◌≡◌, ℕ, ◌*◌, ◌<◌, ◌≤◌, length, map, slice_index};
 ghost use Rattle.std.proofs.Common.{lit≤, lit<};
 ghost use Rattle.str_indices.specs.Prelude.{mark, is_trailing, is_leading, begins_four_bytes, is_line_feed, units_begun, mark-le, units_begun-le};
 
@@ -17,8 +17,18 @@ pub(crate) trait ByteWeight {
 
     ghost MOST: { ℕ };
 
+    ghost GROUP: { ℕ };
+
+    ghost LAST_STEP: { ℕ };
+
     /// The greatest weight of a byte.
     const MOST: usize;
+
+    /// How many chunks a group has.
+    const GROUP: usize;
+
+    /// How many chunks are added in one step of the last round.
+    const LAST_STEP: usize;
 
     /// Whether most bytes, or every second or third, have a weight.
     const IS_DENSE: bool;
@@ -33,6 +43,8 @@ pub(crate) trait ByteWeight {
         ensures { T.lanes result ≡ map weight (T.lanes chunk) };
 
     ghost bounded: { (0 < MOST) × (MOST ≤ 2) × ((byte : ℕ) → weight byte ≤ MOST) };
+
+    ghost grouped: { (0 < GROUP) × (GROUP * MOST ≤ 4) × (0 < LAST_STEP) };
 }
 
 /// 1 for each LF.
@@ -43,7 +55,15 @@ impl ByteWeight for LineFeeds {
 
     ghost MOST = { 1 };
 
+    ghost GROUP = { 4 };
+
+    ghost LAST_STEP = { 4 };
+
     const MOST: usize = 1;
+
+    const GROUP: usize = 4;
+
+    const LAST_STEP: usize = 4;
 
     const IS_DENSE: bool = false;
 
@@ -56,6 +76,8 @@ impl ByteWeight for LineFeeds {
     }
 
     ghost bounded = { (lit< tt, lit≤ tt, mark-le is_line_feed) };
+
+    ghost grouped = { (lit< tt, lit≤ tt, lit< tt) };
 }
 
 /// 1 for each byte that begins a char.
@@ -66,20 +88,30 @@ impl ByteWeight for LeadingBytes {
 
     ghost MOST = { 1 };
 
+    ghost GROUP = { 4 };
+
+    ghost LAST_STEP = { 4 };
+
     const MOST: usize = 1;
+
+    const GROUP: usize = 4;
+
+    const LAST_STEP: usize = 4;
 
     const IS_DENSE: bool = true;
 
     fn in_byte(byte: u8) -> usize {
-        usize::from(!is_trailing_byte(byte))
+        usize::from(is_leading_byte(byte))
     }
 
     #[tactic(auto, using(crate::proofs::lemmas::lanes::EachLane::leading_lanes))]
     fn in_lanes<T: ByteChunk>(chunk: T) -> T {
-        T::splat(1).sub(mark_trailing(chunk))
+        T::splat(1).sub(count_trailing_chunk(chunk))
     }
 
     ghost bounded = { (lit< tt, lit≤ tt, mark-le is_leading) };
+
+    ghost grouped = { (lit< tt, lit≤ tt, lit< tt) };
 }
 
 /// 1 for each byte that begins a char of four bytes, which takes a surrogate pair.
@@ -90,7 +122,15 @@ impl ByteWeight for FourByteLeads {
 
     ghost MOST = { 1 };
 
+    ghost GROUP = { 4 };
+
+    ghost LAST_STEP = { 8 };
+
     const MOST: usize = 1;
+
+    const GROUP: usize = 4;
+
+    const LAST_STEP: usize = 8;
 
     const IS_DENSE: bool = false;
 
@@ -103,6 +143,8 @@ impl ByteWeight for FourByteLeads {
     }
 
     ghost bounded = { (lit< tt, lit≤ tt, mark-le begins_four_bytes) };
+
+    ghost grouped = { (lit< tt, lit≤ tt, lit< tt) };
 }
 
 /// For each byte that begins a char the UTF-16 code units of that char, 1 or 2.
@@ -113,7 +155,15 @@ impl ByteWeight for Units {
 
     ghost MOST = { 2 };
 
+    ghost GROUP = { 2 };
+
+    ghost LAST_STEP = { 8 };
+
     const MOST: usize = 2;
+
+    const GROUP: usize = 2;
+
+    const LAST_STEP: usize = 8;
 
     const IS_DENSE: bool = true;
 
@@ -127,13 +177,9 @@ impl ByteWeight for Units {
     }
 
     ghost bounded = { (lit< tt, lit≤ tt, units_begun-le) };
+
+    ghost grouped = { (lit< tt, lit≤ tt, lit< tt) };
 }
-
-/// How many chunks are added in one step.
-pub(crate) const GROUP: usize = 16;
-
-/// How many are in the last round, in which a short text has all its chunks.
-pub(crate) const LAST_GROUP: usize = 8;
 
 /// The weight of each byte, by itself.
 pub(crate) struct Weights<B>(PhantomData<B>);
@@ -143,11 +189,23 @@ impl<B: ByteWeight, T: ByteChunk> PlaceCounts<T> for Weights<B> {
 
     ghost MOST = { B.MOST };
 
+    ghost GROUP = { B.GROUP };
+
+    ghost STEP = { 16 };
+
+    ghost LAST_STEP = { B.LAST_STEP };
+
     ghost counted_at = { λ _ text n. B.weight (slice_index text n) };
 
     ghost carries = { λ _ _ _. Unit {0} };
 
     const MOST: usize = B::MOST;
+
+    const GROUP: usize = B::GROUP;
+
+    const STEP: usize = 16;
+
+    const LAST_STEP: usize = B::LAST_STEP;
 
     const IS_DENSE: bool = B::IS_DENSE;
 
@@ -165,8 +223,18 @@ impl<B: ByteWeight, T: ByteChunk> PlaceCounts<T> for Weights<B> {
     }
 
     ghost bounded = { (B.bounded.0, B.bounded.1, λ _ text n. B.bounded.2 (slice_index text n)) };
+
+    ghost grouped = { (B.grouped.0, B.grouped.1, lit< tt, B.grouped.2) };
 }
 
+/// Whether the byte begins a char.
+fn is_leading_byte(byte: u8) -> bool
+    ensures { result ≡ is_leading byte }
+{
+    byte & 0xC0 != 0x80
+}
+
+/// Whether the byte is one of a char and not its first.
 pub(crate) fn is_trailing_byte(byte: u8) -> bool
     ensures { result ≡ is_trailing byte }
 {
@@ -174,7 +242,7 @@ pub(crate) fn is_trailing_byte(byte: u8) -> bool
 }
 
 /// 1 in each lane that is a trailing byte.
-fn mark_trailing<T: ByteChunk>(chunk: T) -> T
+fn count_trailing_chunk<T: ByteChunk>(chunk: T) -> T
     requires { length (T.lanes chunk) ≡ T.SIZE }
     ensures { T.lanes result ≡ map (mark is_trailing) (T.lanes chunk) }
 {

@@ -14,7 +14,6 @@ pub use Rattle.std.proofs.lemmas.Str.{IsUtf8-take, length-encode, len_utf8_bound
 pub use Rattle.std.specs.Char.{len_utf8, char_set_contains}
 pub use Rattle.std.specs.List.Sorted.{IsStrictlyIncreasing}
 pub use Rattle.std.specs.Simd.Lanes.{zip2, Each2, Each1}
-pub use Rattle.byte_chunk.proofs.lemmas.VectorLanes.{bits_exchanged, room_exchanged, sums_exchanged}
 pub use Rattle.byte_chunk.specs.Lanes.{is_byte, is_between}
 pub use Rattle.byte_chunk.specs.ProbeState.{ProbeState}
 pub use Rattle.str_indices.specs.Breaks.{is_crlf, ends_separator, is_separator, is_break, narrow_break_at, next_line_at, separator_at, break_at, breaks_counted_before}

@@ -1,10 +1,12 @@
 pub mod EachLane
+pub mod Exchanges
 pub mod Rounds
 pub mod CrlfChunks
 pub mod BreakChunks
 pub mod Rest
 pub mod Tails
 pub use EachLane.*
+pub use Exchanges.*
 pub use Rounds.*
 pub use CrlfChunks.*
 pub use BreakChunks.*

@@ -1,5 +1,5 @@
 -- How many whole chunks fit between two places.
-use Rattle.str_indices.proofs.lemmas.Common.{◌≡◌, ℕ, ap, ◌+◌, ◌-◌, ◌*◌, ◌/◌, ◌%◌, ◌<◌, ◌≤◌, arith, add-mul, le-div, div-mul-le_self, div-lt_iff_lt-mul, mul-le-mul_right}
+use Rattle.str_indices.proofs.lemmas.Common.{◌≡◌, ℕ, ap, inl, inr, cases_lt, ◌+◌, ◌-◌, ◌*◌, ◌/◌, ◌%◌, ◌<◌, ◌≤◌, arith, add-mul, le-div, div-mul-le_self, div-lt_iff_lt-mul, mul-le-mul_right}
 use Rattle.std.proofs.Math.Nat.{div-add-mod}
 
 -- from one place on and from the next on fit no more than from the first
@@ -34,3 +34,10 @@ pub round_fits : (bytes size most weight limit : ℕ) → 4 ≤ size → bytes <
 round_fits bytes size most weight limit least less room =
     let few = (div-lt_iff_lt-mul {k = size} {x = bytes} {y = most} (omega arith)).1 less in
     omega (arith, room, mul-le-mul_right {m = bytes / size} {n = most} weight (omega (arith, few)))
+
+-- chunks that count no more than four in a lane are four at most
+pub few_chunks : (chunks most : ℕ) → 0 < most → chunks * most ≤ 4 → chunks ≤ 4
+few_chunks chunks most some few = elim (cases_lt 4 chunks) [
+  | inl more ↦ absurd (omega (arith, few, mul-le-mul_right {m = 5} {n = chunks} most more))
+  | inr fits ↦ fits
+]

@@ -1,26 +1,41 @@
-use Rattle.str_indices.proofs.lemmas.{◌≡◌, ◌+◌, mark, is_middle, chars, to_byte_idx, IsCharBoundary-to_byte_idx, Crlf, arith, break_start-le, ones_steady}
+use Rattle.str_indices.proofs.lemmas.{◌≡◌, ◌+◌, chars, to_byte_idx, IsCharBoundary-to_byte_idx, Crlf, arith, break_start-le, ones_steady}
 use Rattle.str_indices.proofs.lemmas.schemes.CrlfBytes.{line_begins}
 use Rattle.str_indices.proofs.lines_crlf.to_byte_idx_impl.Goals as goal
+use Rattle.str_indices.proofs.lines_crlf.to_byte_idx_impl.Goals.{Then-is_not_crlf_middle, Else-is_not_crlf_middle}
 
 pub find_first-place-requires-clause-steady : goal.find_first-place-requires-clause-steady
 find_first-place-requires-clause-steady g c = ones_steady _ (break_start-le c.args.probe.now.text) _
 
--- where the line begins, by the place at which the search stopped
-begins : (g : _) (c : goal.After-from g)
-    → c.find_first-place.result + c.from.result ≡ to_byte_idx Crlf (chars c.args.probe.now.text) c.args.idx
-begins g c =
+-- the line begins at the place at which the search stopped
+at_place : (g : _) (c : Then-is_not_crlf_middle g)
+    → c.find_first-place.result ≡ to_byte_idx Crlf (chars c.args.probe.now.text) c.args.idx
+at_place g c =
     let place = c.find_first-place in
-    let middle = rw place.ensures.reads.text_kept at c.is_crlf_middle.ensures.middle in
-    let added : c.from.result ≡ mark (is_middle c.args.probe.now.text) place.result = grind (arith, middle, c.from.ensures) in
-    omega (
-      arith,
-      added,
-      line_begins c.args.probe.now.text c.len.ensures.utf8 c.args.idx place.result
-          place.ensures.reached place.ensures.stopped place.ensures.first,
-    )
+    let outside = rw place.ensures.reads.text_kept at c.is_not_crlf_middle.ensures.middle in
+    let begins = line_begins c.args.probe.now.text c.len.ensures.utf8 c.args.idx place.result place.ensures.reached
+    place.ensures.stopped place.ensures.first in
+    grind (arith, outside, c.if-is_not_crlf_middle.true, begins)
 
-pub returns-clause-answer : goal.returns-clause-answer
-returns-clause-answer g c = omega (arith, begins g c)
+-- or after the LF of a CRLF there
+after_place : (g : _) (c : Else-is_not_crlf_middle g)
+    → c.find_first-place.result + 1 ≡ to_byte_idx Crlf (chars c.args.probe.now.text) c.args.idx
+after_place g c =
+    let place = c.find_first-place in
+    let inside = rw place.ensures.reads.text_kept at c.is_not_crlf_middle.ensures.middle in
+    let begins = line_begins c.args.probe.now.text c.len.ensures.utf8 c.args.idx place.result place.ensures.reached
+    place.ensures.stopped place.ensures.first in
+    grind (arith, inside, c.if-is_not_crlf_middle.false, begins)
 
-pub returns-clause-boundary : goal.returns-clause-boundary
-returns-clause-boundary g c = IsCharBoundary-to_byte_idx Crlf _ c.len.ensures.utf8 c.args.idx _ (omega (arith, begins g c))
+pub returns-then-is_not_crlf_middle-clause-answer : goal.returns-then-is_not_crlf_middle-clause-answer
+returns-then-is_not_crlf_middle-clause-answer g c = at_place g c
+
+pub returns-else-is_not_crlf_middle-clause-answer : goal.returns-else-is_not_crlf_middle-clause-answer
+returns-else-is_not_crlf_middle-clause-answer g c = after_place g c
+
+pub returns-then-is_not_crlf_middle-clause-boundary : goal.returns-then-is_not_crlf_middle-clause-boundary
+returns-then-is_not_crlf_middle-clause-boundary g c =
+    IsCharBoundary-to_byte_idx Crlf _ c.len.ensures.utf8 c.args.idx _ (at_place g c)
+
+pub returns-else-is_not_crlf_middle-clause-boundary : goal.returns-else-is_not_crlf_middle-clause-boundary
+returns-else-is_not_crlf_middle-clause-boundary g c =
+    IsCharBoundary-to_byte_idx Crlf _ c.len.ensures.utf8 c.args.idx _ (after_place g c)

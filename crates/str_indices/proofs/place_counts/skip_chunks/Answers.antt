@@ -4,7 +4,7 @@ use Rattle.str_indices.proofs.place_counts.skip_chunks.Goals as goal
 pub overflow_add-count : goal.overflow_add-count
 overflow_add-count g c =
     let lanes = rw (c.groups.invariant.reads.text_kept, c.len-len.ensures.len) at c.add_chunks-added.ensures.lanes in
-    let fits = mul-le-mul_right {m = c.args.group} {n = g.row.LEAST} g.T.ByteChunk.SIZE c.requires.least.0 in
+    let fits = mul-le-mul_right {m = c.args.group} {n = c.args.least} g.T.ByteChunk.SIZE c.requires.least.0 in
     let all = c.requires.fits (c.groups.at.byte + c.args.group * g.T.ByteChunk.SIZE)
     (omega (arith, rw c.SIZE.ensures at c.groups-test.true, fits)) in
     omega (arith, c.groups.invariant.searches.counted, lanes.added, c.sum_bytes.ensures, all)
@@ -14,7 +14,7 @@ groups-preserved g c =
     let so_far = c.groups.invariant in
     let group = c.add_chunks-added.ensures in
     let lanes = rw (so_far.reads.text_kept, c.len-len.ensures.len) at group.lanes in
-    let fits = mul-le-mul_right {m = c.args.group} {n = g.row.LEAST} g.T.ByteChunk.SIZE c.requires.least.0 in
+    let fits = mul-le-mul_right {m = c.args.group} {n = c.args.least} g.T.ByteChunk.SIZE c.requires.least.0 in
     let here = rw c.SIZE.ensures at c.groups-test.true in
     let text = c.args.probe.now.text in
     let before = sum_below (g.C.PlaceCounts.counted_at (length text) text) in
