@@ -36,19 +36,19 @@ pub costs_log_then : (j k p q n : ℕ) (old mid new : Spent) → CostsLog j p n 
     → CostsLog (j + k) (p + q) n old new
 costs_log_then j k p q n old mid new first second = elim (cases_lt first.height second.height) [
   | inl less ↦ let higher : first.height + 3 ≤ second.height + 3 = omega arith in record {
-      height = second.height;
-      few = second.few;
-      forks_at_most = omega (arith, first.forks_at_most, second.forks_at_most, mul-le-mul_left j higher, add-mul j k (second.height + 3));
-      pieces_at_most = omega (arith, first.pieces_at_most, second.pieces_at_most);
-      forks_kept = omega (arith, first.forks_kept, second.forks_kept);
-      pieces_kept = omega (arith, first.pieces_kept, second.pieces_kept);
-    }
+    height = second.height;
+    few = second.few;
+    forks_at_most = omega (arith, first.forks_at_most, second.forks_at_most, mul-le-mul_left j higher, add-mul j k (second.height + 3));
+    pieces_at_most = omega (arith, first.pieces_at_most, second.pieces_at_most);
+    forks_kept = omega (arith, first.forks_kept, second.forks_kept);
+    pieces_kept = omega (arith, first.pieces_kept, second.pieces_kept);
+  }
   | inr more ↦ let higher : second.height + 3 ≤ first.height + 3 = omega arith in record {
-      height = first.height;
-      few = first.few;
-      forks_at_most = omega (arith, first.forks_at_most, second.forks_at_most, mul-le-mul_left k higher, add-mul j k (first.height + 3));
-      pieces_at_most = omega (arith, first.pieces_at_most, second.pieces_at_most);
-      forks_kept = omega (arith, first.forks_kept, second.forks_kept);
-      pieces_kept = omega (arith, first.pieces_kept, second.pieces_kept);
-    }
+    height = first.height;
+    few = first.few;
+    forks_at_most = omega (arith, first.forks_at_most, second.forks_at_most, mul-le-mul_left k higher, add-mul j k (first.height + 3));
+    pieces_at_most = omega (arith, first.pieces_at_most, second.pieces_at_most);
+    forks_kept = omega (arith, first.forks_kept, second.forks_kept);
+    pieces_kept = omega (arith, first.pieces_kept, second.pieces_kept);
+  }
 ]
