@@ -69,7 +69,7 @@ PARTS = (
          (*SHELL, *BINUTILS, *RUST, "c++", "cmake", "make")),
     Part("test_release.py", 90, (*FOR_C, "position_mapper", "idx"), (*FUNCTIONS, *ROPE, *CARGO_CRATES, *RELEASED),
          (*SHELL, *BINUTILS, *RUST, "c++", "cmake", "make", "node", "groff", "git", "tar", "sha256sum")),
-    Part("test_rust.py", 60, FOR_C, (*FUNCTIONS, *ROPE, *CARGO_CRATES, "examples/rust/**/*", "bench/Cargo.toml",
+    Part("test_rust.py", 60, FOR_C, (*FUNCTIONS, *ROPE, *CARGO_CRATES, "VERSION", "examples/rust/**/*", "bench/Cargo.toml",
          "bench/build.rs", "bench/run", "bench/picture.py", "bench/src/**/*"), (*SHELL, *BINUTILS, *RUST)),
     Part("test_browser.py", 60, ("str_indices_c", "position_mapper"), ("bindings/web/**/*", f"{SCRIPTS}/crate_copies.py"),
          ("node", "chromium", "chromium-browser", "google-chrome", "bash", "tsc", "esbuild", "rollup")),
