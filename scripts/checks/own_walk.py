@@ -5,7 +5,8 @@ A public function of str_indices calls its kernel, and a query of piece_text or 
 edit of a folder refusals/own-walk/CRATE takes the answer out of the contract of one function of that crate that is
 called so: the clause keeps its name and says nothing. The edit names the public function too. With that edit, the public
 function and all that it calls are checked: it alone must be refused, at the goal of its own answer. A function with a
-walk of its own would still be proved. Of each module one edit is tried at once. The last line printed is
+walk of its own would still be proved. Where an answer in the proof of the function that is called fits the clause alone,
+the edit says it so that it fits the struck one too. Of each module one edit is tried at once. The last line printed is
 'N passed, M failed'.
 """
 import sys
@@ -21,7 +22,7 @@ def grouped(edits):
     """The edits in groups that are tried at once, of one edit a file, so that each answer misses its own clause alone."""
     by_file = {}
     for edit in edits:
-        (file, _, _), = edit.changes
+        (file, _, _), *_ = edit.changes
         by_file.setdefault(file, []).append(edit)
     most = max(map(len, by_file.values()))
     return [[of_file[at] for of_file in by_file.values() if at < len(of_file)] for at in range(most)]
@@ -41,9 +42,10 @@ def main():
     cases = edits_of()
     for crate, edits in cases.items():
         for edit in edits:
-            (_, old, new), = edit.changes
+            (_, old, new), *answers = edit.changes
             keeps = old.split("{")[0] == new.split("{")[0] and new.endswith("{ result ≡ result }")
-            tally.result(keeps, f"own-walk {crate} {edit.name} strikes a clause and keeps its name")
+            of_proofs = all(file.startswith("proofs/") for file, _, _ in answers)
+            tally.result(keeps and of_proofs, f"own-walk {crate} {edit.name} strikes a clause and keeps its name")
     for good, told in trial(cases).run():
         tally.result(good, f"own-walk {told}")
     return tally.end()
