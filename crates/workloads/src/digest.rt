@@ -1,0 +1,42 @@
+//! A digest of all answers.
+
+/// A number that depends on each number that it took, and on their order.
+#[derive(Clone, Copy)]
+pub(crate) struct Digest {
+    sum: u64,
+}
+
+impl Digest {
+    /// That of no number.
+    pub(crate) fn new() -> Digest {
+        Digest {
+            sum: 0xcbf2_9ce4_8422_2325,
+        }
+    }
+
+    /// Takes one number more, as a hash of Fowler, Noll and Vo does.
+    pub(crate) fn take(&mut self, number: usize) {
+        self.sum = (self.sum ^ number as u64).wrapping_mul(0x0000_0100_0000_01b3);
+        self.sum ^= self.sum >> 29;
+    }
+
+    /// Takes whether something holds.
+    pub(crate) fn mark(&mut self, holds: bool) {
+        self.take(usize::from(holds));
+    }
+
+    /// Takes a text: its length, its first byte and its last.
+    pub(crate) fn text(&mut self, text: &str) {
+        let bytes = text.as_bytes();
+        self.take(bytes.len());
+        if let (Some(first), Some(last)) = (bytes.first(), bytes.last()) {
+            self.take(usize::from(*first));
+            self.take(usize::from(*last));
+        }
+    }
+
+    /// The digest.
+    pub(crate) fn sum(self) -> u64 {
+        self.sum
+    }
+}

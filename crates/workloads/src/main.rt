@@ -1,0 +1,99 @@
+//! What a user waits for, as programs that can be timed: a language server's day, an editor, a large file, spans of a text,
+//! a buffer of pieces, and awkward texts.
+//!
+//! Its words are the workload's name, a seed, and how many rounds it takes. It makes its own texts from the seed, and prints
+//! the name and a digest of all answers, which is the same in each run of the same words.
+#![tactic(auto)]
+
+mod awkward;
+mod digest;
+mod editor;
+mod faults;
+mod large;
+mod pieces;
+mod random;
+mod ropes;
+mod server;
+mod spans;
+mod texts;
+
+use digest::Digest;
+use faults::Fault;
+use random::Random;
+use std::alloc::Global;
+use std::env;
+
+/// Runs a workload by its name.
+fn run(
+    alloc: Global,
+    name: &str,
+    random: &mut Random,
+    rounds: usize,
+    digest: &mut Digest,
+) -> Result<(), Fault> {
+    match name {
+        "server" => server::run(alloc, random, rounds, digest),
+        "editor" => editor::run(alloc, random, rounds, digest),
+        "large" => large::run(alloc, random, rounds, digest),
+        "spans" => spans::run(alloc, random, rounds, digest),
+        "pieces" => pieces::run(alloc, random, rounds, digest),
+        "awkward" => awkward::run(alloc, random, rounds, digest),
+        "all" => run_each(alloc, random, rounds, digest),
+        _ => Err(Fault::Words),
+    }
+}
+
+/// Runs all of them.
+fn run_each(
+    alloc: Global,
+    random: &mut Random,
+    rounds: usize,
+    digest: &mut Digest,
+) -> Result<(), Fault> {
+    server::run(alloc, random, rounds, digest)?;
+    editor::run(alloc, random, rounds, digest)?;
+    spans::run(alloc, random, rounds, digest)?;
+    pieces::run(alloc, random, rounds, digest)?;
+    awkward::run(alloc, random, rounds, digest)
+}
+
+fn number(word: &str) -> Result<u64, Fault> {
+    match word.parse::<u64>() {
+        Ok(number) => Ok(number),
+        Err(_) => Err(Fault::Words),
+    }
+}
+
+fn rounds_of(word: &str) -> Result<usize, Fault> {
+    match word.parse::<usize>() {
+        Ok(number) => Ok(number),
+        Err(_) => Err(Fault::Words),
+    }
+}
+
+fn words(rt: &HostRuntime) -> Result<Vec<String>, Fault> {
+    match env::args(rt) {
+        Ok(all) => Ok(all.skip(1).collect(rt.alloc())?),
+        Err(_) => Err(Fault::Words),
+    }
+}
+
+fn main(rt: HostRuntime) -> Result<(), Fault> {
+    let words = words(&rt)?;
+    match words.as_slice() {
+        [name, seed, rounds] => {
+            let mut random = Random::of(number(seed)?);
+            let mut digest = Digest::new();
+            run(
+                rt.alloc(),
+                name,
+                &mut random,
+                rounds_of(rounds)?,
+                &mut digest,
+            )?;
+            println!(rt; "{} {}", name, digest.sum())?;
+            Ok(())
+        }
+        _ => Err(Fault::Words),
+    }
+}

@@ -1,0 +1,190 @@
+//! Texts of the shapes that users have, made from random numbers.
+
+use crate::faults::Fault;
+use crate::random::Random;
+use std::alloc::Global;
+
+/// How many lines a text is made of, in a random order.
+const LINES: usize = 64;
+
+const CODE: [&str; 16] = [
+    "let ", "mut ", "rope", ".insert(", "at, ", "&text", ")?;", "if ", "self", "for ", "in ",
+    "0..len", " {", "}", "fn ", "=> ",
+];
+
+const PROSE: [&str; 16] = [
+    "the ", "Zeile ", "über ", "a ", "café ", "of ", "index ", "text ", "which ", "line ", "to ",
+    "and ", "Größe ", "is ", "in ", "counted ",
+];
+
+const HAN: [&str; 8] = ["日本語", "の", "文字", "を", "数える", "行", "と", "、"];
+
+const EMOJI: [&str; 4] = ["🐸 ", "🎉", "🚀 ", "é"];
+
+const BREAKS: [&str; 8] = [
+    "\n", "\r\n", "\r", "\u{b}", "\u{c}", "\u{85}", "\u{2028}", "\u{2029}",
+];
+
+const LETTERS: [&str; 8] = ["a", "e", "r", "s", "t", "n", "i", "o"];
+
+/// What the lines of a text are.
+#[derive(Clone, Copy)]
+pub(crate) enum Shape {
+    /// Lines of code, ended by LF.
+    Source,
+    /// Words with a few accents, ended by LF.
+    Prose,
+    /// Chinese characters and kana, ended by LF.
+    Han,
+    /// Words with a char above U+FFFF in each line, ended by LF.
+    Emoji,
+    /// Lines of code, ended by CR LF.
+    Crlf,
+    /// Lines of code, ended by LF, CR LF or CR.
+    Mixed,
+    /// Code without any line break.
+    OneLine,
+    /// LF alone.
+    Feeds,
+    /// Short words, ended by each break of the Unicode Standard's Annex 14 and its Rust crate.
+    AllBreaks,
+}
+
+impl Shape {
+    /// One of the six that are daily.
+    pub(crate) fn daily(random: &mut Random) -> Shape {
+        match random.below(6) {
+            0 => Shape::Source,
+            1 => Shape::Prose,
+            2 => Shape::Han,
+            3 => Shape::Emoji,
+            4 => Shape::Crlf,
+            _ => Shape::Mixed,
+        }
+    }
+
+    /// One of the four that are awkward.
+    pub(crate) fn awkward(i: usize) -> Shape {
+        match i % 4 {
+            0 => Shape::OneLine,
+            1 => Shape::Feeds,
+            2 => Shape::AllBreaks,
+            _ => Shape::Mixed,
+        }
+    }
+
+    /// How many lines are made at once: several where they are short.
+    fn lines_at_once(self) -> usize {
+        match self {
+            Shape::Feeds | Shape::AllBreaks => 16,
+            _ => 1,
+        }
+    }
+}
+
+/// The letter that is typed as number `i`.
+pub(crate) fn letter(i: usize) -> &'static str {
+    LETTERS[i % 8]
+}
+
+/// Puts so many words of a table after a line.
+fn put_words(
+    line: &mut String,
+    random: &mut Random,
+    table: &[&'static str],
+    n: usize,
+) -> Result<(), Fault> {
+    for _ in 0..n {
+        if let Some(word) = table.get(random.below(table.len())) {
+            line.push_str(word)?;
+        }
+    }
+    Ok(())
+}
+
+/// Puts an indent and words of code after a line.
+fn put_code(line: &mut String, random: &mut Random) -> Result<(), Fault> {
+    for _ in 0..random.below(4) {
+        line.push_str("    ")?;
+    }
+    let words = random.from(4, 6);
+    put_words(line, random, &CODE, words)
+}
+
+/// Puts what is before a line's break after it.
+fn put_content(line: &mut String, random: &mut Random, shape: Shape) -> Result<(), Fault> {
+    match shape {
+        Shape::Source | Shape::Crlf | Shape::Mixed | Shape::OneLine => put_code(line, random),
+        Shape::Prose => put_some(line, random, &PROSE),
+        Shape::Han => put_some(line, random, &HAN),
+        Shape::Emoji => {
+            put_words(line, random, &PROSE, 5)?;
+            put_words(line, random, &EMOJI, 2)
+        }
+        Shape::Feeds => Ok(()),
+        Shape::AllBreaks => put_words(line, random, &LETTERS, 3),
+    }
+}
+
+/// Puts as many words of a table after a line as a line of prose has.
+fn put_some(line: &mut String, random: &mut Random, table: &[&'static str]) -> Result<(), Fault> {
+    let words = random.from(8, 8);
+    put_words(line, random, table, words)
+}
+
+/// Puts a line's break after it.
+fn put_break(line: &mut String, random: &mut Random, shape: Shape) -> Result<(), Fault> {
+    match shape {
+        Shape::Source | Shape::Prose | Shape::Han | Shape::Emoji | Shape::Feeds => {
+            put_words(line, random, &BREAKS[..1], 1)
+        }
+        Shape::Crlf => put_words(line, random, &BREAKS[1..2], 1),
+        Shape::Mixed => put_words(line, random, &BREAKS[..3], 1),
+        Shape::AllBreaks => put_words(line, random, &BREAKS, 1),
+        Shape::OneLine => Ok(()),
+    }
+}
+
+/// The lines that a text is made of.
+fn lines_of(alloc: Global, random: &mut Random, shape: Shape) -> Result<Vec<String>, Fault> {
+    let mut lines = Vec::new(alloc);
+    for _ in 0..LINES {
+        let mut line = String::new(alloc);
+        for _ in 0..shape.lines_at_once() {
+            put_content(&mut line, random, shape)?;
+            put_break(&mut line, random, shape)?;
+        }
+        lines.push(line).map_err(|_| Fault::NoMemory)?;
+    }
+    Ok(lines)
+}
+
+/// A text of a shape: whole lines, so many bytes at least.
+pub(crate) fn text_of(
+    alloc: Global,
+    random: &mut Random,
+    shape: Shape,
+    bytes: usize,
+) -> Result<String, Fault> {
+    let lines = lines_of(alloc, random, shape)?;
+    let mut text = String::with_capacity(alloc, bytes)?;
+    for _ in 0..bytes {
+        if bytes <= text.len() {
+            break;
+        }
+        if let Some(line) = lines.get(random.below(LINES)) {
+            text.push_str(line)?;
+        }
+    }
+    Ok(text)
+}
+
+/// The text before a byte index or before the char that it is inside of; all of it where the index is past the end.
+pub(crate) fn front(text: &str, at: usize) -> &str {
+    text.split_at(text.floor_char_boundary(at)).0
+}
+
+/// The text from there on.
+pub(crate) fn back(text: &str, at: usize) -> &str {
+    text.split_at(text.floor_char_boundary(at)).1
+}
