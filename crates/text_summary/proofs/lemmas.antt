@@ -4,9 +4,11 @@ pub mod Summing
 pub mod Fronts
 pub mod Boundaries
 pub mod Changing
+pub mod Narrowing
 pub use Common.*
 pub use Joining.*
 pub use Summing.*
 pub use Fronts.*
 pub use Boundaries.*
 pub use Changing.*
+pub use Narrowing.*

@@ -6,6 +6,7 @@
 
 mod changes;
 mod fronts;
+mod questions;
 mod seams;
 mod splits;
 mod summaries;
