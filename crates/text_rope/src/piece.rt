@@ -1,5 +1,5 @@
 //! One piece of a text, with its summary.
-ghost use Rattle.std.specs.Prelude.{◌≡◌, ◌≢◌, ◌+◌, ◌<◌, ◌≤◌, ◌↔◌, [], chars, length, string_bytes, IfOk, IsTrue};
+ghost use Rattle.std.specs.Prelude.{◌≡◌, ◌≢◌, ◌+◌, ◌<◌, ◌≤◌, [], chars, length, string_bytes, IfOk};
 ghost use Rattle.std.specs.String.{string_len, string_capacity};
 ghost use Rattle.str_indices.specs.Text.{size};
 ghost use Rattle.str_indices.specs.Relations.{IsBoundary};
@@ -134,11 +134,4 @@ fn take_out(text: &mut String, from: usize, to: usize)
     let Ok(()) = text.replace_range(from..to, "") else {
         unreachable!()
     };
-}
-
-/// Whether a byte index of a text is a boundary.
-pub(crate) fn is_boundary(text: &str, at: usize) -> bool
-    ensures { IsTrue result ↔ IsBoundary (chars text.now) at }
-{
-    text.is_char_boundary(at)
 }

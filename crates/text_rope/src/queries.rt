@@ -11,7 +11,7 @@ ghost use Rattle.text_rope.specs.Pieces.{max_piece};
 ghost use Rattle.text_rope.specs.Shapes.{AreSummed};
 ghost use Rattle.text_rope.specs.Places.{Tells};
 
-use crate::piece::{Piece, is_boundary};
+use crate::piece::Piece;
 use crate::tree::{Look, Tree};
 use crate::{Chunk, View};
 use byte_chunk::Counter;
@@ -148,7 +148,7 @@ impl Tree {
                     look.left.from_byte_idx(looks, reads, s, b)
                 } else if b < parts.right_start {
                     let text = text_of(look.piece, reads);
-                    parts.own_reached + s.from_byte_idx(text, b - parts.own_start)
+                    parts.own_reached + look.own.from_byte_idx(s, text, b - parts.own_start)
                 } else {
                     parts.right_reached
                         + look
@@ -176,7 +176,7 @@ impl Tree {
                     look.left.to_byte_idx(looks, reads, s, k)
                 } else if k <= parts.right_reached {
                     let text = text_of(look.piece, reads);
-                    parts.own_start + s.to_byte_idx(text, k - parts.own_reached)
+                    parts.own_start + look.own.to_byte_idx(s, text, k - parts.own_reached)
                 } else {
                     parts.right_start
                         + look
@@ -204,7 +204,8 @@ impl Tree {
                 }
                 let end = start + look.own.len;
                 if at < end {
-                    return is_boundary(text_of(look.piece, reads), at - start);
+                    let text = text_of(look.piece, reads);
+                    return look.own.is_char_boundary(text, at - start);
                 }
                 look.right.is_boundary(looks, reads, at - end)
             }
