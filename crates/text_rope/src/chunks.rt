@@ -32,25 +32,36 @@ impl Tree {
         ensures looks_kept { looks.old ≤ looks.new }
         ensures short { joined_size self.now.texts < 2 ^ 63 }
     {
+        let _whole = self.whole();
+        self.chunk_behind(looks, 0, at)
+    }
+
+    /// The piece that a byte is in, where so many bytes are before the tree: by these its start is counted.
+    fn chunk_behind(&self, looks: &mut Counter, before: usize, at: usize) -> Chunk<'_>
+        requires inside { at < joined_size self.now.texts }
+        requires short { before + joined_size self.now.texts < 2 ^ 63 }
+        ensures behind { before ≤ result.start }
+        ensures chunk { IsChunkAt (joined self.now.texts) (chars result.text.now) (result.start - before) at }
+        ensures piece { size (chars result.text.now) ≤ max_piece }
+        ensures len { length result.text.now ≡ size (chars result.text.now) }
+        ensures looks { looks.new ≤ looks.old + self.now.height }
+        ensures looks_kept { looks.old ≤ looks.new }
+    {
         let Some(look) = self.look(looks) else {
             unreachable!()
         };
         let start = look.before.len;
         if at < start {
-            return look.left.chunk_at(looks, at);
+            return look.left.chunk_behind(looks, before, at);
         }
         let end = start + look.own.len;
         if at < end {
             return Chunk {
                 text: look.piece.text(),
-                start,
+                start: before + start,
             };
         }
-        let inner = look.right.chunk_at(looks, at - end);
-        Chunk {
-            text: inner.text,
-            start: end + inner.start,
-        }
+        look.right.chunk_behind(looks, before + end, at - end)
     }
 }
 
