@@ -28,7 +28,7 @@ pub(crate) fn part(work: &mut Work, tree: Tree, at: usize) -> Opened
     let Some(top) = tree.open(work) else {
         unreachable!()
     };
-    let start = top.left.whole().len;
+    let start = top.fork.before.len;
     if at < start {
         let inner = part(work, top.left, at);
         return Opened {
