@@ -1,6 +1,8 @@
 //! The summary of a text: its length, its counts, and how it starts and ends.
 ghost use Rattle.std.specs.Prelude.{◌≡◌, [], chars};
 ghost use Rattle.str_indices.specs.Joins.{starts_with_feed, ends_in_return};
+ghost use Rattle.str_indices.specs.Schemes.{count};
+ghost use Rattle.str_indices.specs.declared.Scheme.TheVariants.{Chars, Utf16, Lf, Crlf, Lines};
 
 use crate::Scheme;
 use str_indices::{chars, lines, lines_crlf, lines_lf, utf16};
@@ -36,13 +38,16 @@ impl Summary {
         if text.is_empty() {
             return Summary::none();
         }
+        let chars = chars::count(text);
+        let lf = lines_lf::count_breaks(text);
+        let lines = lines::count_breaks(text);
         Summary {
             len: text.len(),
-            chars: chars::count(text),
-            utf16: utf16::count(text),
-            lf: lines_lf::count_breaks(text),
-            crlf: lines_crlf::count_breaks(text),
-            lines: lines::count_breaks(text),
+            chars,
+            utf16: units_of(text, chars),
+            lf,
+            crlf: breaks_of(text, lf, lines),
+            lines,
             starts_lf: starts_lf(text),
             ends_cr: ends_cr(text),
         }
@@ -75,6 +80,31 @@ impl Summary {
             Scheme::Crlf => self.crlf,
             Scheme::Lines => self.lines,
         }
+    }
+}
+
+/// How many UTF-16 code units a text has, which are as many as its bytes where its characters are.
+fn units_of(text: &str, characters: usize) -> usize
+    requires { characters ≡ count Chars (chars text.now) }
+    ensures { result ≡ count Utf16 (chars text.now) }
+{
+    if characters == text.len() {
+        characters
+    } else {
+        utf16::count(text)
+    }
+}
+
+/// How many breaks by LF, CR and CRLF a text has, which are its LFs where it has no other line break at all.
+fn breaks_of(text: &str, lf: usize, lines: usize) -> usize
+    requires lf { lf ≡ count Lf (chars text.now) }
+    requires lines { lines ≡ count Lines (chars text.now) }
+    ensures { result ≡ count Crlf (chars text.now) }
+{
+    if lf == lines {
+        lf
+    } else {
+        lines_crlf::count_breaks(text)
     }
 }
 

@@ -6,6 +6,7 @@ use Rattle.str_indices.proofs.lemmas.texts.Ends.{count_characters}
 use Rattle.str_indices.proofs.lemmas.texts.Units.{boundary_weighed_is_greatest, count-units, weight-some, weight-le}
 use Rattle.str_indices.specs.declared.Scheme.{Scheme}
 use Rattle.str_indices.specs.declared.Scheme.TheVariants.{Chars, Utf16, Lf, Crlf, Lines}
+use Rattle.str_indices.proofs.lemmas.laws.CountLaws.{count-Lf-le-count-Crlf, count-Crlf-le-count-Lines}
 use Rattle.str_indices.proofs.lemmas.Callers.{characters_weighed, boundary_of_characters}
 use Rattle.str_indices.specs.Text.{Text}
 use Rattle.std.proofs.lemmas.List.{length-map}
@@ -23,9 +24,9 @@ filter_fewer p q within (x ∷ xs) =
     elim (cases_Bool (q x)) [
       | inl passes ↦ rw (passes, within x passes) (omega arith)
       | inr fails ↦ rw fails (elim (cases_Bool (p x)) [
-          | inl passes ↦ rw passes (omega arith)
-          | inr fails' ↦ rw fails' rest
-        ])
+        | inl passes ↦ rw passes (omega arith)
+        | inr fails' ↦ rw fails' rest
+      ])
     ]
 
 -- and where as many do, the same do
@@ -39,9 +40,9 @@ filter_same p q within (x ∷ xs) same =
           let rest = filter_same p q within xs (omega (arith, rw (passes, within x passes) at same)) in
           rw (passes, within x passes) (ap (λ l. x ∷ l) rest)
       | inr fails ↦ elim (cases_Bool (p x)) [
-          | inl passes ↦ absurd (omega (arith, fewer, rw (fails, passes) at same))
-          | inr fails' ↦ rw (fails, fails') (filter_same p q within xs (rw (fails, fails') at same))
-        ]
+        | inl passes ↦ absurd (omega (arith, fewer, rw (fails, passes) at same))
+        | inr fails' ↦ rw (fails, fails') (filter_same p q within xs (rw (fails, fails') at same))
+      ]
     ]
 
 -- the breaks of a lesser set of characters are breaks
@@ -62,6 +63,10 @@ feeds_are_lines c is = grind (arith, nat_tests)
 breaks_are_lines : (c : ℕ) → char_set_contains (break_characters Crlf) c ≡ true
     → char_set_contains (break_characters Lines) c ≡ true
 breaks_are_lines c is = grind (arith, nat_tests)
+
+-- a text with as many breaks of all kinds as LFs has as many of LF, CR and CRLF
+pub as_many_breaks : (t : Text) → count Lf t ≡ count Lines t → count Lf t ≡ count Crlf t
+as_many_breaks t same = omega (arith, count-Lf-le-count-Crlf t, count-Crlf-le-count-Lines t, same)
 
 -- where each of a text's breaks is one of a lesser set, if there are as many, they are the same
 breaks_same : (set more : List ℕ) → ((c : ℕ) → char_set_contains set c ≡ true → char_set_contains more c ≡ true)
@@ -193,14 +198,19 @@ characters_are_bytes t same =
     record {
       from = λ b. sym (characters_weighed t b) ∙ sym (weighed_same len_utf8 (λ _. 1) bytes-some t ones b) ∙ cut_bytes t ones b;
       to = λ k. sym (boundary_of_characters t k) ∙ sym (boundary_weighed_same len_utf8 (λ _. 1) bytes-some t ones k)
-      ∙ boundary_bytes t ones k;
+          ∙ boundary_bytes t ones k;
     }
 
--- and so in UTF-16, since a character takes as many units as bytes at most
-pub units_are_bytes : (t : Text) → count Chars t ≡ size t → CountsBytes t Utf16
-units_are_bytes t same =
+-- then it has as many UTF-16 units, since a character takes as many units as bytes at most
+pub as_many_units : (t : Text) → count Chars t ≡ size t → count Utf16 t ≡ count Chars t
+as_many_units t same =
     let most = sum_by-le-sum_by weight len_utf8 t weight-le in
     let least = sum_by-le-sum_by {X = ℕ} (λ _. 1) weight t weight-some in
-    let units = units_by_characters t (omega (arith, count-units t, count_characters t, same, most, least)) in
+    omega (arith, count-units t, count_characters t, same, most, least)
+
+-- and so each byte counts one in UTF-16 too
+pub units_are_bytes : (t : Text) → count Chars t ≡ size t → CountsBytes t Utf16
+units_are_bytes t same =
+    let units = units_by_characters t (as_many_units t same) in
     let bytes = characters_are_bytes t same in
     record { from = λ b. units.from b ∙ bytes.from b; to = λ k. units.to k ∙ bytes.to k }

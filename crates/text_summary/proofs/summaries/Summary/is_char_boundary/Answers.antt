@@ -9,7 +9,7 @@ returns-then-self c =
     let cs = chars c.args.text.now in
     let len = ap (λ m. m.len) c.requires in (
       λ within. each_byte_is_boundary cs (sym (ap (λ m. m.chars) c.requires) ∙ same ∙ len) c.args.byte_idx
-      (omega (arith, leb-true c.args.byte_idx c.args.self.now.len within, len)),
+          (omega (arith, leb-true c.args.byte_idx c.args.self.now.len within, len)),
       λ at. le-leb c.args.byte_idx c.args.self.now.len (omega (arith, boundary-le cs c.args.byte_idx at, len)),
     )
 

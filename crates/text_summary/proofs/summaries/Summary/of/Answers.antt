@@ -10,11 +10,11 @@ returns-then-is_empty c =
 pub returns : goal.returns
 returns c = rw (
   sym (size-chars c.args.text.now c.utf8.text),
-  c.count.ensures,
-  c.count-2.ensures,
-  c.count_breaks.ensures,
-  c.count_breaks-2.ensures,
-  c.count_breaks-3.ensures,
+  c.count-chars.ensures,
+  c.units_of.ensures,
+  c.count_breaks-lf.ensures,
+  c.breaks_of.ensures,
+  c.count_breaks-lines.ensures,
   c.starts_lf.ensures,
   c.ends_cr.ensures,
 )
