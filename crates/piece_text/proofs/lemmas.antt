@@ -2,7 +2,11 @@ pub mod Common
 pub mod Joining
 pub mod Fronts
 pub mod Splitting
+pub mod Runs
+pub mod Settled
 pub use Common.*
 pub use Joining.*
 pub use Fronts.*
 pub use Splitting.*
+pub use Runs.*
+pub use Settled.*

@@ -9,6 +9,8 @@ mod list;
 mod piece;
 mod queries;
 mod refusals;
+mod runs;
+mod stretches;
 mod view;
 
 pub use list::PieceText;

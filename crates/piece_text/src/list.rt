@@ -8,6 +8,7 @@ ghost use Rattle.piece_text.specs.Splits.{IsEdge, IsCut, IsSplit};
 ghost use Rattle.piece_text.specs.declared.refusals.Refusal.TheVariants.{NoPiece, NotBoundary, TooLong, NoMemory};
 
 use crate::piece::Piece;
+use crate::runs::{Runs, part_round};
 use crate::{Pieces, Refusal, Scheme, count_in, from_in, to_in};
 use std::alloc::{AllocError, Global};
 use std::marker::Model;
@@ -21,6 +22,7 @@ const MAX_LEN: usize = isize::MAX as usize;
 #[derive(Drop)]
 pub struct PieceText {
     pieces: Vec<Piece>,
+    runs: Runs,
     len: usize,
     alloc: Global,
 }
@@ -29,12 +31,13 @@ impl Model for PieceText {
     ghost use Rattle.std.specs.Prelude.{◌≡◌, ◌^◌, ◌<◌, List};
     ghost use Rattle.str_indices.specs.Text.{Text};
     ghost use Rattle.piece_text.specs.Pieces.{joined_size};
+    ghost use Rattle.piece_text.specs.Runs.{AreRuns};
 
     ghost Value = { List Text };
 
     ghost view = { λ t. t.pieces.items };
 
-    ghost invariant = { λ t. (t.len ≡ joined_size t.pieces.items) × (t.len < 2 ^ 63) };
+    ghost invariant = { λ t. (t.len ≡ joined_size t.pieces.items) × (t.len < 2 ^ 63) × AreRuns t.runs t.pieces.items };
 }
 
 impl PieceText {
@@ -44,6 +47,7 @@ impl PieceText {
     {
         PieceText {
             pieces: Vec::new(alloc),
+            runs: Runs::new(alloc),
             len: 0,
             alloc,
         }
@@ -93,6 +97,7 @@ impl PieceText {
         match self.pieces.insert(at, piece) {
             Ok(()) => {
                 self.len += text.len();
+                self.runs.grown(self.pieces.as_slice(), at);
                 Ok(())
             }
             Err(_) => Err(Refusal::NoMemory),
@@ -113,6 +118,7 @@ impl PieceText {
         }
         let piece = self.pieces.remove(at);
         self.len -= piece.len();
+        self.runs.shrunk(self.pieces.as_slice(), at);
         Ok(())
     }
 
@@ -151,8 +157,9 @@ impl PieceText {
         ensures past { result.1 ≤ byte_idx }
         ensures within { result.0 < length self.now → byte_idx < result.1 + size (piece_at self.now result.0) }
     {
-        let mut start: usize = 0;
-        for i in 0..self.pieces.len() {
+        let part = part_round(self.runs.as_slice(), self.pieces.as_slice(), byte_idx);
+        let mut start = part.start;
+        for i in part.first..part.end {
             let piece = &self.pieces[i];
             let len = piece.len();
             if byte_idx - start < len {
@@ -160,7 +167,7 @@ impl PieceText {
             }
             start += len;
         }
-        (self.pieces.len(), start)
+        (part.end, start)
     }
 
     /// Whether a byte index in piece `i` is between its characters.
@@ -184,6 +191,7 @@ impl PieceText {
         let (left, right) = piece.halves(self.alloc, at)?;
         self.pieces.insert(i + 1, right)?;
         self.pieces[i] = left;
+        self.runs.grown(self.pieces.as_slice(), i);
         Ok(())
     }
 
@@ -205,7 +213,7 @@ impl PieceText {
     pub fn view(&self) -> Pieces<'_>
         ensures { result ≡ record { texts = self.now; looks = 0; reads = 0 } }
     {
-        Pieces::of(self.pieces.as_slice())
+        Pieces::of(self.pieces.as_slice(), self.runs.as_slice())
     }
 
     /// How many characters, UTF-16 code units or line breaks the joined text has.

@@ -1,9 +1,10 @@
 //! The answers for the joined text, from the summaries of its pieces and the text of at most one.
-ghost use Rattle.std.specs.Prelude.{◌≡◌, ℕ, ◌+◌, ◌-◌, ◌<◌, ◌≤◌, length, take};
+ghost use Rattle.std.specs.Prelude.{◌≡◌, ◌≢◌, ℕ, ◌+◌, ◌-◌, ◌<◌, ◌≤◌, [], length, take};
 ghost use Rattle.str_indices.specs.Schemes.{count, from_byte_idx, to_byte_idx};
 ghost use Rattle.piece_text.specs.Pieces.{joined, piece_at};
 ghost use Rattle.text_summary.specs.Fronts.{IsFront};
 
+use crate::stretches::{past_runs, stretch_for, stretch_round};
 use crate::{Pieces, Scheme};
 use text_summary::{Front, Look};
 
@@ -23,8 +24,9 @@ pub fn count_in(p: &mut Pieces, s: Scheme) -> usize
     ensures looks_kept { p.old.looks ≤ p.new.looks }
     ensures reads { p.new.reads ≡ p.old.reads }
 {
-    let mut front = Front::none();
-    for i in 0..p.len() {
+    let rest = past_runs(p, s);
+    let mut front = rest.front;
+    for i in rest.first..rest.end {
         front = look_at(p, s, i, front).behind;
     }
     front.total
@@ -39,8 +41,9 @@ pub fn from_in(p: &mut Pieces, s: Scheme, b: usize) -> usize
     ensures reads { p.new.reads ≤ p.old.reads + 1 }
     ensures reads_kept { p.old.reads ≤ p.new.reads }
 {
-    let mut front = Front::none();
-    for i in 0..p.len() {
+    let stretch = stretch_round(p, s, b);
+    let mut front = stretch.front;
+    for i in stretch.first..stretch.end {
         let look = look_at(p, s, i, front);
         if b < look.behind.len {
             return look.reached + s.from_byte_idx(p.text(i), b - front.len);
@@ -60,7 +63,7 @@ pub fn to_in(p: &mut Pieces, s: Scheme, k: usize) -> usize
     ensures reads { p.new.reads ≤ p.old.reads + 1 }
     ensures reads_kept { p.old.reads ≤ p.new.reads }
 {
-    if p.len() == 0 {
+    if k == 0 || p.len() == 0 {
         return 0;
     }
     let asked = piece_for(p, s, k);
@@ -70,7 +73,8 @@ pub fn to_in(p: &mut Pieces, s: Scheme, k: usize) -> usize
 /// The piece that answers for an index: the last one before which the text does not reach it, since a piece after it
 /// may take the break off that it ends with.
 fn piece_for(p: &mut Pieces, s: Scheme, k: usize) -> Asked
-    requires { 0 < length p.old.texts }
+    requires pieces { 0 < length p.old.texts }
+    requires index { 0 < k }
     ensures inside { result.piece < length p.old.texts }
     ensures answer { to_byte_idx s (joined p.old.texts) k
         ≡ result.start + to_byte_idx s (piece_at p.old.texts result.piece) result.index }
@@ -79,13 +83,14 @@ fn piece_for(p: &mut Pieces, s: Scheme, k: usize) -> Asked
     ensures looks_kept { p.old.looks ≤ p.new.looks }
     ensures reads { p.new.reads ≡ p.old.reads }
 {
-    let mut front = Front::none();
+    let stretch = stretch_for(p, s, k);
+    let mut front = stretch.front;
     let mut asked = Asked {
-        piece: 0,
+        piece: stretch.first,
         start: 0,
         index: 0,
     };
-    for i in 0..p.len() {
+    for i in stretch.first..stretch.end {
         let look = look_at(p, s, i, front);
         if k <= look.reached {
             return asked;
@@ -105,6 +110,8 @@ fn look_at(p: &mut Pieces, s: Scheme, i: usize, front: Front) -> Look
     requires inside { i < length p.old.texts }
     requires front { IsFront s (joined (take i p.old.texts)) front }
     ensures state { p.new ≡ record p.old { looks = p.old.looks + 1 } }
+    ensures some { piece_at p.old.texts i ≢ [] }
+    ensures reached { result.reached ≤ front.total }
     ensures behind { IsFront s (joined (take (i + 1) p.old.texts)) result.behind }
     ensures from_here { (b : ℕ) → front.len ≤ b → b < result.behind.len →
         from_byte_idx s (joined p.old.texts) b

@@ -1,20 +1,23 @@
 //! A text in pieces as a query sees it, with counted looks and reads.
 ghost use Rattle.std.specs.Prelude.{◌≡◌, ◌≢◌, ◌+◌, ◌^◌, ◌<◌, [], length, chars};
 ghost use Rattle.piece_text.specs.Pieces.{PiecesState, joined_size, piece_at};
+ghost use Rattle.piece_text.specs.Runs.{AreRuns};
 ghost use Rattle.piece_text.specs.Summaries.{summary_of};
 
 use crate::Summary;
 use crate::piece::Piece;
+use crate::runs::Run;
 use byte_chunk::Counter;
 use std::marker::Model;
 
 /// The pieces of a text, for a query: it lends their summaries and their texts, and counts both.
 ///
-/// It has the size of a slice: only contracts see its counters. It is neither `Copy` nor `Clone`, and hands out a text
+/// It has the size of two slices: only contracts see its counters. It is neither `Copy` nor `Clone`, and hands out a text
 /// or a summary by the calls alone that count it.
 #[derive(Drop)]
 pub struct Pieces<'a> {
     pieces: &'a [Piece],
+    runs: &'a [Run],
     looks: Counter,
     reads: Counter,
 }
@@ -22,22 +25,25 @@ pub struct Pieces<'a> {
 impl<'a> Model for Pieces<'a> {
     ghost use Rattle.std.specs.Prelude.{◌^◌, ◌<◌};
     ghost use Rattle.piece_text.specs.Pieces.{PiecesState, joined_size};
+    ghost use Rattle.piece_text.specs.Runs.{AreRuns};
 
     ghost Value = { PiecesState };
 
     ghost view = { λ p. record { texts = p.pieces.now; looks = p.looks; reads = p.reads } };
 
-    ghost invariant = { λ p. joined_size p.pieces.now < 2 ^ 63 };
+    ghost invariant = { λ p. (joined_size p.pieces.now < 2 ^ 63) × AreRuns p.runs.now p.pieces.now };
 }
 
 impl<'a> Pieces<'a> {
     /// A view of the pieces, with nothing counted.
-    pub(crate) fn of(pieces: &'a [Piece]) -> Pieces<'a>
-        requires { joined_size pieces.now < 2 ^ 63 }
+    pub(crate) fn of(pieces: &'a [Piece], runs: &'a [Run]) -> Pieces<'a>
+        requires short { joined_size pieces.now < 2 ^ 63 }
+        requires runs { AreRuns runs.now pieces.now }
         ensures { result ≡ record { texts = pieces.now; looks = 0; reads = 0 } }
     {
         Pieces {
             pieces,
+            runs,
             looks: Counter::zero(),
             reads: Counter::zero(),
         }
@@ -73,5 +79,21 @@ impl<'a> Pieces<'a> {
         self.reads.tick();
         let pieces = self.pieces;
         pieces[i].text()
+    }
+
+    /// The runs of its pieces. Counts nothing: a run's sum is handed out by `whole` alone.
+    pub(crate) fn runs(&self) -> &'a [Run]
+        ensures { AreRuns result.now self.now.texts }
+    {
+        self.runs
+    }
+
+    /// The sum of a run, for one look.
+    pub(crate) fn whole(&mut self, run: &Run) -> Summary
+        ensures whole { result ≡ run.now.whole }
+        ensures short { joined_size self.old.texts < 2 ^ 63 }
+        ensures state { self.new ≡ record self.old { looks = self.old.looks + 1 } }
+    {
+        run.look(&mut self.looks)
     }
 }

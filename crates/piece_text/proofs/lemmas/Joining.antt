@@ -1,5 +1,5 @@
 -- The joined text of a list of pieces, by a piece and those before and after it.
-use Rattle.piece_text.proofs.lemmas.Common.{◌≡◌, ◌≢◌, [], ◌∷◌, refl, append-nil, Text, joined, as_pieces}
+use Rattle.piece_text.proofs.lemmas.Common.{List, length, arith, ◌≡◌, ◌≢◌, [], ◌∷◌, refl, append-nil, Text, joined, as_pieces}
 pub use Rattle.text_summary.proofs.lemmas.Joining.{joined-append, joined-split, joined-take, drop-piece, joined-drop, joined_size-insert, joined_size-take}
 
 -- a text as pieces, joined, is the text
@@ -11,3 +11,8 @@ joined-as_pieces (c ∷ cs) = append-nil (c ∷ cs)
 pub as_pieces-some : (text : Text) → text ≢ [] → as_pieces text ≡ text ∷ []
 as_pieces-some [] some = absurd (some refl)
 as_pieces-some (c ∷ cs) some = refl
+
+-- no pieces are the empty list of them
+pub no_pieces : (texts : List Text) → length texts ≡ 0 → texts ≡ []
+no_pieces [] none = refl
+no_pieces (x ∷ xs) none = absurd (omega (arith, none))

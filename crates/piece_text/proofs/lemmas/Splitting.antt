@@ -98,7 +98,7 @@ module _ (texts : List Text) (i at byte : ℕ) (inner : IsInside texts i at byte
       ]
 
 -- the second half is put in after piece i, and then the first half in its place
-cut_list : (xs : List Text) (i : ℕ) (left right : Text) → i < length xs
+pub cut_list : {X : Type 0} (xs : List X) (i : ℕ) (left right : X) → i < length xs
     → set (insert xs (suc i) right) i left ≡ take i xs ++ left ∷ right ∷ drop (suc i) xs
 cut_list [] i left right inside = absurd (omega arith)
 cut_list (x ∷ xs) zero left right inside = refl

@@ -1,11 +1,5 @@
-use Rattle.piece_text.proofs.lemmas.{◌≡◌, ◌≤◌, ◌-◌, ◌∙◌, ap, arith, take, rules, take_all, size, from_byte_idx, count-le-size, from_byte_idx-le-count, from_byte_idx-all, joined, joined_size}
+use Rattle.piece_text.proofs.lemmas.{length, inl, inr, cases_lt, ◌≡◌, ◌≤◌, ◌-◌, ◌∙◌, ap, arith, take, take_all, size, from_byte_idx, count-le-size, from_byte_idx-le-count, from_byte_idx-all, joined, joined_size}
 use Rattle.piece_text.proofs.queries.from_in.Goals as goal
-
--- nothing is before the first piece
-pub loop-i-init : goal.loop-i-init
-loop-i-init c =
-    let front = c.none-front.ensures c.args.s in
-    record { front = front; state = search rules; past = omega (arith, front.len) }
 
 -- the sum is the answer for the joined text
 pub overflow_add-result : goal.overflow_add-result
@@ -23,7 +17,8 @@ overflow_add-result c =
       here,
       from_byte_idx-le-count s (joined texts) c.args.b,
       count-le-size s (joined texts),
-      c.len-i-end.ensures.short,
+      c.stretch_round-stretch.ensures.short,
+      ap joined_size c.stretch_round-stretch.ensures.texts,
       same,
     )
 
@@ -32,8 +27,16 @@ pub returns-clause-answer : goal.returns-clause-answer
 returns-clause-answer c =
     let s = c.args.s in
     let texts = c.args.p.now.texts in
-    let all : take c.loop-i.i texts ≡ texts =
-    take_all c.loop-i.i texts (omega (arith, c.loop-i-test.false, c.len-i-end.ensures.len)) in
-    let past : size (joined texts) ≤ c.args.b =
-    omega (arith, rw all at c.loop-i.invariant.front.len, c.loop-i.invariant.past) in
-    omega (arith, rw all at c.loop-i.invariant.front.total, from_byte_idx-all s (joined texts) c.args.b past)
+    let stretch = c.stretch_round-stretch.ensures in
+    let front = c.loop-i.invariant.front in
+    let same : c.loop-i.i ≡ c.stretch_round-stretch.result.end =
+    omega (arith, c.loop-i-test.false, c.loop-i.auto.i-end stretch.stretch.order) in
+    elim (cases_lt c.loop-i.i (length texts)) [
+      | inl before ↦
+          let round = rw (← same) at (stretch.end (omega (arith, before, same))) in
+          absurd (omega (arith, round, front.len, c.loop-i.invariant.past))
+      | inr end ↦
+          let all : take c.loop-i.i texts ≡ texts = take_all c.loop-i.i texts end in
+          let past : size (joined texts) ≤ c.args.b = omega (arith, rw all at front.len, c.loop-i.invariant.past) in
+          omega (arith, rw all at front.total, from_byte_idx-all s (joined texts) c.args.b past)
+    ]

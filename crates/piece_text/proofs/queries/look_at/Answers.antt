@@ -1,4 +1,4 @@
-use Rattle.piece_text.proofs.lemmas.{take, joined, piece_at, next_piece, tells_at, TellsAt}
+use Rattle.piece_text.proofs.lemmas.{arith, take, joined, piece_at, next_piece, tells_at, TellsAt}
 use Rattle.piece_text.proofs.queries.look_at.Goals.{After-look}
 use Rattle.piece_text.proofs.queries.look_at.Goals as goal
 
@@ -13,6 +13,13 @@ told c =
     let some = c.summary-piece.ensures.some in
     tells_at c.args.s c.args.p.now.texts c.args.i c.args.front c.look.result c.requires.inside some c.requires.front
     (c.look.ensures before piece c.requires.front c.summary-piece.ensures.summary some)
+
+pub returns-clause-reached : goal.returns-clause-reached
+returns-clause-reached c =
+    let before = joined (take c.args.i c.args.p.now.texts) in
+    let piece = piece_at c.args.p.now.texts c.args.i in
+    let look = c.look.ensures before piece c.requires.front c.summary-piece.ensures.summary c.summary-piece.ensures.some in
+    omega (arith, look.reached, c.requires.front.total)
 
 pub returns-clause-behind : goal.returns-clause-behind
 returns-clause-behind c = (told c).behind

@@ -1,14 +1,23 @@
-use Rattle.piece_text.proofs.lemmas.{[], arith, rules, to_byte_idx-le-size, to_byte_idx-zero, piece_at}
+use Rattle.piece_text.proofs.lemmas.{◌≡◌, ◌≢◌, ◌-◌, ◌<◌, ◌∙◌, ap, sym, arith, inl, inr, [], length, take, take_all, cases_lt, to_byte_idx, joined, piece_at, settled_at}
 use Rattle.piece_text.proofs.queries.piece_for.Goals as goal
 
--- before the first piece is nothing, and its index 0 begins there
-pub loop-i-init : goal.loop-i-init
-loop-i-init c =
+-- the stretch goes to the end of the text, or so far that the text has the index before its last piece
+pub returns-clause-answer : goal.returns-clause-answer
+returns-clause-answer c =
     let s = c.args.s in
+    let k = c.args.k in
     let texts = c.args.p.now.texts in
-    record {
-      front = c.none-front.ensures s;
-      state = search rules;
-      inside = c.requires;
-      answer = omega (arith, to_byte_idx-le-size s [] c.args.k, to_byte_idx-zero s (piece_at texts 0));
-    }
+    let stretch = c.stretch_for-stretch.ensures in
+    let same : c.loop-i.i ≡ c.stretch_for-stretch.result.end =
+    omega (arith, c.loop-i-test.false, c.loop-i.auto.i-end stretch.stretch.order) in
+    let past : c.stretch_for-stretch.result.first < c.loop-i.i = omega (arith, same, stretch.some c.requires.pieces) in
+    let own = c.loop-i.invariant.answer past in
+    elim (cases_lt c.loop-i.i (length texts)) [
+      | inl before ↦
+          let settled = stretch.end (omega (arith, before, same)) in
+          let last : c.loop-i.i - 1 ≡ settled.before = omega (arith, same, settled.one_more) in
+          let some : piece_at texts settled.before ≢ [] = rw last at (c.loop-i.invariant.some past) in
+          let there = settled_at s texts settled.before k (omega (arith, before, last)) some settled.counted in
+          there ∙ ap (λ n. to_byte_idx s (joined (take n texts)) k) (sym (same ∙ settled.one_more)) ∙ own
+      | inr end ↦ ap (λ t. to_byte_idx s (joined t) k) (sym (take_all c.loop-i.i texts end)) ∙ own
+    ]
