@@ -7,6 +7,8 @@
 mod breaks;
 mod changes;
 mod exact_changes;
+mod line_starts;
+mod pieces;
 mod questions;
 mod ropes;
 mod units;
