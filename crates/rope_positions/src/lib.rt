@@ -4,6 +4,7 @@
 //! the whole text, by a constant number of the rope's own questions.
 #![tactic(auto)]
 
+mod boundaries;
 mod breaks;
 mod changes;
 mod exact_changes;

@@ -1,5 +1,5 @@
 //! Where the lines of a rope's text begin, with the pieces that they begin in.
-ghost use Rattle.std.specs.Prelude.{◌≡◌, ◌+◌, ◌-◌, ◌≤◌, IfSome, IfNone, chars, length};
+ghost use Rattle.std.specs.Prelude.{◌≡◌, ◌+◌, ◌^◌, ◌<◌, ◌↔◌, ◌⊎◌, IfSome, IfNone, IsTrue, chars, length};
 ghost use Rattle.str_indices.specs.Relations.{IsBoundary};
 ghost use Rattle.str_indices.specs.Schemes.{to_byte_idx, weighed};
 ghost use Rattle.str_indices.specs.Text.{size};
@@ -74,4 +74,16 @@ pub(crate) fn units_before_start(v: &View, encoding: Encoding, line: &LineStart<
     let chunk = line.located.chunk;
     units_before_piece(encoding, &line.located)
         + units_in_piece(encoding, chunk.text, line.byte - chunk.start)
+}
+
+/// Whether the rest of a line's piece tells a place on the line: it is before the end of the rest, or the text ends there.
+pub(crate) fn tells(v: &View, line: &LineStart<'_>, own: usize) -> bool
+    requires rest { IsChunkAt (joined v.now.texts) (chars line.now.rest.now) line.now.byte line.now.byte }
+    requires len { length line.now.rest.now ≡ size (chars line.now.rest.now) }
+    ensures tells { let rest = chars line.now.rest.now in IsTrue result
+        ↔ ((own < size rest) ⊎ (line.now.byte + size rest ≡ size (joined v.now.texts))) }
+    ensures short { size (joined v.now.texts) < 2 ^ 63 }
+{
+    let len = v.len();
+    own < line.rest.len() || line.byte + line.rest.len() == len
 }

@@ -12,10 +12,11 @@ ghost use Rattle.text_rope.specs.Edits.{IsChunkAt};
 ghost use Rattle.text_rope.specs.Located.{IsLocated};
 ghost use Rattle.rope_positions.specs.Costs.{Asks};
 
+use crate::boundaries::units_before_boundary_in;
 use crate::breaks::is_crlf_middle_in;
-use crate::line_starts::{LineStart, line_in, line_start_in, units_before_start};
+use crate::line_starts::{LineStart, line_in, line_start_in, tells, units_before_start};
 use crate::pieces::{breaks_at_seam, units_before_piece};
-use crate::units::{place_in, units_before_boundary_in, units_before_in};
+use crate::units::{place_in, units_before_in};
 use position_mapper::{Encoding, Position, Range};
 use std::ops;
 use text_rope::{Located, Scheme, View, count_in, located_in, to_in};
@@ -142,9 +143,35 @@ pub fn byte_range_in(v: &mut View, encoding: Encoding, range: Range) -> Option<o
     if !start.is_at_or_before(end) {
         return None;
     }
-    let from = byte_of_in(v, encoding, start);
-    let to = byte_of_in(v, encoding, end);
+    let Some(first) = line_in(v, start.line) else {
+        // from there on each position is the end of the text
+        return Some(v.len()..v.len());
+    };
+    let from = byte_on(v, encoding, &first, start);
+    let to = byte_from_line(v, encoding, &first, start.line, end);
     Some(from..to)
+}
+
+/// The byte index of a position, by the beginning of a line, which may be its own.
+fn byte_from_line(
+    v: &mut View,
+    encoding: Encoding,
+    first: &LineStart<'_>,
+    line: usize,
+    position: Position,
+) -> usize
+    requires start { first.now.byte ≡ to_byte_idx Crlf (joined v.old.texts) line }
+    requires rest { IsChunkAt (joined v.old.texts) (chars first.now.rest.now) first.now.byte first.now.byte }
+    requires len { length first.now.rest.now ≡ size (chars first.now.rest.now) }
+    requires located { IsLocated (joined v.old.texts) (chars first.now.located.chunk.text.now)
+        first.now.located.chunk.start first.now.located.before first.now.byte }
+    ensures byte { result ≡ byte_at encoding (joined v.old.texts) position }
+    ensures cost { Asks 8 v.old v.new }
+{
+    if position.line == line {
+        return byte_on(v, encoding, first, position);
+    }
+    byte_of_in(v, encoding, position)
 }
 
 /// The position of a unit on the first line of a text.
@@ -167,10 +194,8 @@ fn byte_on(v: &mut View, encoding: Encoding, line: &LineStart<'_>, position: Pos
     ensures byte { result ≡ byte_at encoding (joined v.old.texts) position }
     ensures cost { Asks 5 v.old v.new }
 {
-    let len = v.len();
-    let rest = line.rest;
-    let own = encoding.byte_of(rest, on_first_line(position));
-    if own < rest.len() || line.byte + rest.len() == len {
+    let own = encoding.byte_of(line.rest, on_first_line(position));
+    if tells(v, line, own) {
         return line.byte + own;
     }
     let before_line = units_before_start(v, encoding, line);
@@ -194,13 +219,12 @@ fn exact_byte_on(
     ensures boundary { IfSome result (λ byte. IsBoundary (joined v.old.texts) byte) }
     ensures cost { Asks 6 v.old v.new }
 {
-    let len = v.len();
-    let rest = line.rest;
-    if let Some(own) = encoding.exact_byte_of(rest, on_first_line(position)) {
+    let _len = v.len();
+    if let Some(own) = encoding.exact_byte_of(line.rest, on_first_line(position)) {
         return Some(line.byte + own);
     }
-    let own = encoding.byte_of(rest, on_first_line(position));
-    if own < rest.len() || line.byte + rest.len() == len {
+    let own = encoding.byte_of(line.rest, on_first_line(position));
+    if tells(v, line, own) {
         return None;
     }
     let before_line = units_before_start(v, encoding, line);

@@ -1,6 +1,5 @@
 // The units of an encoding, over the whole text of a rope.
 ghost use Rattle.std.specs.Prelude.{◌≡◌};
-ghost use Rattle.str_indices.specs.Relations.{IsBoundary};
 ghost use Rattle.str_indices.specs.Schemes.{boundary_weighed, weighed};
 ghost use Rattle.str_indices.specs.Starts.{IsGreatestBoundary};
 ghost use Rattle.piece_text.specs.Pieces.{joined};
@@ -42,20 +41,4 @@ fn char_start_in(v: &mut View, byte: usize) -> usize
 {
     let chars = from_in(v, Scheme::Chars, byte);
     to_in(v, Scheme::Chars, chars)
-}
-
-/// The units of the chars before a byte index that is between chars.
-pub(crate) fn units_before_boundary_in(v: &mut View, encoding: Encoding, byte: usize) -> usize
-    requires boundary { IsBoundary (joined v.old.texts) byte }
-    ensures units { result ≡ weighed (units_of encoding) (joined v.old.texts) byte }
-    ensures cost { Asks 1 v.old v.new }
-{
-    if byte == 0 {
-        return 0;
-    }
-    match encoding {
-        Encoding::Utf8 => byte,
-        Encoding::Utf16 => from_in(v, Scheme::Utf16, byte),
-        Encoding::Utf32 => from_in(v, Scheme::Chars, byte),
-    }
 }

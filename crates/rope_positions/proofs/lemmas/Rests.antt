@@ -1,12 +1,16 @@
 -- The byte of a position, by the rest of the piece that its line begins in.
-use Rattle.std.specs.Prelude.{◌==◌, ◌⊎◌}
+use Rattle.std.specs.Prelude.{◌==◌, ◌⊎◌, true}
 use Rattle.std.specs.List.{before_first}
 use Rattle.std.proofs.lemmas.Bool.{cases_Bool}
 use Rattle.std.proofs.Common.{eqb-true, eq-eqb, true≢false}
 use Rattle.str_indices.proofs.lemmas.Callers.{IsBoundary-before, boundary_weighed_is_greatest, boundary_weighed_iff, weighed_is_greatest_boundary, weight-some}
 use Rattle.position_mapper.specs.declared.encodings.Encoding.TheVariants.{Utf8, Utf16, Utf32}
+use Rattle.std.specs.declared.ops.Range as bytes
 use Rattle.position_mapper.specs.Lines.{is_break, line_content}
-use Rattle.rope_positions.proofs.lemmas.Common.{Some, None, ◌≡◌, ◌≢◌, ℕ, ◌+◌, ◌<◌, ◌≤◌, ◌++◌, sym, refl, ap, ◌∙◌, inl, inr, arith, append-nil, len_utf8_bounds, size-append, Text, size, count, weighed, boundary_weighed, to_byte_idx, Crlf, IsBoundary, IsChunkAt, IsBoundary-byte_at, units_of, byte_at, exact_byte_at, units_at_place, exact_by_units, not_exact_by_units, Position, Encoding}
+use Rattle.position_mapper.specs.declared.Range.{Range}
+use Rattle.position_mapper.specs.Relations.{IsAtOrBefore}
+use Rattle.position_mapper.specs.Positions.{byte_range_at, is_at_or_before}
+use Rattle.rope_positions.proofs.lemmas.Common.{Some, None, ◌≡◌, ◌≢◌, ℕ, ◌+◌, ◌<◌, ◌≤◌, ◌++◌, sym, refl, ap, ap₂, ◌∙◌, inl, inr, arith, append-nil, len_utf8_bounds, size-append, Text, size, count, weighed, boundary_weighed, to_byte_idx, Crlf, IsBoundary, IsChunkAt, IsBoundary-byte_at, byte_at-le, units_of, byte_at, exact_byte_at, units_at_place, exact_by_units, not_exact_by_units, Position, Encoding}
 use Rattle.rope_positions.proofs.lemmas.Beginnings.{weighed_before, place_before, first_of, content_from, first_content}
 use Rattle.rope_positions.proofs.lemmas.Changing.{exact_byte, none_of}
 
@@ -187,3 +191,17 @@ module _ (e : Encoding) (cs : Text) (p : Position) (past : to_byte_idx Crlf cs p
       let not_same : weighed w cs (byte_at e cs p) ≢ weighed w cs (to_byte_idx Crlf cs p.line) + p.character =
       λ same. other (omega (arith, ap (weighed w cs) at_end, same)) in
       not_exact_by_units e cs p (inr not_same)
+
+-- a range that begins on such a line is at the end of the text
+pub range_past : (e : Encoding) (cs : Text) (range : Range) (from to : ℕ) → from ≡ size cs → to ≡ size cs
+    → to_byte_idx Crlf cs range.start.line ≡ size cs → is_at_or_before range.start range.end ≡ true
+    → IsAtOrBefore range.start range.end
+    → (part : bytes.Range ℕ) → part ≡ record { start = from; end = to } → Some part ≡ byte_range_at e cs range
+range_past e cs range from to from_is to_is past ordered order part part_is =
+    let start = byte_past e cs range.start from from_is past in
+    let end_at = byte_at e cs range.end in
+    let within = boundary_within cs end_at end_at refl (IsBoundary-byte_at e cs range.end) in
+    let end : to ≡ end_at = omega (arith, byte_at-le e cs range.start range.end order, start, from_is, to_is, within) in
+    let same : part ≡ record { start = byte_at e cs range.start; end = end_at } =
+    part_is ∙ ap₂ (λ s t. record { start = s; end = t }) start end in
+    rw ordered (ap (λ b. Some b) same)

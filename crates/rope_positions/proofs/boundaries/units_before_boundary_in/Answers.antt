@@ -1,5 +1,5 @@
 use Rattle.rope_positions.proofs.lemmas.{◌∙◌, sym, joined, characters_weighed, weighed_none, bytes_weighed, units_of, none_asked, one_asked, asked_within, arith}
-use Rattle.rope_positions.proofs.units.units_before_boundary_in.Goals as goal
+use Rattle.rope_positions.proofs.boundaries.units_before_boundary_in.Goals as goal
 
 pub returns-then-byte-eq0-clause-units : goal.returns-then-byte-eq0-clause-units
 returns-then-byte-eq0-clause-units c =
