@@ -3,8 +3,16 @@ pub mod Asking
 pub mod Characters
 pub mod Answering
 pub mod Changing
+pub mod Beginnings
+pub mod Located
+pub mod Rests
+pub mod Pieces
 pub use Common.*
 pub use Asking.*
 pub use Characters.*
 pub use Answering.*
 pub use Changing.*
+pub use Beginnings.*
+pub use Located.*
+pub use Rests.*
+pub use Pieces.*

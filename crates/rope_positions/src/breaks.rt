@@ -1,11 +1,13 @@
 // Where a rope's text has a line break.
-ghost use Rattle.std.specs.Prelude.{◌≡◌, ◌+◌, ◌<◌, ◌↔◌, IsTrue};
+ghost use Rattle.std.specs.Prelude.{◌≡◌, ◌+◌, ◌<◌, ◌≤◌, ◌↔◌, IsTrue, chars};
 ghost use Rattle.str_indices.specs.Relations.{IsCrlfMiddle};
+ghost use Rattle.str_indices.specs.Text.{Text, size};
 ghost use Rattle.piece_text.specs.Pieces.{joined};
+ghost use Rattle.text_rope.specs.Edits.{IsChunkAt};
 ghost use Rattle.rope_positions.specs.Characters.{IsCharacterAt};
 ghost use Rattle.rope_positions.specs.Costs.{Asks};
 
-use text_rope::{View, chunk_in};
+use text_rope::{Chunk, View, chunk_in};
 
 /// Whether a byte index stands between CR and LF.
 pub(crate) fn is_crlf_middle_in(v: &mut View, at: usize) -> bool
@@ -15,7 +17,16 @@ pub(crate) fn is_crlf_middle_in(v: &mut View, at: usize) -> bool
     if at == 0 {
         return false;
     }
-    begins_in(v, b'\n', at) && begins_in(v, b'\r', at - 1)
+    let Some(chunk) = chunk_in(v, at) else {
+        return false;
+    };
+    if !has_character(&chunk, b'\n', at) {
+        return false;
+    }
+    if chunk.start < at {
+        return has_character(&chunk, b'\r', at - 1);
+    }
+    begins_in(v, b'\r', at - 1)
 }
 
 /// Whether an ASCII char begins at a byte index.
@@ -26,6 +37,17 @@ fn begins_in(v: &mut View, character: u8, at: usize) -> bool
 {
     match chunk_in(v, at) {
         None => false,
-        Some(chunk) => chunk.text.as_bytes()[at - chunk.start] == character,
+        Some(chunk) => has_character(&chunk, character, at),
     }
+}
+
+/// Whether an ASCII char begins at a byte index in a piece.
+fn has_character(chunk: &Chunk<'_>, character: u8, at: usize) -> bool
+    requires ascii { character < 128 }
+    requires after { chunk.now.start ≤ at }
+    requires inside { at < chunk.now.start + size (chars chunk.now.text.now) }
+    ensures { (cs : Text) → IsChunkAt cs (chars chunk.now.text.now) chunk.now.start at
+        → IsTrue result ↔ IsCharacterAt cs character at }
+{
+    chunk.text.as_bytes()[at - chunk.start] == character
 }

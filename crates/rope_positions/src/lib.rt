@@ -4,9 +4,12 @@
 //! the whole text, by a constant number of the rope's own questions.
 #![tactic(auto)]
 
+mod boundaries;
 mod breaks;
 mod changes;
 mod exact_changes;
+mod line_starts;
+mod pieces;
 mod questions;
 mod ropes;
 mod units;

@@ -1,19 +1,25 @@
 // Positions in a rope's text, by a constant number of its questions.
-ghost use Rattle.std.specs.Prelude.{◌≡◌, ◌≤◌, IfSome};
+ghost use Rattle.std.specs.Prelude.{◌≡◌, ◌≤◌, IfSome, chars, length};
 ghost use Rattle.str_indices.specs.Relations.{IsBoundary};
-ghost use Rattle.str_indices.specs.Schemes.{to_byte_idx, weighed};
+ghost use Rattle.str_indices.specs.Schemes.{count, from_byte_idx, to_byte_idx, weighed};
+ghost use Rattle.str_indices.specs.Text.{size};
 ghost use Rattle.str_indices.specs.declared.Scheme.TheVariants.{Crlf};
 ghost use Rattle.piece_text.specs.Pieces.{PiecesState, joined};
 ghost use Rattle.position_mapper.specs.Encodings.{units_of};
 ghost use Rattle.position_mapper.specs.Lines.{line_end};
 ghost use Rattle.position_mapper.specs.Positions.{byte_at, byte_range_at, exact_byte_at, position_at};
+ghost use Rattle.text_rope.specs.Edits.{IsChunkAt};
+ghost use Rattle.text_rope.specs.Located.{IsLocated};
 ghost use Rattle.rope_positions.specs.Costs.{Asks};
 
+use crate::boundaries::units_before_boundary_in;
 use crate::breaks::is_crlf_middle_in;
+use crate::line_starts::{LineStart, line_in, line_start_in, tells, units_before_start};
+use crate::pieces::{breaks_at_seam, units_before_piece};
 use crate::units::{place_in, units_before_in};
 use position_mapper::{Encoding, Position, Range};
 use std::ops;
-use text_rope::{Scheme, View, count_in, from_in, to_in};
+use text_rope::{Located, Scheme, View, count_in, located_in, to_in};
 
 /// The byte index where the content of a line ends, counted from 0: before its break, or the length of the text in
 /// bytes where it is the last line or past it.
@@ -41,10 +47,51 @@ pub fn position_of_in(v: &mut View, encoding: Encoding, byte: usize) -> Position
     ensures answer { result ≡ position_at encoding (joined v.old.texts) byte }
     ensures cost { Asks 9 v.old v.new }
 {
-    let line = from_in(v, Scheme::Crlf, byte);
-    let start = to_in(v, Scheme::Crlf, line);
+    // the last piece has the text's end too
+    let last = v.len().saturating_sub(1);
+    let Some(located) = located_in(v, byte.min(last)) else {
+        return Position {
+            line: 0,
+            character: 0,
+        };
+    };
+    let own = encoding.position_of(located.chunk.text, byte - located.chunk.start);
+    let lost = breaks_at_seam(&located);
+    let line = located.before.crlf - lost + own.line;
+    if own.line > 0 || located.chunk.start == 0 {
+        return Position {
+            line,
+            character: own.character,
+        };
+    }
+    if lost > 0 {
+        return position_on(v, encoding, byte, line);
+    }
+    let before_line = units_before_line_in(v, encoding, line);
+    Position {
+        line,
+        character: units_before_piece(encoding, &located) + own.character - before_line,
+    }
+}
+
+/// The units of the chars before a line.
+fn units_before_line_in(v: &mut View, encoding: Encoding, line: usize) -> usize
+    ensures units { let cs = joined v.old.texts in
+        result ≡ weighed (units_of encoding) cs (to_byte_idx Crlf cs line) }
+    ensures cost { Asks 2 v.old v.new }
+{
+    let start = line_start_in(v, line);
+    units_before_boundary_in(v, encoding, start)
+}
+
+/// The position of a byte on a line.
+fn position_on(v: &mut View, encoding: Encoding, byte: usize, line: usize) -> Position
+    requires line { line ≡ from_byte_idx Crlf (joined v.old.texts) byte }
+    ensures answer { result ≡ position_at encoding (joined v.old.texts) byte }
+    ensures cost { Asks 7 v.old v.new }
+{
+    let before_line = units_before_line_in(v, encoding, line);
     let end = line_end_in(v, line);
-    let before_line = units_before_in(v, encoding, start);
     Position {
         line,
         character: units_before_in(v, encoding, byte.min(end)) - before_line,
@@ -60,7 +107,10 @@ pub fn byte_of_in(v: &mut View, encoding: Encoding, position: Position) -> usize
     ensures boundary { IsBoundary (joined v.old.texts) result }
     ensures cost { Asks 8 v.old v.new }
 {
-    place_of_in(v, encoding, position).byte
+    match line_in(v, position.line) {
+        None => v.len(),
+        Some(line) => byte_on(v, encoding, &line, position),
+    }
 }
 
 /// The byte index of a position that names a place, or `None`: where the text has no such line, the offset is past the
@@ -73,12 +123,11 @@ pub fn exact_byte_of_in(v: &mut View, encoding: Encoding, position: Position) ->
     if count_in(v, Scheme::Crlf) < position.line {
         return None;
     }
-    let place = place_of_in(v, encoding, position);
-    let units = units_before_in(v, encoding, place.byte);
-    if units - place.before_line != position.character {
-        return None;
+    match line_in(v, position.line) {
+        None if position.character == 0 => Some(v.len()),
+        None => None,
+        Some(line) => exact_byte_on(v, encoding, &line, position),
     }
-    Some(place.byte)
 }
 
 /// The byte indices of a range, or `None` where its end is before its start. Each is that of its position, as
@@ -94,32 +143,126 @@ pub fn byte_range_in(v: &mut View, encoding: Encoding, range: Range) -> Option<o
     if !start.is_at_or_before(end) {
         return None;
     }
-    let from = byte_of_in(v, encoding, start);
-    let to = byte_of_in(v, encoding, end);
+    let Some(first) = line_in(v, start.line) else {
+        // from there on each position is the end of the text
+        return Some(v.len()..v.len());
+    };
+    let from = byte_on(v, encoding, &first, start);
+    let to = byte_from_line(v, encoding, &first, start.line, end);
     Some(from..to)
 }
 
-/// The byte index of a position, and the units before its line.
-#[derive(Clone, Copy)]
-struct Place {
-    byte: usize,
-    before_line: usize,
-}
-
-fn place_of_in(v: &mut View, encoding: Encoding, position: Position) -> Place
-    ensures byte { result.byte ≡ byte_at encoding (joined v.old.texts) position }
-    ensures before_line { let cs = joined v.old.texts in
-        result.before_line ≡ weighed (units_of encoding) cs (to_byte_idx Crlf cs position.line) }
+/// The byte index of a position, by the beginning of a line, which may be its own.
+fn byte_from_line(
+    v: &mut View,
+    encoding: Encoding,
+    first: &LineStart<'_>,
+    line: usize,
+    position: Position,
+) -> usize
+    requires start { first.now.byte ≡ to_byte_idx Crlf (joined v.old.texts) line }
+    requires rest { IsChunkAt (joined v.old.texts) (chars first.now.rest.now) first.now.byte first.now.byte }
+    requires len { length first.now.rest.now ≡ size (chars first.now.rest.now) }
+    requires located { IsLocated (joined v.old.texts) (chars first.now.located.chunk.text.now)
+        first.now.located.chunk.start first.now.located.before first.now.byte }
+    ensures byte { result ≡ byte_at encoding (joined v.old.texts) position }
     ensures cost { Asks 8 v.old v.new }
 {
-    let start = to_in(v, Scheme::Crlf, position.line);
+    if position.line == line {
+        return byte_on(v, encoding, first, position);
+    }
+    byte_of_in(v, encoding, position)
+}
+
+/// The position of a unit on the first line of a text.
+fn on_first_line(position: Position) -> Position
+    ensures { result ≡ record { line = 0; character = position.character } }
+{
+    Position {
+        line: 0,
+        character: position.character,
+    }
+}
+
+/// The byte index of a position on a line.
+fn byte_on(v: &mut View, encoding: Encoding, line: &LineStart<'_>, position: Position) -> usize
+    requires start { line.now.byte ≡ to_byte_idx Crlf (joined v.old.texts) position.line }
+    requires rest { IsChunkAt (joined v.old.texts) (chars line.now.rest.now) line.now.byte line.now.byte }
+    requires len { length line.now.rest.now ≡ size (chars line.now.rest.now) }
+    requires located { IsLocated (joined v.old.texts) (chars line.now.located.chunk.text.now)
+        line.now.located.chunk.start line.now.located.before line.now.byte }
+    ensures byte { result ≡ byte_at encoding (joined v.old.texts) position }
+    ensures cost { Asks 5 v.old v.new }
+{
+    let own = encoding.byte_of(line.rest, on_first_line(position));
+    if tells(v, line, own) {
+        return line.byte + own;
+    }
+    let before_line = units_before_start(v, encoding, line);
+    byte_after(v, encoding, position, before_line)
+}
+
+/// The byte index of a position on a line that names a place, or `None`.
+fn exact_byte_on(
+    v: &mut View,
+    encoding: Encoding,
+    line: &LineStart<'_>,
+    position: Position,
+) -> Option<usize>
+    requires start { line.now.byte ≡ to_byte_idx Crlf (joined v.old.texts) position.line }
+    requires rest { IsChunkAt (joined v.old.texts) (chars line.now.rest.now) line.now.byte line.now.byte }
+    requires len { length line.now.rest.now ≡ size (chars line.now.rest.now) }
+    requires located { IsLocated (joined v.old.texts) (chars line.now.located.chunk.text.now)
+        line.now.located.chunk.start line.now.located.before line.now.byte }
+    requires has { position.line ≤ count Crlf (joined v.old.texts) }
+    ensures answer { result ≡ exact_byte_at encoding (joined v.old.texts) position }
+    ensures boundary { IfSome result (λ byte. IsBoundary (joined v.old.texts) byte) }
+    ensures cost { Asks 6 v.old v.new }
+{
+    let _len = v.len();
+    if let Some(own) = encoding.exact_byte_of(line.rest, on_first_line(position)) {
+        return Some(line.byte + own);
+    }
+    let own = encoding.byte_of(line.rest, on_first_line(position));
+    if tells(v, line, own) {
+        return None;
+    }
+    let before_line = units_before_start(v, encoding, line);
+    exact_byte_after(v, encoding, position, before_line)
+}
+
+/// The byte index of a position, by the units before its line.
+fn byte_after(v: &mut View, encoding: Encoding, position: Position, before_line: usize) -> usize
+    requires before_line { let cs = joined v.old.texts in
+        before_line ≡ weighed (units_of encoding) cs (to_byte_idx Crlf cs position.line) }
+    ensures byte { result ≡ byte_at encoding (joined v.old.texts) position }
+    ensures cost { Asks 5 v.old v.new }
+{
     let end = line_end_in(v, position.line);
-    let before_line = units_before_in(v, encoding, start);
     // from the text's length on, every number of units means the text's end
     let _len = v.len();
     let units = before_line.saturating_add(position.character);
-    Place {
-        byte: place_in(v, encoding, units).min(end),
-        before_line,
+    place_in(v, encoding, units).min(end)
+}
+
+/// The byte index of a position that names a place, or `None`, by the units before its line.
+fn exact_byte_after(
+    v: &mut View,
+    encoding: Encoding,
+    position: Position,
+    before_line: usize,
+) -> Option<usize>
+    requires before_line { let cs = joined v.old.texts in
+        before_line ≡ weighed (units_of encoding) cs (to_byte_idx Crlf cs position.line) }
+    requires has { position.line ≤ count Crlf (joined v.old.texts) }
+    ensures answer { result ≡ exact_byte_at encoding (joined v.old.texts) position }
+    ensures boundary { IfSome result (λ byte. IsBoundary (joined v.old.texts) byte) }
+    ensures cost { Asks 6 v.old v.new }
+{
+    let byte = byte_after(v, encoding, position, before_line);
+    let units = units_before_boundary_in(v, encoding, byte);
+    if units - before_line != position.character {
+        return None;
     }
+    Some(byte)
 }

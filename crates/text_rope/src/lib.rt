@@ -11,6 +11,7 @@ mod in_place;
 mod inserts;
 mod joins;
 mod loads;
+mod located;
 mod parts;
 mod piece;
 mod queries;
@@ -23,7 +24,8 @@ mod view;
 mod work;
 
 pub use chunks::{Chunk, Chunks};
-pub use piece_text::Scheme;
+pub use located::{Located, located_in};
+pub use piece_text::{Scheme, Summary};
 pub use queries::{chunk_in, count_in, from_in, is_boundary_in, to_in};
 pub use refusals::Refusal;
 pub use rope::Rope;

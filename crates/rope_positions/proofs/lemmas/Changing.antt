@@ -2,7 +2,7 @@
 use Rattle.std.specs.Prelude.{OnOk, IfNone, IsTrue, Option, Result}
 use Rattle.std.proofs.Common.{Ok, Err}
 use Rattle.std.specs.declared.ops.Range as bytes
-use Rattle.rope_positions.proofs.lemmas.Common.{Some, None, ◌≡◌, ◌≤◌, ℕ, [], ◌∷◌, ◌++◌, ◌∙◌, inl, inr, ap, arith, refl, append-nil, len_utf8_bounds, size-append, size-cons, Text, size, Position, Encoding, byte_at, exact_byte_at, byte_range_in_order}
+use Rattle.rope_positions.proofs.lemmas.Common.{Some, None, ◌≡◌, ◌≤◌, ℕ, [], ◌∷◌, ◌++◌, ◌∙◌, inl, inr, ap, arith, refl, append-nil, len_utf8_bounds, size-append, size-cons, Text, size, Position, Encoding, byte_at, exact_byte_at, byte_range_in_order, IsBoundary, IsBoundary-byte_at, subst, sym}
 use Rattle.std.proofs.lemmas.Bool.{cases_Bool}
 use Rattle.position_mapper.specs.declared.Range.{Range}
 use Rattle.position_mapper.specs.Positions.{is_at_or_before, is_exact}
@@ -10,7 +10,7 @@ use Rattle.text_rope.specs.Edits.{IsReplaced}
 use Rattle.rope_positions.specs.Changes.{exact_part_at, part_at}
 
 -- a text of no byte is empty
-none_of : (cs : Text) → size cs ≡ 0 → cs ≡ []
+pub none_of : (cs : Text) → size cs ≡ 0 → cs ≡ []
 none_of [] none = refl
 none_of (c ∷ cs) none = absurd (omega (arith, none, size-cons c cs, len_utf8_bounds c))
 
@@ -36,7 +36,7 @@ whole_exactly_changed e old new text (Some range) part is replaced = tt
 whole_exactly_changed e old new text None part is replaced = whole_changed e old new text None part is replaced
 
 -- the byte of a position that names a place is that of the position
-exact_byte : (e : Encoding) (cs : Text) (p : Position) (byte : ℕ) → Some byte ≡ exact_byte_at e cs p → byte ≡ byte_at e cs p
+pub exact_byte : (e : Encoding) (cs : Text) (p : Position) (byte : ℕ) → Some byte ≡ exact_byte_at e cs p → byte ≡ byte_at e cs p
 exact_byte e cs p byte is = elim (cases_Bool (is_exact e cs p)) [
   | inl exact ↦ let same = rw exact at is in cc
   | inr not_exact ↦ let none = rw not_exact at is in cc
@@ -54,3 +54,8 @@ exact_in_order e cs range from to ordered start end =
 pub on_ok : {A E P Q : Type 0} (result : Result A E) → OnOk result P → (P → Q) → OnOk result Q
 on_ok (Ok a) is so = so is
 on_ok (Err e) is so = tt
+
+-- and it is a boundary
+pub exact_is_boundary : (e : Encoding) (cs : Text) (p : Position) (byte : ℕ) → Some byte ≡ exact_byte_at e cs p
+    → IsBoundary cs byte
+exact_is_boundary e cs p byte is = subst (IsBoundary cs) (sym (exact_byte e cs p byte is)) (IsBoundary-byte_at e cs p)

@@ -1,43 +1,185 @@
-use Rattle.rope_positions.proofs.lemmas.{◌∙◌, ap, joined, to_byte_idx, weighed, Crlf, units_of, line_end, units_within, position_made, one_asked, asked_after}
+use Rattle.rope_positions.proofs.lemmas.{refl, ◌≡◌, ◌+◌, ◌-◌, ◌∙◌, inl, inr, min, ap, sym, arith, cases_lt, chars, size, joined, joined_size, inside_or_last, lost_within, line_made, line_le_size, position_in_piece, position_in_none, position_over, units_over, units_over_le, position_at, from_byte_idx, weighed, to_byte_idx, Crlf, units_of, one_asked, asked_after, asked_within}
 use Rattle.rope_positions.proofs.questions.position_of_in.Goals as goal
+use Rattle.rope_positions.proofs.questions.position_of_in.Goals.{then-own-gt0-via-then-own-gt0, then-own-gt0-via-else-own-gt0+then-located-eq0}
+
+pub returns-in_default-clause-answer : goal.returns-in_default-clause-answer
+returns-in_default-clause-answer c =
+    let cs = joined c.args.v.now.texts in
+    elim (cases_lt c.min.result (joined_size c.args.v.now.texts)) [
+      | inl inside ↦ let some = c.in_default.ensures.some.1 inside in cc
+      | inr past ↦ position_in_none c.args.encoding cs c.args.byte
+          (omega (arith, past, c.min.ensures, c.saturating_sub-last.ensures, c.len.ensures.len))
+    ]
+
+pub returns-in_default-clause-cost : goal.returns-in_default-clause-cost
+returns-in_default-clause-cost c = let asked = c.located_in.ensures in
+    asked_within (omega arith) (one_asked _ _ asked.texts asked.looks asked.looks_kept asked.reads asked.reads_kept)
+
+pub overflow_sub-line : goal.overflow_sub-line
+overflow_sub-line c =
+    let cs = joined c.args.v.now.texts in
+    let located = c.in-Some.located in
+    let is = c.in-Some.ensures.located in
+    let chunk = chars located.chunk.text.now in
+    let byte = c.args.byte in
+    let o = byte - located.chunk.start in
+    let at : c.min.result ≡ min byte (size cs - 1) =
+    omega (arith, c.min.ensures, c.saturating_sub-last.ensures, c.len.ensures.len) in
+    let place : located.chunk.start + o ≡ byte = omega (arith, is.after, at) in
+    let last = inside_or_last cs chunk _ _ _ byte o is at place in
+    lost_within c.args.encoding cs chunk _ _ _ byte o is place last c.breaks_at_seam-lost.result
+    (c.breaks_at_seam-lost.ensures is.front is.before_is)
+
+pub overflow_add-line : goal.overflow_add-line
+overflow_add-line c =
+    let e = c.args.encoding in
+    let cs = joined c.args.v.now.texts in
+    let located = c.in-Some.located in
+    let is = c.in-Some.ensures.located in
+    let chunk = chars located.chunk.text.now in
+    let byte = c.args.byte in
+    let o = byte - located.chunk.start in
+    let at : c.min.result ≡ min byte (size cs - 1) =
+    omega (arith, c.min.ensures, c.saturating_sub-last.ensures, c.len.ensures.len) in
+    let place : located.chunk.start + o ≡ byte = omega (arith, is.after, at) in
+    let last = inside_or_last cs chunk _ _ _ byte o is at place in
+    let line = line_made e cs chunk _ _ _ byte o is place last c.breaks_at_seam-lost.result
+    (c.breaks_at_seam-lost.ensures is.front is.before_is) in
+    omega (arith, line, line_le_size cs byte, c.len.ensures.short, ap (λ p. p.line) c.position_of-own.ensures)
+
+pub returns-then-own-gt0-clause-answer : goal.returns-then-own-gt0-clause-answer
+returns-then-own-gt0-clause-answer c =
+    let e = c.args.encoding in
+    let cs = joined c.args.v.now.texts in
+    let located = c.in-Some.located in
+    let is = c.in-Some.ensures.located in
+    let chunk = chars located.chunk.text.now in
+    let byte = c.args.byte in
+    let o = byte - located.chunk.start in
+    let at : c.min.result ≡ min byte (size cs - 1) =
+    omega (arith, c.min.ensures, c.saturating_sub-last.ensures, c.len.ensures.len) in
+    let place : located.chunk.start + o ≡ byte = omega (arith, is.after, at) in
+    let last = inside_or_last cs chunk _ _ _ byte o is at place in
+    let line = line_made e cs chunk _ _ _ byte o is place last c.breaks_at_seam-lost.result
+    (c.breaks_at_seam-lost.ensures is.front is.before_is) in
+    let told = position_in_piece e cs chunk _ _ _ byte o is place last _ line in
+    rw c.position_of-own.ensures (elim c.then-own-gt0.branch [
+      | then-own-gt0-via-then-own-gt0 w ↦ told (inl (rw c.position_of-own.ensures at w.if-own-gt0.true))
+      | then-own-gt0-via-else-own-gt0+then-located-eq0 w ↦ told (inr w.if-located-eq0.true)
+    ])
+
+pub returns-then-own-gt0-clause-cost : goal.returns-then-own-gt0-clause-cost
+returns-then-own-gt0-clause-cost c = let asked = c.located_in.ensures in
+    asked_within (omega arith) (one_asked _ _ asked.texts asked.looks asked.looks_kept asked.reads asked.reads_kept)
+
+pub position_on-requires : goal.position_on-requires
+position_on-requires c =
+    let e = c.args.encoding in
+    let cs = joined c.args.v.now.texts in
+    let located = c.in-Some.located in
+    let is = c.in-Some.ensures.located in
+    let chunk = chars located.chunk.text.now in
+    let byte = c.args.byte in
+    let o = byte - located.chunk.start in
+    let at : c.min.result ≡ min byte (size cs - 1) =
+    omega (arith, c.min.ensures, c.saturating_sub-last.ensures, c.len.ensures.len) in
+    let place : located.chunk.start + o ≡ byte = omega (arith, is.after, at) in
+    let last = inside_or_last cs chunk _ _ _ byte o is at place in
+    let line = line_made e cs chunk _ _ _ byte o is place last c.breaks_at_seam-lost.result
+    (c.breaks_at_seam-lost.ensures is.front is.before_is) in
+    let texts = c.located_in.ensures.texts in
+    record { line = rw c.position_of-own.ensures line ∙ sym (ap (λ ts. from_byte_idx Crlf (joined ts) byte) texts) }
+
+pub returns-then-lost-gt0-clause-cost : goal.returns-then-lost-gt0-clause-cost
+returns-then-lost-gt0-clause-cost c = let asked = c.located_in.ensures in
+    asked_within (omega arith) (asked_after
+    (one_asked _ _ asked.texts asked.looks asked.looks_kept asked.reads asked.reads_kept) c.position_on.ensures.cost)
+
+pub returns-clause-cost : goal.returns-clause-cost
+returns-clause-cost c = let asked = c.located_in.ensures in
+    asked_within (omega arith) (asked_after
+    (one_asked _ _ asked.texts asked.looks asked.looks_kept asked.reads asked.reads_kept)
+    c.units_before_line_in-before_line.ensures.cost)
+
+pub overflow_add-result : goal.overflow_add-result
+overflow_add-result c =
+    let e = c.args.encoding in
+    let cs = joined c.args.v.now.texts in
+    let located = c.in-Some.located in
+    let is = c.in-Some.ensures.located in
+    let chunk = chars located.chunk.text.now in
+    let byte = c.args.byte in
+    let o = byte - located.chunk.start in
+    let at : c.min.result ≡ min byte (size cs - 1) =
+    omega (arith, c.min.ensures, c.saturating_sub-last.ensures, c.len.ensures.len) in
+    let place : located.chunk.start + o ≡ byte = omega (arith, is.after, at) in
+    let last = inside_or_last cs chunk _ _ _ byte o is at place in
+    let lost_is = c.breaks_at_seam-lost.ensures is.front is.before_is in
+    let line = line_made e cs chunk _ _ _ byte o is place last c.breaks_at_seam-lost.result lost_is in
+    let own = c.position_of-own.ensures in
+    let earlier : (position_at e chunk o).line ≡ 0 = omega (arith, ap (λ p. p.line) own, c.if-own-gt0.false) in
+    let le = units_over_le e cs chunk _ _ _ byte o is place last earlier
+    (omega (arith, lost_is, c.if-lost-gt0.false)) (from_byte_idx Crlf cs byte) _ refl refl in
+    omega (
+      arith,
+      le,
+      c.units_before_piece.ensures is.front is.before_is,
+      ap (λ p. p.character) own,
+      c.len.ensures.short,
+    )
 
 pub overflow_sub-result : goal.overflow_sub-result
 overflow_sub-result c =
+    let e = c.args.encoding in
     let cs = joined c.args.v.now.texts in
-    let w = units_of c.args.encoding in
-    let line = c.from_in-line.result in
-    let line_texts = c.from_in-line.ensures.texts in
-    let start_texts = c.to_in-start.ensures.texts ∙ line_texts in
-    let end_texts = c.line_end_in-end.ensures.cost.texts ∙ start_texts in
-    let before_texts = c.units_before_in-before_line.ensures.cost.texts ∙ end_texts in
-    units_within c.args.encoding cs c.args.byte line c.to_in-start.result c.line_end_in-end.result
-    c.units_before_in-before_line.result c.min.result c.units_before_in.result c.from_in-line.ensures.answer
-    (c.to_in-start.ensures.answer ∙ ap (λ ts. to_byte_idx Crlf (joined ts) line) line_texts)
-    (c.line_end_in-end.ensures.answer ∙ ap (λ ts. line_end (joined ts) line) start_texts)
-    (c.units_before_in-before_line.ensures.units ∙ ap (λ ts. weighed w (joined ts) c.to_in-start.result) end_texts)
-    c.min.ensures (c.units_before_in.ensures.units ∙ ap (λ ts. weighed w (joined ts) c.min.result) before_texts)
+    let located = c.in-Some.located in
+    let is = c.in-Some.ensures.located in
+    let chunk = chars located.chunk.text.now in
+    let byte = c.args.byte in
+    let o = byte - located.chunk.start in
+    let at : c.min.result ≡ min byte (size cs - 1) =
+    omega (arith, c.min.ensures, c.saturating_sub-last.ensures, c.len.ensures.len) in
+    let place : located.chunk.start + o ≡ byte = omega (arith, is.after, at) in
+    let last = inside_or_last cs chunk _ _ _ byte o is at place in
+    let lost_is = c.breaks_at_seam-lost.ensures is.front is.before_is in
+    let own = c.position_of-own.ensures in
+    let line_is : located.before.crlf - c.breaks_at_seam-lost.result + c.position_of-own.result.line
+    ≡ from_byte_idx Crlf cs byte = rw own
+    (line_made e cs chunk _ _ _ byte o is place last c.breaks_at_seam-lost.result lost_is) in
+    let earlier : (position_at e chunk o).line ≡ 0 = omega (arith, ap (λ p. p.line) own, c.if-own-gt0.false) in
+    let line = located.before.crlf - c.breaks_at_seam-lost.result + c.position_of-own.result.line in
+    let before = c.units_before_line_in-before_line.ensures.units
+    ∙ ap (λ ts. weighed (units_of e) (joined ts) (to_byte_idx Crlf (joined ts) line)) c.located_in.ensures.texts in
+    let over = units_over e cs chunk _ _ _ byte o is place last earlier
+    (omega (arith, lost_is, c.if-lost-gt0.false)) line c.units_before_line_in-before_line.result line_is before in
+    omega (arith, over, c.units_before_piece.ensures is.front is.before_is, ap (λ p. p.character) own)
 
 pub returns-clause-answer : goal.returns-clause-answer
 returns-clause-answer c =
+    let e = c.args.encoding in
     let cs = joined c.args.v.now.texts in
-    let w = units_of c.args.encoding in
-    let line = c.from_in-line.result in
-    let line_texts = c.from_in-line.ensures.texts in
-    let start_texts = c.to_in-start.ensures.texts ∙ line_texts in
-    let end_texts = c.line_end_in-end.ensures.cost.texts ∙ start_texts in
-    let before_texts = c.units_before_in-before_line.ensures.cost.texts ∙ end_texts in
-    position_made c.args.encoding cs c.args.byte line c.to_in-start.result c.line_end_in-end.result
-    c.units_before_in-before_line.result c.min.result c.units_before_in.result c.from_in-line.ensures.answer
-    (c.to_in-start.ensures.answer ∙ ap (λ ts. to_byte_idx Crlf (joined ts) line) line_texts)
-    (c.line_end_in-end.ensures.answer ∙ ap (λ ts. line_end (joined ts) line) start_texts)
-    (c.units_before_in-before_line.ensures.units ∙ ap (λ ts. weighed w (joined ts) c.to_in-start.result) end_texts)
-    c.min.ensures (c.units_before_in.ensures.units ∙ ap (λ ts. weighed w (joined ts) c.min.result) before_texts)
-
-pub returns-clause-cost : goal.returns-clause-cost
-returns-clause-cost c =
-    let line = c.from_in-line.ensures in
-    let start = c.to_in-start.ensures in
-    asked_after (asked_after (asked_after (asked_after
-    (one_asked _ _ line.texts line.looks line.looks_kept line.reads line.reads_kept)
-    (one_asked _ _ start.texts start.looks start.looks_kept start.reads start.reads_kept))
-    c.line_end_in-end.ensures.cost) c.units_before_in-before_line.ensures.cost) c.units_before_in.ensures.cost
+    let located = c.in-Some.located in
+    let is = c.in-Some.ensures.located in
+    let chunk = chars located.chunk.text.now in
+    let byte = c.args.byte in
+    let o = byte - located.chunk.start in
+    let at : c.min.result ≡ min byte (size cs - 1) =
+    omega (arith, c.min.ensures, c.saturating_sub-last.ensures, c.len.ensures.len) in
+    let place : located.chunk.start + o ≡ byte = omega (arith, is.after, at) in
+    let last = inside_or_last cs chunk _ _ _ byte o is at place in
+    let lost_is = c.breaks_at_seam-lost.ensures is.front is.before_is in
+    let own = c.position_of-own.ensures in
+    let line_is : located.before.crlf - c.breaks_at_seam-lost.result + c.position_of-own.result.line
+    ≡ from_byte_idx Crlf cs byte = rw own
+    (line_made e cs chunk _ _ _ byte o is place last c.breaks_at_seam-lost.result lost_is) in
+    let earlier : (position_at e chunk o).line ≡ 0 = omega (arith, ap (λ p. p.line) own, c.if-own-gt0.false) in
+    let line = located.before.crlf - c.breaks_at_seam-lost.result + c.position_of-own.result.line in
+    let before = c.units_before_line_in-before_line.ensures.units
+    ∙ ap (λ ts. weighed (units_of e) (joined ts) (to_byte_idx Crlf (joined ts) line)) c.located_in.ensures.texts in
+    ap (λ k. record {
+      line = line;
+      character = c.units_before_piece.result + k - c.units_before_line_in-before_line.result;
+    }) (ap (λ p. p.character) own)
+    ∙ position_over e cs chunk _ _ _ byte o is place last earlier (omega (arith, lost_is, c.if-lost-gt0.false)) line
+    c.units_before_line_in-before_line.result c.units_before_piece.result line_is before
+    (c.units_before_piece.ensures is.front is.before_is)

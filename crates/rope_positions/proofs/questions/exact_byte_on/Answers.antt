@@ -1,0 +1,36 @@
+use Rattle.rope_positions.proofs.lemmas.{◌∙◌, ap, arith, chars, joined, byte_at, exact_byte_at, exact_in_rest, none_in_rest, exact_is_boundary, none_asked, asked_within}
+use Rattle.rope_positions.proofs.questions.exact_byte_on.Goals as goal
+
+pub returns-in-Some-clause-answer : goal.returns-in-Some-clause-answer
+returns-in-Some-clause-answer c =
+    let e = c.args.encoding in
+    let line = c.args.line.now in
+    let rest = chars line.rest.now in
+    exact_in_rest e (joined c.args.v.now.texts) c.args.position rest line.byte c.requires.start c.requires.rest c.in-Some.own
+    c.requires.has (c.in-Some.ensures.answer ∙ ap (exact_byte_at e rest) c.on_first_line.ensures)
+
+pub returns-in-Some-clause-boundary : goal.returns-in-Some-clause-boundary
+returns-in-Some-clause-boundary c =
+    let e = c.args.encoding in
+    let cs = joined c.args.v.now.texts in
+    let line = c.args.line.now in
+    let rest = chars line.rest.now in
+    exact_is_boundary e cs c.args.position _ (exact_in_rest e cs c.args.position rest line.byte c.requires.start
+    c.requires.rest c.in-Some.own c.requires.has
+    (c.in-Some.ensures.answer ∙ ap (exact_byte_at e rest) c.on_first_line.ensures))
+
+pub returns-in-Some-clause-cost : goal.returns-in-Some-clause-cost
+returns-in-Some-clause-cost c = asked_within (omega arith) (none_asked c.args.v.now)
+
+pub returns-then-tells-clause-answer : goal.returns-then-tells-clause-answer
+returns-then-tells-clause-answer c =
+    let e = c.args.encoding in
+    let line = c.args.line.now in
+    let rest = chars line.rest.now in
+    let none = c.in_default.ensures.answer ∙ ap (exact_byte_at e rest) c.on_first_line.ensures in
+    let is = c.byte_of-own.ensures.answer ∙ ap (byte_at e rest) c.on_first_line-2.ensures in
+    none_in_rest e (joined c.args.v.now.texts) c.args.position rest line.byte c.requires.start c.requires.rest
+    c.byte_of-own.result none is (c.tells.ensures.tells.0 c.if-tells.true)
+
+pub returns-then-tells-clause-cost : goal.returns-then-tells-clause-cost
+returns-then-tells-clause-cost c = asked_within (omega arith) (none_asked c.args.v.now)
