@@ -1,12 +1,12 @@
 //! One piece of a text, with its summary.
-ghost use Rattle.std.specs.Prelude.{◌≡◌, ◌≢◌, ◌+◌, ◌<◌, ◌≤◌, ◌↔◌, [], chars, length, string_bytes, IfOk, IsTrue};
+ghost use Rattle.std.specs.Prelude.{◌≡◌, ◌≢◌, ◌+◌, ◌<◌, ◌≤◌, ◌↔◌, [], true, false, chars, length, string_bytes, IfOk, IsTrue};
 ghost use Rattle.std.specs.String.{string_len, string_capacity};
 ghost use Rattle.str_indices.specs.Text.{size};
 ghost use Rattle.str_indices.specs.Relations.{IsBoundary};
 ghost use Rattle.piece_text.specs.Summaries.{summary_of};
 ghost use Rattle.text_rope.specs.Pieces.{max_piece};
 ghost use Rattle.text_rope.specs.Edits.{IsInserted, IsRemoved, IsReplaced};
-ghost use Rattle.text_rope.specs.Work.{WorkState};
+ghost use Rattle.text_rope.specs.Work.{WorkState, Costs};
 
 use crate::work::Work;
 use piece_text::Summary;
@@ -16,6 +16,9 @@ use text_summary::{Change, changed};
 
 /// How many bytes a piece has at most.
 pub const MAX_PIECE: usize = 1024;
+
+/// The greatest length of two neighbours that are put together; a piece of fewer bytes is small.
+pub(crate) const SMALL: usize = MAX_PIECE / 2;
 
 /// A text that is neither empty nor longer than `MAX_PIECE`, in memory for that many bytes, and its summary. A contract
 /// sees the text's characters.
@@ -122,6 +125,34 @@ impl Piece {
         let change = Change::of(self.text.as_str(), from, to, Summary::of(more));
         exchange(&mut self.text, from, to, more);
         self.summary = changed(self.summary, change);
+    }
+
+    /// The same where it has the memory for both, and is not made small by what goes out; answers whether it did.
+    pub(crate) fn replace_in_place(
+        &mut self,
+        work: &mut Work,
+        from: usize,
+        to: usize,
+        more: &str,
+    ) -> bool
+        requires order { from ≤ to }
+        requires start { IsBoundary self.old from }
+        requires end { IsBoundary self.old to }
+        ensures replaced { result ≡ true → IsReplaced self.old self.new from to (chars more.now) }
+        ensures some { self.new ≢ [] }
+        ensures kept { result ≡ false → self.new ≡ self.old }
+        ensures work { Costs work.old work.new 0 1 }
+    {
+        let len = self.len();
+        if MAX_PIECE - len < more.len() {
+            return false;
+        }
+        if from < to && len - (to - from) + more.len() < SMALL {
+            return false;
+        }
+        self.replace(work, from, to, more);
+        let _some = self.len();
+        true
     }
 }
 

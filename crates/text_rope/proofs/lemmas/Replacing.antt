@@ -1,5 +1,5 @@
 -- A part of a text that is exchanged for another text.
-use Rattle.text_rope.proofs.lemmas.Common.{◌≡◌, ℕ, ◌+◌, ◌-◌, ◌≤◌, List, [], ◌++◌, take, drop, arith, ◌∙◌, ap, chars, IsUtf8, Text, size, IsBoundary, size-append, IsInserted, IsRemoved, IsReplaced}
+use Rattle.text_rope.proofs.lemmas.Common.{◌≡◌, ℕ, ◌+◌, ◌-◌, ◌≤◌, List, [], ◌++◌, take, drop, arith, ◌∙◌, ap, append_assoc, chars, IsUtf8, Text, size, IsBoundary, size-append, IsInserted, IsRemoved, IsReplaced}
 use Rattle.text_rope.proofs.lemmas.Summing.{none_of}
 use Rattle.text_summary.proofs.lemmas.Changing.{replaced_bytes}
 
@@ -50,3 +50,21 @@ removed_of old new from to text r none = record {
   end = r.end;
   is = r.is ∙ ap (λ t. r.front ++ (t ++ r.back)) none;
 }
+
+-- what is exchanged in a part of a text is exchanged in the whole
+pub replaced_around : (whole x t new y result : Text) (i j from to : ℕ) (text : Text) → whole ≡ x ++ (t ++ y)
+    → result ≡ x ++ (new ++ y) → size x + i ≡ from → size x + j ≡ to → IsReplaced t new i j text
+    → IsReplaced whole result from to text
+replaced_around whole x t new y result i j from to text is result_is from_is to_is r =
+    let was : x ++ ((r.front ++ (r.middle ++ r.back)) ++ y) ≡ (x ++ r.front) ++ (r.middle ++ (r.back ++ y)) =
+    simp append_assoc in
+    let now : x ++ ((r.front ++ (text ++ r.back)) ++ y) ≡ (x ++ r.front) ++ (text ++ (r.back ++ y)) = simp append_assoc in
+    record {
+      front = x ++ r.front;
+      middle = r.middle;
+      back = r.back ++ y;
+      was = is ∙ ap (λ p. x ++ (p ++ y)) r.was ∙ was;
+      start = omega (arith, size-append x r.front, r.start, from_is);
+      end = omega (arith, size-append x r.front, r.start, r.end, to_is);
+      is = result_is ∙ ap (λ p. x ++ (p ++ y)) r.is ∙ now;
+    }
