@@ -6,7 +6,6 @@ ghost use Rattle.piece_text.specs.Pieces.{joined, joined_size};
 ghost use Rattle.text_rope.specs.Edits.{IsInserted};
 ghost use Rattle.text_rope.specs.Work.{WorkState, OpensFor};
 
-use crate::in_place::put_in_place;
 use crate::joins::join;
 use crate::loads::tree_of;
 use crate::parts::{concat, part};
@@ -20,7 +19,7 @@ use std::alloc::{AllocError, Global};
 pub(crate) fn put(
     work: &mut Work,
     alloc: Global,
-    tree: Tree,
+    mut tree: Tree,
     at: usize,
     text: &str,
 ) -> Result<Tree, Tree>
@@ -32,10 +31,10 @@ pub(crate) fn put(
     ensures copied { work.new.copied ≤ work.old.copied + 4 }
 {
     let _height = tree.height();
-    match put_in_place(work, tree, at, text) {
-        Ok(new) => Ok(new),
-        Err(same) => put_apart(work, alloc, same, at, text),
+    if tree.replace_in_place(work, at, at, text) {
+        return Ok(tree);
     }
+    put_apart(work, alloc, tree, at, text)
 }
 
 /// The tree taken apart at a byte, with a text put in between.

@@ -7,7 +7,6 @@
 
 mod chunks;
 mod copies;
-mod in_place;
 mod inserts;
 mod joins;
 mod loads;

@@ -5,12 +5,9 @@ ghost use Rattle.piece_text.specs.Pieces.{joined, joined_size};
 ghost use Rattle.text_rope.specs.Work.{WorkState, Costs};
 
 use crate::joins::join;
-use crate::piece::MAX_PIECE;
+use crate::piece::SMALL;
 use crate::tree::{Fork, Opened, Tree};
 use crate::work::Work;
-
-/// The greatest length of two neighbours that are put together.
-const SMALL: usize = MAX_PIECE / 2;
 
 /// The piece that a byte is in, and the trees of those before and after it.
 pub(crate) fn part(work: &mut Work, tree: Tree, at: usize) -> Opened

@@ -1,20 +1,24 @@
 //! One piece of a text, with its summary.
-ghost use Rattle.std.specs.Prelude.{◌≡◌, ◌≢◌, ◌+◌, ◌<◌, ◌≤◌, [], chars, length, string_bytes, IfOk};
+ghost use Rattle.std.specs.Prelude.{◌≡◌, ◌≢◌, ◌+◌, ◌<◌, ◌≤◌, [], true, false, chars, length, string_bytes, IfOk};
 ghost use Rattle.std.specs.String.{string_len, string_capacity};
 ghost use Rattle.str_indices.specs.Text.{size};
 ghost use Rattle.str_indices.specs.Relations.{IsBoundary};
 ghost use Rattle.piece_text.specs.Summaries.{summary_of};
 ghost use Rattle.text_rope.specs.Pieces.{max_piece};
-ghost use Rattle.text_rope.specs.Edits.{IsInserted, IsRemoved, IsCutAt};
-ghost use Rattle.text_rope.specs.Work.{WorkState};
+ghost use Rattle.text_rope.specs.Edits.{IsInserted, IsRemoved, IsReplaced};
+ghost use Rattle.text_rope.specs.Work.{WorkState, Costs};
 
 use crate::work::Work;
 use piece_text::Summary;
 use std::alloc::{AllocError, Global};
 use std::marker::Model;
+use text_summary::{Change, changed};
 
 /// How many bytes a piece has at most.
 pub const MAX_PIECE: usize = 1024;
+
+/// The greatest length of two neighbours that are put together; a piece of fewer bytes is small.
+pub(crate) const SMALL: usize = MAX_PIECE / 2;
 
 /// A text that is neither empty nor longer than `MAX_PIECE`, in memory for that many bytes, and its summary. A contract
 /// sees the text's characters.
@@ -87,10 +91,8 @@ impl Piece {
         ensures copied { work.new.copied ≡ work.old.copied + 1 }
         ensures opened { work.new.opened ≡ work.old.opened }
     {
-        work.copy();
-        let _before = self.text.as_str();
-        put(&mut self.text, at, more);
-        self.summary = Summary::of(self.text.as_str());
+        let _own = self.len();
+        self.replace(work, at, at, more);
     }
 
     /// Takes out what is between two boundaries, where something is left: one piece written.
@@ -103,35 +105,68 @@ impl Piece {
         ensures copied { work.new.copied ≡ work.old.copied + 1 }
         ensures opened { work.new.opened ≡ work.old.opened }
     {
+        let _own = self.len();
+        self.replace(work, from, to, "");
+    }
+
+    /// Exchanges what is between two boundaries for a text, where something is left and the memory that it has is enough
+    /// for both: one piece written. Of its own text it counts the part that goes out.
+    pub(crate) fn replace(&mut self, work: &mut Work, from: usize, to: usize, more: &str)
+        requires order { from ≤ to }
+        requires start { IsBoundary self.old from }
+        requires end { IsBoundary self.old to }
+        requires rest { to < from + (size self.old + length more.now) }
+        requires short { size self.old + length more.now ≤ max_piece }
+        ensures text { IsReplaced self.old self.new from to (chars more.now) }
+        ensures copied { work.new.copied ≡ work.old.copied + 1 }
+        ensures opened { work.new.opened ≡ work.old.opened }
+    {
         work.copy();
-        take_out(&mut self.text, from, to);
-        self.summary = Summary::of(self.text.as_str());
+        let change = Change::of(self.text.as_str(), from, to, Summary::of(more));
+        exchange(&mut self.text, from, to, more);
+        self.summary = changed(self.summary, change);
+    }
+
+    /// The same where it has the memory for both, and is not made small by what goes out; answers whether it did.
+    pub(crate) fn replace_in_place(
+        &mut self,
+        work: &mut Work,
+        from: usize,
+        to: usize,
+        more: &str,
+    ) -> bool
+        requires order { from ≤ to }
+        requires start { IsBoundary self.old from }
+        requires end { IsBoundary self.old to }
+        ensures replaced { result ≡ true → IsReplaced self.old self.new from to (chars more.now) }
+        ensures some { self.new ≢ [] }
+        ensures kept { result ≡ false → self.new ≡ self.old }
+        ensures work { Costs work.old work.new 0 1 }
+    {
+        let len = self.len();
+        if MAX_PIECE - len < more.len() {
+            return false;
+        }
+        if from < to && len - (to - from) + more.len() < SMALL {
+            return false;
+        }
+        self.replace(work, from, to, more);
+        let _some = self.len();
+        true
     }
 }
 
-/// Puts a text in where there is room for it.
-fn put(text: &mut String, at: usize, more: &str)
-    requires boundary { IsBoundary (chars (string_bytes text.old)) at }
-    requires room { string_len text.old + length more.now ≤ string_capacity text.old }
-    ensures text { IsInserted (chars (string_bytes text.old)) (chars (string_bytes text.new)) at (chars more.now) }
-    ensures room { string_capacity text.old ≤ string_capacity text.new }
-{
-    let _before = text.as_str();
-    let Ok(()) = text.insert_str(at, more) else {
-        unreachable!()
-    };
-}
-
-/// Takes out what is between two boundaries.
-fn take_out(text: &mut String, from: usize, to: usize)
+/// Exchanges what is between two boundaries of a text for another one, where there is room for both.
+fn exchange(text: &mut String, from: usize, to: usize, more: &str)
     requires order { from ≤ to }
     requires start { IsBoundary (chars (string_bytes text.old)) from }
     requires end { IsBoundary (chars (string_bytes text.old)) to }
-    ensures text { IsRemoved (chars (string_bytes text.old)) (chars (string_bytes text.new)) from to }
+    requires room { string_len text.old + length more.now ≤ string_capacity text.old }
+    ensures text { IsReplaced (chars (string_bytes text.old)) (chars (string_bytes text.new)) from to (chars more.now) }
     ensures room { string_capacity text.old ≤ string_capacity text.new }
 {
     let _before = text.as_str();
-    let Ok(()) = text.replace_range(from..to, "") else {
+    let Ok(()) = text.replace_range(from..to, more) else {
         unreachable!()
     };
 }

@@ -1,10 +1,12 @@
 //! A balanced tree of pieces.
-ghost use Rattle.std.specs.Prelude.{◌≡◌, ◌≢◌, ◌+◌, ◌^◌, ◌<◌, ◌≤◌, ◌↔◌, max, [], ◌∷◌, ◌++◌, length, IfSome, IsNone, IfNone, IfOk};
+ghost use Rattle.std.specs.Prelude.{◌≡◌, ◌≢◌, ◌+◌, ◌^◌, ◌<◌, ◌≤◌, ◌↔◌, max, [], ◌∷◌, ◌++◌, true, false, chars, length, IfSome, IsNone, IfNone, IfOk};
 ghost use Rattle.str_indices.specs.Text.{size};
+ghost use Rattle.str_indices.specs.Relations.{IsBoundary};
 ghost use Rattle.piece_text.specs.Pieces.{joined, joined_size};
 ghost use Rattle.piece_text.specs.Summaries.{summary_of};
-ghost use Rattle.text_rope.specs.Work.{WorkState};
-ghost use Rattle.text_rope.specs.Shapes.{Seen, DifferByAtMost, IsForkOf, AreSummed, fewest};
+ghost use Rattle.text_rope.specs.Edits.{IsReplaced};
+ghost use Rattle.text_rope.specs.Work.{WorkState, Costs};
+ghost use Rattle.text_rope.specs.Shapes.{Seen, DifferByAtMost, IsForkOf, AreAlike, AreSummed, fewest};
 
 use crate::piece::Piece;
 use crate::summaries::{joined, summary_of_none};
@@ -70,6 +72,72 @@ impl Fork {
     {
         joined(joined(self.before, self.piece.summary()), self.after)
     }
+
+    /// Takes over the summary of the left tree, in which a piece has changed.
+    fn renew_before(&mut self)
+        ensures { self.new ≡ record self.old { before = summary_of (joined self.old.left.texts) } }
+    {
+        self.before = self.left.whole();
+    }
+
+    /// Takes over the summary of the right tree, in which a piece has changed.
+    fn renew_after(&mut self)
+        ensures { self.new ≡ record self.old { after = summary_of (joined self.old.right.texts) } }
+    {
+        self.after = self.right.whole();
+    }
+
+    /// Exchanges what is between two boundaries for a text, in the one piece below it that both are in.
+    #[cycle(replace_in_place)]
+    fn replace_in_place(&mut self, work: &mut Work, from: usize, to: usize, more: &str) -> bool
+        requires sound { IsFork self.old.left self.old.piece self.old.right self.old.before self.old.after self.old.height }
+        requires order { from ≤ to }
+        requires start { IsBoundary (joined (self.old.left.texts ++ self.old.piece ∷ self.old.right.texts)) from }
+        requires end { IsBoundary (joined (self.old.left.texts ++ self.old.piece ∷ self.old.right.texts)) to }
+        requires short { joined_size self.old.left.texts + size self.old.piece + joined_size self.old.right.texts
+            + size (chars more.now) < 2 ^ 63 }
+        ensures sound { IsFork self.new.left self.new.piece self.new.right self.new.before self.new.after self.new.height }
+        ensures replaced { result ≡ true → IsReplaced (joined (self.old.left.texts ++ self.old.piece ∷ self.old.right.texts))
+            (joined (self.new.left.texts ++ self.new.piece ∷ self.new.right.texts)) from to (chars more.now) }
+        ensures alike { AreAlike
+            (record { texts = self.old.left.texts ++ self.old.piece ∷ self.old.right.texts; height = self.old.height })
+            (record { texts = self.new.left.texts ++ self.new.piece ∷ self.new.right.texts; height = self.new.height }) }
+        ensures kept { result ≡ false → self.new.left.texts ++ self.new.piece ∷ self.new.right.texts
+            ≡ self.old.left.texts ++ self.old.piece ∷ self.old.right.texts }
+        ensures work { Costs work.old work.new self.old.height 1 }
+    {
+        work.open();
+        let start = self.before.len;
+        let end = start + self.piece.len();
+        let _left = self.left.height();
+        let _right = self.right.height();
+        if ends_before(to, start, more) {
+            let done = self.left.replace_in_place(work, from, to, more);
+            self.renew_before();
+            let _few = self.left.height();
+            done
+        } else if start <= from && to <= end {
+            self.piece
+                .replace_in_place(work, from - start, to - start, more)
+        } else if end <= from {
+            let done = self
+                .right
+                .replace_in_place(work, from - end, to - end, more);
+            self.renew_after();
+            let _few = self.right.height();
+            done
+        } else {
+            false
+        }
+    }
+}
+
+/// Whether a change up to a byte is made before the piece that starts at another one: a text that comes in where it starts
+/// is put into it.
+fn ends_before(to: usize, start: usize, more: &str) -> bool
+    ensures { result ≡ true → to ≤ start }
+{
+    to < start || (to == start && more.is_empty())
 }
 
 impl Tree {
@@ -162,6 +230,32 @@ impl Tree {
             }
         }
     }
+
+    /// Exchanges what is between two boundaries for a text, where both are in one piece that has the memory for it and is
+    /// not made small: the tree keeps its shape. Answers whether it did; where not, all is as before. Takes no memory.
+    #[cycle(replace_in_place)]
+    #[tactic(auto, using(crate::proofs::lemmas::Forks::fork_size))]
+    pub(crate) fn replace_in_place(
+        &mut self,
+        work: &mut Work,
+        from: usize,
+        to: usize,
+        more: &str,
+    ) -> bool
+        requires order { from ≤ to }
+        requires start { IsBoundary (joined self.old.texts) from }
+        requires end { IsBoundary (joined self.old.texts) to }
+        requires short { joined_size self.old.texts + size (chars more.now) < 2 ^ 63 }
+        ensures replaced { result ≡ true → IsReplaced (joined self.old.texts) (joined self.new.texts) from to (chars more.now) }
+        ensures alike { AreAlike self.old self.new }
+        ensures kept { result ≡ false → self.new ≡ self.old }
+        ensures work { Costs work.old work.new self.old.height 1 }
+    {
+        match &mut self.root {
+            Root::Leaf => false,
+            Root::Fork(fork) => fork.replace_in_place(work, from, to, more),
+        }
+    }
 }
 
 /// A fork as a question sees it, with the summaries of its parts.
@@ -198,25 +292,6 @@ pub(crate) fn over(left: Tree, mut fork: Box<Fork>, right: Tree) -> Tree
     fork.right = right;
     Tree {
         root: Root::Fork(fork),
-    }
-}
-
-impl Opened {
-    ghost use Rattle.text_rope.specs.Views.{IsFork};
-
-    /// The fork over its trees again, where all that it holds is right: reads neither tree.
-    #[tactic(auto, using(crate::proofs::lemmas::Forks::fork_size))]
-    pub(crate) fn closed(mut self) -> Tree
-        requires { IsFork self.left self.fork.value.piece self.right
-            self.fork.value.before self.fork.value.after self.fork.value.height }
-        ensures parts { IsForkOf result self.left self.fork.value.piece self.right }
-        ensures height { result.height ≡ self.fork.value.height }
-    {
-        self.fork.left = self.left;
-        self.fork.right = self.right;
-        Tree {
-            root: Root::Fork(self.fork),
-        }
     }
 }
 

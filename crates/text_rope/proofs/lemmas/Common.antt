@@ -14,6 +14,7 @@ pub use Rattle.piece_text.proofs.lemmas.Joining.{joined-append}
 pub use Rattle.piece_text.specs.Pieces.{joined, joined_size}
 pub use Rattle.piece_text.specs.Summaries.{summary_of, count_of}
 pub use Rattle.text_summary.specs.declared.summaries.Summary.{Summary}
+pub use Rattle.text_summary.proofs.lemmas.Boundaries.{AreParts, parts_of}
 pub use Rattle.text_rope.specs.Chunks.{IsPartAt, IsCopied, IsRead}
 pub use Rattle.text_rope.specs.Edits.{IsInserted, IsRemoved, IsReplaced, IsCutAt, IsChunkAt, IsFrontOf, IsBackOf}
 pub use Rattle.text_rope.specs.Work.{WorkState, Costs, OpensFor}

@@ -1,24 +1,30 @@
-use Rattle.text_rope.proofs.lemmas.{◌+◌, arith, length, size-chars, joined_size, OpensFor, height_of_bytes, opens, opens_after}
+use Rattle.text_rope.proofs.lemmas.{◌+◌, arith, length, size-chars, chars, joined, joined_size, OpensFor, height_of_bytes, opens, opens_after, inserted_of}
 use Rattle.text_rope.proofs.inserts.put.Goals as goal
 
-pub put_in_place-requires-clause-short : goal.put_in_place-requires-clause-short
-put_in_place-requires-clause-short c = omega (arith, size-chars c.args.text.now c.utf8.text, c.requires.short)
+pub replace_in_place-requires-clause-short : goal.replace_in_place-requires-clause-short
+replace_in_place-requires-clause-short c = omega (arith, size-chars c.args.text.now c.utf8.text, c.requires.short)
 
-pub returns-in-Ok-clause-opened : goal.returns-in-Ok-clause-opened
-returns-in-Ok-clause-opened c =
+pub returns-then-replace_in_place-clause-ok : goal.returns-then-replace_in_place-clause-ok
+returns-then-replace_in_place-clause-ok c =
+    inserted_of (joined c.args.tree.texts) (joined c.replace_in_place.new.self.texts) c.args.at (chars c.args.text.now)
+    (c.replace_in_place.ensures.replaced c.if-replace_in_place.true)
+
+pub returns-then-replace_in_place-clause-opened : goal.returns-then-replace_in_place-clause-opened
+returns-then-replace_in_place-clause-opened c =
     let tree = c.args.tree in
     let n = joined_size tree.texts + length c.args.text.now in
     let few = height_of_bytes tree.height (length tree.texts) (joined_size tree.texts) n c.height-height.ensures.many
     c.height-height.ensures.few (omega arith) in
-    opens tree.height tree.height n 75 c.args.work.now c.put_in_place.new.work few few
-    (omega (arith, c.put_in_place.ensures.work.opened_at_most))
+    opens tree.height tree.height n 75 c.args.work.now c.replace_in_place.new.work few few
+    (omega (arith, c.replace_in_place.ensures.work.opened_at_most))
 
-pub returns-in-Err-clause-opened : goal.returns-in-Err-clause-opened
-returns-in-Err-clause-opened c =
+pub returns-clause-opened : goal.returns-clause-opened
+returns-clause-opened c =
     let tree = c.args.tree in
     let n = joined_size tree.texts + length c.args.text.now in
     let few = height_of_bytes tree.height (length tree.texts) (joined_size tree.texts) n c.height-height.ensures.many
     c.height-height.ensures.few (omega arith) in
-    let after : OpensFor 74 n c.put_in_place.new.work c.put_apart.new.work = rw c.in-Err.ensures.err at c.put_apart.ensures.opened in
-    opens_after tree.height n c.args.work.now c.put_in_place.new.work c.put_apart.new.work few
-    (omega (arith, c.put_in_place.ensures.work.opened_at_most)) after
+    let same = c.replace_in_place.ensures.kept c.if-replace_in_place.false in
+    let after : OpensFor 74 n c.replace_in_place.new.work c.put_apart.new.work = rw same at c.put_apart.ensures.opened in
+    opens_after tree.height n c.args.work.now c.replace_in_place.new.work c.put_apart.new.work few
+    (omega (arith, c.replace_in_place.ensures.work.opened_at_most)) after
