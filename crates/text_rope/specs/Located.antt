@@ -1,5 +1,6 @@
 -- A piece of a text, with what is before it.
-use Rattle.std.specs.Prelude.{ℕ, ◌≡◌, ◌+◌, ◌<◌, ◌≤◌, ◌++◌}
+use Rattle.std.specs.Prelude.{ℕ, ◌≡◌, ◌+◌, ◌^◌, ◌<◌, ◌≤◌, List, ◌++◌}
+use Rattle.piece_text.specs.Pieces.{joined_size}
 use Rattle.str_indices.specs.Text.{Text, size}
 use Rattle.piece_text.specs.Summaries.{summary_of}
 use Rattle.text_summary.specs.declared.summaries.Summary.{Summary}
@@ -13,3 +14,9 @@ pub record IsLocated (whole chunk : Text) (start : ℕ) (before : Summary) (at :
   pub after : start ≤ at
   pub inside : at < start + size chunk
   pub before_is : before ≡ summary_of front
+
+-- a summary of a text before pieces, which is not too long with them
+pub record IsBefore (before : Summary) (texts : List Text) : Type 0 where
+  pub a : Text
+  pub is : before ≡ summary_of a
+  pub short : size a + joined_size texts < 2 ^ 63

@@ -1,14 +1,13 @@
 //! The piece that a byte is in, with what is before it in the text.
 ghost use Rattle.std.specs.Prelude.{◌≡◌, ◌+◌, ◌-◌, ◌*◌, ◌^◌, ◌<◌, ◌≤◌, ◌↔◌, ◌++◌, IsSome, IfSome, chars, length};
-ghost use Rattle.str_indices.specs.Text.{size};
+ghost use Rattle.str_indices.specs.Text.{Text, size};
 ghost use Rattle.piece_text.specs.Pieces.{PiecesState, joined, joined_size};
 ghost use Rattle.piece_text.specs.Summaries.{summary_of};
-ghost use Rattle.text_rope.specs.Located.{IsLocated};
+ghost use Rattle.text_rope.specs.Located.{IsLocated, IsBefore};
 ghost use Rattle.text_rope.specs.Pieces.{max_piece};
-ghost use Rattle.text_rope.specs.Shapes.{AreSummed};
 
-use crate::summaries::joined;
-use crate::tree::{Look, Tree};
+use crate::summaries::{joined, summary_of_none};
+use crate::tree::Tree;
 use crate::{Chunk, View};
 use byte_chunk::Counter;
 use piece_text::Summary;
@@ -40,55 +39,40 @@ pub fn located_in<'a>(v: &mut View<'a>, at: usize) -> Option<Located<'a>>
     }
     let _height = v.tree.height();
     v.reads.tick();
-    Some(v.tree.located_at(&mut v.looks, at))
-}
-
-impl Look<'_> {
-    /// The summary of what is before its right tree.
-    fn front(&self) -> Summary
-        requires summed { AreSummed self.now.left.now self.now.piece.now self.now.right.now
-            self.now.before self.now.own self.now.after }
-        requires short { joined_size self.now.left.now.texts + size self.now.piece.now < 2 ^ 63 }
-        ensures { result ≡ summary_of (joined self.now.left.now.texts ++ self.now.piece.now) }
-    {
-        joined(self.before, self.own)
-    }
+    Some(v.tree.located_behind(&mut v.looks, summary_of_none(), at))
 }
 
 impl Tree {
-    /// The piece that a byte is in, with the summary of the text before it.
-    fn located_at(&self, looks: &mut Counter, at: usize) -> Located<'_>
+    /// The piece that a byte is in, with the summary of the text before it: that of a text before the tree, and of what the
+    /// way leaves on its left.
+    fn located_behind(&self, looks: &mut Counter, before: Summary, at: usize) -> Located<'_>
         requires inside { at < joined_size self.now.texts }
-        ensures located { IsLocated (joined self.now.texts) (chars result.chunk.text.now) result.chunk.start
-            result.before at }
+        requires before { IsBefore before self.now.texts }
+        ensures located { (a : Text) → before ≡ summary_of a → IsLocated (a ++ joined self.now.texts)
+            (chars result.chunk.text.now) result.chunk.start result.before (size a + at) }
         ensures piece { size (chars result.chunk.text.now) ≤ max_piece }
         ensures looks { looks.new ≤ looks.old + self.now.height }
         ensures looks_kept { looks.old ≤ looks.new }
-        ensures short { joined_size self.now.texts < 2 ^ 63 }
     {
         let Some(look) = self.look(looks) else {
             unreachable!()
         };
         let start = look.before.len;
         if at < start {
-            return look.left.located_at(looks, at);
+            return look.left.located_behind(looks, before, at);
         }
+        let front = joined(before, look.before);
         let end = start + look.own.len;
         if at < end {
-            let text = look.piece.text();
             return Located {
-                chunk: Chunk { text, start },
-                before: look.before,
+                chunk: Chunk {
+                    text: look.piece.text(),
+                    start: front.len,
+                },
+                before: front,
             };
         }
-        let inner = look.right.located_at(looks, at - end);
-        let Chunk { text, start } = inner.chunk;
-        Located {
-            chunk: Chunk {
-                text,
-                start: end + start,
-            },
-            before: joined(look.front(), inner.before),
-        }
+        look.right
+            .located_behind(looks, joined(front, look.own), at - end)
     }
 }

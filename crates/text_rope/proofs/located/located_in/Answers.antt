@@ -1,9 +1,14 @@
-use Rattle.text_rope.proofs.lemmas.{◌-◌, arith, ap, length, fewest_looks}
+use Rattle.text_rope.proofs.lemmas.{[], ◌-◌, arith, ap, length, fewest_looks, located_same}
 use Rattle.text_rope.proofs.located.located_in.Goals as goal
 
 pub returns-clause-looks : goal.returns-clause-looks
 returns-clause-looks c =
     let looks = ap (λ s. s.looks) c.v.view_is in
     let pieces = ap (λ s. length s.texts) c.v.view_is in
-    (fewest_looks (c.located_at.new.looks - c.args.v.now.looks) c.v.inside.tree.now.height (length c.args.v.now.texts)
-    (omega (arith, looks, c.located_at.ensures.looks)) (omega (arith, pieces, c.height-height.ensures.many))).1
+    (fewest_looks (c.located_behind.new.looks - c.args.v.now.looks) c.v.inside.tree.now.height (length c.args.v.now.texts)
+    (omega (arith, looks, c.located_behind.ensures.looks)) (omega (arith, pieces, c.height-height.ensures.many))).1
+
+pub returns-clause-located : goal.returns-clause-located
+returns-clause-located c =
+    rw (← ap (λ s. s.texts) c.v.view_is) (located_same _ _ _ _ c.args.at _
+    (c.located_behind.ensures.located [] c.summary_of_none.ensures) (omega arith))
