@@ -1,5 +1,5 @@
 //! A balanced tree of pieces.
-ghost use Rattle.std.specs.Prelude.{◌≡◌, ◌≢◌, ◌+◌, ◌^◌, ◌<◌, ◌≤◌, ◌↔◌, max, [], ◌∷◌, ◌++◌, true, false, chars, length, IfSome, IsNone, IfNone, IfOk};
+ghost use Rattle.std.specs.Prelude.{◌≡◌, ◌≢◌, ◌+◌, ◌*◌, ◌^◌, ◌<◌, ◌≤◌, ◌↔◌, max, [], ◌∷◌, ◌++◌, true, false, chars, length, IfSome, IsNone, IfNone, IfOk};
 ghost use Rattle.str_indices.specs.Text.{size};
 ghost use Rattle.str_indices.specs.Relations.{IsBoundary};
 ghost use Rattle.piece_text.specs.Pieces.{joined, joined_size};
@@ -177,6 +177,42 @@ impl Tree {
         }
     }
 
+    /// Whether the tree that `part` takes apart at a byte, and `join` puts together again, is as it is now.
+    pub(crate) fn stays(&self, work: &mut Work, at: usize) -> bool
+        ensures { Costs work.old work.new (2 * self.now.height) 0 }
+    {
+        self.edge(work, at, End::Front).is_some() || self.edge(work, at, End::Back).is_some()
+    }
+
+    /// The same where the piece of the byte is on the way from the root to an end: how high its two sides are.
+    #[tactic(auto, using(crate::proofs::lemmas::Forks::fork_size))]
+    fn edge(&self, work: &mut Work, at: usize, end: End) -> Option<Edge>
+        ensures rest { IfSome result (λ e. e.rest ≤ self.now.height) }
+        ensures beyond { IfSome result (λ e. e.beyond ≤ self.now.height) }
+        ensures work { Costs work.old work.new self.now.height 0 }
+    {
+        let Root::Fork(fork) = &self.root else {
+            return None;
+        };
+        work.open();
+        let start = fork.before.len;
+        let behind = start + fork.piece.len();
+        let (left, right) = (fork.left.height(), fork.right.height());
+        match end {
+            End::Front if at < start => fork.left.edge(work, at, end)?.beside(right),
+            End::Back if behind <= at => fork.right.edge(work, at - behind, end)?.beside(left),
+            End::Front if at < behind => Some(Edge {
+                rest: right,
+                beyond: left,
+            }),
+            End::Back if start <= at => Some(Edge {
+                rest: left,
+                beyond: right,
+            }),
+            _ => None,
+        }
+    }
+
     /// Its root, for one look.
     #[tactic(auto, using(crate::proofs::lemmas::Forks::fork_size))]
     pub(crate) fn look(&self, looks: &mut Counter) -> Option<Look<'_>>
@@ -275,6 +311,38 @@ pub(crate) struct Opened {
     pub(crate) left: Tree,
     pub(crate) fork: Box<Fork>,
     pub(crate) right: Tree,
+}
+
+/// An end of a tree.
+#[derive(Clone, Copy)]
+enum End {
+    Front,
+    Back,
+}
+
+/// A tree taken apart at a piece on the way to an end: how high what is beyond the piece is, and the rest.
+#[derive(Clone, Copy)]
+struct Edge {
+    rest: usize,
+    beyond: usize,
+}
+
+impl Edge {
+    /// The same of the fork above, over a tree of a height beside: none where `join` would turn it.
+    fn beside(self, height: usize) -> Option<Edge>
+        requires low { self.rest < 2 ^ 63 }
+        requires beside { height < 2 ^ 63 }
+        requires beyond { self.beyond < 2 ^ 63 }
+        ensures rest { IfSome result (λ e. e.rest ≡ max height self.rest + 1) }
+        ensures beyond { IfSome result (λ e. e.beyond ≡ self.beyond) }
+    {
+        let rest = height.max(self.rest) + 1;
+        if height <= self.rest + 1 && self.rest <= height + 1 && self.beyond + 1 < rest {
+            Some(Edge { rest, ..self })
+        } else {
+            None
+        }
+    }
 }
 
 /// A fork over two trees.

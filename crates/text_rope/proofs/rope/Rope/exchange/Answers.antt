@@ -14,9 +14,13 @@ pub returns-in_err-put-clause-some : goal.returns-in_err-put-clause-some
 returns-in_err-put-clause-some c = λ _. chars-some c.args.text.now c.utf8.text (grind (arith, nat_tests))
 
 pub take_out-requires-2-clause-start : goal.take_out-requires-2-clause-start
-take_out-requires-2-clause-start c = boundary_stays c.args.self.now c.put.new.self c.args.from c.args.to (chars c.args.text.now)
-    c.in_ok-put.ensures.ok c.requires.order c.requires.start
+take_out-requires-2-clause-start c =
+    let same = c.exchange_in_place.ensures.kept c.if-exchange_in_place.false in
+    boundary_stays c.args.self.now c.put.new.self c.args.from c.args.to (chars c.args.text.now) (rw same at c.in_ok-put.ensures.ok)
+    c.requires.order c.requires.start
 
 pub returns-clause-ok : goal.returns-clause-ok
-returns-clause-ok c = replaced c.args.self.now c.put.new.self c.take_out-2.new.self c.args.from c.args.to (chars c.args.text.now)
-    c.in_ok-put.ensures.ok c.take_out-2.ensures
+returns-clause-ok c =
+    let same = c.exchange_in_place.ensures.kept c.if-exchange_in_place.false in
+    replaced c.args.self.now c.put.new.self c.take_out-2.new.self c.args.from c.args.to (chars c.args.text.now)
+    (rw same at c.in_ok-put.ensures.ok) c.take_out-2.ensures
