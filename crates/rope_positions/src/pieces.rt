@@ -1,5 +1,5 @@
 //! What the piece that a byte is in tells of the text before the byte.
-ghost use Rattle.std.specs.Prelude.{◌≡◌, ◌+◌, ◌≤◌, chars, sum_by};
+ghost use Rattle.std.specs.Prelude.{◌≡◌, chars, sum_by};
 ghost use Rattle.str_indices.specs.Joins.{seam_loss};
 ghost use Rattle.str_indices.specs.Relations.{IsBoundary};
 ghost use Rattle.str_indices.specs.Schemes.{weighed};
