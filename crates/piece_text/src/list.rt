@@ -18,7 +18,7 @@ const MAX_LEN: usize = isize::MAX as usize;
 
 /// A text that is kept in pieces, none of them empty. A contract sees the list of the pieces' texts.
 ///
-/// A question takes time linear in the number of pieces and in the length of one of them.
+/// A question passes up to 128 pieces at one look, then looks at some of the pieces one by one, and reads one at most.
 #[derive(Drop)]
 pub struct PieceText {
     pieces: Vec<Piece>,

@@ -1,13 +1,16 @@
 //! A long list of changes, chosen from a seed, beside a model that keeps the pieces as plain texts.
-use super::{Change, assert_as_joined, make};
+use super::{Change, assert_as_joined, assert_same, make};
 use piece_text::{PieceText, Refusal};
 use std::alloc::{AllocError, Global};
 use std::process::Abort;
 use std::test::Fail;
-use test_support::Random;
+use test_support::{Random, SCHEMES};
 
 /// How many changes there are.
 const CHANGES: usize = 300;
+
+/// How many texts are pushed before the changes where the pieces are many, so that there are runs of them.
+const PUSHES: usize = 500;
 
 /// What is put in. Breaks stand at the edges of pieces, and inside.
 const TEXTS: [&str; 12] = [
@@ -153,5 +156,46 @@ fn answers_stay_those_of_the_joined_text(rt: HostRuntime) -> Result<(), Fail> {
         assert_eq!(rt; make(&mut text, change), wanted, "{i}");
         assert_as_model(&rt, &text, &model, &model.joined()?);
     }
+    Ok(())
+}
+
+/// Compares some answers at places chosen from a seed with those for the joined text.
+fn assert_some(rt: &impl Abort, text: &PieceText, joined: &str, random: &mut Random) {
+    for s in SCHEMES {
+        let at = random.next() % joined.len().saturating_add(2);
+        let (count, from, to) = (
+            s.count(joined),
+            s.from_byte_idx(joined, at),
+            s.to_byte_idx(joined, at),
+        );
+        assert_same(rt, text.count(s), count, "", s, at);
+        assert_same(rt, text.from_byte_idx(s, at), from, "", s, at);
+        assert_same(rt, text.to_byte_idx(s, at), to, "", s, at);
+        // the break that a piece may end with, and the one after it
+        let end = s.to_byte_idx(joined, from);
+        assert_same(rt, text.to_byte_idx(s, from), end, "", s, from);
+    }
+}
+
+#[test]
+fn answers_of_many_pieces_stay_those_of_the_joined_text(rt: HostRuntime) -> Result<(), Fail> {
+    let mut text = PieceText::new(rt.alloc());
+    let mut model = Model {
+        pieces: Vec::new(rt.alloc()),
+        alloc: rt.alloc(),
+    };
+    let mut random = Random::new(0x7275_6E73);
+    for _ in 0..PUSHES {
+        let change = Change::Push(TEXTS[random.next() % TEXTS.len()]);
+        let wanted = model.make(change)?;
+        assert_eq!(rt; make(&mut text, change), wanted);
+    }
+    for i in 0..CHANGES {
+        let change = next_change(&mut random, text.pieces(), text.len());
+        let wanted = model.make(change)?;
+        assert_eq!(rt; make(&mut text, change), wanted, "{i}");
+        assert_some(&rt, &text, &model.joined()?, &mut random);
+    }
+    assert_eq!(rt; text.pieces(), model.pieces.len());
     Ok(())
 }
