@@ -1,4 +1,4 @@
-use Rattle.piece_text.proofs.lemmas.{sym, no_pieces, joined_size, to_byte_idx-zero, ◌∙◌, ap, arith, to_byte_idx, to_byte_idx-le-size, joined}
+use Rattle.piece_text.proofs.lemmas.{no_pieces, joined_size, to_byte_idx-zero, ◌∙◌, ap, arith, to_byte_idx, to_byte_idx-le-size, joined}
 use Rattle.piece_text.proofs.queries.to_in.Goals.{then-k-eq0-via-then-k-eq0, then-k-eq0-via-else-k-eq0+then-len-eq0}
 use Rattle.piece_text.proofs.queries.to_in.Goals as goal
 
@@ -22,7 +22,8 @@ returns-then-k-eq0-clause-answer c =
     let s = c.args.s in
     let texts = c.args.p.now.texts in
     elim c.then-k-eq0.branch [
-      | then-k-eq0-via-then-k-eq0 w ↦ rw w.if-k-eq0.true (sym (to_byte_idx-zero s (joined texts)))
+      | then-k-eq0-via-then-k-eq0 w ↦
+          omega (arith, to_byte_idx-zero s (joined texts), ap (to_byte_idx s (joined texts)) w.if-k-eq0.true)
       | then-k-eq0-via-else-k-eq0+then-len-eq0 w ↦
           let none = no_pieces texts (omega (arith, w.len.ensures.len, w.if-len-eq0.true)) in
           omega (arith, to_byte_idx-le-size s (joined texts) c.args.k, ap joined_size none)
