@@ -4,7 +4,7 @@ ghost use Rattle.str_indices.specs.Text.{size};
 ghost use Rattle.piece_text.specs.Pieces.{joined, joined_size};
 ghost use Rattle.text_rope.specs.Work.{WorkState, Costs};
 
-use crate::joins::join;
+use crate::joins::{join, join_known};
 use crate::piece::SMALL;
 use crate::tree::{Fork, Opened, Tree};
 use crate::work::Work;
@@ -22,16 +22,17 @@ pub(crate) fn part(work: &mut Work, tree: Tree, at: usize) -> Opened
     ensures right_low { result.right.height ≤ tree.height }
     ensures work { Costs work.old work.new (4 * tree.height + 3 * (result.left.height + result.right.height)) 0 }
 {
-    let Some(top) = tree.open(work) else {
+    let Some(mut top) = tree.open(work) else {
         unreachable!()
     };
     let start = top.fork.before.len;
     if at < start {
         let inner = part(work, top.left, at);
+        top.fork.before = inner.right.whole();
         return Opened {
             left: inner.left,
             fork: inner.fork,
-            right: join(work, inner.right, top.fork, top.right),
+            right: join_known(work, inner.right, top.fork, top.right),
         };
     }
     let len = top.fork.piece.len();
@@ -39,8 +40,9 @@ pub(crate) fn part(work: &mut Work, tree: Tree, at: usize) -> Opened
         return top;
     }
     let inner = part(work, top.right, at - start - len);
+    top.fork.after = inner.left.whole();
     Opened {
-        left: join(work, top.left, top.fork, inner.left),
+        left: join_known(work, top.left, top.fork, inner.left),
         fork: inner.fork,
         right: inner.right,
     }

@@ -76,7 +76,7 @@ impl Rope {
         ensures len { result ≡ size self.now }
         ensures short { size self.now < 2 ^ 63 }
     {
-        self.tree.whole().len
+        self.tree.len()
     }
 
     /// Whether the text has no byte.

@@ -73,6 +73,15 @@ impl Fork {
         joined(joined(self.before, self.piece.summary()), self.after)
     }
 
+    /// How many bytes its whole text has.
+    #[tactic(auto, using(crate::proofs::lemmas::Forks::fork_size))]
+    fn len(&self) -> usize
+        requires { IsFork self.now.left self.now.piece self.now.right self.now.before self.now.after self.now.height }
+        ensures { result ≡ joined_size (self.now.left.texts ++ self.now.piece ∷ self.now.right.texts) }
+    {
+        self.before.len + self.piece.len() + self.after.len
+    }
+
     /// Takes over the summary of the left tree, in which a piece has changed.
     fn renew_before(&mut self)
         ensures { self.new ≡ record self.old { before = summary_of (joined self.old.left.texts) } }
@@ -159,6 +168,18 @@ impl Tree {
         match &self.root {
             Root::Leaf => summary_of_none(),
             Root::Fork(fork) => fork.whole(),
+        }
+    }
+
+    /// How many bytes the text has.
+    #[tactic(auto, using(crate::proofs::lemmas::Forks::fork_size))]
+    pub(crate) fn len(&self) -> usize
+        ensures len { result ≡ joined_size self.now.texts }
+        ensures short { joined_size self.now.texts < 2 ^ 63 }
+    {
+        match &self.root {
+            Root::Leaf => 0,
+            Root::Fork(fork) => fork.len(),
         }
     }
 
@@ -346,15 +367,26 @@ impl Edge {
 }
 
 /// A fork over two trees.
-#[tactic(auto, using(crate::proofs::lemmas::Forks::fork_size))]
 pub(crate) fn over(left: Tree, mut fork: Box<Fork>, right: Tree) -> Tree
     requires balanced { DifferByAtMost 1 left.height right.height }
     requires short { joined_size left.texts + size fork.value.piece + joined_size right.texts < 2 ^ 63 }
     ensures { IsForkOf result left fork.value.piece right }
 {
-    let _own = fork.piece.summary();
     fork.before = left.whole();
     fork.after = right.whole();
+    over_known(left, fork, right)
+}
+
+/// The same where the fork has the summaries of both trees: it reads neither of them.
+#[tactic(auto, using(crate::proofs::lemmas::Forks::fork_size))]
+pub(crate) fn over_known(left: Tree, mut fork: Box<Fork>, right: Tree) -> Tree
+    requires balanced { DifferByAtMost 1 left.height right.height }
+    requires short { joined_size left.texts + size fork.value.piece + joined_size right.texts < 2 ^ 63 }
+    requires before { fork.value.before ≡ summary_of (joined left.texts) }
+    requires after { fork.value.after ≡ summary_of (joined right.texts) }
+    ensures { IsForkOf result left fork.value.piece right }
+{
+    let _own = fork.piece.summary();
     fork.height = left.height().max(right.height()) + 1;
     fork.left = left;
     fork.right = right;

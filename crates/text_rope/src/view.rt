@@ -43,6 +43,6 @@ impl<'a> View<'a> {
         ensures len { result ≡ joined_size self.now.texts }
         ensures short { joined_size self.now.texts < 2 ^ 63 }
     {
-        self.tree.whole().len
+        self.tree.len()
     }
 }
