@@ -85,7 +85,6 @@ fn write(
     for _ in 0..TYPED / 2 {
         rope.remove(at.saturating_sub(1)..at)?;
         at = at.saturating_sub(1);
-        tell_cursor(rope, s, at, digest);
     }
     Ok(())
 }

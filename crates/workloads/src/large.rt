@@ -37,9 +37,9 @@ pub(crate) fn run(
 
 /// Asks for lines and places at random.
 fn ask(rope: &Rope, random: &mut Random, digest: &mut Digest) {
+    let lines = rope.count(Scheme::Lf).saturating_add(1);
     for _ in 0..CALLS {
-        let line = random.below(rope.count(Scheme::Lf).saturating_add(1));
-        digest.take(rope.to_byte_idx(Scheme::Lf, line));
+        digest.take(rope.to_byte_idx(Scheme::Lf, random.below(lines)));
         let byte = random.below(rope.len());
         digest.take(rope.from_byte_idx(Scheme::Utf16, byte));
     }

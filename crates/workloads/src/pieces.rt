@@ -93,12 +93,12 @@ fn scheme_of(random: &mut Random) -> Scheme {
     }
 }
 
-/// Questions in random schemes, at random places.
+/// Questions in a random scheme, at random places.
 fn ask(text: &PieceText, random: &mut Random, digest: &mut Digest) {
+    let s = scheme_of(random);
+    let indices = text.count(s).saturating_add(1);
     for _ in 0..ASKED {
-        let s = scheme_of(random);
-        let index = random.below(text.count(s).saturating_add(1));
-        digest.take(text.to_byte_idx(s, index));
+        digest.take(text.to_byte_idx(s, random.below(indices)));
         digest.take(text.from_byte_idx(s, random.below(text.len())));
     }
 }

@@ -8,9 +8,8 @@ use text_rope::{Rope, Scheme};
 /// Reads all of the text.
 pub(crate) fn read_all(rope: &Rope, digest: &mut Digest) {
     for chunk in rope.chunks() {
-        digest.take(chunk.len());
+        digest.text(chunk);
     }
-    digest.take(rope.len());
 }
 
 /// Reads so many lines from a line on.
