@@ -105,7 +105,8 @@ impl Runs {
         self.runs.as_slice()
     }
 
-    /// The run that a piece is in, and the number of that run's first piece.
+    /// The run that a piece is in, and the number of that run's first piece. It goes over the runs from the last one back, so
+    /// it takes no longer than to move the pieces after that one.
     fn run_of(&self, at: usize) -> (usize, usize)
         requires { at < pieces_in self.now }
         ensures run { result.0 < length self.now }
@@ -113,15 +114,17 @@ impl Runs {
         ensures past { result.1 ≤ at }
         ensures within { at < pieces_in (take (result.0 + 1) self.now) }
     {
-        let mut first: usize = 0;
-        for r in 0..self.runs.len() {
-            let count = self.runs[r].pieces;
-            if at - first < count {
+        let all = self.runs.len();
+        let mut end = self.pieces;
+        for behind in 0..all {
+            let r = all - 1 - behind;
+            let first = end - self.runs[r].pieces;
+            if first <= at {
                 return (r, first);
             }
-            first += count;
+            end = first;
         }
-        (self.runs.len(), first)
+        unreachable!()
     }
 
     /// Sums anew where a change made one piece more: at `at` there is a new one, or two for one.

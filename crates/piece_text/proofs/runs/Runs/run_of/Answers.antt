@@ -1,21 +1,50 @@
-use Rattle.piece_text.proofs.lemmas.{◌<◌, length, ap, arith, pieces_in-at}
+use Rattle.piece_text.proofs.lemmas.{◌≡◌, ◌+◌, ◌-◌, ◌<◌, length, take, ap, arith, pieces_in, pieces_in-at}
 use Rattle.piece_text.proofs.runs.Runs.run_of.Goals as goal
 
--- the run has the pieces from the first one on
-pub returns-then-at-first-clause-within : goal.returns-then-at-first-clause-within
-returns-then-at-first-clause-within c =
-    let run = c.index.result.now in
-    let inside : c.loop-r.r < length c.self.inside.runs.items = omega (arith, c.self.inside.runs.ok.0, c.len-r-end.ensures, c.loop-r-test.true) in
-    let more = pieces_in-at c.self.inside.runs.items c.loop-r.r run inside in
-    rw (← c.self.view_is) (omega (arith, more, ap (λ v. v.pieces) c.index.ensures, c.loop-r.invariant.first, c.if-at-first.true, c.loop-r.invariant.past))
+pub overflow_sub-first : goal.overflow_sub-first
+overflow_sub-first c =
+    let items = c.self.inside.runs.items in
+    let r = c.len-all.result - 1 - c.loop-behind.behind in
+    let inside : r < length items = omega (arith, c.self.inside.runs.ok.0, c.len-all.ensures, c.loop-behind-test.true) in
+    let upto : length items - c.loop-behind.behind ≡ r + 1 = omega (arith, c.self.inside.runs.ok.0, c.len-all.ensures, c.loop-behind-test.true) in
+    omega (
+      arith,
+      pieces_in-at items r c.index.result.now inside,
+      ap (λ k. pieces_in (take k items)) upto,
+      ap (λ v. v.pieces) c.index.ensures,
+      c.loop-behind.invariant.end,
+    )
 
-pub loop-r-preserved : goal.loop-r-preserved
-loop-r-preserved c =
-    let run = c.index.result.now in
-    let inside : c.loop-r.r < length c.self.inside.runs.items = omega (arith, c.self.inside.runs.ok.0, c.len-r-end.ensures, c.loop-r-test.true) in
-    let more = pieces_in-at c.self.inside.runs.items c.loop-r.r run inside in
-    let own = ap (λ v. v.pieces) c.index.ensures in
+-- the run has the pieces from the first one on
+pub returns-then-first-at-clause-first : goal.returns-then-first-at-clause-first
+returns-then-first-at-clause-first c =
+    let items = c.self.inside.runs.items in
+    let r = c.len-all.result - 1 - c.loop-behind.behind in
+    let inside : r < length items = omega (arith, c.self.inside.runs.ok.0, c.len-all.ensures, c.loop-behind-test.true) in
+    let upto : length items - c.loop-behind.behind ≡ r + 1 = omega (arith, c.self.inside.runs.ok.0, c.len-all.ensures, c.loop-behind-test.true) in
+    rw (← c.self.view_is) (omega (
+      arith,
+      pieces_in-at items r c.index.result.now inside,
+      ap (λ k. pieces_in (take k items)) upto,
+      ap (λ v. v.pieces) c.index.ensures,
+      c.loop-behind.invariant.end,
+    ))
+
+pub loop-behind-preserved : goal.loop-behind-preserved
+loop-behind-preserved c =
+    let items = c.self.inside.runs.items in
+    let r = c.len-all.result - 1 - c.loop-behind.behind in
+    let inside : r < length items = omega (arith, c.self.inside.runs.ok.0, c.len-all.ensures, c.loop-behind-test.true) in
+    let upto : length items - c.loop-behind.behind ≡ r + 1 = omega (arith, c.self.inside.runs.ok.0, c.len-all.ensures, c.loop-behind-test.true) in
+    let before : length items - (c.loop-behind.behind + 1) ≡ r = omega (arith, c.self.inside.runs.ok.0, c.len-all.ensures, c.loop-behind-test.true) in
     record {
-      first = omega (arith, more, own, c.loop-r.invariant.first);
-      past = omega (arith, c.if-at-first.false, c.loop-r.invariant.past);
+      end = omega (
+        arith,
+        pieces_in-at items r c.index.result.now inside,
+        ap (λ k. pieces_in (take k items)) upto,
+        ap (λ k. pieces_in (take k items)) before,
+        ap (λ v. v.pieces) c.index.ensures,
+        c.loop-behind.invariant.end,
+      );
+      inside = omega (arith, c.if-first-at.false);
     }

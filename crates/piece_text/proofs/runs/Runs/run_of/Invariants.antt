@@ -1,9 +1,9 @@
-use Rattle.piece_text.proofs.lemmas.{◌≡◌, ◌≤◌, take, pieces_in}
+use Rattle.piece_text.proofs.lemmas.{◌≡◌, ◌-◌, ◌<◌, length, take, pieces_in}
 use Rattle.piece_text.proofs.runs.Runs.run_of.Given as goal
 
--- the piece is in run r, or after it
-abbrev pub invariant-loop-r : goal.invariant-loop-r
-invariant-loop-r l = record {
-  first : l.first ≡ pieces_in (take l.r l.self-inside.runs.items);
-  past : l.first ≤ l.at;
+-- the piece is in a run before those that were gone over
+abbrev pub invariant-loop-behind : goal.invariant-loop-behind
+invariant-loop-behind l = record {
+  end : l.end ≡ pieces_in (take (length l.self-inside.runs.items - l.behind) l.self-inside.runs.items);
+  inside : l.at < l.end;
 }
