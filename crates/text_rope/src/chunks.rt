@@ -32,7 +32,7 @@ impl Tree {
         ensures looks_kept { looks.old ≤ looks.new }
         ensures short { joined_size self.now.texts < 2 ^ 63 }
     {
-        let _whole = self.whole();
+        let _len = self.len();
         self.chunk_behind(looks, 0, at)
     }
 
