@@ -7,6 +7,7 @@ pub mod Beginnings
 pub mod Located
 pub mod Rests
 pub mod Pieces
+pub mod OnLines
 pub use Common.*
 pub use Asking.*
 pub use Characters.*
@@ -16,3 +17,4 @@ pub use Beginnings.*
 pub use Located.*
 pub use Rests.*
 pub use Pieces.*
+pub use OnLines.*

@@ -42,7 +42,7 @@ fn begins_in(v: &mut View, character: u8, at: usize) -> bool
 }
 
 /// Whether an ASCII char begins at a byte index in a piece.
-fn has_character(chunk: &Chunk<'_>, character: u8, at: usize) -> bool
+pub(crate) fn has_character(chunk: &Chunk<'_>, character: u8, at: usize) -> bool
     requires ascii { character < 128 }
     requires after { chunk.now.start ≤ at }
     requires inside { at < chunk.now.start + size (chars chunk.now.text.now) }

@@ -1,25 +1,20 @@
-//! Where the lines of a rope's text begin, with the pieces that they begin in.
+//! Where the lines of a rope's text begin, with the text from there on in the piece.
 ghost use Rattle.std.specs.Prelude.{◌≡◌, ◌+◌, ◌^◌, ◌<◌, ◌↔◌, ◌⊎◌, IfSome, IfNone, IsTrue, chars, length};
 ghost use Rattle.str_indices.specs.Relations.{IsBoundary};
-ghost use Rattle.str_indices.specs.Schemes.{to_byte_idx, weighed};
+ghost use Rattle.str_indices.specs.Schemes.{to_byte_idx};
 ghost use Rattle.str_indices.specs.Text.{size};
 ghost use Rattle.str_indices.specs.declared.Scheme.TheVariants.{Crlf};
 ghost use Rattle.piece_text.specs.Pieces.{joined, joined_size};
-ghost use Rattle.position_mapper.specs.Encodings.{units_of};
 ghost use Rattle.text_rope.specs.Edits.{IsBackOf, IsChunkAt};
-ghost use Rattle.text_rope.specs.Located.{IsLocated};
 ghost use Rattle.rope_positions.specs.Costs.{Asks};
 
-use crate::pieces::{units_before_piece, units_in_piece};
-use position_mapper::Encoding;
-use text_rope::{Located, Scheme, View, located_in, to_in};
+use text_rope::{Scheme, View, chunk_in, to_in};
 
-/// Where a line begins, the text from there to the end of its piece, and that piece.
+/// Where a line begins, and the text from there to the end of its piece.
 #[derive(Clone, Copy)]
 pub(crate) struct LineStart<'a> {
     pub(crate) byte: usize,
     pub(crate) rest: &'a str,
-    pub(crate) located: Located<'a>,
 }
 
 /// The byte index where a line begins.
@@ -38,42 +33,23 @@ pub(crate) fn line_in<'a>(v: &mut View<'a>, line: usize) -> Option<LineStart<'a>
     ensures start { IfSome result (λ l. l.byte ≡ to_byte_idx Crlf (joined v.old.texts) line) }
     ensures rest { IfSome result (λ l. IsChunkAt (joined v.old.texts) (chars l.rest.now) l.byte l.byte) }
     ensures len { IfSome result (λ l. length l.rest.now ≡ size (chars l.rest.now)) }
-    ensures located { IfSome result (λ l. IsLocated (joined v.old.texts) (chars l.located.chunk.text.now)
-        l.located.chunk.start l.located.before l.byte) }
     ensures none { IfNone result (to_byte_idx Crlf (joined v.old.texts) line ≡ joined_size v.old.texts) }
     ensures cost { Asks 2 v.old v.new }
 {
     let byte = line_start_in(v, line);
-    let Some(located) = located_in(v, byte) else {
+    let Some(chunk) = chunk_in(v, byte) else {
         return None;
     };
-    let rest = from_byte(located.chunk.text, byte - located.chunk.start);
-    Some(LineStart {
-        byte,
-        rest,
-        located,
-    })
+    let rest = from_byte(chunk.text, byte - chunk.start);
+    Some(LineStart { byte, rest })
 }
 
 /// The text from a byte index on.
-fn from_byte(text: &str, at: usize) -> &str
+pub(crate) fn from_byte(text: &str, at: usize) -> &str
     requires boundary { IsBoundary (chars text.now) at }
     ensures { IsBackOf (chars text.now) (chars result.now) at }
 {
     &text[at..]
-}
-
-/// The units of the chars before the beginning of a line.
-pub(crate) fn units_before_start(v: &View, encoding: Encoding, line: &LineStart<'_>) -> usize
-    requires boundary { IsBoundary (joined v.now.texts) line.now.byte }
-    requires located { IsLocated (joined v.now.texts) (chars line.now.located.chunk.text.now)
-        line.now.located.chunk.start line.now.located.before line.now.byte }
-    ensures { result ≡ weighed (units_of encoding) (joined v.now.texts) line.now.byte }
-{
-    let _len = v.len();
-    let chunk = line.located.chunk;
-    units_before_piece(encoding, &line.located)
-        + units_in_piece(encoding, chunk.text, line.byte - chunk.start)
 }
 
 /// Whether the rest of a line's piece tells a place on the line: it is before the end of the rest, or the text ends there.

@@ -9,17 +9,16 @@ ghost use Rattle.position_mapper.specs.Encodings.{units_of};
 ghost use Rattle.position_mapper.specs.Lines.{line_end};
 ghost use Rattle.position_mapper.specs.Positions.{byte_at, byte_range_at, exact_byte_at, position_at};
 ghost use Rattle.text_rope.specs.Edits.{IsChunkAt};
-ghost use Rattle.text_rope.specs.Located.{IsLocated};
 ghost use Rattle.rope_positions.specs.Costs.{Asks};
 
 use crate::boundaries::units_before_boundary_in;
 use crate::breaks::is_crlf_middle_in;
-use crate::line_starts::{LineStart, line_in, line_start_in, tells, units_before_start};
-use crate::pieces::{breaks_at_seam, units_before_piece};
+use crate::line_starts::{LineStart, line_in, line_start_in, tells};
+use crate::pieces::{breaks_at_seam, position_in};
 use crate::units::{place_in, units_before_in};
 use position_mapper::{Encoding, Position, Range};
 use std::ops;
-use text_rope::{Located, Scheme, View, count_in, located_in, to_in};
+use text_rope::{Chunk, Scheme, View, count_in, located_in, to_in};
 
 /// The byte index where the content of a line ends, counted from 0: before its break, or the length of the text in
 /// bytes where it is the last line or past it.
@@ -49,16 +48,17 @@ pub fn position_of_in(v: &mut View, encoding: Encoding, byte: usize) -> Position
 {
     // the last piece has the text's end too
     let last = v.len().saturating_sub(1);
-    let Some(located) = located_in(v, byte.min(last)) else {
+    let Some(located) = located_in(v, Scheme::Crlf, byte.min(last)) else {
         return Position {
             line: 0,
             character: 0,
         };
     };
-    let own = encoding.position_of(located.chunk.text, byte - located.chunk.start);
+    let Chunk { text, start } = located.chunk;
+    let own = position_in(encoding, &located.own, text, byte - start);
     let lost = breaks_at_seam(&located);
-    let line = located.before.crlf - lost + own.line;
-    if own.line > 0 || located.chunk.start == 0 {
+    let line = located.before.total - lost + own.line;
+    if own.line > 0 || start == 0 {
         return Position {
             line,
             character: own.character,
@@ -67,10 +67,11 @@ pub fn position_of_in(v: &mut View, encoding: Encoding, byte: usize) -> Position
     if lost > 0 {
         return position_on(v, encoding, byte, line);
     }
+    let before_piece = units_before_boundary_in(v, encoding, start);
     let before_line = units_before_line_in(v, encoding, line);
     Position {
         line,
-        character: units_before_piece(encoding, &located) + own.character - before_line,
+        character: before_piece + own.character - before_line,
     }
 }
 
@@ -163,8 +164,6 @@ fn byte_from_line(
     requires start { first.now.byte ≡ to_byte_idx Crlf (joined v.old.texts) line }
     requires rest { IsChunkAt (joined v.old.texts) (chars first.now.rest.now) first.now.byte first.now.byte }
     requires len { length first.now.rest.now ≡ size (chars first.now.rest.now) }
-    requires located { IsLocated (joined v.old.texts) (chars first.now.located.chunk.text.now)
-        first.now.located.chunk.start first.now.located.before first.now.byte }
     ensures byte { result ≡ byte_at encoding (joined v.old.texts) position }
     ensures cost { Asks 8 v.old v.new }
 {
@@ -189,16 +188,14 @@ fn byte_on(v: &mut View, encoding: Encoding, line: &LineStart<'_>, position: Pos
     requires start { line.now.byte ≡ to_byte_idx Crlf (joined v.old.texts) position.line }
     requires rest { IsChunkAt (joined v.old.texts) (chars line.now.rest.now) line.now.byte line.now.byte }
     requires len { length line.now.rest.now ≡ size (chars line.now.rest.now) }
-    requires located { IsLocated (joined v.old.texts) (chars line.now.located.chunk.text.now)
-        line.now.located.chunk.start line.now.located.before line.now.byte }
     ensures byte { result ≡ byte_at encoding (joined v.old.texts) position }
-    ensures cost { Asks 5 v.old v.new }
+    ensures cost { Asks 6 v.old v.new }
 {
     let own = encoding.byte_of(line.rest, on_first_line(position));
     if tells(v, line, own) {
         return line.byte + own;
     }
-    let before_line = units_before_start(v, encoding, line);
+    let before_line = units_before_boundary_in(v, encoding, line.byte);
     byte_after(v, encoding, position, before_line)
 }
 
@@ -212,12 +209,10 @@ fn exact_byte_on(
     requires start { line.now.byte ≡ to_byte_idx Crlf (joined v.old.texts) position.line }
     requires rest { IsChunkAt (joined v.old.texts) (chars line.now.rest.now) line.now.byte line.now.byte }
     requires len { length line.now.rest.now ≡ size (chars line.now.rest.now) }
-    requires located { IsLocated (joined v.old.texts) (chars line.now.located.chunk.text.now)
-        line.now.located.chunk.start line.now.located.before line.now.byte }
     requires has { position.line ≤ count Crlf (joined v.old.texts) }
     ensures answer { result ≡ exact_byte_at encoding (joined v.old.texts) position }
     ensures boundary { IfSome result (λ byte. IsBoundary (joined v.old.texts) byte) }
-    ensures cost { Asks 6 v.old v.new }
+    ensures cost { Asks 7 v.old v.new }
 {
     let _len = v.len();
     if let Some(own) = encoding.exact_byte_of(line.rest, on_first_line(position)) {
@@ -227,7 +222,7 @@ fn exact_byte_on(
     if tells(v, line, own) {
         return None;
     }
-    let before_line = units_before_start(v, encoding, line);
+    let before_line = units_before_boundary_in(v, encoding, line.byte);
     exact_byte_after(v, encoding, position, before_line)
 }
 

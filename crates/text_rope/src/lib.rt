@@ -28,4 +28,5 @@ pub use piece_text::{Scheme, Summary};
 pub use queries::{chunk_in, count_in, from_in, is_boundary_in, to_in};
 pub use refusals::Refusal;
 pub use rope::Rope;
+pub use text_summary::Front;
 pub use view::View;

@@ -1,13 +1,9 @@
 -- What a piece tells of the text round it.
-use Rattle.std.specs.Prelude.{sum_by}
 use Rattle.str_indices.proofs.lemmas.Callers.{IsBoundary-either, cut_is_longest, characters_weighed, count-le-size, from_byte_idx-le-count}
 use Rattle.str_indices.specs.declared.Scheme.TheVariants as scheme
 use Rattle.position_mapper.specs.declared.encodings.Encoding.TheVariants.{Utf8, Utf16, Utf32}
-use Rattle.text_summary.specs.declared.summaries.Summary.{Summary}
 use Rattle.text_rope.specs.Edits.{IsBackOf, IsChunkAt}
-use Rattle.text_rope.specs.Located.{IsLocated}
 use Rattle.rope_positions.proofs.lemmas.Common.{◌≡◌, ℕ, ◌+◌, ◌-◌, ◌≤◌, List, [], ◌++◌, take, drop, IsUtf8, chars, refl, ap, ◌∙◌, inl, inr, arith, append_assoc, take-append-drop, length-take-le, IsUtf8-take, chars-append, size-append, size-chars, Text, size, weighed, IsBoundary, units_of, Encoding, cut}
-use Rattle.rope_positions.proofs.lemmas.Beginnings.{weighed_before, weighed_behind}
 use Rattle.str_indices.proofs.lemmas.Callers.{IsCharBoundary-from_boundary}
 
 -- the rest of a text from one of its boundaries on
@@ -22,10 +18,10 @@ back_of_bytes bytes utf8 at boundary =
       place = size-chars (take at bytes) first ∙ length-take-le at bytes edge.0;
     }
 
-module _ (cs chunk : Text) (start : ℕ) (before : Summary) (at : ℕ) (is : IsLocated cs chunk start before at) where
+module _ (cs chunk : Text) (start at : ℕ) (is : IsChunkAt cs chunk start at) where
   -- a boundary of the text in the piece is one of the piece
-  pub boundary_in_located : IsBoundary cs at → IsBoundary chunk (at - start)
-  boundary_in_located boundary =
+  pub boundary_in_chunk : IsBoundary cs at → IsBoundary chunk (at - start)
+  boundary_in_chunk boundary =
       let whole : IsBoundary (is.front ++ (chunk ++ is.back)) at = rw is.parts at boundary in
       elim (IsBoundary-either is.front (chunk ++ is.back) at whole) [
         | inl in_front ↦
@@ -45,8 +41,8 @@ module _ (cs chunk : Text) (start : ℕ) (before : Summary) (at : ℕ) (is : IsL
       ]
 
   -- the rest of the piece is a part of the text
-  pub rest_of_located : (rest : Text) → IsBackOf chunk rest (at - start) → IsChunkAt cs rest at at
-  rest_of_located rest own =
+  pub rest_of_chunk : (rest : Text) → IsBackOf chunk rest (at - start) → IsChunkAt cs rest at at
+  rest_of_chunk rest own =
       let parts : is.front ++ ((own.front ++ rest) ++ is.back) ≡ (is.front ++ own.front) ++ (rest ++ is.back) = simp append_assoc in
       record {
         front = is.front ++ own.front;
@@ -56,18 +52,6 @@ module _ (cs chunk : Text) (start : ℕ) (before : Summary) (at : ℕ) (is : IsL
         after = omega arith;
         inside = omega (arith, ap size own.parts, size-append own.front rest, own.place, is.after, is.inside);
       }
-
--- what is before a place in the piece weighs as much as what is before the piece and what of the piece is before it
-pub units_in_located : (e : Encoding) (cs chunk : Text) (start : ℕ) (before : Summary) (at : ℕ)
-    (is : IsLocated cs chunk start before at)
-    → weighed (units_of e) cs at ≡ sum_by (units_of e) is.front + weighed (units_of e) chunk (at - start)
-units_in_located e cs chunk start before at is =
-    let w = units_of e in
-    let place : at ≡ size is.front + (at - start) = omega (arith, is.place, is.after) in
-    let inside : at - start ≤ size chunk = omega (arith, is.after, is.inside) in
-    ap (λ t. weighed w t at) is.parts ∙ ap (weighed w (is.front ++ (chunk ++ is.back))) place
-    ∙ weighed_behind w is.front (chunk ++ is.back) (at - start)
-    ∙ ap (λ n. sum_by w is.front + n) (weighed_before w chunk is.back (at - start) inside)
 
 -- no more than the bytes of the text
 pub weighed_le_size : (e : Encoding) (cs : Text) (n : ℕ) → weighed (units_of e) cs n ≤ size cs

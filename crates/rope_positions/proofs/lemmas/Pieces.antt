@@ -6,7 +6,7 @@ use Rattle.std.proofs.lemmas.List.Sums.{sum_by-append, take_while-cons}
 use Rattle.str_indices.proofs.lemmas.Callers.{IsBoundary-to_byte_idx, count-le-size, from-to, from_byte_idx-le-count, is_joined, seam_loss-same, starts_with_feed-append, to-from_is_greatest, weighed_at}
 use Rattle.str_indices.specs.Joins.{seam_loss}
 use Rattle.str_indices.specs.declared.Scheme.TheVariants as scheme
-use Rattle.text_summary.specs.declared.summaries.Summary.{Summary}
+use Rattle.text_summary.specs.declared.fronts.Front.{Front}
 use Rattle.position_mapper.specs.Lines.{is_break, line_content}
 use Rattle.text_rope.specs.Located.{IsLocated}
 use Rattle.rope_positions.proofs.lemmas.Common.{◌≡◌, ◌≢◌, ℕ, ◌+◌, ◌-◌, ◌<◌, ◌≤◌, min, Bool, [], ◌∷◌, ◌++◌, sym, refl, ap, ap₂, ◌∙◌, inl, inr, arith, append_assoc, append-nil, len_utf8_bounds, size-append, size-cons, Text, size, count, weighed, from_byte_idx, to_byte_idx, Crlf, IsBoundary, units_of, line_end, line_end_past, cases_lt, position_at, units_of_position, Position, Encoding}
@@ -74,8 +74,8 @@ line_before_seam a b o inside =
     omega (arith, le, ge)
 
 -- a byte is in the piece that it is looked for in, or past the end of the text, which ends with that piece
-pub inside_or_last : (cs chunk : Text) (start : ℕ) (before : Summary) (at byte o : ℕ)
-    (is : IsLocated cs chunk start before at) → at ≡ min byte (size cs - 1) → start + o ≡ byte
+pub inside_or_last : (cs chunk : Text) (start : ℕ) (before : Front) (at byte o : ℕ)
+    (is : IsLocated Crlf cs chunk start before at) → at ≡ min byte (size cs - 1) → start + o ≡ byte
     → (o < size chunk) ⊎ (is.back ≡ [])
 inside_or_last cs chunk start before at byte o is at_is place = elim (cases_lt byte (start + size chunk)) [
   | inl within ↦ inl (omega (arith, within, place))
@@ -92,8 +92,8 @@ position_in_none e cs byte none = rw (none_of cs none) refl
 pub line_le_size : (cs : Text) (byte : ℕ) → from_byte_idx Crlf cs byte ≤ size cs
 line_le_size cs byte = omega (arith, from_byte_idx-le-count Crlf cs byte, count-le-size Crlf cs)
 
-module _ (e : Encoding) (cs chunk : Text) (start : ℕ) (before : Summary) (at byte o : ℕ)
-    (is : IsLocated cs chunk start before at) (place : start + o ≡ byte) (last : (o < size chunk) ⊎ (is.back ≡ [])) where
+module _ (e : Encoding) (cs chunk : Text) (start : ℕ) (before : Front) (at byte o : ℕ)
+    (is : IsLocated Crlf cs chunk start before at) (place : start + o ≡ byte) (last : (o < size chunk) ⊎ (is.back ≡ [])) where
   abbrev lost : ℕ
   lost = seam_loss Crlf is.front chunk
 
@@ -111,6 +111,11 @@ module _ (e : Encoding) (cs chunk : Text) (start : ℕ) (before : Summary) (at b
 
   lost_is : seam_loss Crlf is.front (chunk ++ is.back) ≡ lost
   lost_is = seam_loss-same Crlf is.front (chunk ++ is.back) is.front chunk refl (starts_with_feed-append chunk is.back some)
+
+  -- the units of what is before the piece
+  pub units_before_piece : weighed w cs start ≡ sum_by w is.front
+  units_before_piece = weighed_at w cs start
+      (record { front = is.front; back = chunk ++ is.back; split = is.parts; place = is.place })
 
   -- the line in the piece, and where that begins
   line_in_rest : from_byte_idx Crlf (chunk ++ is.back) o ≡ own.line
@@ -134,15 +139,15 @@ module _ (e : Encoding) (cs chunk : Text) (start : ℕ) (before : Summary) (at b
       ∙ ap (from_byte_idx Crlf (is.front ++ (chunk ++ is.back))) (sym byte_is) in
       omega (arith, behind, whole, lost_is, line_in_rest)
 
-  pub lost_within : (l : ℕ) → l ≡ lost → l ≤ before.crlf
+  pub lost_within : (l : ℕ) → l ≡ lost → l ≤ before.total
   lost_within l l_is =
-      omega (arith, l_is, ap (λ m. m.crlf) is.before_is, (is_joined Crlf is.front chunk).loss_within)
+      omega (arith, l_is, is.before_is.total, (is_joined Crlf is.front chunk).loss_within)
 
-  pub line_made : (l : ℕ) → l ≡ lost → before.crlf - l + own.line ≡ from_byte_idx Crlf cs byte
+  pub line_made : (l : ℕ) → l ≡ lost → before.total - l + own.line ≡ from_byte_idx Crlf cs byte
   line_made l l_is = omega (
     arith,
     l_is,
-    ap (λ m. m.crlf) is.before_is,
+    is.before_is.total,
     (is_joined Crlf is.front chunk).loss_within,
     line_of_piece,
   )

@@ -1,4 +1,4 @@
-use Rattle.rope_positions.proofs.lemmas.{◌∙◌, ap, arith, inl, inr, chars, joined, byte_at, byte_in_rest, byte_at_end, place_within, rest_within, none_asked, asked_within}
+use Rattle.rope_positions.proofs.lemmas.{◌∙◌, ap, arith, inl, inr, chars, joined, byte_at, byte_in_rest, byte_at_end, place_within, rest_within, none_asked, asked_after, asked_within}
 use Rattle.rope_positions.proofs.questions.byte_on.Goals as goal
 
 pub overflow_add-result : goal.overflow_add-result
@@ -27,3 +27,6 @@ returns-then-tells-clause-byte c =
 
 pub returns-then-tells-clause-cost : goal.returns-then-tells-clause-cost
 returns-then-tells-clause-cost c = asked_within (omega arith) (none_asked c.args.v.now)
+
+pub returns-clause-cost : goal.returns-clause-cost
+returns-clause-cost c = asked_after c.units_before_boundary_in-before_line.ensures.cost c.byte_after.ensures.cost

@@ -1,4 +1,4 @@
-use Rattle.rope_positions.proofs.lemmas.{◌∙◌, ap, arith, chars, joined, byte_at, exact_byte_at, exact_in_rest, none_in_rest, exact_is_boundary, none_asked, asked_within}
+use Rattle.rope_positions.proofs.lemmas.{◌∙◌, ap, arith, chars, joined, byte_at, exact_byte_at, exact_in_rest, none_in_rest, exact_is_boundary, none_asked, asked_after, asked_within}
 use Rattle.rope_positions.proofs.questions.exact_byte_on.Goals as goal
 
 pub returns-in-Some-clause-answer : goal.returns-in-Some-clause-answer
@@ -34,3 +34,11 @@ returns-then-tells-clause-answer c =
 
 pub returns-then-tells-clause-cost : goal.returns-then-tells-clause-cost
 returns-then-tells-clause-cost c = asked_within (omega arith) (none_asked c.args.v.now)
+
+pub returns-clause-cost : goal.returns-clause-cost
+returns-clause-cost c = asked_after c.units_before_boundary_in-before_line.ensures.cost c.exact_byte_after.ensures.cost
+
+pub returns-clause-answer : goal.returns-clause-answer
+returns-clause-answer c = c.exact_byte_after.ensures.answer
+    ∙ ap (λ ts. exact_byte_at c.args.encoding (joined ts) c.args.position)
+    c.units_before_boundary_in-before_line.ensures.cost.texts

@@ -1,4 +1,4 @@
-use Rattle.text_rope.proofs.lemmas.{[], ◌-◌, arith, ap, length, fewest_looks, located_same}
+use Rattle.text_rope.proofs.lemmas.{[], ◌-◌, arith, ap, length, joined_size, fewest_looks, located_same}
 use Rattle.text_rope.proofs.located.located_in.Goals as goal
 
 pub returns-clause-looks : goal.returns-clause-looks
@@ -10,5 +10,12 @@ returns-clause-looks c =
 
 pub returns-clause-located : goal.returns-clause-located
 returns-clause-located c =
-    rw (← ap (λ s. s.texts) c.v.view_is) (located_same _ _ _ _ c.args.at _
-    (c.located_behind.ensures.located [] c.summary_of_none.ensures) (omega arith))
+    rw (← ap (λ s. s.texts) c.v.view_is) (located_same c.args.s _ _ _ _ c.args.at _
+    (c.located_behind.ensures.located [] (c.none.ensures c.args.s)) (omega arith))
+
+pub located_behind-requires-clause-before : goal.located_behind-requires-clause-before
+located_behind-requires-clause-before c = record {
+  a = [];
+  is = c.none.ensures c.args.s;
+  short = omega (arith, c.len.ensures.short, ap (λ s. joined_size s.texts) c.v.view_is);
+}

@@ -1,11 +1,23 @@
-use Rattle.text_rope.proofs.lemmas.{◌+◌, ◌-◌, ◌++◌, ap, arith, length-append, Text, size, size-append, joined, summary_of, located_left, located_piece, located_right}
+use Rattle.text_rope.proofs.lemmas.{◌+◌, ◌-◌, ◌++◌, ap, arith, length-append, Text, size, size-append, joined, located_left, located_piece, located_right}
 use Rattle.text_rope.proofs.tree.Tree.+located_behind.Goals as goal
 
 pub returns-then-at-start-clause-located : goal.returns-then-at-start-clause-located
 returns-then-at-start-clause-located t c = λ a is.
     let look = c.in-Some.look in
-    rw c.in-Some.ensures.parts.texts (located_left a look.left.now.texts look.piece.now look.right.now.texts _ _ _ _
+    rw c.in-Some.ensures.parts.texts (located_left c.args.s a look.left.now.texts look.piece.now look.right.now.texts _ _ _ _
     (c.located_behind.ensures.located a is))
+
+pub after-front-requires : goal.after-front-requires
+after-front-requires t c =
+    let look = c.in-Some.look in
+    let own = c.requires.before in
+    record {
+      a = own.a;
+      b = joined look.left.now.texts;
+      front_is = own.is;
+      next_is = c.in-Some.ensures.summaries.before_is;
+      short = omega (arith, own.short, c.in-Some.ensures.parts.size_is);
+    }
 
 pub returns-then-at-end-clause-located : goal.returns-then-at-end-clause-located
 returns-then-at-end-clause-located t c = λ a is.
@@ -14,15 +26,14 @@ returns-then-at-end-clause-located t c = λ a is.
     let left = joined look.left.now.texts in
     let before = ap (λ m. m.len) summed.before_is in
     let len = ap (λ m. m.len) summed.own_is in
-    let front = c.joined-front.ensures a left is summed.before_is in
-    let start = ap (λ m. m.len) front in
+    let front = c.after-front.ensures a left is summed.before_is in
     let both = size-append a left in
-    rw (c.in-Some.ensures.parts.texts, c.text.ensures.text) (located_piece a look.left.now.texts look.piece.now
-    look.right.now.texts c.joined-front.result.len c.joined-front.result (size a + c.args.at) front (omega (arith, start, both))
-    (omega (arith, start, both, before, c.if-at-start.false)) (omega (arith, start, both, before, len, c.if-at-end.true)))
+    rw (c.in-Some.ensures.parts.texts, c.text.ensures.text) (located_piece c.args.s a look.left.now.texts look.piece.now
+    look.right.now.texts c.after-front.result.len c.after-front.result (size a + c.args.at) front (omega (arith, front.len, both))
+    (omega (arith, front.len, both, before, c.if-at-start.false)) (omega (arith, front.len, both, before, len, c.if-at-end.true)))
 
-pub joined-requires : goal.joined-requires
-joined-requires t c =
+pub after-requires : goal.after-requires
+after-requires t c =
     let look = c.in-Some.look in
     let summed = c.in-Some.ensures.summaries in
     let left = joined look.left.now.texts in
@@ -30,8 +41,8 @@ joined-requires t c =
     record {
       a = own.a ++ left;
       b = look.piece.now;
-      front_is = c.joined-front.ensures own.a left own.is summed.before_is;
-      after_is = summed.own_is;
+      front_is = c.after-front.ensures own.a left own.is summed.before_is;
+      next_is = summed.own_is;
       short = omega (arith, size-append own.a left, own.short, c.in-Some.ensures.parts.size_is);
     }
 
@@ -43,13 +54,13 @@ located_behind-requires-2 t c =
     let before = ap (λ m. m.len) summed.before_is in
     let len = ap (λ m. m.len) summed.own_is in
     let own = c.requires.before in
-    let front = c.joined-front.ensures own.a left own.is summed.before_is in (
+    let front = c.after-front.ensures own.a left own.is summed.before_is in (
       grind (arith, length-append {A = Text}, c.in-Some.ensures.parts.texts),
       (
         omega (arith, before, len, c.in-Some.ensures.parts.size_is, c.requires.inside, c.if-at-end.false),
         record {
           a = (own.a ++ left) ++ look.piece.now;
-          is = c.joined.ensures (own.a ++ left) look.piece.now front summed.own_is;
+          is = c.after.ensures (own.a ++ left) look.piece.now front summed.own_is;
           short = omega (
             arith,
             size-append own.a left,
@@ -68,8 +79,8 @@ returns-clause-located t c = λ a is.
     let left = joined look.left.now.texts in
     let before = ap (λ m. m.len) summed.before_is in
     let len = ap (λ m. m.len) summed.own_is in
-    let front = c.joined-front.ensures a left is summed.before_is in
-    let behind = c.joined.ensures (a ++ left) look.piece.now front summed.own_is in
-    rw c.in-Some.ensures.parts.texts (located_right a look.left.now.texts look.piece.now look.right.now.texts _ _ _ _ _
+    let front = c.after-front.ensures a left is summed.before_is in
+    let behind = c.after.ensures (a ++ left) look.piece.now front summed.own_is in
+    rw c.in-Some.ensures.parts.texts (located_right c.args.s a look.left.now.texts look.piece.now look.right.now.texts _ _ _ _ _
     (c.located_behind-2.ensures.located ((a ++ left) ++ look.piece.now) behind)
     (omega (arith, before, len, size-append a left, size-append (a ++ left) look.piece.now, c.if-at-end.false)))
