@@ -8,6 +8,7 @@ pub mod Located
 pub mod Rests
 pub mod Pieces
 pub mod OnLines
+pub mod Plain
 pub use Common.*
 pub use Asking.*
 pub use Characters.*
@@ -18,3 +19,4 @@ pub use Located.*
 pub use Rests.*
 pub use Pieces.*
 pub use OnLines.*
+pub use Plain.*

@@ -1,3 +1,4 @@
 pub mod Characters
 pub mod Costs
+pub mod Plain
 pub mod Changes

@@ -10,6 +10,7 @@ mod changes;
 mod exact_changes;
 mod line_starts;
 mod pieces;
+mod plain;
 mod questions;
 mod ropes;
 mod units;

@@ -15,6 +15,7 @@ use crate::boundaries::units_before_boundary_in;
 use crate::breaks::is_crlf_middle_in;
 use crate::line_starts::{LineStart, line_in, line_start_in, tells};
 use crate::pieces::{breaks_at_seam, position_in};
+use crate::plain::begins_plain;
 use crate::units::{place_in, units_before_in};
 use position_mapper::{Encoding, Position, Range};
 use std::ops;
@@ -191,6 +192,11 @@ fn byte_on(v: &mut View, encoding: Encoding, line: &LineStart<'_>, position: Pos
     ensures byte { result ≡ byte_at encoding (joined v.old.texts) position }
     ensures cost { Asks 6 v.old v.new }
 {
+    let _len = v.len();
+    let Position { character, .. } = position;
+    if character < line.rest.len() && begins_plain(line.rest, character) {
+        return line.byte + character;
+    }
     let own = encoding.byte_of(line.rest, on_first_line(position));
     if tells(v, line, own) {
         return line.byte + own;
@@ -215,6 +221,10 @@ fn exact_byte_on(
     ensures cost { Asks 7 v.old v.new }
 {
     let _len = v.len();
+    let Position { character, .. } = position;
+    if character < line.rest.len() && begins_plain(line.rest, character) {
+        return Some(line.byte + character);
+    }
     if let Some(own) = encoding.exact_byte_of(line.rest, on_first_line(position)) {
         return Some(line.byte + own);
     }

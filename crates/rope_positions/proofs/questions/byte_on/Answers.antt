@@ -1,8 +1,8 @@
-use Rattle.rope_positions.proofs.lemmas.{◌∙◌, ap, arith, inl, inr, chars, joined, byte_at, byte_in_rest, byte_at_end, place_within, rest_within, none_asked, asked_after, asked_within}
+use Rattle.rope_positions.proofs.lemmas.{◌∙◌, ap, arith, inl, inr, chars, joined, byte_at, byte_in_rest, byte_of_plain, byte_at_end, place_within, rest_within, none_asked, asked_after, asked_within}
 use Rattle.rope_positions.proofs.questions.byte_on.Goals as goal
 
-pub overflow_add-result : goal.overflow_add-result
-overflow_add-result c =
+pub overflow_add-result-then-tells : goal.overflow_add-result-then-tells
+overflow_add-result-then-tells c =
     let cs = joined c.args.v.now.texts in
     let line = c.args.line.now in
     let rest = chars line.rest.now in
@@ -30,3 +30,16 @@ returns-then-tells-clause-cost c = asked_within (omega arith) (none_asked c.args
 
 pub returns-clause-cost : goal.returns-clause-cost
 returns-clause-cost c = asked_after c.units_before_boundary_in-before_line.ensures.cost c.byte_after.ensures.cost
+
+pub returns-then-begins_plain-clause-byte : goal.returns-then-begins_plain-clause-byte
+returns-then-begins_plain-clause-byte c =
+    let e = c.args.encoding in
+    let line = c.args.line.now in
+    let rest = chars line.rest.now in
+    let n = c.args.position.character in
+    let own = byte_of_plain e rest n (c.begins_plain.ensures c.if-begins_plain.true) in
+    byte_in_rest e (joined c.args.v.now.texts) c.args.position rest line.byte c.requires.start c.requires.rest n own
+    (omega (arith, c.requires.len, c.if-character-line.true))
+
+pub returns-then-begins_plain-clause-cost : goal.returns-then-begins_plain-clause-cost
+returns-then-begins_plain-clause-cost c = asked_within (omega arith) (none_asked c.args.v.now)

@@ -1,4 +1,4 @@
-use Rattle.rope_positions.proofs.lemmas.{◌∙◌, ap, arith, chars, joined, byte_at, exact_byte_at, exact_in_rest, none_in_rest, exact_is_boundary, none_asked, asked_after, asked_within}
+use Rattle.rope_positions.proofs.lemmas.{◌∙◌, ap, arith, chars, joined, byte_at, exact_byte_at, exact_in_rest, exact_byte_of_plain, none_in_rest, exact_is_boundary, none_asked, asked_after, asked_within}
 use Rattle.rope_positions.proofs.questions.exact_byte_on.Goals as goal
 
 pub returns-in-Some-clause-answer : goal.returns-in-Some-clause-answer
@@ -42,3 +42,19 @@ pub returns-clause-answer : goal.returns-clause-answer
 returns-clause-answer c = c.exact_byte_after.ensures.answer
     ∙ ap (λ ts. exact_byte_at c.args.encoding (joined ts) c.args.position)
     c.units_before_boundary_in-before_line.ensures.cost.texts
+
+pub returns-then-begins_plain-clause-answer : goal.returns-then-begins_plain-clause-answer
+returns-then-begins_plain-clause-answer c =
+    let e = c.args.encoding in
+    let line = c.args.line.now in
+    let rest = chars line.rest.now in
+    let n = c.args.position.character in
+    exact_in_rest e (joined c.args.v.now.texts) c.args.position rest line.byte c.requires.start c.requires.rest n
+    c.requires.has (exact_byte_of_plain e rest n (c.begins_plain.ensures c.if-begins_plain.true))
+
+pub returns-then-begins_plain-clause-boundary : goal.returns-then-begins_plain-clause-boundary
+returns-then-begins_plain-clause-boundary c = exact_is_boundary c.args.encoding (joined c.args.v.now.texts)
+    c.args.position _ (returns-then-begins_plain-clause-answer c)
+
+pub returns-then-begins_plain-clause-cost : goal.returns-then-begins_plain-clause-cost
+returns-then-begins_plain-clause-cost c = asked_within (omega arith) (none_asked c.args.v.now)

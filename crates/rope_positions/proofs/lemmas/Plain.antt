@@ -1,0 +1,83 @@
+-- A position whose character is in the plain beginning of its line.
+use Rattle.std.specs.Prelude.{not, sum_by, All}
+use Rattle.std.specs.List.{before_first}
+use Rattle.std.specs.Char.{char_set_contains}
+use Rattle.std.proofs.lemmas.Bool.Decides.{nat_tests}
+use Rattle.std.proofs.lemmas.List.Elements.{All-head, All-tail}
+use Rattle.std.proofs.lemmas.List.Sums.{sum_by-cons, take_while-cons}
+use Rattle.str_indices.proofs.lemmas.Callers.{boundary_weighed_iff, weighed_is_greatest_boundary, weighed_at}
+use Rattle.str_indices.specs.Text.{weight}
+use Rattle.position_mapper.specs.Lines.{is_break, line_content}
+use Rattle.position_mapper.specs.declared.encodings.Encoding.TheVariants.{Utf8, Utf16, Utf32}
+use Rattle.rope_positions.specs.Plain.{IsPlain, BeginsPlain}
+use Rattle.rope_positions.proofs.lemmas.Common.{Some, ◌≡◌, ℕ, ◌+◌, ◌≤◌, Bool, [], ◌∷◌, ◌++◌, sym, refl, ap, ◌∙◌, arith, size-cons, Text, size, weighed, boundary_weighed, Crlf, count, IsBoundary, units_of, byte_at, exact_byte_at, exact_by_units, units_at_place, Position, Encoding}
+use Rattle.rope_positions.proofs.lemmas.Beginnings.{first_content, weighed_none}
+use Rattle.rope_positions.proofs.lemmas.Rests.{some_units}
+
+-- such a character takes one byte, one unit, and is no break
+one_byte : (c : ℕ) → IsPlain c → size (c ∷ []) ≡ 1
+one_byte c is = grind (arith, nat_tests, is.0, size-cons c [])
+
+one_unit : (e : Encoding) (c : ℕ) → IsPlain c → units_of e c ≡ 1
+one_unit Utf8 c is = grind (arith, nat_tests, is.0)
+one_unit Utf16 c is = grind (arith, nat_tests, is.0)
+one_unit Utf32 c is = refl
+
+no_break : (c : ℕ) → IsPlain c → is_break c ≡ Bool.false
+no_break c is = grind (arith, nat_tests, is)
+
+units_of_plain : (e : Encoding) (f : Text) → All IsPlain f → sum_by (units_of e) f ≡ size f
+units_of_plain e [] plain = refl
+units_of_plain e (c ∷ cs) plain =
+    let here = All-head IsPlain c cs plain in
+    omega (
+      arith,
+      sum_by-cons (units_of e) c cs,
+      size-cons c cs,
+      one_unit e c here,
+      one_unit Utf8 c here,
+      units_of_plain e cs (All-tail IsPlain c cs plain),
+    )
+
+content_of_plain : (f b : Text) → All IsPlain f → before_first is_break (f ++ b) ≡ f ++ before_first is_break b
+content_of_plain [] b plain = refl
+content_of_plain (c ∷ cs) b plain =
+    let other = no_break c (All-head IsPlain c cs plain) in
+    let whole : before_first is_break (c ∷ cs ++ b) ≡ c ∷ before_first is_break (cs ++ b) =
+    take_while-cons (λ d. not (is_break d)) c (cs ++ b) ∙ rw other refl in
+    whole ∙ ap (λ r. c ∷ r) (content_of_plain cs b (All-tail IsPlain c cs plain))
+
+module _ (e : Encoding) (text : Text) (n : ℕ) (begins : BeginsPlain text n) where
+  abbrev w : ℕ → ℕ
+  w = units_of e
+
+  abbrev content : Text
+  content = begins.front ++ before_first is_break begins.back
+
+  content_is : line_content text 0 ≡ content
+  content_is = first_content text ∙ ap (before_first is_break) begins.split
+      ∙ content_of_plain begins.front begins.back begins.plain
+
+  abbrev edge : IsBoundary content n
+  edge = record { front = begins.front; back = before_first is_break begins.back; split = refl; place = begins.place }
+
+  units : weighed w content n ≡ n
+  units = weighed_at w content n edge ∙ units_of_plain e begins.front begins.plain ∙ begins.place
+
+  place : boundary_weighed w content n ≡ n
+  place =
+      let least = (boundary_weighed_iff w content n n edge).1 (omega (arith, units)) in
+      let most = (weighed_is_greatest_boundary w (some_units e) content n).at_or_before in
+      omega (arith, least, most, ap (boundary_weighed w content) units)
+
+  -- it begins at that byte
+  pub byte_of_plain : n ≡ byte_at e text (record { line = 0; character = n })
+  byte_of_plain = omega (arith, ap (λ t. boundary_weighed w t n) content_is, place)
+
+  -- and names that place
+  pub exact_byte_of_plain : Some n ≡ exact_byte_at e text (record { line = 0; character = n })
+  exact_byte_of_plain =
+      let own : Position = record { line = 0; character = n } in
+      let told = ap (λ t. weighed w t (boundary_weighed w t n)) content_is ∙ ap (weighed w content) place ∙ units in
+      ap (λ k. Some k) byte_of_plain
+      ∙ exact_by_units e text own (omega arith) (omega (arith, units_at_place e text own, told))

@@ -1,0 +1,28 @@
+//! The beginning of a line whose chars each take one byte, and so one unit in every encoding.
+ghost use Rattle.std.specs.Prelude.{◌↔◌, All, IsTrue, chars};
+ghost use Rattle.rope_positions.specs.Plain.{BeginsPlain, IsPlain};
+
+/// Whether so many bytes of a text's beginning are ASCII chars of its first line.
+pub(crate) fn begins_plain(text: &str, bytes: usize) -> bool
+    ensures { IsTrue result → BeginsPlain (chars text.now) bytes }
+{
+    text.is_char_boundary(bytes) && is_plain(&text.as_bytes()[..bytes])
+}
+
+/// Whether each byte is such a char. It goes over all of them, since a loop that may end early takes them one by one.
+fn is_plain(bytes: &[u8]) -> bool
+    ensures { IsTrue result ↔ All IsPlain bytes.now }
+{
+    let mut plain = true;
+    for &byte in bytes {
+        plain &= is_plain_byte(byte);
+    }
+    plain
+}
+
+/// Whether a byte is ASCII, and neither LF nor CR.
+fn is_plain_byte(byte: u8) -> bool
+    ensures { IsTrue result ↔ IsPlain byte }
+{
+    byte < 0x80 && byte != b'\n' && byte != b'\r'
+}
