@@ -7,6 +7,7 @@
 
 mod chunks;
 mod copies;
+mod found;
 mod inserts;
 mod joins;
 mod loads;
@@ -23,6 +24,7 @@ mod view;
 mod work;
 
 pub use chunks::{Chunk, Chunks};
+pub use found::{Found, found_in};
 pub use located::{Located, located_in};
 pub use piece_text::{Scheme, Summary};
 pub use queries::{chunk_in, count_in, from_in, is_boundary_in, to_in};

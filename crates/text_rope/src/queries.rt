@@ -88,15 +88,15 @@ pub fn chunk_in<'a>(v: &mut View<'a>, at: usize) -> Option<Chunk<'a>>
 /// Where the piece of a fork and its right tree begin, and how many ends are before them.
 #[derive(Clone, Copy)]
 pub(crate) struct Parts {
-    own_start: usize,
-    own_reached: usize,
-    right_start: usize,
-    right_reached: usize,
+    pub(crate) own_start: usize,
+    pub(crate) own_reached: usize,
+    pub(crate) right_start: usize,
+    pub(crate) right_reached: usize,
 }
 
 impl Look<'_> {
     /// Its parts in a scheme.
-    fn parts(&self, s: Scheme) -> Parts
+    pub(crate) fn parts(&self, s: Scheme) -> Parts
         requires summed { AreSummed self.now.left.now self.now.piece.now self.now.right.now
             self.now.before self.now.own self.now.after }
         requires short { joined_size self.now.left.now.texts + size self.now.piece.now

@@ -1,0 +1,55 @@
+-- A part of a text round a place, which may be its end.
+use Rattle.text_rope.proofs.lemmas.Common.{◌≡◌, ℕ, ◌+◌, ◌≤◌, List, [], ◌∷◌, ◌++◌, refl, arith, ◌∙◌, ap, append_assoc, Text, size, size-append, joined, joined_size, joined-append}
+use Rattle.text_rope.specs.Found.{IsRound}
+
+-- a part of a fork's left tree, of its right tree, and its piece are parts of all
+pub round_left : (xs : List Text) (t : Text) (ys : List Text) (chunk : Text) (start at : ℕ)
+    → IsRound (joined xs) chunk start at → IsRound (joined (xs ++ t ∷ ys)) chunk start at
+round_left xs t ys chunk start at own =
+    let y = joined ys in
+    let parts : (own.front ++ (chunk ++ own.back)) ++ (t ++ y) ≡ own.front ++ (chunk ++ (own.back ++ (t ++ y))) = simp append_assoc in
+    record {
+      front = own.front;
+      back = own.back ++ (t ++ y);
+      parts = joined-append xs (t ∷ ys) ∙ ap (λ r. r ++ (t ++ y)) own.parts ∙ parts;
+      place = own.place;
+      after = own.after;
+      within = own.within;
+    }
+
+pub round_right : (xs : List Text) (t : Text) (ys : List Text) (chunk : Text) (start at start' at' : ℕ)
+    → IsRound (joined ys) chunk start' at' → joined_size xs + size t + start' ≡ start → joined_size xs + size t + at' ≡ at
+    → IsRound (joined (xs ++ t ∷ ys)) chunk start at
+round_right xs t ys chunk start at start' at' own start_is at_is =
+    let x = joined xs in
+    let parts : x ++ (t ++ (own.front ++ (chunk ++ own.back))) ≡ (x ++ (t ++ own.front)) ++ (chunk ++ own.back) = simp append_assoc in
+    record {
+      front = x ++ (t ++ own.front);
+      back = own.back;
+      parts = joined-append xs (t ∷ ys) ∙ ap (λ r. x ++ (t ++ r)) own.parts ∙ parts;
+      place = omega (arith, size-append x (t ++ own.front), size-append t own.front, own.place, start_is);
+      after = omega (arith, own.after, start_is, at_is);
+      within = omega (arith, own.within, start_is, at_is);
+    }
+
+pub round_of_piece : (xs : List Text) (t : Text) (ys : List Text) (start at : ℕ) → joined_size xs ≡ start → start ≤ at
+    → at ≤ start + size t → IsRound (joined (xs ++ t ∷ ys)) t start at
+round_of_piece xs t ys start at place after within = record {
+  front = joined xs;
+  back = joined ys;
+  parts = joined-append xs (t ∷ ys);
+  place = place;
+  after = after;
+  within = within;
+}
+
+-- a text without bytes has an empty part
+pub round_of_none : (start at : ℕ) → start ≡ 0 → at ≡ 0 → IsRound [] [] start at
+round_of_none start at start_is at_is = record {
+  front = [];
+  back = [];
+  parts = refl;
+  place = omega (arith, start_is);
+  after = omega (arith, start_is, at_is);
+  within = omega (arith, start_is, at_is);
+}

@@ -1,0 +1,39 @@
+use Rattle.text_rope.proofs.lemmas.{◌+◌, ◌-◌, ◌∙◌, ap, arith, size, to_byte_idx, to_byte_idx-le-size, chars-nil, round_left, round_right, round_of_piece, round_of_none}
+use Rattle.text_rope.proofs.tree.Tree.+found_behind.Goals as goal
+
+pub returns-in_default-clause-chunk : goal.returns-in_default-clause-chunk
+returns-in_default-clause-chunk t c =
+    rw (c.in_default.ensures.none, chars-nil) (round_of_none _ _ (omega arith) (omega arith))
+
+pub returns-in_default-clause-piece : goal.returns-in_default-clause-piece
+returns-in_default-clause-piece t c = rw chars-nil (omega arith)
+
+pub returns-then-k-parts-clause-chunk : goal.returns-then-k-parts-clause-chunk
+returns-then-k-parts-clause-chunk t c =
+    let look = c.in-Some.look in
+    rw c.in-Some.ensures.parts.texts
+    (round_left look.left.now.texts look.piece.now look.right.now.texts _ _ _ c.found_behind.ensures.chunk)
+
+pub returns-then-parts-k-clause-chunk : goal.returns-then-parts-k-clause-chunk
+returns-then-parts-k-clause-chunk t c =
+    let look = c.in-Some.look in
+    let found = c.found_behind-then-parts-k.ensures in
+    let start = c.parts-parts.ensures.right_start in
+    rw c.in-Some.ensures.parts.texts (round_right look.left.now.texts look.piece.now look.right.now.texts _ _ _ _ _ found.chunk
+    (omega (arith, start, found.behind)) (omega (arith, start, found.byte)))
+
+pub overflow_add-result : goal.overflow_add-result
+overflow_add-result t c =
+    let look = c.in-Some.look in
+    let own = to_byte_idx-le-size c.args.s look.piece.now (c.args.k - c.parts-parts.result.own_reached) in
+    let is = rw c.text-text.ensures.text at c.to_byte_idx.ensures in
+    omega (arith, own, is, c.parts-parts.ensures.own_start, c.in-Some.ensures.parts.size_is, c.requires.short)
+
+pub returns-clause-chunk : goal.returns-clause-chunk
+returns-clause-chunk t c =
+    let look = c.in-Some.look in
+    let own = to_byte_idx-le-size c.args.s look.piece.now (c.args.k - c.parts-parts.result.own_reached) in
+    let is = rw c.text-text.ensures.text at c.to_byte_idx.ensures in
+    let start = c.parts-parts.ensures.own_start in
+    rw (c.in-Some.ensures.parts.texts, c.text-text.ensures.text) (round_of_piece look.left.now.texts look.piece.now
+    look.right.now.texts _ _ (omega (arith, start)) (omega arith) (omega (arith, own, is)))
