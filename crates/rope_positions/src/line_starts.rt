@@ -8,7 +8,7 @@ ghost use Rattle.piece_text.specs.Pieces.{joined, joined_size};
 ghost use Rattle.text_rope.specs.Edits.{IsBackOf, IsChunkAt};
 ghost use Rattle.rope_positions.specs.Costs.{Asks};
 
-use text_rope::{Scheme, View, chunk_in, to_in};
+use text_rope::{Found, Scheme, View, chunk_in, found_in, to_in};
 
 /// Where a line begins, and the text from there to the end of its piece.
 #[derive(Clone, Copy)]
@@ -28,7 +28,8 @@ pub(crate) fn line_start_in(v: &mut View, line: usize) -> usize
     to_in(v, Scheme::Crlf, line)
 }
 
-/// Where a line begins, none where that is the end of the text.
+/// Where a line begins, none where that is the end of the text. Only where a piece ends with the line before it, another
+/// way leads to the piece after that.
 pub(crate) fn line_in<'a>(v: &mut View<'a>, line: usize) -> Option<LineStart<'a>>
     ensures start { IfSome result (λ l. l.byte ≡ to_byte_idx Crlf (joined v.old.texts) line) }
     ensures rest { IfSome result (λ l. IsChunkAt (joined v.old.texts) (chars l.rest.now) l.byte l.byte) }
@@ -36,10 +37,27 @@ pub(crate) fn line_in<'a>(v: &mut View<'a>, line: usize) -> Option<LineStart<'a>
     ensures none { IfNone result (to_byte_idx Crlf (joined v.old.texts) line ≡ joined_size v.old.texts) }
     ensures cost { Asks 2 v.old v.new }
 {
-    let byte = line_start_in(v, line);
-    let Some(chunk) = chunk_in(v, byte) else {
-        return None;
-    };
+    if line == 0 {
+        return rest_in(v, 0);
+    }
+    let Found { byte, chunk } = found_in(v, Scheme::Crlf, line);
+    let rest = from_byte(chunk.text, byte - chunk.start);
+    if rest.is_empty() {
+        return rest_in(v, byte);
+    }
+    Some(LineStart { byte, rest })
+}
+
+/// The text from a boundary to the end of its piece, none at the end of the text.
+fn rest_in<'a>(v: &mut View<'a>, byte: usize) -> Option<LineStart<'a>>
+    requires { IsBoundary (joined v.old.texts) byte }
+    ensures start { IfSome result (λ l. l.byte ≡ byte) }
+    ensures rest { IfSome result (λ l. IsChunkAt (joined v.old.texts) (chars l.rest.now) l.byte l.byte) }
+    ensures len { IfSome result (λ l. length l.rest.now ≡ size (chars l.rest.now)) }
+    ensures none { IfNone result (byte ≡ joined_size v.old.texts) }
+    ensures cost { Asks 1 v.old v.new }
+{
+    let chunk = chunk_in(v, byte)?;
     let rest = from_byte(chunk.text, byte - chunk.start);
     Some(LineStart { byte, rest })
 }

@@ -23,11 +23,7 @@ pub(crate) fn breaks_at_seam(located: &Located<'_>) -> usize
     ensures { (front : Text) → IsFront Crlf front located.now.before
         → result ≡ seam_loss Crlf front (chars located.now.chunk.text.now) }
 {
-    lost_at_seam(
-        Scheme::Crlf,
-        located.before.ends_cr,
-        located.own.starts_lf,
-    )
+    lost_at_seam(Scheme::Crlf, located.before.ends_cr, located.own.starts_lf)
 }
 
 /// The position of a byte in a text, by the text's summary: of an ASCII text no char is read for the units.
@@ -57,13 +53,7 @@ fn is_after_return(text: &str, at: usize) -> bool
 }
 
 /// The units of a text's chars from a byte index between them up to another byte index.
-fn units_between(
-    encoding: Encoding,
-    own: &Summary,
-    text: &str,
-    from: usize,
-    to: usize,
-) -> usize
+fn units_between(encoding: Encoding, own: &Summary, text: &str, from: usize, to: usize) -> usize
     requires own { own.now ≡ summary_of (chars text.now) }
     requires boundary { IsBoundary (chars text.now) from }
     requires order { from ≤ to }

@@ -3,7 +3,8 @@ use Rattle.str_indices.proofs.lemmas.Callers.{IsBoundary-either, cut_is_longest,
 use Rattle.str_indices.specs.declared.Scheme.TheVariants as scheme
 use Rattle.position_mapper.specs.declared.encodings.Encoding.TheVariants.{Utf8, Utf16, Utf32}
 use Rattle.text_rope.specs.Edits.{IsBackOf, IsChunkAt}
-use Rattle.rope_positions.proofs.lemmas.Common.{◌≡◌, ℕ, ◌+◌, ◌-◌, ◌≤◌, List, [], ◌++◌, take, drop, IsUtf8, chars, refl, ap, ◌∙◌, inl, inr, arith, append_assoc, take-append-drop, length-take-le, IsUtf8-take, chars-append, size-append, size-chars, Text, size, weighed, IsBoundary, units_of, Encoding, cut}
+use Rattle.text_rope.specs.Found.{IsRound}
+use Rattle.rope_positions.proofs.lemmas.Common.{◌≡◌, ℕ, ◌+◌, ◌-◌, ◌<◌, ◌≤◌, List, [], ◌++◌, take, drop, IsUtf8, chars, sym, refl, ap, ◌∙◌, inl, inr, arith, append_assoc, append-nil, take-append-drop, length-take-le, IsUtf8-take, chars-append, size-append, size-chars, Text, size, weighed, IsBoundary, units_of, Encoding, cut}
 use Rattle.str_indices.proofs.lemmas.Callers.{IsCharBoundary-from_boundary}
 
 -- the rest of a text from one of its boundaries on
@@ -18,10 +19,10 @@ back_of_bytes bytes utf8 at boundary =
       place = size-chars (take at bytes) first ∙ length-take-le at bytes edge.0;
     }
 
-module _ (cs chunk : Text) (start at : ℕ) (is : IsChunkAt cs chunk start at) where
-  -- a boundary of the text in the piece is one of the piece
-  pub boundary_in_chunk : IsBoundary cs at → IsBoundary chunk (at - start)
-  boundary_in_chunk boundary =
+module _ (cs chunk : Text) (start at : ℕ) (is : IsRound cs chunk start at) where
+  -- a boundary of the text in the piece or at its end is one of the piece
+  pub boundary_in_round : IsBoundary cs at → IsBoundary chunk (at - start)
+  boundary_in_round boundary =
       let whole : IsBoundary (is.front ++ (chunk ++ is.back)) at = rw is.parts at boundary in
       elim (IsBoundary-either is.front (chunk ++ is.back) at whole) [
         | inl in_front ↦
@@ -36,9 +37,37 @@ module _ (cs chunk : Text) (start at : ℕ) (is : IsChunkAt cs chunk start at) w
             let same : own ≡ at - start = omega (arith, place, is.place) in
             elim (IsBoundary-either chunk is.back own in_rest) [
               | inl in_chunk ↦ rw same at in_chunk
-              | inr (past, more, in_back) ↦ absurd (omega (arith, is.inside, is.place, place, more))
+              | inr (past, more, in_back) ↦ record {
+                front = chunk;
+                back = [];
+                split = sym (append-nil chunk);
+                place = omega (arith, is.within, is.place, place, more);
+              }
             ]
       ]
+
+  -- where something is left of the piece from there on, it is in the piece
+  pub chunk_of_round : (rest : Text) → IsBackOf chunk rest (at - start) → 0 < size rest → IsChunkAt cs chunk start at
+  chunk_of_round rest own some = record {
+    front = is.front;
+    back = is.back;
+    parts = is.parts;
+    place = is.place;
+    after = is.after;
+    inside = omega (arith, ap size own.parts, size-append own.front rest, own.place, is.after, some);
+  }
+
+module _ (cs chunk : Text) (start at : ℕ) (is : IsChunkAt cs chunk start at) where
+  -- so is one that is in it
+  pub boundary_in_chunk : IsBoundary cs at → IsBoundary chunk (at - start)
+  boundary_in_chunk = boundary_in_round cs chunk start at (record {
+    front = is.front;
+    back = is.back;
+    parts = is.parts;
+    place = is.place;
+    after = is.after;
+    within = omega (arith, is.inside);
+  })
 
   -- the rest of the piece is a part of the text
   pub rest_of_chunk : (rest : Text) → IsBackOf chunk rest (at - start) → IsChunkAt cs rest at at

@@ -28,11 +28,11 @@ module _ (cs : Text) (byte : ℕ) (other : IsCrlfMiddle cs byte → ⊥) where
         elim (break_of_line cs line (omega (arith, more))) [
           | inr (_, ends) ↦ omega (arith, ends, before, within)
           | inl (middle, ends) ↦ elim (cases_lt byte (next - 1)) [
-              | inl earlier ↦ omega (arith, ends, earlier, within)
-              | inr there ↦
-                  let same : next - 1 ≡ byte = omega (arith, there, before) in
-                  absurd (other (rw same at middle))
-            ]
+            | inl earlier ↦ omega (arith, ends, earlier, within)
+            | inr there ↦
+                let same : next - 1 ≡ byte = omega (arith, there, before) in
+                absurd (other (rw same at middle))
+          ]
         ]
   ]
 

@@ -1,42 +1,41 @@
-use Rattle.str_indices.proofs.lemmas.Callers.{IsBoundary-to_byte_idx, to_byte_idx-le-size}
-use Rattle.rope_positions.proofs.lemmas.{◌≡◌, inl, inr, ap, sym, subst, arith, cases_lt, joined, joined_size, Crlf, IsBoundary, size-chars, one_asked, asked_after, boundary_in_chunk, rest_of_chunk}
+use Rattle.std.proofs.lemmas.Bool.Decides.{nat_tests}
+use Rattle.str_indices.proofs.lemmas.Callers.{IsBoundary-to_byte_idx}
+use Rattle.rope_positions.proofs.lemmas.{◌≡◌, ◌<◌, sym, subst, arith, chars, size, joined, Crlf, IsBoundary, size-chars, one_asked, asked_after, asked_within, boundary_in_round, chunk_of_round, rest_of_chunk}
 use Rattle.rope_positions.proofs.line_starts.line_in.Goals as goal
 
-pub returns-in_default-clause-none : goal.returns-in_default-clause-none
-returns-in_default-clause-none c =
-    let cs = joined c.args.v.now.texts in
-    let start = c.line_start_in-byte.ensures.start in
-    let texts = c.line_start_in-byte.ensures.cost.texts in
-    elim (cases_lt c.line_start_in-byte.result (joined_size c.line_start_in-byte.new.v.texts)) [
-      | inl inside ↦ let some = c.in_default.ensures.some.1 inside in cc
-      | inr past ↦
-          omega (arith, start, ap joined_size texts, to_byte_idx-le-size Crlf cs c.args.line)
-    ]
-
-pub returns-in_default-clause-cost : goal.returns-in_default-clause-cost
-returns-in_default-clause-cost c = let asked = c.chunk_in.ensures in
-    asked_after c.line_start_in-byte.ensures.cost
-    (one_asked _ _ asked.texts asked.looks asked.looks_kept asked.reads asked.reads_kept)
+pub returns-then-line-eq0-clause-cost : goal.returns-then-line-eq0-clause-cost
+returns-then-line-eq0-clause-cost c = asked_within (omega arith) c.rest_in.ensures.cost
 
 pub from_byte-rest-requires : goal.from_byte-rest-requires
 from_byte-rest-requires c =
     let cs = joined c.args.v.now.texts in
-    let texts : c.line_start_in-byte.new.v.texts ≡ c.args.v.now.texts = c.line_start_in-byte.ensures.cost.texts in
-    let located = rw texts at c.in-Some.ensures.chunk in
-    let at = subst (IsBoundary cs) (sym c.line_start_in-byte.ensures.start) (IsBoundary-to_byte_idx Crlf cs c.args.line) in
-    record { boundary = boundary_in_chunk cs _ _ c.line_start_in-byte.result located at }
+    let found = c.found_in-byte.ensures in
+    record {
+      boundary = boundary_in_round cs _ _ c.found_in-byte.result.byte found.chunk
+          (subst (IsBoundary cs) (sym found.byte) (IsBoundary-to_byte_idx Crlf cs c.args.line));
+    }
+
+pub rest_in-requires-then-is_empty : goal.rest_in-requires-then-is_empty
+rest_in-requires-then-is_empty c =
+    let cs = joined c.args.v.now.texts in
+    let found = c.found_in-byte.ensures in
+    rw found.texts (subst (IsBoundary cs) (sym found.byte) (IsBoundary-to_byte_idx Crlf cs c.args.line))
+
+pub returns-then-is_empty-clause-cost : goal.returns-then-is_empty-clause-cost
+returns-then-is_empty-clause-cost c = let asked = c.found_in-byte.ensures in
+    asked_after (one_asked _ _ asked.texts asked.looks asked.looks_kept asked.reads asked.reads_kept)
+    c.rest_in-then-is_empty.ensures.cost
 
 pub returns-clause-rest : goal.returns-clause-rest
 returns-clause-rest c =
     let cs = joined c.args.v.now.texts in
-    let texts : c.line_start_in-byte.new.v.texts ≡ c.args.v.now.texts = c.line_start_in-byte.ensures.cost.texts in
-    let located = rw texts at c.in-Some.ensures.chunk in
-    rest_of_chunk cs _ _ c.line_start_in-byte.result located _ c.from_byte-rest.ensures
-
-pub returns-clause-cost : goal.returns-clause-cost
-returns-clause-cost c = let asked = c.chunk_in.ensures in
-    asked_after c.line_start_in-byte.ensures.cost
-    (one_asked _ _ asked.texts asked.looks asked.looks_kept asked.reads asked.reads_kept)
+    let round = c.found_in-byte.ensures.chunk in
+    let back = c.from_byte-rest.ensures in
+    let rest = c.from_byte-rest.result.now in
+    let tested = c.is_empty.ensures in
+    let not_empty = c.if-is_empty.false in
+    let some : 0 < size (chars rest) = grind (arith, nat_tests, size-chars rest c.from_byte-rest.utf8, tested, not_empty) in
+    rest_of_chunk cs _ _ c.found_in-byte.result.byte (chunk_of_round cs _ _ _ round _ back some) _ back
 
 pub returns-clause-len : goal.returns-clause-len
 returns-clause-len c = sym (size-chars c.from_byte-rest.result.now c.from_byte-rest.utf8)
