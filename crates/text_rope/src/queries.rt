@@ -101,7 +101,8 @@ impl Look<'_> {
             self.now.before self.now.own self.now.after }
         requires short { joined_size self.now.left.now.texts + size self.now.piece.now
             + joined_size self.now.right.now.texts < 2 ^ 63 }
-        ensures { Tells s self.now.left.now.texts self.now.piece.now self.now.right.now.texts result }
+        ensures tells { Tells s self.now.left.now.texts self.now.piece.now self.now.right.now.texts result }
+        ensures own_within { result.own_reached ≤ count s (joined self.now.left.now.texts) }
     {
         let own_reached = self.before.count(s) - lost_at_seam(s, self.before, self.own);
         Parts {

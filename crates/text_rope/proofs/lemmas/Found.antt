@@ -1,6 +1,10 @@
 -- A part of a text round a place, which may be its end.
-use Rattle.text_rope.proofs.lemmas.Common.{◌≡◌, ℕ, ◌+◌, ◌≤◌, List, [], ◌∷◌, ◌++◌, refl, arith, ◌∙◌, ap, append_assoc, Text, size, size-append, joined, joined_size, joined-append}
+use Rattle.text_rope.proofs.lemmas.Common.{◌≡◌, ℕ, ◌+◌, ◌-◌, ◌≤◌, List, [], ◌∷◌, ◌++◌, refl, arith, ◌∙◌, ap, append_assoc, Text, size, size-append, joined, joined_size, joined-append, count}
+use Rattle.str_indices.proofs.lemmas.Callers.{from_byte_idx-all}
+use Rattle.str_indices.specs.declared.Scheme.{Scheme}
 use Rattle.text_rope.specs.Found.{IsRound}
+use Rattle.text_rope.specs.Places.{Tells}
+use Rattle.text_rope.specs.declared.queries.Parts.{Parts}
 
 -- a part of a fork's left tree, of its right tree, and its piece are parts of all
 pub round_left : (xs : List Text) (t : Text) (ys : List Text) (chunk : Text) (start at : ℕ)
@@ -53,3 +57,15 @@ round_of_none start at start_is at_is = record {
   after = omega (arith, start_is, at_is);
   within = omega (arith, start_is, at_is);
 }
+
+-- the whole counts what is before the right tree, and that
+pub count_of_parts : (s : Scheme) (xs : List Text) (t : Text) (ys : List Text) (p : Parts) → Tells s xs t ys p
+    → count s (joined (xs ++ t ∷ ys)) ≡ p.right_reached + count s (joined ys)
+count_of_parts s xs t ys p tells =
+    let whole = joined (xs ++ t ∷ ys) in
+    let sizes = ap size (joined-append xs (t ∷ ys)) ∙ size-append (joined xs) (t ++ joined ys) in
+    let long : size whole ≡ p.right_start + size (joined ys) =
+    omega (arith, sizes, size-append t (joined ys), tells.right_start) in
+    let all = from_byte_idx-all s whole (size whole) (omega arith) in
+    let rest = from_byte_idx-all s (joined ys) (size whole - p.right_start) (omega (arith, long)) in
+    omega (arith, all, rest, tells.from_right (size whole) (omega (arith, long)))

@@ -31,8 +31,8 @@ overflow_add-result-2 c =
     let counted2 : c.count-2.result ≡ count s t = c.count-2.ensures ∙ ap (λ m. count_of m c.args.s) summed.own_is ∙ count_of-summary c.args.s t in
     omega (arith, counted, counted2, count-le-size s x, count-le-size s t, c.requires.short)
 
-pub returns : goal.returns
-returns c =
+pub returns-clause-tells : goal.returns-clause-tells
+returns-clause-tells c =
     let s = c.args.s in
     let xs = c.args.self.now.left.now.texts in
     let x = joined xs in
@@ -47,3 +47,10 @@ returns c =
     (c.lost_at_seam.ensures x t summed.before_is summed.own_is)
     (c.lost_at_seam-2.ensures t (joined ys) summed.own_is summed.after_is)
     len (omega (arith, counted)) (omega (arith, len, len2)) (omega (arith, counted2))
+
+pub returns-clause-own_within : goal.returns-clause-own_within
+returns-clause-own_within c =
+    let s = c.args.s in
+    let x = joined c.args.self.now.left.now.texts in
+    let before = c.requires.summed.before_is in
+    omega (arith, c.count.ensures ∙ ap (λ m. count_of m s) before ∙ count_of-summary s x)

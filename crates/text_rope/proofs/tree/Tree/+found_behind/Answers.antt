@@ -1,4 +1,4 @@
-use Rattle.text_rope.proofs.lemmas.{◌+◌, ◌-◌, ◌∙◌, ap, arith, size, to_byte_idx, to_byte_idx-le-size, chars-nil, round_left, round_right, round_of_piece, round_of_none}
+use Rattle.text_rope.proofs.lemmas.{◌≡◌, ◌+◌, ◌-◌, ◌∙◌, ap, arith, inl, inr, cases_lt, size, count, joined, count-nil, to_byte_idx, to_byte_idx-le-size, count_of_parts, chars-nil, round_left, round_right, round_of_piece, round_of_none}
 use Rattle.text_rope.proofs.tree.Tree.+found_behind.Goals as goal
 
 pub returns-in_default-clause-chunk : goal.returns-in_default-clause-chunk
@@ -18,7 +18,7 @@ pub returns-then-parts-k-clause-chunk : goal.returns-then-parts-k-clause-chunk
 returns-then-parts-k-clause-chunk t c =
     let look = c.in-Some.look in
     let found = c.found_behind-then-parts-k.ensures in
-    let start = c.parts-parts.ensures.right_start in
+    let start = c.parts-parts.ensures.tells.right_start in
     rw c.in-Some.ensures.parts.texts (round_right look.left.now.texts look.piece.now look.right.now.texts _ _ _ _ _ found.chunk
     (omega (arith, start, found.behind)) (omega (arith, start, found.byte)))
 
@@ -27,13 +27,37 @@ overflow_add-result t c =
     let look = c.in-Some.look in
     let own = to_byte_idx-le-size c.args.s look.piece.now (c.args.k - c.parts-parts.result.own_reached) in
     let is = rw c.text-text.ensures.text at c.to_byte_idx.ensures in
-    omega (arith, own, is, c.parts-parts.ensures.own_start, c.in-Some.ensures.parts.size_is, c.requires.short)
+    omega (arith, own, is, c.parts-parts.ensures.tells.own_start, c.in-Some.ensures.parts.size_is, c.requires.short)
 
 pub returns-clause-chunk : goal.returns-clause-chunk
 returns-clause-chunk t c =
     let look = c.in-Some.look in
     let own = to_byte_idx-le-size c.args.s look.piece.now (c.args.k - c.parts-parts.result.own_reached) in
     let is = rw c.text-text.ensures.text at c.to_byte_idx.ensures in
-    let start = c.parts-parts.ensures.own_start in
+    let start = c.parts-parts.ensures.tells.own_start in
     rw (c.in-Some.ensures.parts.texts, c.text-text.ensures.text) (round_of_piece look.left.now.texts look.piece.now
     look.right.now.texts _ _ (omega (arith, start)) (omega arith) (omega (arith, own, is)))
+
+pub returns-in_default-clause-some : goal.returns-in_default-clause-some
+returns-in_default-clause-some t c = λ empty.
+    let none : count c.args.s (joined c.args.self.now.texts) ≡ 0 = rw c.in_default.ensures.none (count-nil c.args.s) in
+    elim (cases_lt 0 c.args.k) [
+      | inl above ↦ inr (omega (arith, none, above))
+      | inr zero ↦ inl (omega (arith, zero))
+    ]
+
+pub returns-then-k-parts-clause-some : goal.returns-then-k-parts-clause-some
+returns-then-k-parts-clause-some t c = λ empty. elim (c.found_behind.ensures.some empty) [
+  | inl zero ↦ inl zero
+  | inr past ↦ absurd (omega (arith, past, c.if-k-parts.true, c.parts-parts.ensures.own_within))
+]
+
+pub returns-then-parts-k-clause-some : goal.returns-then-parts-k-clause-some
+returns-then-parts-k-clause-some t c = λ empty.
+    let look = c.in-Some.look in
+    let whole = count_of_parts c.args.s look.left.now.texts look.piece.now look.right.now.texts c.parts-parts.result
+    c.parts-parts.ensures.tells in
+    elim (c.found_behind-then-parts-k.ensures.some empty) [
+      | inl zero ↦ absurd (omega (arith, zero, c.if-parts-k.true))
+      | inr past ↦ inr (rw c.in-Some.ensures.parts.texts (omega (arith, past, c.if-parts-k.true, whole)))
+    ]
