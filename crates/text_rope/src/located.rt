@@ -80,7 +80,7 @@ impl Tree {
                     text: look.piece.text(),
                     start: front.len,
                 },
-                own: look.own,
+                own: *look.own,
                 before: front,
             };
         }
@@ -90,13 +90,13 @@ impl Tree {
 }
 
 /// What is known of a text and one after it, by the summary of that one, which may be empty.
-fn after(s: Scheme, front: Front, next: Summary) -> Front
-    requires { AreInOrder s front next }
-    ensures { (a b : Text) → IsFront s a front → next ≡ summary_of b → IsFront s (a ++ b) result }
+fn after(s: Scheme, front: Front, next: &Summary) -> Front
+    requires { AreInOrder s front next.now }
+    ensures { (a b : Text) → IsFront s a front → next.now ≡ summary_of b → IsFront s (a ++ b) result }
 {
     if next.len == 0 {
         front
     } else {
-        front.look(s, next).behind
+        front.look(s, *next).behind
     }
 }

@@ -58,11 +58,11 @@ impl Piece {
     }
 
     /// The summary of its text.
-    pub(crate) fn summary(&self) -> Summary
-        ensures summary { result ≡ summary_of self.now }
+    pub(crate) fn summary(&self) -> &Summary
+        ensures summary { result.now ≡ summary_of self.now }
         ensures some { self.now ≢ [] }
     {
-        self.summary
+        &self.summary
     }
 
     /// How many bytes it has.

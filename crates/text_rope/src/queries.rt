@@ -98,7 +98,7 @@ impl Look<'_> {
     /// Its parts in a scheme.
     pub(crate) fn parts(&self, s: Scheme) -> Parts
         requires summed { AreSummed self.now.left.now self.now.piece.now self.now.right.now
-            self.now.before self.now.own self.now.after }
+            self.now.before.now self.now.own.now self.now.after.now }
         requires short { joined_size self.now.left.now.texts + size self.now.piece.now
             + joined_size self.now.right.now.texts < 2 ^ 63 }
         ensures tells { Tells s self.now.left.now.texts self.now.piece.now self.now.right.now.texts result }
@@ -215,8 +215,8 @@ impl Tree {
 }
 
 /// How many breaks the seam of two texts takes off.
-fn lost_at_seam(s: Scheme, front: Summary, after: Summary) -> usize
-    ensures { (a b : Text) → front ≡ summary_of a → after ≡ summary_of b → result ≡ seam_loss s a b }
+fn lost_at_seam(s: Scheme, front: &Summary, after: &Summary) -> usize
+    ensures { (a b : Text) → front.now ≡ summary_of a → after.now ≡ summary_of b → result ≡ seam_loss s a b }
 {
     match s {
         Scheme::Crlf | Scheme::Lines => usize::from(front.ends_cr && after.starts_lf),

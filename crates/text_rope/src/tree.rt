@@ -70,7 +70,7 @@ impl Fork {
         requires { IsFork self.now.left self.now.piece self.now.right self.now.before self.now.after self.now.height }
         ensures { result ≡ summary_of (joined (self.now.left.texts ++ self.now.piece ∷ self.now.right.texts)) }
     {
-        joined(joined(self.before, self.piece.summary()), self.after)
+        joined(joined(self.before, *self.piece.summary()), self.after)
     }
 
     /// How many bytes its whole text has.
@@ -241,7 +241,7 @@ impl Tree {
         ensures none { IfNone result (self.now.texts ≡ []) }
         ensures parts { IfSome result (λ l. IsForkOf self.now l.left.now l.piece.now l.right.now) }
         ensures summaries { IfSome result
-            (λ l. AreSummed l.left.now l.piece.now l.right.now l.before l.own l.after) }
+            (λ l. AreSummed l.left.now l.piece.now l.right.now l.before.now l.own.now l.after.now) }
         ensures short { joined_size self.now.texts < 2 ^ 63 }
         ensures one { IfSome result (λ _. looks.new ≡ looks.old + 1) }
         ensures free { IfNone result (looks.new ≡ looks.old) }
@@ -255,9 +255,9 @@ impl Tree {
                     left: &fork.left,
                     piece: &fork.piece,
                     right: &fork.right,
-                    before: fork.before,
+                    before: &fork.before,
                     own: fork.piece.summary(),
-                    after: fork.after,
+                    after: &fork.after,
                 })
             }
         }
@@ -315,15 +315,16 @@ impl Tree {
     }
 }
 
-/// A fork as a question sees it, with the summaries of its parts.
+/// A fork as a question sees it, with the summaries of its parts. It lends all of them: a question reads few of their
+/// numbers, and fewer cache lines.
 #[derive(Drop)]
 pub(crate) struct Look<'a> {
     pub(crate) left: &'a Tree,
     pub(crate) piece: &'a Piece,
     pub(crate) right: &'a Tree,
-    pub(crate) before: Summary,
-    pub(crate) own: Summary,
-    pub(crate) after: Summary,
+    pub(crate) before: &'a Summary,
+    pub(crate) own: &'a Summary,
+    pub(crate) after: &'a Summary,
 }
 
 /// A fork with no trees below it, and the two trees that it had.

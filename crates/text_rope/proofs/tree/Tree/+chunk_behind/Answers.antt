@@ -12,7 +12,7 @@ returns-then-at-end-clause-chunk t c =
     let before = ap (λ m. m.len) c.in-Some.ensures.summaries.before_is in
     let len = ap (λ m. m.len) c.in-Some.ensures.summaries.own_is in
     rw (c.in-Some.ensures.parts.texts, c.text.ensures.text) (chunk_of_piece look.left.now.texts look.piece.now look.right.now.texts
-    ((c.args.before + look.before.len) - c.args.before) c.args.at (omega (arith, before)) (omega arith) (omega (arith, len)))
+    ((c.args.before + look.before.now.len) - c.args.before) c.args.at (omega (arith, before)) (omega arith) (omega (arith, len)))
 
 pub returns-clause-chunk : goal.returns-clause-chunk
 returns-clause-chunk t c =

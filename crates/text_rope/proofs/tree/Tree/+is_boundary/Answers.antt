@@ -16,7 +16,7 @@ returns-then-at-end-clause-boundary t c =
     let parts = c.in-Some.ensures.parts in
     let before = ap (λ m. m.len) c.in-Some.ensures.summaries.before_is in
     let len = ap (λ m. m.len) c.in-Some.ensures.summaries.own_is in
-    let same = boundary_in_piece look.left.now.texts look.piece.now look.right.now.texts c.args.at (c.args.at - look.before.len) (omega (arith, before)) (omega (arith, before, len)) in
+    let same = boundary_in_piece look.left.now.texts look.piece.now look.right.now.texts c.args.at (c.args.at - look.before.now.len) (omega (arith, before)) (omega (arith, before, len)) in
     let own = rw c.text_of-text.ensures.text at c.is_char_boundary.ensures in
     rw parts.texts ((λ is. same.1 (own.0 is)), (λ at. own.1 (same.0 at)))
 
@@ -26,6 +26,6 @@ returns-else-at-end-clause-boundary t c =
     let parts = c.in-Some.ensures.parts in
     let before = ap (λ m. m.len) c.in-Some.ensures.summaries.before_is in
     let len = ap (λ m. m.len) c.in-Some.ensures.summaries.own_is in
-    let same = boundary_in_right look.left.now.texts look.piece.now look.right.now.texts c.args.at (c.args.at - (look.before.len + look.own.len)) (omega (arith, before, len)) in
+    let same = boundary_in_right look.left.now.texts look.piece.now look.right.now.texts c.args.at (c.args.at - (look.before.now.len + look.own.now.len)) (omega (arith, before, len)) in
     let own = c.is_boundary-in-Some.ensures.boundary in
     rw parts.texts ((λ is. same.1 (own.0 is)), (λ at. own.1 (same.0 at)))
