@@ -5,6 +5,8 @@ pub mod Fronts
 pub mod Boundaries
 pub mod Changing
 pub mod Narrowing
+pub mod Kinds
+pub mod Absent
 pub use Common.*
 pub use Joining.*
 pub use Summing.*
@@ -12,3 +14,5 @@ pub use Fronts.*
 pub use Boundaries.*
 pub use Changing.*
 pub use Narrowing.*
+pub use Kinds.*
+pub use Absent.*
