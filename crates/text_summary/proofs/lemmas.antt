@@ -7,6 +7,7 @@ pub mod Changing
 pub mod Narrowing
 pub mod Kinds
 pub mod Absent
+pub mod Edges
 pub use Common.*
 pub use Joining.*
 pub use Summing.*
@@ -16,3 +17,4 @@ pub use Changing.*
 pub use Narrowing.*
 pub use Kinds.*
 pub use Absent.*
+pub use Edges.*

@@ -9,6 +9,10 @@ use crate::Scheme;
 use crate::kinds::{Kinds, kinds_of, no_wide_lead};
 use str_indices::{chars, lines, lines_crlf, lines_lf, utf16};
 
+const LF: u8 = 0x0A;
+
+const CR: u8 = 0x0D;
+
 /// What is known of a text without its characters.
 #[derive(Clone, Copy)]
 pub struct Summary {
@@ -176,12 +180,18 @@ fn breaks_of(text: &str, lf: usize, lines: usize) -> usize
 pub fn starts_lf(text: &str) -> bool
     ensures { result ≡ starts_with_feed (chars text.now) }
 {
-    text.starts_with("\n")
+    match text.as_bytes().first() {
+        Some(&byte) => byte == LF,
+        None => false,
+    }
 }
 
 /// Whether the last character of a text is CR.
 pub fn ends_cr(text: &str) -> bool
     ensures { result ≡ ends_in_return (chars text.now) }
 {
-    text.ends_with("\r")
+    match text.as_bytes().last() {
+        Some(&byte) => byte == CR,
+        None => false,
+    }
 }
