@@ -1,6 +1,6 @@
 //! Which bytes a text has and hasn't, found in one pass over it: where some kinds are absent, counts are the same.
-ghost use Rattle.std.specs.Prelude.{◌↔◌, IsTrue};
-ghost use Rattle.text_summary.specs.Kinds.{AreKinds, HasNoWideLead};
+ghost use Rattle.std.specs.Prelude.{◌↔◌, ◌⊎◌, IsTrue};
+ghost use Rattle.text_summary.specs.Kinds.{AreKinds, HasNoWideLead, HasNoWidePair, IsWidePair};
 
 /// VT, after which come FF and CR.
 const VT: u8 = 0x0B;
@@ -45,8 +45,15 @@ pub(crate) fn kinds_of(bytes: &[u8]) -> Kinds
     }
 }
 
+/// Whether the first bytes of U+0085, U+2028 and U+2029 are absent, or else their bytes side by side.
+pub(crate) fn no_wide_break(bytes: &[u8]) -> bool
+    ensures { IsTrue result ↔ (HasNoWideLead bytes.now ⊎ HasNoWidePair bytes.now) }
+{
+    no_wide_lead(bytes) || no_wide_pair(bytes)
+}
+
 /// Whether no byte begins U+0085, U+2028 or U+2029, nor another character of the same first byte.
-pub(crate) fn no_wide_lead(bytes: &[u8]) -> bool
+fn no_wide_lead(bytes: &[u8]) -> bool
     ensures { IsTrue result ↔ HasNoWideLead bytes.now }
 {
     for block in bytes.chunks(BLOCK) {
@@ -66,4 +73,23 @@ fn no_lead_in(block: &[u8]) -> bool
         any |= byte == NEXT_LINE_LEAD || byte == SEPARATOR_LEAD;
     }
     !any
+}
+
+/// Whether no two bytes are those of U+0085, or the last two of U+2028 or U+2029.
+fn no_wide_pair(bytes: &[u8]) -> bool
+    ensures { IsTrue result ↔ HasNoWidePair bytes.now }
+{
+    let mut any = false;
+    for i in 1..bytes.len() {
+        any |= is_wide_pair(bytes[i - 1], bytes[i]);
+    }
+    !any
+}
+
+/// Whether two bytes are those of U+0085, or the last two of U+2028 or U+2029.
+#[inline(always)]
+fn is_wide_pair(byte: u8, next: u8) -> bool
+    ensures { IsTrue result ↔ IsWidePair byte next }
+{
+    (byte == NEXT_LINE_LEAD && next == 0x85) || (byte == 0x80 && (next == 0xA8 || next == 0xA9))
 }

@@ -1,12 +1,12 @@
 //! The summary of a text: its length, its counts, and how it starts and ends.
-ghost use Rattle.std.specs.Prelude.{◌≡◌, ◌↔◌, [], chars, IsTrue};
+ghost use Rattle.std.specs.Prelude.{◌≡◌, ◌⊎◌, ◌↔◌, [], chars, IsTrue};
 ghost use Rattle.str_indices.specs.Joins.{starts_with_feed, ends_in_return};
 ghost use Rattle.str_indices.specs.Schemes.{count};
 ghost use Rattle.str_indices.specs.declared.Scheme.TheVariants.{Chars, Utf16, Lf, Crlf, Lines};
-ghost use Rattle.text_summary.specs.Kinds.{AreKinds, HasNoTab, HasNoWideLead};
+ghost use Rattle.text_summary.specs.Kinds.{AreKinds, HasNoTab, HasNoWideLead, HasNoWidePair};
 
 use crate::Scheme;
-use crate::kinds::{Kinds, kinds_of, no_wide_lead};
+use crate::kinds::{Kinds, kinds_of, no_wide_break};
 use str_indices::{chars, lines, lines_crlf, lines_lf, utf16};
 
 const LF: u8 = 0x0A;
@@ -142,12 +142,12 @@ fn line_breaks_of(text: &str, kinds: Kinds, lf: usize) -> LineBreaks
     }
 }
 
-/// Whether no byte of a text is of another line break than LF, CR and CRLF.
+/// Whether a text has no other line break than LF, CR and CRLF for certain.
 fn has_narrow_breaks(text: &str, kinds: Kinds) -> bool
     requires { AreKinds kinds text.now }
-    ensures { IsTrue result ↔ (HasNoTab text.now × HasNoWideLead text.now) }
+    ensures { IsTrue result ↔ (HasNoTab text.now × (HasNoWideLead text.now ⊎ HasNoWidePair text.now)) }
 {
-    kinds.no_tab && (kinds.is_ascii || no_wide_lead(text.as_bytes()))
+    kinds.no_tab && (kinds.is_ascii || no_wide_break(text.as_bytes()))
 }
 
 /// How many breaks by LF, CR and CRLF a text has, which are its LFs where it has no CR.

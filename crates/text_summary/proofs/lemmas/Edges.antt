@@ -1,6 +1,6 @@
 -- How a text starts and ends, by its first and its last byte.
-use Rattle.text_summary.proofs.lemmas.Common.{◌≡◌, ℕ, ◌-◌, ◌<◌, Bool, List, [], ◌∷◌, length, chars, IsUtf8, sym, refl, ap, ◌∙◌, arith, line_feed, carriage_return, ends_in_return, starts_with_feed, starts_with_feed-bytes, ends_in_return-bytes, chars-none}
-use Rattle.std.proofs.Common.{zero, suc, false, true, get_or, nat_lt, ◌==◌}
+use Rattle.text_summary.proofs.lemmas.Common.{◌≡◌, ℕ, ◌-◌, ◌<◌, List, [], ◌∷◌, length, chars, IsUtf8, sym, refl, ap, ◌∙◌, arith, line_feed, carriage_return, ends_in_return, starts_with_feed, starts_with_feed-bytes, ends_in_return-bytes, chars-none}
+use Rattle.std.proofs.Common.{suc, false, true, get_or, nat_lt, ◌==◌}
 use Rattle.std.proofs.lemmas.Bool.{ltb-true, ltb-false}
 use Rattle.std.proofs.lemmas.List.{get_or_default}
 use Rattle.str_indices.proofs.lemmas.texts.Seams.{ends_in_return-one, ends_in_return-cons, starts_with_feed_is}

@@ -68,6 +68,7 @@ all_past bytes n l near is whole fit short = (
       | inl low ↦ inl low
       | inr high ↦ inr (omega arith)
     ]
+
     distance : (b : ℕ) → b < 256 → (b < 11) ⊎ (11 + near < b) → near + 1 ≤ from_tab b
     distance b fits (inl low) = omega arith
     distance b fits (inr high) = omega arith
