@@ -6,6 +6,7 @@
 
 mod changes;
 mod fronts;
+mod kinds;
 mod questions;
 mod seams;
 mod splits;

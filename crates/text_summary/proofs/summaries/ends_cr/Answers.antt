@@ -1,6 +1,9 @@
-use Rattle.text_summary.proofs.lemmas.{[], ◌∷◌, ◌∙◌, ends_text, carriage_return, ends_in_return-bytes}
+use Rattle.text_summary.proofs.lemmas.{ends_by_last, none_ends}
 use Rattle.text_summary.proofs.summaries.ends_cr.Goals as goal
 
-pub returns : goal.returns
-returns c = ends_text c.ends_with.result (carriage_return ∷ []) c.args.text.now c.ends_with.ensures.cases
-    ∙ ends_in_return-bytes c.args.text.now c.utf8.text
+pub returns-in-Some : goal.returns-in-Some
+returns-in-Some c = ends_by_last c.args.text.now _ c.utf8.text c.as_bytes.ensures.value _
+    c.in-Some.ensures.item.0 c.in-Some.ensures.item.1
+
+pub returns-in-None : goal.returns-in-None
+returns-in-None c = none_ends c.args.text.now _ c.as_bytes.ensures.value c.in-None.ensures.item.0

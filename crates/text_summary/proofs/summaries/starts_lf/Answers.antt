@@ -1,6 +1,9 @@
-use Rattle.text_summary.proofs.lemmas.{[], ◌∷◌, ◌∙◌, starts_text, line_feed, starts_with_feed-bytes}
+use Rattle.text_summary.proofs.lemmas.{starts_by_first, none_starts}
 use Rattle.text_summary.proofs.summaries.starts_lf.Goals as goal
 
-pub returns : goal.returns
-returns c = starts_text c.starts_with.result (line_feed ∷ []) c.args.text.now c.starts_with.ensures.cases
-    ∙ starts_with_feed-bytes c.args.text.now c.utf8.text
+pub returns-in-Some : goal.returns-in-Some
+returns-in-Some c = starts_by_first c.args.text.now _ c.utf8.text c.as_bytes.ensures.value _
+    c.in-Some.ensures.item.0 c.in-Some.ensures.item.1
+
+pub returns-in-None : goal.returns-in-None
+returns-in-None c = none_starts c.args.text.now _ c.as_bytes.ensures.value c.in-None.ensures.item.0

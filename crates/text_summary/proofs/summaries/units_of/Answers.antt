@@ -1,8 +1,6 @@
-use Rattle.text_summary.proofs.lemmas.{◌∙◌, sym, chars, size-chars, as_many_units}
+use Rattle.text_summary.proofs.lemmas.{◌∙◌, units_without_pairs}
 use Rattle.text_summary.proofs.summaries.units_of.Goals as goal
 
-pub returns-then-characters-text : goal.returns-then-characters-text
-returns-then-characters-text c =
-    let t = chars c.args.text.now in
-    let same = sym c.requires ∙ c.if-characters-text.true ∙ sym (size-chars c.args.text.now c.utf8.text) in
-    c.requires ∙ sym (as_many_units t same)
+pub returns-then-kinds : goal.returns-then-kinds
+returns-then-kinds c = c.requires.characters
+    ∙ units_without_pairs c.args.text.now c.utf8.text (c.requires.kinds.no_pair.0 c.if-kinds.true)
