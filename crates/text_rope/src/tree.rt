@@ -114,6 +114,7 @@ impl Fork {
         ensures kept { result ≡ false → self.new.left.texts ++ self.new.piece ∷ self.new.right.texts
             ≡ self.old.left.texts ++ self.old.piece ∷ self.old.right.texts }
         ensures work { Costs work.old work.new self.old.height 1 }
+        ensures unwritten { result ≡ false → work.new.copied ≡ work.old.copied }
     {
         work.open();
         let start = self.before.len;
@@ -288,6 +289,28 @@ impl Tree {
         }
     }
 
+    /// Exchanges what is between two boundaries for a text in the memory of the piece that both are in, where the pieces
+    /// and the tree are those that a change by `put` and `without_apart` leaves. Answers whether it did; where not, no piece
+    /// is written.
+    pub(crate) fn exchange_in_place(
+        &mut self,
+        work: &mut Work,
+        from: usize,
+        to: usize,
+        more: &str,
+    ) -> bool
+        requires order { from ≤ to }
+        requires start { IsBoundary (joined self.old.texts) from }
+        requires end { IsBoundary (joined self.old.texts) to }
+        requires short { joined_size self.old.texts + length more.now < 2 ^ 63 }
+        ensures replaced { result ≡ true → IsReplaced (joined self.old.texts) (joined self.new.texts) from to (chars more.now) }
+        ensures kept { result ≡ false → self.new ≡ self.old }
+        ensures work { Costs work.old work.new (3 * self.old.height) 1 }
+        ensures unwritten { result ≡ false → work.new.copied ≡ work.old.copied }
+    {
+        self.stays(work, from) && self.replace_in_place(work, from, to, more)
+    }
+
     /// Exchanges what is between two boundaries for a text, where both are in one piece that has the memory for it and is
     /// not made small: the tree keeps its shape. Answers whether it did; where not, all is as before. Takes no memory.
     #[cycle(replace_in_place)]
@@ -307,6 +330,7 @@ impl Tree {
         ensures alike { AreAlike self.old self.new }
         ensures kept { result ≡ false → self.new ≡ self.old }
         ensures work { Costs work.old work.new self.old.height 1 }
+        ensures unwritten { result ≡ false → work.new.copied ≡ work.old.copied }
     {
         match &mut self.root {
             Root::Leaf => false,
