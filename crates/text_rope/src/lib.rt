@@ -18,6 +18,8 @@ mod refusals;
 mod removals;
 mod rope;
 mod summaries;
+#[cfg(test)]
+mod tests;
 mod tree;
 mod view;
 mod work;
