@@ -1,5 +1,5 @@
 //! A balanced tree of pieces.
-ghost use Rattle.std.specs.Prelude.{◌≡◌, ◌≢◌, ◌+◌, ◌*◌, ◌^◌, ◌<◌, ◌≤◌, ◌↔◌, max, [], ◌∷◌, ◌++◌, true, false, chars, length, IfSome, IsNone, IfNone, IfOk};
+ghost use Rattle.std.specs.Prelude.{◌≡◌, ◌≢◌, ◌+◌, ◌*◌, ◌^◌, ◌<◌, ◌≤◌, ◌↔◌, max, [], ◌∷◌, ◌++◌, true, false, chars, length, IsTrue, IsSome, IfSome, IsNone, IfNone, IfOk};
 ghost use Rattle.str_indices.specs.Text.{size};
 ghost use Rattle.str_indices.specs.Relations.{IsBoundary};
 ghost use Rattle.piece_text.specs.Pieces.{joined, joined_size};
@@ -145,7 +145,9 @@ impl Fork {
 /// Whether a change up to a byte is made before the piece that starts at another one: a text that comes in where it starts
 /// is put into it.
 fn ends_before(to: usize, start: usize, more: &str) -> bool
-    ensures { result ≡ true → to ≤ start }
+    ensures within { result ≡ true → to ≤ start }
+    ensures before { to < start → result ≡ true }
+    ensures at_start { to ≡ start → (IsTrue result ↔ (length more.now ≡ 0)) }
 {
     to < start || (to == start && more.is_empty())
 }
@@ -380,6 +382,8 @@ impl Edge {
         requires beyond { self.beyond < 2 ^ 63 }
         ensures rest { IfSome result (λ e. e.rest ≡ max height self.rest + 1) }
         ensures beyond { IfSome result (λ e. e.beyond ≡ self.beyond) }
+        ensures some { IsSome result
+            ↔ (DifferByAtMost 1 height self.rest × (self.beyond + 1 < max height self.rest + 1)) }
     {
         let rest = height.max(self.rest) + 1;
         if height <= self.rest + 1 && self.rest <= height + 1 && self.beyond + 1 < rest {
