@@ -19,6 +19,8 @@ mod refusals;
 mod removals;
 mod rope;
 mod summaries;
+#[cfg(test)]
+mod tests;
 mod tree;
 mod view;
 mod work;

@@ -95,7 +95,7 @@ pub(crate) fn settled(work: &mut Work, parts: Opened) -> Tree
     ensures text { joined result.texts
         ≡ joined parts.left.texts ++ (parts.fork.value.piece ++ joined parts.right.texts) }
     ensures low { result.height ≤ max parts.left.height parts.right.height + 5 }
-    ensures work { Costs work.old work.new (32 * (parts.left.height + parts.right.height + 3)) 2 }
+    ensures work { Costs work.old work.new (32 * parts.left.height + 16 * parts.right.height + 96) 2 }
 {
     if SMALL <= parts.fork.piece.len() {
         return join(work, parts.left, parts.fork, parts.right);

@@ -142,6 +142,7 @@ impl Piece {
         ensures some { self.new ≢ [] }
         ensures kept { result ≡ false → self.new ≡ self.old }
         ensures work { Costs work.old work.new 0 1 }
+        ensures unwritten { result ≡ false → work.new.copied ≡ work.old.copied }
     {
         let len = self.len();
         if MAX_PIECE - len < more.len() {

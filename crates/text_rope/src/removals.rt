@@ -13,13 +13,29 @@ use crate::tree::{Fork, Opened, Tree, fork_of};
 use crate::work::Work;
 use std::alloc::{AllocError, Global};
 
-/// The tree with what is between two bytes taken out. Takes no memory.
-pub(crate) fn without(work: &mut Work, tree: Tree, from: usize, to: usize) -> Tree
+/// The tree with what is between two bytes taken out: in the memory of the piece that it is in, where that leaves the same
+/// tree, or else apart. Takes no memory.
+pub(crate) fn without(work: &mut Work, mut tree: Tree, from: usize, to: usize) -> Tree
     requires order { from ≤ to }
     requires start { IsBoundary (joined tree.texts) from }
     requires end { IsBoundary (joined tree.texts) to }
     ensures text { IsRemoved (joined tree.texts) (joined result.texts) from to }
     ensures work { Costs work.old work.new (100 * (tree.height + 3)) 6 }
+{
+    let _len = tree.len();
+    if from < to && tree.exchange_in_place(work, from, to, "") {
+        return tree;
+    }
+    without_apart(work, tree, from, to)
+}
+
+/// The tree taken apart at a byte, and put together without what is between that and another one.
+pub(crate) fn without_apart(work: &mut Work, tree: Tree, from: usize, to: usize) -> Tree
+    requires order { from ≤ to }
+    requires start { IsBoundary (joined tree.texts) from }
+    requires end { IsBoundary (joined tree.texts) to }
+    ensures text { IsRemoved (joined tree.texts) (joined result.texts) from to }
+    ensures work { Costs work.old work.new (84 * tree.height + 272) 6 }
 {
     if from == to {
         return tree;
@@ -45,7 +61,7 @@ fn without_inside(work: &mut Work, mut parts: Opened, from: usize, to: usize) ->
         + joined_size parts.right.texts < 2 ^ 63 }
     ensures text { IsRemoved (joined (parts.left.texts ++ parts.fork.value.piece ∷ parts.right.texts))
         (joined result.texts) (joined_size parts.left.texts + from) (joined_size parts.left.texts + to) }
-    ensures work { Costs work.old work.new (32 * (parts.left.height + parts.right.height + 3)) 3 }
+    ensures work { Costs work.old work.new (32 * parts.left.height + 16 * parts.right.height + 96) 3 }
 {
     if to - from == parts.fork.piece.len() {
         return concat(work, parts.left, parts.right);
@@ -78,7 +94,7 @@ fn back_of(work: &mut Work, tree: Tree, at: usize) -> Tree
     requires boundary { IsBoundary (joined tree.texts) at }
     ensures text { IsBackOf (joined tree.texts) (joined result.texts) at }
     ensures low { result.height ≤ tree.height + 5 }
-    ensures work { Costs work.old work.new (42 * tree.height + 96) 3 }
+    ensures work { Costs work.old work.new (26 * tree.height + 96) 3 }
 {
     if at == tree.whole().len {
         return Tree::new();

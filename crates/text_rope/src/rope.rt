@@ -1,5 +1,5 @@
 //! A text that is kept in a balanced tree of its pieces.
-ghost use Rattle.std.specs.Prelude.{◌≡◌, ◌≢◌, ◌+◌, ◌-◌, ◌^◌, ◌<◌, ◌≤◌, ◌↔◌, ◌++◌, [], true, false, length, chars, encode_utf8_all, Err, IsTrue, IsErr, IsErrOf, IsOkUnless, IsSome, IfSome, IfOk, OnOk, OnErr};
+ghost use Rattle.std.specs.Prelude.{◌≡◌, ◌≢◌, ◌+◌, ◌-◌, ◌^◌, ◌<◌, ◌≤◌, ◌↔◌, ◌++◌, [], length, chars, encode_utf8_all, Err, IsTrue, IsErr, IsErrOf, IsOkUnless, IsSome, IfSome, IfOk, OnOk, OnErr};
 ghost use Rattle.str_indices.specs.Schemes.{count, from_byte_idx, to_byte_idx};
 ghost use Rattle.str_indices.specs.Text.{size};
 ghost use Rattle.str_indices.specs.Relations.{IsBoundary};
@@ -7,14 +7,13 @@ ghost use Rattle.piece_text.specs.Pieces.{PiecesState, joined};
 ghost use Rattle.text_rope.specs.Edits.{IsInserted, IsRemoved, IsReplaced, IsCutAt, IsChunkAt};
 ghost use Rattle.text_rope.specs.Chunks.{ChunksState, IsCopied, IsRead};
 ghost use Rattle.text_rope.specs.Pieces.{max_piece};
-ghost use Rattle.text_rope.specs.Work.{WorkState};
 ghost use Rattle.text_rope.specs.declared.refusals.Refusal.TheVariants.{NotOrdered, NotBoundary, TooLong, NoMemory};
 
 use crate::copies::copy_chunks;
 use crate::inserts::put;
 use crate::loads::tree_of;
 use crate::parts::concat;
-use crate::removals::{cut, without};
+use crate::removals::{cut, without, without_apart};
 use crate::tree::Tree;
 use crate::work::Work;
 use crate::{Chunk, Chunks, Refusal, Scheme, View, count_in, from_in, is_boundary_in, to_in};
@@ -364,29 +363,23 @@ impl Rope {
         requires end { IsBoundary self.old to }
         ensures { IsRemoved self.old self.new from to }
     {
-        let mut work = Work::none();
-        let _len = self.len();
-        if from < to && self.exchange_in_place(&mut work, from, to, "") {
-            return;
-        }
         let tree = mem::replace(&mut self.tree, Tree::new());
-        self.tree = without(&mut work, tree, from, to);
+        self.tree = without(&mut Work::none(), tree, from, to);
     }
 
-    /// Exchanges what is between two boundaries for a text in the memory of the piece that both are in, where the pieces
-    /// and the tree are those that a change by `put` and `without` leaves. Answers whether it did.
-    fn exchange_in_place(&mut self, work: &mut Work, from: usize, to: usize, text: &str) -> bool
+    /// The same by a tree that is taken apart.
+    fn take_out_apart(&mut self, from: usize, to: usize)
         requires order { from ≤ to }
         requires start { IsBoundary self.old from }
         requires end { IsBoundary self.old to }
-        requires short { size self.old + length text.now < 2 ^ 63 }
-        ensures replaced { result ≡ true → IsReplaced self.old self.new from to (chars text.now) }
-        ensures kept { result ≡ false → self.new ≡ self.old }
+        ensures { IsRemoved self.old self.new from to }
     {
-        self.tree.stays(work, from) && self.tree.replace_in_place(work, from, to, text)
+        let tree = mem::replace(&mut self.tree, Tree::new());
+        self.tree = without_apart(&mut Work::none(), tree, from, to);
     }
 
-    /// Puts a text in after what is taken out, and only then takes that out: what can be refused comes first.
+    /// Exchanges what is between two boundaries for a text: in place, or else it puts the text in after what is taken out,
+    /// and only then takes that out, since what can be refused comes first.
     fn exchange(&mut self, from: usize, to: usize, text: &str) -> Result<(), AllocError>
         requires order { from ≤ to }
         requires start { IsBoundary self.old from }
@@ -403,11 +396,14 @@ impl Rope {
         if MAX_LEN - self.len() < text.len() {
             return Err(AllocError);
         }
-        if self.exchange_in_place(&mut Work::none(), from, to, text) {
+        if self
+            .tree
+            .exchange_in_place(&mut Work::none(), from, to, text)
+        {
             return Ok(());
         }
         self.put(to, text)?;
-        self.take_out(from, to);
+        self.take_out_apart(from, to);
         Ok(())
     }
 }

@@ -1,5 +1,5 @@
 //! A balanced tree of pieces.
-ghost use Rattle.std.specs.Prelude.{◌≡◌, ◌≢◌, ◌+◌, ◌*◌, ◌^◌, ◌<◌, ◌≤◌, ◌↔◌, max, [], ◌∷◌, ◌++◌, true, false, chars, length, IfSome, IsNone, IfNone, IfOk};
+ghost use Rattle.std.specs.Prelude.{◌≡◌, ◌≢◌, ◌+◌, ◌*◌, ◌^◌, ◌<◌, ◌≤◌, ◌↔◌, max, [], ◌∷◌, ◌++◌, true, false, chars, length, IsTrue, IsSome, IfSome, IsNone, IfNone, IfOk};
 ghost use Rattle.str_indices.specs.Text.{size};
 ghost use Rattle.str_indices.specs.Relations.{IsBoundary};
 ghost use Rattle.piece_text.specs.Pieces.{joined, joined_size};
@@ -114,6 +114,7 @@ impl Fork {
         ensures kept { result ≡ false → self.new.left.texts ++ self.new.piece ∷ self.new.right.texts
             ≡ self.old.left.texts ++ self.old.piece ∷ self.old.right.texts }
         ensures work { Costs work.old work.new self.old.height 1 }
+        ensures unwritten { result ≡ false → work.new.copied ≡ work.old.copied }
     {
         work.open();
         let start = self.before.len;
@@ -144,7 +145,9 @@ impl Fork {
 /// Whether a change up to a byte is made before the piece that starts at another one: a text that comes in where it starts
 /// is put into it.
 fn ends_before(to: usize, start: usize, more: &str) -> bool
-    ensures { result ≡ true → to ≤ start }
+    ensures within { result ≡ true → to ≤ start }
+    ensures before { to < start → result ≡ true }
+    ensures at_start { to ≡ start → (IsTrue result ↔ (length more.now ≡ 0)) }
 {
     to < start || (to == start && more.is_empty())
 }
@@ -288,6 +291,28 @@ impl Tree {
         }
     }
 
+    /// Exchanges what is between two boundaries for a text in the memory of the piece that both are in, where the pieces
+    /// and the tree are those that a change by `put` and `without_apart` leaves. Answers whether it did; where not, no piece
+    /// is written.
+    pub(crate) fn exchange_in_place(
+        &mut self,
+        work: &mut Work,
+        from: usize,
+        to: usize,
+        more: &str,
+    ) -> bool
+        requires order { from ≤ to }
+        requires start { IsBoundary (joined self.old.texts) from }
+        requires end { IsBoundary (joined self.old.texts) to }
+        requires short { joined_size self.old.texts + length more.now < 2 ^ 63 }
+        ensures replaced { result ≡ true → IsReplaced (joined self.old.texts) (joined self.new.texts) from to (chars more.now) }
+        ensures kept { result ≡ false → self.new ≡ self.old }
+        ensures work { Costs work.old work.new (3 * self.old.height) 1 }
+        ensures unwritten { result ≡ false → work.new.copied ≡ work.old.copied }
+    {
+        self.stays(work, from) && self.replace_in_place(work, from, to, more)
+    }
+
     /// Exchanges what is between two boundaries for a text, where both are in one piece that has the memory for it and is
     /// not made small: the tree keeps its shape. Answers whether it did; where not, all is as before. Takes no memory.
     #[cycle(replace_in_place)]
@@ -307,6 +332,7 @@ impl Tree {
         ensures alike { AreAlike self.old self.new }
         ensures kept { result ≡ false → self.new ≡ self.old }
         ensures work { Costs work.old work.new self.old.height 1 }
+        ensures unwritten { result ≡ false → work.new.copied ≡ work.old.copied }
     {
         match &mut self.root {
             Root::Leaf => false,
@@ -357,6 +383,8 @@ impl Edge {
         requires beyond { self.beyond < 2 ^ 63 }
         ensures rest { IfSome result (λ e. e.rest ≡ max height self.rest + 1) }
         ensures beyond { IfSome result (λ e. e.beyond ≡ self.beyond) }
+        ensures some { IsSome result
+            ↔ (DifferByAtMost 1 height self.rest × (self.beyond + 1 < max height self.rest + 1)) }
     {
         let rest = height.max(self.rest) + 1;
         if height <= self.rest + 1 && self.rest <= height + 1 && self.beyond + 1 < rest {

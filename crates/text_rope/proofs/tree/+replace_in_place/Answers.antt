@@ -6,7 +6,7 @@ Fork::replace_in_place-replace_in_place-done-requires t c =
     let f = c.args.self.now in
     let (sound, (order, (start, (end, short)))) = c.requires.1.1 in
     let before = ap (λ m. m.len) sound.before_is in
-    let within = c.if-ends_before.ensures refl in (
+    let within = c.if-ends_before.ensures.within refl in (
       grind (arith, length-append {A = Text}),
       (
         order,
@@ -60,7 +60,7 @@ Fork::replace_in_place-returns-then-ends_before-clause-sound t c =
     let new = c.replace_in_place-done.new.self in
     let (sound, (order, (start, (end, short)))) = c.requires.1.1 in
     let before = ap (λ m. m.len) sound.before_is in
-    let within = c.if-ends_before.ensures refl in
+    let within = c.if-ends_before.ensures.within refl in
     let more = fits (joined f.left.texts) (joined new.texts) c.args.from c.args.to (chars c.args.more.now) c.replace_in_place-done.result order
     (omega (arith, before, within)) c.replace_in_place-done.ensures.replaced
     (λ e. ap (λ (d : Seen). joined d.texts) (c.replace_in_place-done.ensures.kept e)) in

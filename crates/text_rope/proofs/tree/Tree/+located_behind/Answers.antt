@@ -1,4 +1,4 @@
-use Rattle.text_rope.proofs.lemmas.{◌+◌, ◌-◌, ◌++◌, ap, arith, length-append, Text, size, size-append, joined, located_left, located_piece, located_right}
+use Rattle.text_rope.proofs.lemmas.{◌+◌, ◌++◌, ap, arith, length-append, Text, size, size-append, joined, located_left, located_piece, located_right}
 use Rattle.text_rope.proofs.tree.Tree.+located_behind.Goals as goal
 
 pub returns-then-at-start-clause-located : goal.returns-then-at-start-clause-located
