@@ -4,7 +4,7 @@ ghost use Rattle.rope_positions.specs.Plain.{BeginsPlain, IsPlain};
 
 /// Whether so many bytes of a text's beginning are ASCII chars of its first line.
 pub(crate) fn begins_plain(text: &str, bytes: usize) -> bool
-    ensures { IsTrue result → BeginsPlain (chars text.now) bytes }
+    ensures { IsTrue result ↔ BeginsPlain (chars text.now) bytes }
 {
     text.is_char_boundary(bytes) && is_plain(&text.as_bytes()[..bytes])
 }

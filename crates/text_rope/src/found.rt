@@ -1,5 +1,5 @@
 //! The place of a number of ends, with the piece that it is in.
-ghost use Rattle.std.specs.Prelude.{◌≡◌, ◌+◌, ◌-◌, ◌*◌, ◌^◌, ◌<◌, ◌≤◌, ◌⊎◌, [], chars, length};
+ghost use Rattle.std.specs.Prelude.{◌≡◌, ◌+◌, ◌-◌, ◌*◌, ◌^◌, ◌<◌, ◌≤◌, ◌↔◌, ◌⊎◌, [], chars, length};
 ghost use Rattle.str_indices.specs.Schemes.{count, to_byte_idx};
 ghost use Rattle.str_indices.specs.Text.{size};
 ghost use Rattle.piece_text.specs.Pieces.{PiecesState, joined, joined_size};
@@ -26,7 +26,7 @@ pub struct Found<'a> {
 pub fn found_in<'a>(v: &mut View<'a>, s: Scheme, k: usize) -> Found<'a>
     ensures byte { result.byte ≡ to_byte_idx s (joined v.old.texts) k }
     ensures chunk { IsRound (joined v.old.texts) (chars result.chunk.text.now) result.chunk.start result.byte }
-    ensures some { chars result.chunk.text.now ≡ [] → (k ≡ 0) ⊎ (count s (joined v.old.texts) < k) }
+    ensures empty { chars result.chunk.text.now ≡ [] ↔ ((k ≡ 0) ⊎ (count s (joined v.old.texts) < k)) }
     ensures piece { size (chars result.chunk.text.now) ≤ max_piece }
     ensures texts { v.new.texts ≡ v.old.texts }
     ensures looks { 2 ^ (v.new.looks - v.old.looks) ≤ (length v.old.texts + 1) * (length v.old.texts + 1) }
@@ -48,7 +48,7 @@ impl Tree {
         ensures behind { before ≤ result.chunk.start }
         ensures chunk { IsRound (joined self.now.texts) (chars result.chunk.text.now) (result.chunk.start - before)
             (result.byte - before) }
-        ensures some { chars result.chunk.text.now ≡ [] → (k ≡ 0) ⊎ (count s (joined self.now.texts) < k) }
+        ensures empty { chars result.chunk.text.now ≡ [] ↔ ((k ≡ 0) ⊎ (count s (joined self.now.texts) < k)) }
         ensures piece { size (chars result.chunk.text.now) ≤ max_piece }
         ensures looks { looks.new ≤ looks.old + self.now.height }
         ensures looks_kept { looks.old ≤ looks.new }

@@ -103,6 +103,7 @@ impl Look<'_> {
             + joined_size self.now.right.now.texts < 2 ^ 63 }
         ensures tells { Tells s self.now.left.now.texts self.now.piece.now self.now.right.now.texts result }
         ensures own_within { result.own_reached ≤ count s (joined self.now.left.now.texts) }
+        ensures in_order { result.own_reached ≤ result.right_reached }
     {
         let own_reached = self.before.count(s) - lost_at_seam(s, self.before, self.own);
         Parts {

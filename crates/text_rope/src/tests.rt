@@ -280,7 +280,7 @@ fn assert_same(
         seed.number
     );
     *tree = seed.grown(alloc)?;
-    Ok(true)
+    Ok(change.from < change.to || !change.put.is_empty())
 }
 
 /// Changes each piece of a tree in several ways, and answers how many of these went in place.

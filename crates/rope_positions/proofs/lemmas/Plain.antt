@@ -2,15 +2,16 @@
 use Rattle.std.specs.Prelude.{not, sum_by, All}
 use Rattle.std.specs.List.{before_first}
 use Rattle.std.specs.Char.{char_set_contains}
+use Rattle.std.proofs.Math.Utf8.{encode, encodes}
 use Rattle.std.proofs.lemmas.Bool.Decides.{nat_tests}
 use Rattle.std.proofs.lemmas.List.Elements.{All-head, All-tail}
 use Rattle.std.proofs.lemmas.List.Sums.{sum_by-cons, take_while-cons}
-use Rattle.str_indices.proofs.lemmas.Callers.{boundary_weighed_iff, weighed_is_greatest_boundary, weighed_at}
+use Rattle.str_indices.proofs.lemmas.Callers.{IsCharBoundary-from_boundary, boundary_weighed_iff, weighed_is_greatest_boundary, weighed_at}
 use Rattle.str_indices.specs.Text.{weight}
 use Rattle.position_mapper.specs.Lines.{is_break, line_content}
 use Rattle.position_mapper.specs.declared.encodings.Encoding.TheVariants.{Utf8, Utf16, Utf32}
 use Rattle.rope_positions.specs.Plain.{IsPlain, BeginsPlain}
-use Rattle.rope_positions.proofs.lemmas.Common.{Some, ◌≡◌, ℕ, ◌+◌, ◌≤◌, Bool, [], ◌∷◌, ◌++◌, sym, refl, ap, ◌∙◌, arith, size-cons, Text, size, weighed, boundary_weighed, Crlf, count, IsBoundary, units_of, byte_at, exact_byte_at, exact_by_units, units_at_place, Position, Encoding}
+use Rattle.rope_positions.proofs.lemmas.Common.{Some, ◌≡◌, ℕ, ◌+◌, ◌≤◌, Bool, List, [], ◌∷◌, ◌++◌, take, drop, IsUtf8, IsUtf8-take, IsCharBoundary, chars, chars-append, size-chars, take-append-drop, length-take-le, cut_front, encode_ascii, encodes-chars, subst, sym, refl, ap, ◌∙◌, arith, size-cons, Text, size, weighed, boundary_weighed, Crlf, count, IsBoundary, units_of, byte_at, exact_byte_at, exact_by_units, units_at_place, Position, Encoding}
 use Rattle.rope_positions.proofs.lemmas.Beginnings.{first_content, weighed_none}
 use Rattle.rope_positions.proofs.lemmas.Rests.{some_units}
 
@@ -81,3 +82,32 @@ module _ (e : Encoding) (text : Text) (n : ℕ) (begins : BeginsPlain text n) wh
       let told = ap (λ t. weighed w t (boundary_weighed w t n)) content_is ∙ ap (weighed w content) place ∙ units in
       ap (λ k. Some k) byte_of_plain
       ∙ exact_by_units e text own (omega arith) (omega (arith, units_at_place e text own, told))
+
+-- the bytes of plain characters are they themselves
+encodes_plain : (f : Text) → All IsPlain f → encodes f ≡ f
+encodes_plain [] plain = refl
+encodes_plain (c ∷ cs) plain =
+    ap (λ bs. bs ++ encodes cs) (encode_ascii c (All-head IsPlain c cs plain).0)
+    ∙ ap (λ bs. c ∷ bs) (encodes_plain cs (All-tail IsPlain c cs plain))
+
+module _ (bytes : List ℕ) (utf8 : IsUtf8 bytes) (n : ℕ) where
+  -- a text may be sliced behind them
+  pub plain_edge : BeginsPlain (chars bytes) n → IsCharBoundary bytes n
+  plain_edge begins = IsCharBoundary-from_boundary bytes utf8 n
+      (record { front = begins.front; back = begins.back; split = begins.split; place = begins.place })
+
+  -- and so many bytes are they
+  pub plain_bytes : IsCharBoundary bytes n → BeginsPlain (chars bytes) n → All IsPlain (take n bytes)
+  plain_bytes edge begins =
+      let front = take n bytes in
+      let first = IsUtf8-take bytes n utf8 edge in
+      let parts : chars bytes ≡ chars front ++ chars (drop n bytes) =
+      rw take-append-drop at (chars-append front (drop n bytes) first) in
+      let place = size-chars front first ∙ length-take-le n bytes edge.0 in
+      let same : chars front ≡ begins.front = sym (cut_front (chars bytes) n
+      (record { front = chars front; back = chars (drop n bytes); split = parts; place = place }))
+      ∙ cut_front (chars bytes) n
+      (record { front = begins.front; back = begins.back; split = begins.split; place = begins.place }) in
+      let own : front ≡ begins.front =
+      sym (encodes-chars front first) ∙ ap encodes same ∙ encodes_plain begins.front begins.plain in
+      subst (All IsPlain) (sym own) begins.plain

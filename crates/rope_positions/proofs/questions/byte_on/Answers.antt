@@ -37,7 +37,7 @@ returns-then-begins_plain-clause-byte c =
     let line = c.args.line.now in
     let rest = chars line.rest.now in
     let n = c.args.position.character in
-    let own = byte_of_plain e rest n (c.begins_plain.ensures c.if-begins_plain.true) in
+    let own = byte_of_plain e rest n (c.begins_plain.ensures.0 c.if-begins_plain.true) in
     byte_in_rest e (joined c.args.v.now.texts) c.args.position rest line.byte c.requires.start c.requires.rest n own
     (omega (arith, c.requires.len, c.if-character-line.true))
 

@@ -50,7 +50,7 @@ returns-then-begins_plain-clause-answer c =
     let rest = chars line.rest.now in
     let n = c.args.position.character in
     exact_in_rest e (joined c.args.v.now.texts) c.args.position rest line.byte c.requires.start c.requires.rest n
-    c.requires.has (exact_byte_of_plain e rest n (c.begins_plain.ensures c.if-begins_plain.true))
+    c.requires.has (exact_byte_of_plain e rest n (c.begins_plain.ensures.0 c.if-begins_plain.true))
 
 pub returns-then-begins_plain-clause-boundary : goal.returns-then-begins_plain-clause-boundary
 returns-then-begins_plain-clause-boundary c = exact_is_boundary c.args.encoding (joined c.args.v.now.texts)

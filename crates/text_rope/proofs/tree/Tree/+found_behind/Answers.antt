@@ -1,4 +1,4 @@
-use Rattle.text_rope.proofs.lemmas.{◌≡◌, ◌+◌, ◌-◌, ◌∙◌, ap, arith, inl, inr, cases_lt, size, count, joined, count-nil, to_byte_idx, to_byte_idx-le-size, count_of_parts, chars-nil, round_left, round_right, round_of_piece, round_of_none}
+use Rattle.text_rope.proofs.lemmas.{◌≡◌, ◌+◌, ◌-◌, ◌∙◌, ap, sym, arith, inl, inr, cases_lt, size, count, joined, count-nil, to_byte_idx, to_byte_idx-le-size, count_of_parts, chars-nil, round_left, round_right, round_of_piece, round_of_none}
 use Rattle.text_rope.proofs.tree.Tree.+found_behind.Goals as goal
 
 pub returns-in_default-clause-chunk : goal.returns-in_default-clause-chunk
@@ -38,26 +38,65 @@ returns-clause-chunk t c =
     rw (c.in-Some.ensures.parts.texts, c.text-text.ensures.text) (round_of_piece look.left.now.texts look.piece.now
     look.right.now.texts _ _ (omega (arith, start)) (omega arith) (omega (arith, own, is)))
 
-pub returns-in_default-clause-some : goal.returns-in_default-clause-some
-returns-in_default-clause-some t c = λ empty.
-    let none : count c.args.s (joined c.args.self.now.texts) ≡ 0 = rw c.in_default.ensures.none (count-nil c.args.s) in
-    elim (cases_lt 0 c.args.k) [
-      | inl above ↦ inr (omega (arith, none, above))
-      | inr zero ↦ inl (omega (arith, zero))
-    ]
+pub returns-in_default-clause-empty : goal.returns-in_default-clause-empty
+returns-in_default-clause-empty t c =
+    let none : count c.args.s (joined c.args.self.now.texts) ≡ 0 = rw c.in_default.ensures.none (count-nil c.args.s) in (
+      λ empty. elim (cases_lt 0 c.args.k) [
+        | inl above ↦ inr (omega (arith, none, above))
+        | inr zero ↦ inl (omega (arith, zero))
+      ],
+      λ beside. chars-nil,
+    )
 
-pub returns-then-k-parts-clause-some : goal.returns-then-k-parts-clause-some
-returns-then-k-parts-clause-some t c = λ empty. elim (c.found_behind.ensures.some empty) [
-  | inl zero ↦ inl zero
-  | inr past ↦ absurd (omega (arith, past, c.if-k-parts.true, c.parts-parts.ensures.own_within))
-]
-
-pub returns-then-parts-k-clause-some : goal.returns-then-parts-k-clause-some
-returns-then-parts-k-clause-some t c = λ empty.
+pub returns-then-k-parts-clause-empty : goal.returns-then-k-parts-clause-empty
+returns-then-k-parts-clause-empty t c =
     let look = c.in-Some.look in
     let whole = count_of_parts c.args.s look.left.now.texts look.piece.now look.right.now.texts c.parts-parts.result
     c.parts-parts.ensures.tells in
-    elim (c.found_behind-then-parts-k.ensures.some empty) [
-      | inl zero ↦ absurd (omega (arith, zero, c.if-parts-k.true))
-      | inr past ↦ inr (rw c.in-Some.ensures.parts.texts (omega (arith, past, c.if-parts-k.true, whole)))
-    ]
+    let told = c.found_behind.ensures.empty in
+    let texts = c.in-Some.ensures.parts.texts in (
+      λ empty. elim (told.0 empty) [
+        | inl zero ↦ inl zero
+        | inr past ↦ absurd (omega (arith, past, c.if-k-parts.true, c.parts-parts.ensures.own_within))
+      ],
+      λ beside. elim beside [
+        | inl zero ↦ told.1 (inl zero)
+        | inr past ↦
+            let counted = rw texts at past in
+            absurd (omega (arith, counted, whole, c.if-k-parts.true, c.parts-parts.ensures.in_order))
+      ],
+    )
+
+pub returns-then-parts-k-clause-empty : goal.returns-then-parts-k-clause-empty
+returns-then-parts-k-clause-empty t c =
+    let look = c.in-Some.look in
+    let whole = count_of_parts c.args.s look.left.now.texts look.piece.now look.right.now.texts c.parts-parts.result
+    c.parts-parts.ensures.tells in
+    let told = c.found_behind-then-parts-k.ensures.empty in
+    let texts = c.in-Some.ensures.parts.texts in (
+      λ empty. elim (told.0 empty) [
+        | inl zero ↦ absurd (omega (arith, zero, c.if-parts-k.true))
+        | inr past ↦ inr (rw texts (omega (arith, past, c.if-parts-k.true, whole)))
+      ],
+      λ beside. elim beside [
+        | inl zero ↦ absurd (omega (arith, zero, c.if-parts-k.true))
+        | inr past ↦
+            let counted = rw texts at past in
+            told.1 (inr (omega (arith, counted, whole, c.if-parts-k.true)))
+      ],
+    )
+
+pub returns-clause-empty : goal.returns-clause-empty
+returns-clause-empty t c =
+    let look = c.in-Some.look in
+    let whole = count_of_parts c.args.s look.left.now.texts look.piece.now look.right.now.texts c.parts-parts.result
+    c.parts-parts.ensures.tells in
+    let texts = c.in-Some.ensures.parts.texts in (
+      λ empty. absurd (c.in-Some.ensures.summaries.some (sym c.text-text.ensures.text ∙ empty)),
+      λ beside. elim beside [
+        | inl zero ↦ absurd (omega (arith, zero, c.if-k-parts.false))
+        | inr past ↦
+            let counted = rw texts at past in
+            absurd (omega (arith, counted, whole, c.if-parts-k.false))
+      ],
+    )
