@@ -1,18 +1,16 @@
 -- A position whose character is in the plain beginning of its line.
 use Rattle.std.specs.Prelude.{not, sum_by, All}
 use Rattle.std.specs.List.{before_first}
-use Rattle.std.specs.Char.{char_set_contains}
-use Rattle.std.proofs.Math.Utf8.{encode, encodes}
+use Rattle.std.proofs.Math.Utf8.{encodes}
 use Rattle.std.proofs.lemmas.Bool.Decides.{nat_tests}
 use Rattle.std.proofs.lemmas.List.Elements.{All-head, All-tail}
 use Rattle.std.proofs.lemmas.List.Sums.{sum_by-cons, take_while-cons}
 use Rattle.str_indices.proofs.lemmas.Callers.{IsCharBoundary-from_boundary, boundary_weighed_iff, weighed_is_greatest_boundary, weighed_at}
-use Rattle.str_indices.specs.Text.{weight}
 use Rattle.position_mapper.specs.Lines.{is_break, line_content}
 use Rattle.position_mapper.specs.declared.encodings.Encoding.TheVariants.{Utf8, Utf16, Utf32}
 use Rattle.rope_positions.specs.Plain.{IsPlain, BeginsPlain}
-use Rattle.rope_positions.proofs.lemmas.Common.{Some, ◌≡◌, ℕ, ◌+◌, ◌≤◌, Bool, List, [], ◌∷◌, ◌++◌, take, drop, IsUtf8, IsUtf8-take, IsCharBoundary, chars, chars-append, size-chars, take-append-drop, length-take-le, cut_front, encode_ascii, encodes-chars, subst, sym, refl, ap, ◌∙◌, arith, size-cons, Text, size, weighed, boundary_weighed, Crlf, count, IsBoundary, units_of, byte_at, exact_byte_at, exact_by_units, units_at_place, Position, Encoding}
-use Rattle.rope_positions.proofs.lemmas.Beginnings.{first_content, weighed_none}
+use Rattle.rope_positions.proofs.lemmas.Common.{Some, ◌≡◌, ℕ, Bool, List, [], ◌∷◌, ◌++◌, take, drop, IsUtf8, IsUtf8-take, IsCharBoundary, chars, chars-append, size-chars, take-append-drop, length-take-le, cut_front, encode_ascii, encodes-chars, subst, sym, refl, ap, ◌∙◌, arith, size-cons, Text, size, weighed, boundary_weighed, IsBoundary, units_of, byte_at, exact_byte_at, exact_by_units, units_at_place, Position, Encoding}
+use Rattle.rope_positions.proofs.lemmas.Beginnings.{first_content}
 use Rattle.rope_positions.proofs.lemmas.Rests.{some_units}
 
 -- such a character takes one byte, one unit, and is no break

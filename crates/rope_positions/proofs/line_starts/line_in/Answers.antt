@@ -1,6 +1,6 @@
 use Rattle.std.proofs.lemmas.Bool.Decides.{nat_tests}
 use Rattle.str_indices.proofs.lemmas.Callers.{IsBoundary-to_byte_idx}
-use Rattle.rope_positions.proofs.lemmas.{◌≡◌, ◌<◌, sym, subst, arith, chars, size, joined, Crlf, IsBoundary, size-chars, one_asked, asked_after, asked_within, boundary_in_round, chunk_of_round, rest_of_chunk}
+use Rattle.rope_positions.proofs.lemmas.{◌<◌, sym, subst, arith, chars, size, joined, Crlf, IsBoundary, size-chars, one_asked, asked_after, asked_within, boundary_in_round, chunk_of_round, rest_of_chunk}
 use Rattle.rope_positions.proofs.line_starts.line_in.Goals as goal
 
 pub returns-then-line-eq0-clause-cost : goal.returns-then-line-eq0-clause-cost

@@ -1,6 +1,6 @@
 use Rattle.str_indices.proofs.lemmas.Callers.{IsBoundary-to_byte_idx}
 use Rattle.std.proofs.Common.{true≢false}
-use Rattle.rope_positions.proofs.lemmas.{◌≡◌, ◌-◌, ◌<◌, ◌∙◌, min, sym, ap, arith, subst, chars, size, weighed, from_byte_idx, to_byte_idx, Crlf, units_of, IsBoundary, IsCrlfMiddle, IsCharacterAt, carriage_return, line_feed, characters_of_middle, character_inside, position_on_line, line_begins_before}
+use Rattle.rope_positions.proofs.lemmas.{◌≡◌, ◌-◌, ◌<◌, ◌∙◌, min, sym, ap, arith, subst, chars, size, from_byte_idx, to_byte_idx, Crlf, IsBoundary, IsCrlfMiddle, IsCharacterAt, carriage_return, line_feed, characters_of_middle, character_inside, position_on_line, line_begins_before}
 use Rattle.rope_positions.proofs.pieces.position_in.Goals as goal
 
 pub units_between-requires-clause-boundary : goal.units_between-requires-clause-boundary

@@ -1,5 +1,5 @@
 use Rattle.str_indices.proofs.lemmas.Callers.{weighed_at}
-use Rattle.rope_positions.proofs.lemmas.{◌≡◌, ◌+◌, ◌-◌, ◌∙◌, sym, ap, arith, chars, size, count, Chars, weighed, units_of, weighed_behind, ascii_weighed}
+use Rattle.rope_positions.proofs.lemmas.{◌≡◌, ◌+◌, ◌-◌, ◌∙◌, ap, arith, chars, size, count, Chars, weighed, units_of, weighed_behind, ascii_weighed}
 use Rattle.rope_positions.proofs.pieces.units_between.Goals as goal
 
 pub returns-then-own : goal.returns-then-own

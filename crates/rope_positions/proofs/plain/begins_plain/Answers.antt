@@ -1,9 +1,8 @@
 use Rattle.std.specs.Prelude.{All}
 use Rattle.std.proofs.lemmas.Str.{chars-IsAscii}
 use Rattle.std.proofs.lemmas.Str.Ascii.{IsAscii-from_all}
-use Rattle.str_indices.proofs.lemmas.Callers.{IsCharBoundary-from_boundary}
-use Rattle.rope_positions.specs.Plain.{IsPlain, BeginsPlain}
-use Rattle.rope_positions.proofs.lemmas.{◌≡◌, ◌∙◌, ◌++◌, ap, sym, subst, chars, chars-append, size, size-chars, take, drop, take-append-drop, length-take-le, IsUtf8-take, IsCharBoundary, IsBoundary, plain_edge, plain_bytes}
+use Rattle.rope_positions.specs.Plain.{IsPlain}
+use Rattle.rope_positions.proofs.lemmas.{◌≡◌, ◌∙◌, ◌++◌, ap, sym, chars, chars-append, size, size-chars, take, drop, take-append-drop, length-take-le, IsUtf8-take, IsCharBoundary, plain_edge, plain_bytes}
 use Rattle.rope_positions.proofs.plain.begins_plain.Goals as goal
 
 pub returns-then-is_char_boundary : goal.returns-then-is_char_boundary

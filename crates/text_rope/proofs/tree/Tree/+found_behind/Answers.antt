@@ -1,4 +1,4 @@
-use Rattle.text_rope.proofs.lemmas.{◌≡◌, ◌+◌, ◌-◌, ◌∙◌, ap, sym, arith, inl, inr, cases_lt, size, count, joined, count-nil, to_byte_idx, to_byte_idx-le-size, count_of_parts, chars-nil, round_left, round_right, round_of_piece, round_of_none}
+use Rattle.text_rope.proofs.lemmas.{◌≡◌, ◌-◌, ◌∙◌, sym, arith, inl, inr, cases_lt, count, joined, count-nil, to_byte_idx-le-size, count_of_parts, chars-nil, round_left, round_right, round_of_piece, round_of_none}
 use Rattle.text_rope.proofs.tree.Tree.+found_behind.Goals as goal
 
 pub returns-in_default-clause-chunk : goal.returns-in_default-clause-chunk
