@@ -1,7 +1,7 @@
 -- Which bytes a text hasn't.
 --     HasAsciiAlone bytes    each byte is ASCII
 --     HasNoPair bytes        no byte begins a character of four bytes, which takes two UTF-16 code units
---     HasNoTab bytes         no byte is VT or FF
+--     HasNoVtFf bytes        no byte is VT or FF
 --     HasNoReturn bytes      no byte is VT, FF or CR
 --     HasNoWideLead bytes    no byte begins U+0085, U+2028 or U+2029, nor another character of the same first byte
 --     IsWidePair b next      the two bytes of U+0085, or the last two of U+2028 or U+2029
@@ -19,8 +19,8 @@ abbrev pub HasNoPair : List ℕ → Type 0
 HasNoPair bytes = All (λ b. b < 0xF0) bytes
 
 -- no byte is VT or FF
-abbrev pub HasNoTab : List ℕ → Type 0
-HasNoTab bytes = All (λ b. (b < 0x0B) ⊎ (0x0C < b)) bytes
+abbrev pub HasNoVtFf : List ℕ → Type 0
+HasNoVtFf bytes = All (λ b. (b < 0x0B) ⊎ (0x0C < b)) bytes
 
 -- no byte is VT, FF or CR
 abbrev pub HasNoReturn : List ℕ → Type 0
@@ -42,5 +42,5 @@ HasNoWidePair bytes = (k : ℕ) → 1 + k < length bytes → ¬ (IsWidePair (sli
 pub record AreKinds (kinds : Kinds) (bytes : List ℕ) : Type 0 where
   pub is_ascii : IsTrue kinds.is_ascii ↔ HasAsciiAlone bytes
   pub no_pair : IsTrue kinds.no_pair ↔ HasNoPair bytes
-  pub no_tab : IsTrue kinds.no_tab ↔ HasNoTab bytes
+  pub no_vt_ff : IsTrue kinds.no_vt_ff ↔ HasNoVtFf bytes
   pub no_return : IsTrue kinds.no_return ↔ HasNoReturn bytes

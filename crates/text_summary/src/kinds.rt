@@ -22,7 +22,7 @@ pub(crate) struct Kinds {
     /// Whether none begins a character of four bytes, which takes two UTF-16 code units.
     pub(crate) no_pair: bool,
     /// Whether none is VT or FF.
-    pub(crate) no_tab: bool,
+    pub(crate) no_vt_ff: bool,
     /// Whether none is VT, FF or CR.
     pub(crate) no_return: bool,
 }
@@ -32,16 +32,16 @@ pub(crate) fn kinds_of(bytes: &[u8]) -> Kinds
     ensures { AreKinds result bytes.now }
 {
     let mut greatest: u8 = 0;
-    let mut least_from_tab: u8 = u8::MAX;
+    let mut least_from_vt: u8 = u8::MAX;
     for &byte in bytes {
         greatest = greatest.max(byte);
-        least_from_tab = least_from_tab.min(byte.wrapping_sub(VT));
+        least_from_vt = least_from_vt.min(byte.wrapping_sub(VT));
     }
     Kinds {
         is_ascii: greatest < 0x80,
         no_pair: greatest < 0xF0,
-        no_tab: least_from_tab > 1,
-        no_return: least_from_tab > 2,
+        no_vt_ff: least_from_vt > 1,
+        no_return: least_from_vt > 2,
     }
 }
 

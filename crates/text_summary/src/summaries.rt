@@ -3,7 +3,7 @@ ghost use Rattle.std.specs.Prelude.{◌≡◌, ◌⊎◌, ◌↔◌, [], chars, 
 ghost use Rattle.str_indices.specs.Joins.{starts_with_feed, ends_in_return};
 ghost use Rattle.str_indices.specs.Schemes.{count};
 ghost use Rattle.str_indices.specs.declared.Scheme.TheVariants.{Chars, Utf16, Lf, Crlf, Lines};
-ghost use Rattle.text_summary.specs.Kinds.{AreKinds, HasNoTab, HasNoWideLead, HasNoWidePair};
+ghost use Rattle.text_summary.specs.Kinds.{AreKinds, HasNoVtFf, HasNoWideLead, HasNoWidePair};
 
 use crate::Scheme;
 use crate::kinds::{Kinds, kinds_of, no_wide_break};
@@ -145,9 +145,9 @@ fn line_breaks_of(text: &str, kinds: Kinds, lf: usize) -> LineBreaks
 /// Whether a text has no other line break than LF, CR and CRLF for certain.
 fn has_narrow_breaks(text: &str, kinds: Kinds) -> bool
     requires { AreKinds kinds text.now }
-    ensures { IsTrue result ↔ (HasNoTab text.now × (HasNoWideLead text.now ⊎ HasNoWidePair text.now)) }
+    ensures { IsTrue result ↔ (HasNoVtFf text.now × (HasNoWideLead text.now ⊎ HasNoWidePair text.now)) }
 {
-    kinds.no_tab && (kinds.is_ascii || no_wide_break(text.as_bytes()))
+    kinds.no_vt_ff && (kinds.is_ascii || no_wide_break(text.as_bytes()))
 }
 
 /// How many breaks by LF, CR and CRLF a text has, which are its LFs where it has no CR.

@@ -6,7 +6,7 @@ use Rattle.str_indices.proofs.lemmas.bytes.Characters.{by_size}
 use Rattle.str_indices.proofs.lemmas.texts.Ends.{count_characters}
 use Rattle.str_indices.proofs.lemmas.texts.Units.{count-units}
 use Rattle.text_summary.proofs.lemmas.Kinds.{All-parts}
-use Rattle.text_summary.specs.Kinds.{HasAsciiAlone, HasNoPair, HasNoTab, HasNoReturn, HasNoWideLead, HasNoWidePair, IsWidePair}
+use Rattle.text_summary.specs.Kinds.{HasAsciiAlone, HasNoPair, HasNoVtFf, HasNoReturn, HasNoWideLead, HasNoWidePair, IsWidePair}
 
 -- what holds of both parts of a list of bytes where it holds of the whole
 abbrev Parts : (List ℕ → Type 0) → Type 0
@@ -74,7 +74,7 @@ feeds_alike c is = by_size (λ bs. HasNoReturn bs → IsAlike Crlf Lf c) c is
 
 -- bytes of no other break than LF and CR, alone or side by side
 abbrev HasNoBreakPair : List ℕ → Type 0
-HasNoBreakPair bytes = HasNoTab bytes × HasNoWidePair bytes
+HasNoBreakPair bytes = HasNoVtFf bytes × HasNoWidePair bytes
 
 -- no pair of a list is one of its parts
 pair_parts : Parts HasNoWidePair
@@ -93,9 +93,9 @@ pair_parts front back none = (
 
 break_pair_parts : Parts HasNoBreakPair
 break_pair_parts front back none =
-    let tabs = All-parts (λ b. (b < 0x0B) ⊎ (0x0C < b)) front back none.0 in
+    let vt_ff = All-parts (λ b. (b < 0x0B) ⊎ (0x0C < b)) front back none.0 in
     let pairs = pair_parts front back none.1 in
-    ((tabs.0, pairs.0), (tabs.1, pairs.1))
+    ((vt_ff.0, pairs.0), (vt_ff.1, pairs.1))
 
 -- without them a character is a break exactly where it is LF or CR
 pairs_alike : (c : ℕ) → scalar c ≡ true → HasNoBreakPair (encode c) → IsAlike Lines Crlf c
@@ -164,12 +164,12 @@ module _ (bytes : List ℕ) (utf8 : IsUtf8 bytes) where
       (of_text HasNoReturn (IsAlike Crlf Lf) (All-parts (λ b. (b < 0x0B) ⊎ (0x0D < b))) feeds_alike bytes utf8 all)
 
   -- one without a byte of another break has as many of all breaks
-  pub lines_without_leads : HasNoTab bytes → HasNoWideLead bytes → count Crlf (chars bytes) ≡ count Lines (chars bytes)
-  lines_without_leads tabs leads = as_many (break_characters Lines) (break_characters Crlf)
+  pub lines_without_leads : HasNoVtFf bytes → HasNoWideLead bytes → count Crlf (chars bytes) ≡ count Lines (chars bytes)
+  lines_without_leads vt_ff leads = as_many (break_characters Lines) (break_characters Crlf)
       (of_text (All IsNarrow) (IsAlike Lines Crlf) (All-parts IsNarrow) narrow_alike bytes utf8
-      (λ k d within. (tabs k d within, leads k d within)))
+      (λ k d within. (vt_ff k d within, leads k d within)))
 
   -- and so has one without the bytes of another break side by side
-  pub lines_without_pairs : HasNoTab bytes → HasNoWidePair bytes → count Crlf (chars bytes) ≡ count Lines (chars bytes)
-  lines_without_pairs tabs pairs = as_many (break_characters Lines) (break_characters Crlf)
-      (of_text HasNoBreakPair (IsAlike Lines Crlf) break_pair_parts pairs_alike bytes utf8 (tabs, pairs))
+  pub lines_without_pairs : HasNoVtFf bytes → HasNoWidePair bytes → count Crlf (chars bytes) ≡ count Lines (chars bytes)
+  lines_without_pairs vt_ff pairs = as_many (break_characters Lines) (break_characters Crlf)
+      (of_text HasNoBreakPair (IsAlike Lines Crlf) break_pair_parts pairs_alike bytes utf8 (vt_ff, pairs))

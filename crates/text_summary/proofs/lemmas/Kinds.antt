@@ -7,8 +7,8 @@ use Rattle.std.proofs.lemmas.Bool.{ltb-true, lt-ltb}
 use Rattle.std.proofs.lemmas.List.{get_or_default}
 
 -- how far a byte is from VT on, counted round from 255 to 0
-abbrev pub from_tab : ℕ → ℕ
-from_tab b = (b + 245) % 256
+abbrev pub from_vt : ℕ → ℕ
+from_vt b = (b + 245) % 256
 
 -- the greatest of the first n bytes, and 0 of none
 pub record IsGreatest (bytes : List ℕ) (n greatest : ℕ) : Type 0 where
@@ -17,8 +17,8 @@ pub record IsGreatest (bytes : List ℕ) (n greatest : ℕ) : Type 0 where
 
 -- the least distance of the first n bytes from VT on, and 255 of none
 pub record IsLeast (bytes : List ℕ) (n least : ℕ) : Type 0 where
-  pub below : (k : ℕ) → k < n → least ≤ from_tab (get_or bytes k 0)
-  pub greatest : (m : ℕ) → m ≤ 255 → ((k : ℕ) → k < n → m ≤ from_tab (get_or bytes k 0)) → m ≤ least
+  pub below : (k : ℕ) → k < n → least ≤ from_vt (get_or bytes k 0)
+  pub greatest : (m : ℕ) → m ≤ 255 → ((k : ℕ) → k < n → m ≤ from_vt (get_or bytes k 0)) → m ≤ least
 
 -- one byte more
 pub greatest_more : (bytes : List ℕ) (n g g' : ℕ) → IsGreatest bytes n g → g' ≡ max g (get_or bytes n 0)
@@ -31,7 +31,7 @@ greatest_more bytes n g g' is next = record {
   least = λ m all. omega (arith, is.least m (λ k before. all k (omega arith)), all n (omega arith));
 }
 
-pub least_more : (bytes : List ℕ) (n l l' : ℕ) → IsLeast bytes n l → l' ≡ min l (from_tab (get_or bytes n 0))
+pub least_more : (bytes : List ℕ) (n l l' : ℕ) → IsLeast bytes n l → l' ≡ min l (from_vt (get_or bytes n 0))
     → IsLeast bytes (n + 1) l'
 least_more bytes n l l' is next = record {
   below = λ k before. elim (cases_lt k n) [
@@ -56,20 +56,20 @@ pub all_past : (bytes : List ℕ) (n l near : ℕ) → IsLeast bytes n l → n �
     → (IsTrue (nat_lt near l) ↔ All (λ b. (b < 11) ⊎ (11 + near < b)) bytes)
 all_past bytes n l near is whole fit short = (
   λ past k d within. rw (get_or_default bytes k d 0 within)
-      (past_tab (get_or bytes k 0) (omega (arith, ltb-true near l past, is.below k (omega arith)))),
+      (past_vt (get_or bytes k 0) (omega (arith, ltb-true near l past, is.below k (omega arith)))),
   λ all. lt-ltb near l (omega (
     arith,
     is.greatest (near + 1) (omega arith) (λ k before. distance (get_or bytes k 0) (fit k) (all k 0 (omega arith))),
   )),
 )
   where
-    past_tab : (b : ℕ) → near < from_tab b → (b < 11) ⊎ (11 + near < b)
-    past_tab b far = elim (cases_lt b 11) [
+    past_vt : (b : ℕ) → near < from_vt b → (b < 11) ⊎ (11 + near < b)
+    past_vt b far = elim (cases_lt b 11) [
       | inl low ↦ inl low
       | inr high ↦ inr (omega arith)
     ]
 
-    distance : (b : ℕ) → b < 256 → (b < 11) ⊎ (11 + near < b) → near + 1 ≤ from_tab b
+    distance : (b : ℕ) → b < 256 → (b < 11) ⊎ (11 + near < b) → near + 1 ≤ from_vt b
     distance b fits (inl low) = omega arith
     distance b fits (inr high) = omega arith
 

@@ -6,7 +6,7 @@ use Rattle.text_summary.proofs.kinds.kinds_of.Goals as goal
 pub loop-byte-preserved : goal.loop-byte-preserved
 loop-byte-preserved c = record {
   greatest = greatest_more _ _ _ _ c.loop-byte.invariant.greatest c.max-greatest.ensures;
-  least = least_more _ _ _ _ c.loop-byte.invariant.least c.min-least_from_tab.ensures;
+  least = least_more _ _ _ _ c.loop-byte.invariant.least c.min-least_from_vt.ensures;
 }
 
 pub returns : goal.returns
@@ -17,6 +17,6 @@ returns c =
     record {
       is_ascii = all_below _ _ _ 0x80 greatest (omega arith) (omega arith);
       no_pair = all_below _ _ _ 0xF0 greatest (omega arith) (omega arith);
-      no_tab = all_past _ _ _ 1 least (omega arith) fit (omega arith);
+      no_vt_ff = all_past _ _ _ 1 least (omega arith) fit (omega arith);
       no_return = all_past _ _ _ 2 least (omega arith) fit (omega arith);
     }
