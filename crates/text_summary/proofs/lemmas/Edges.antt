@@ -35,14 +35,8 @@ module _ (text bytes : List ℕ) (utf8 : IsUtf8 text) (same : bytes ≡ text) (b
       ∙ starts_with_feed-bytes text utf8
 
 -- an empty text does neither
-pub none_starts : (text bytes : List ℕ) → bytes ≡ text → false ≡ nat_lt 0 (length bytes)
-    → false ≡ starts_with_feed (chars text)
-none_starts text bytes same none =
+pub edges_of_none : (text bytes : List ℕ) → bytes ≡ text → false ≡ nat_lt 0 (length bytes)
+    → (false ≡ starts_with_feed (chars text)) × (false ≡ ends_in_return (chars text))
+edges_of_none text bytes same none =
     let empty = chars-none text (omega (arith, ltb-false 0 (length bytes) (sym none), ap length same)) in
-    rw empty refl
-
-pub none_ends : (text bytes : List ℕ) → bytes ≡ text → false ≡ nat_lt 0 (length bytes)
-    → false ≡ ends_in_return (chars text)
-none_ends text bytes same none =
-    let empty = chars-none text (omega (arith, ltb-false 0 (length bytes) (sym none), ap length same)) in
-    rw empty refl
+    rw empty (refl, refl)

@@ -1,4 +1,4 @@
-use Rattle.text_summary.proofs.lemmas.{ends_by_last, none_ends}
+use Rattle.text_summary.proofs.lemmas.{ends_by_last, edges_of_none}
 use Rattle.text_summary.proofs.summaries.ends_cr.Goals as goal
 
 pub returns-in-Some : goal.returns-in-Some
@@ -6,4 +6,4 @@ returns-in-Some c = ends_by_last c.args.text.now _ c.utf8.text c.as_bytes.ensure
     c.in-Some.ensures.item.0 c.in-Some.ensures.item.1
 
 pub returns-in-None : goal.returns-in-None
-returns-in-None c = none_ends c.args.text.now _ c.as_bytes.ensures.value c.in-None.ensures.item.0
+returns-in-None c = (edges_of_none c.args.text.now _ c.as_bytes.ensures.value c.in-None.ensures.item.0).1
