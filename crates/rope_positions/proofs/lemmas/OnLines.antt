@@ -1,14 +1,10 @@
 -- A byte that does not stand between CR and LF, on its line; and the units of ASCII characters.
 use Rattle.str_indices.proofs.lemmas.laws.EndLaws.{to_le_iff}
 use Rattle.str_indices.proofs.lemmas.Callers.{to_byte_idx-le-size, to-from_is_greatest, IsCharBoundary-from_boundary, IsBoundary-from_char_boundary}
-use Rattle.str_indices.specs.declared.Scheme.TheVariants as scheme
 use Rattle.text_summary.proofs.lemmas.Narrowing.{each_byte_is_boundary, characters_are_bytes, units_are_bytes}
 use Rattle.position_mapper.specs.declared.encodings.Encoding.TheVariants.{Utf8, Utf16, Utf32}
-use Rattle.rope_positions.proofs.lemmas.Common.{◌≡◌, ◌≢◌, ℕ, ◌+◌, ◌-◌, ◌<◌, ◌≤◌, List, min, sym, ap, ◌∙◌, inl, inr, arith, IsUtf8, IsCharBoundary, chars, Text, size, count, weighed_bytes, weighed, from_byte_idx, to_byte_idx, Crlf, IsCrlfMiddle, units_of, line_end, line_end_past, break_of_line, cases_lt, position_at, units_of_position, characters_weighed, Encoding}
+use Rattle.rope_positions.proofs.lemmas.Common.{◌≡◌, ℕ, ◌+◌, ◌-◌, ◌<◌, ◌≤◌, List, min, sym, ap, ◌∙◌, inl, inr, arith, IsUtf8, IsCharBoundary, chars, Text, size, count, crlf_is_not_utf16, weighed_bytes, weighed, from_byte_idx, to_byte_idx, Chars, Crlf, IsCrlfMiddle, units_of, line_end, line_end_past, break_of_line, cases_lt, position_at, units_of_position, characters_weighed, Encoding}
 use Rattle.rope_positions.proofs.lemmas.Beginnings.{bytes_weighed}
-
-crlf_is_not_utf16 : Crlf ≢ scheme.Utf16
-crlf_is_not_utf16 = λ same. cc
 
 -- such a byte is at or before the end of its line
 module _ (cs : Text) (byte : ℕ) (other : IsCrlfMiddle cs byte → ⊥) where
@@ -66,7 +62,7 @@ floor_weighed bytes utf8 byte p at le nearest = weighed_bytes (chars bytes) byte
 })
 
 -- each byte of an ASCII text is a unit in every encoding
-pub ascii_weighed : (e : Encoding) (cs : Text) (n : ℕ) → count scheme.Chars cs ≡ size cs → n ≤ size cs
+pub ascii_weighed : (e : Encoding) (cs : Text) (n : ℕ) → count Chars cs ≡ size cs → n ≤ size cs
     → weighed (units_of e) cs n ≡ n
 ascii_weighed Utf8 cs n same within = sym (bytes_weighed cs n (each_byte_is_boundary cs same n within))
 ascii_weighed Utf16 cs n same within = omega (arith, (units_are_bytes cs same).from n, within)

@@ -5,11 +5,10 @@ use Rattle.std.proofs.lemmas.Bool.{cases_Bool}
 use Rattle.std.proofs.lemmas.List.Sums.{sum_by-append, take_while-cons}
 use Rattle.str_indices.proofs.lemmas.Callers.{IsBoundary-to_byte_idx, count-le-size, from-to, from_byte_idx-le-count, is_joined, seam_loss-same, starts_with_feed-append, to-from_is_greatest, weighed_at}
 use Rattle.str_indices.specs.Joins.{seam_loss}
-use Rattle.str_indices.specs.declared.Scheme.TheVariants as scheme
 use Rattle.text_summary.specs.declared.fronts.Front.{Front}
 use Rattle.position_mapper.specs.Lines.{is_break, line_content}
 use Rattle.text_rope.specs.Located.{IsLocated}
-use Rattle.rope_positions.proofs.lemmas.Common.{◌≡◌, ◌≢◌, ℕ, ◌+◌, ◌-◌, ◌<◌, ◌≤◌, min, Bool, [], ◌∷◌, ◌++◌, sym, refl, ap, ap₂, ◌∙◌, inl, inr, arith, append_assoc, append-nil, len_utf8_bounds, size-append, size-cons, Text, size, count, weighed, from_byte_idx, to_byte_idx, Crlf, IsBoundary, units_of, line_end, line_end_past, cases_lt, position_at, units_of_position, Position, Encoding}
+use Rattle.rope_positions.proofs.lemmas.Common.{◌≡◌, ◌≢◌, ℕ, ◌+◌, ◌-◌, ◌<◌, ◌≤◌, min, Bool, [], ◌∷◌, ◌++◌, sym, refl, ap, ap₂, ◌∙◌, inl, inr, arith, append_assoc, append-nil, len_utf8_bounds, size-append, size-cons, Text, size, count, weighed, from_byte_idx, to_byte_idx, Crlf, IsBoundary, units_of, line_end, line_end_past, crlf_is_not_utf16, cases_lt, position_at, units_of_position, Position, Encoding}
 use Rattle.rope_positions.proofs.lemmas.Beginnings.{weighed_before, weighed_behind, first_of, content_from, first_content}
 use Rattle.rope_positions.proofs.lemmas.Changing.{none_of}
 use Rattle.rope_positions.proofs.lemmas.Located.{weighed_le_size}
@@ -39,9 +38,6 @@ first_goes_on p (x ∷ xs) ys all = elim (cases_Bool (p x)) [
       omega (arith, all, ap size own, size-cons x xs, size-cons x (before_first p xs)) in
       whole ∙ ap (λ r. x ∷ r) (first_goes_on p xs ys rest)
 ]
-
-crlf_is_not_utf16 : Crlf ≢ scheme.Utf16
-crlf_is_not_utf16 = λ same. cc
 
 -- a line's beginning at or before a byte of the first text is that of the first text
 line_before_seam : (a b : Text) (o : ℕ) → o < size a
