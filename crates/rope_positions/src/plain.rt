@@ -1,9 +1,16 @@
 //! The beginning of a line whose chars each take one byte, and so one unit in every encoding.
-ghost use Rattle.std.specs.Prelude.{◌↔◌, All, IsTrue, chars};
+ghost use Rattle.std.specs.Prelude.{◌<◌, ◌↔◌, All, IsTrue, chars, length};
 ghost use Rattle.rope_positions.specs.Plain.{BeginsPlain, IsPlain};
 
+/// Whether a byte is in a text, and only ASCII chars of the text's first line are before it.
+pub(crate) fn is_after_plain(text: &str, byte: usize) -> bool
+    ensures { IsTrue result ↔ ((byte < length text.now) × BeginsPlain (chars text.now) byte) }
+{
+    byte < text.len() && begins_plain(text, byte)
+}
+
 /// Whether so many bytes of a text's beginning are ASCII chars of its first line.
-pub(crate) fn begins_plain(text: &str, bytes: usize) -> bool
+fn begins_plain(text: &str, bytes: usize) -> bool
     ensures { IsTrue result ↔ BeginsPlain (chars text.now) bytes }
 {
     text.is_char_boundary(bytes) && is_plain(&text.as_bytes()[..bytes])

@@ -15,7 +15,7 @@ use crate::boundaries::units_before_boundary_in;
 use crate::breaks::is_crlf_middle_in;
 use crate::line_starts::{LineStart, line_in, line_start_in, tells};
 use crate::pieces::{breaks_at_seam, position_in};
-use crate::plain::begins_plain;
+use crate::plain::is_after_plain;
 use crate::units::{place_in, units_before_in};
 use position_mapper::{Encoding, Position, Range};
 use std::ops;
@@ -194,7 +194,7 @@ fn byte_on(v: &mut View, encoding: Encoding, line: &LineStart<'_>, position: Pos
 {
     let _len = v.len();
     let Position { character, .. } = position;
-    if character < line.rest.len() && begins_plain(line.rest, character) {
+    if is_after_plain(line.rest, character) {
         return line.byte + character;
     }
     let own = encoding.byte_of(line.rest, on_first_line(position));
@@ -222,7 +222,7 @@ fn exact_byte_on(
 {
     let _len = v.len();
     let Position { character, .. } = position;
-    if character < line.rest.len() && begins_plain(line.rest, character) {
+    if is_after_plain(line.rest, character) {
         return Some(line.byte + character);
     }
     if let Some(own) = encoding.exact_byte_of(line.rest, on_first_line(position)) {

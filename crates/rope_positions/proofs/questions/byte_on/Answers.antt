@@ -31,15 +31,15 @@ returns-then-tells-clause-cost c = asked_within (omega arith) (none_asked c.args
 pub returns-clause-cost : goal.returns-clause-cost
 returns-clause-cost c = asked_after c.units_before_boundary_in-before_line.ensures.cost c.byte_after.ensures.cost
 
-pub returns-then-begins_plain-clause-byte : goal.returns-then-begins_plain-clause-byte
-returns-then-begins_plain-clause-byte c =
+pub returns-then-is_after_plain-clause-byte : goal.returns-then-is_after_plain-clause-byte
+returns-then-is_after_plain-clause-byte c =
     let e = c.args.encoding in
     let line = c.args.line.now in
     let rest = chars line.rest.now in
     let n = c.args.position.character in
-    let own = byte_of_plain e rest n (c.begins_plain.ensures.0 c.if-begins_plain.true) in
-    byte_in_rest e (joined c.args.v.now.texts) c.args.position rest line.byte c.requires.start c.requires.rest n own
-    (omega (arith, c.requires.len, c.if-character-line.true))
+    let (inside, plain) = c.is_after_plain.ensures.0 c.if-is_after_plain.true in
+    byte_in_rest e (joined c.args.v.now.texts) c.args.position rest line.byte c.requires.start c.requires.rest n
+    (byte_of_plain e rest n plain) (omega (arith, c.requires.len, inside))
 
-pub returns-then-begins_plain-clause-cost : goal.returns-then-begins_plain-clause-cost
-returns-then-begins_plain-clause-cost c = asked_within (omega arith) (none_asked c.args.v.now)
+pub returns-then-is_after_plain-clause-cost : goal.returns-then-is_after_plain-clause-cost
+returns-then-is_after_plain-clause-cost c = asked_within (omega arith) (none_asked c.args.v.now)

@@ -43,18 +43,18 @@ returns-clause-answer c = c.exact_byte_after.ensures.answer
     ∙ ap (λ ts. exact_byte_at c.args.encoding (joined ts) c.args.position)
     c.units_before_boundary_in-before_line.ensures.cost.texts
 
-pub returns-then-begins_plain-clause-answer : goal.returns-then-begins_plain-clause-answer
-returns-then-begins_plain-clause-answer c =
+pub returns-then-is_after_plain-clause-answer : goal.returns-then-is_after_plain-clause-answer
+returns-then-is_after_plain-clause-answer c =
     let e = c.args.encoding in
     let line = c.args.line.now in
     let rest = chars line.rest.now in
     let n = c.args.position.character in
     exact_in_rest e (joined c.args.v.now.texts) c.args.position rest line.byte c.requires.start c.requires.rest n
-    c.requires.has (exact_byte_of_plain e rest n (c.begins_plain.ensures.0 c.if-begins_plain.true))
+    c.requires.has (exact_byte_of_plain e rest n (c.is_after_plain.ensures.0 c.if-is_after_plain.true).1)
 
-pub returns-then-begins_plain-clause-boundary : goal.returns-then-begins_plain-clause-boundary
-returns-then-begins_plain-clause-boundary c = exact_is_boundary c.args.encoding (joined c.args.v.now.texts)
-    c.args.position _ (returns-then-begins_plain-clause-answer c)
+pub returns-then-is_after_plain-clause-boundary : goal.returns-then-is_after_plain-clause-boundary
+returns-then-is_after_plain-clause-boundary c = exact_is_boundary c.args.encoding (joined c.args.v.now.texts)
+    c.args.position _ (returns-then-is_after_plain-clause-answer c)
 
-pub returns-then-begins_plain-clause-cost : goal.returns-then-begins_plain-clause-cost
-returns-then-begins_plain-clause-cost c = asked_within (omega arith) (none_asked c.args.v.now)
+pub returns-then-is_after_plain-clause-cost : goal.returns-then-is_after_plain-clause-cost
+returns-then-is_after_plain-clause-cost c = asked_within (omega arith) (none_asked c.args.v.now)
