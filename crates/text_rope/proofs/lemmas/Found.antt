@@ -1,40 +1,23 @@
 -- A part of a text round a place, which may be its end.
-use Rattle.text_rope.proofs.lemmas.Common.{◌≡◌, ℕ, ◌+◌, ◌-◌, ◌≤◌, List, [], ◌∷◌, ◌++◌, refl, arith, ◌∙◌, ap, append_assoc, Text, size, size-append, joined, joined_size, joined-append, count}
+use Rattle.text_rope.proofs.lemmas.Common.{◌≡◌, ℕ, ◌+◌, ◌-◌, ◌≤◌, List, [], ◌∷◌, ◌++◌, refl, arith, ◌∙◌, ap, Text, size, size-append, joined, joined_size, joined-append, count}
+use Rattle.text_rope.proofs.lemmas.Chunks.{parts_of_part}
 use Rattle.str_indices.proofs.lemmas.Callers.{from_byte_idx-all}
 use Rattle.str_indices.specs.declared.Scheme.{Scheme}
 use Rattle.text_rope.specs.Found.{IsRound}
 use Rattle.text_rope.specs.Places.{Tells}
 use Rattle.text_rope.specs.declared.queries.Parts.{Parts}
 
--- a part of a fork's left tree, of its right tree, and its piece are parts of all
-pub round_left : (xs : List Text) (t : Text) (ys : List Text) (chunk : Text) (start at : ℕ)
-    → IsRound (joined xs) chunk start at → IsRound (joined (xs ++ t ∷ ys)) chunk start at
-round_left xs t ys chunk start at own =
-    let y = joined ys in
-    let parts : (own.front ++ (chunk ++ own.back)) ++ (t ++ y) ≡ own.front ++ (chunk ++ (own.back ++ (t ++ y))) = simp append_assoc in
-    record {
-      front = own.front;
-      back = own.back ++ (t ++ y);
-      parts = joined-append xs (t ∷ ys) ∙ ap (λ r. r ++ (t ++ y)) own.parts ∙ parts;
-      place = own.place;
-      after = own.after;
-      within = own.within;
-    }
-
-pub round_right : (xs : List Text) (t : Text) (ys : List Text) (chunk : Text) (start at start' at' : ℕ)
-    → IsRound (joined ys) chunk start' at' → joined_size xs + size t + start' ≡ start → joined_size xs + size t + at' ≡ at
-    → IsRound (joined (xs ++ t ∷ ys)) chunk start at
-round_right xs t ys chunk start at start' at' own start_is at_is =
-    let x = joined xs in
-    let parts : x ++ (t ++ (own.front ++ (chunk ++ own.back))) ≡ (x ++ (t ++ own.front)) ++ (chunk ++ own.back) = simp append_assoc in
-    record {
-      front = x ++ (t ++ own.front);
-      back = own.back;
-      parts = joined-append xs (t ∷ ys) ∙ ap (λ r. x ++ (t ++ r)) own.parts ∙ parts;
-      place = omega (arith, size-append x (t ++ own.front), size-append t own.front, own.place, start_is);
-      after = omega (arith, own.after, start_is, at_is);
-      within = omega (arith, own.within, start_is, at_is);
-    }
+-- a part of a part of a text, and a fork's piece
+pub round_in_part : {whole w chunk : Text} {start at start' at' : ℕ} (x y : Text) → whole ≡ (x ++ w) ++ y
+    → IsRound w chunk start' at' → size x + start' ≡ start → size x + at' ≡ at → IsRound whole chunk start at
+round_in_part {chunk = chunk} x y is own start_is at_is = record {
+  front = x ++ own.front;
+  back = own.back ++ y;
+  parts = parts_of_part x y own.front chunk own.back is own.parts;
+  place = omega (arith, size-append x own.front, own.place, start_is);
+  after = omega (arith, own.after, start_is, at_is);
+  within = omega (arith, own.within, start_is, at_is);
+}
 
 pub round_of_piece : (xs : List Text) (t : Text) (ys : List Text) (start at : ℕ) → joined_size xs ≡ start → start ≤ at
     → at ≤ start + size t → IsRound (joined (xs ++ t ∷ ys)) t start at

@@ -1,4 +1,4 @@
-use Rattle.text_rope.proofs.lemmas.{[], ◌-◌, arith, ap, length, joined_size, fewest_looks, located_same}
+use Rattle.text_rope.proofs.lemmas.{[], ◌-◌, arith, sym, ap, append-nil, length, joined_size, fewest_looks, located_in_part}
 use Rattle.text_rope.proofs.located.located_in.Goals as goal
 
 pub returns-clause-looks : goal.returns-clause-looks
@@ -10,7 +10,7 @@ returns-clause-looks c =
 
 pub returns-clause-located : goal.returns-clause-located
 returns-clause-located c =
-    rw (← ap (λ s. s.texts) c.v.view_is) (located_same c.args.s _ _ _ _ c.args.at _
+    rw (← ap (λ s. s.texts) c.v.view_is) (located_in_part [] (sym (append-nil _))
     (c.located_behind.ensures.located [] (c.none.ensures c.args.s)) (omega arith))
 
 pub located_behind-requires-clause-before : goal.located_behind-requires-clause-before

@@ -1,4 +1,4 @@
-use Rattle.text_rope.proofs.lemmas.{◌≡◌, ◌-◌, ◌∙◌, sym, arith, inl, inr, cases_lt, count, joined, count-nil, to_byte_idx-le-size, count_of_parts, chars-nil, round_left, round_right, round_of_piece, round_of_none}
+use Rattle.text_rope.proofs.lemmas.{◌≡◌, ◌-◌, [], ◌++◌, ◌∙◌, sym, arith, inl, inr, cases_lt, count, size-append, joined, count-nil, to_byte_idx-le-size, count_of_parts, chars-nil, left_tree_part, right_tree_part, round_in_part, round_of_piece, round_of_none}
 use Rattle.text_rope.proofs.tree.Tree.+found_behind.Goals as goal
 
 pub returns-in_default-clause-chunk : goal.returns-in_default-clause-chunk
@@ -11,16 +11,18 @@ returns-in_default-clause-piece t c = rw chars-nil (omega arith)
 pub returns-then-k-parts-clause-chunk : goal.returns-then-k-parts-clause-chunk
 returns-then-k-parts-clause-chunk t c =
     let look = c.in-Some.look in
-    rw c.in-Some.ensures.parts.texts
-    (round_left look.left.now.texts look.piece.now look.right.now.texts _ _ _ c.found_behind.ensures.chunk)
+    let is = left_tree_part [] look.left.now.texts look.piece.now look.right.now.texts in
+    rw c.in-Some.ensures.parts.texts (round_in_part [] _ is c.found_behind.ensures.chunk (omega arith) (omega arith))
 
 pub returns-then-parts-k-clause-chunk : goal.returns-then-parts-k-clause-chunk
 returns-then-parts-k-clause-chunk t c =
     let look = c.in-Some.look in
     let found = c.found_behind-then-parts-k.ensures in
     let start = c.parts-parts.ensures.tells.right_start in
-    rw c.in-Some.ensures.parts.texts (round_right look.left.now.texts look.piece.now look.right.now.texts _ _ _ _ _ found.chunk
-    (omega (arith, start, found.behind)) (omega (arith, start, found.byte)))
+    let sizes = size-append (joined look.left.now.texts) look.piece.now in
+    let is = right_tree_part [] look.left.now.texts look.piece.now look.right.now.texts in
+    rw c.in-Some.ensures.parts.texts (round_in_part (joined look.left.now.texts ++ look.piece.now) [] is found.chunk
+    (omega (arith, start, sizes, found.behind)) (omega (arith, start, sizes, found.byte)))
 
 pub overflow_add-result : goal.overflow_add-result
 overflow_add-result t c =

@@ -1,11 +1,11 @@
-use Rattle.text_rope.proofs.lemmas.{◌+◌, ◌++◌, ap, arith, length-append, Text, size, size-append, joined, located_left, located_piece, located_right}
+use Rattle.text_rope.proofs.lemmas.{◌+◌, ◌++◌, ap, arith, length-append, Text, size, size-append, joined, left_tree_part, right_tree_part, located_in_part, located_piece}
 use Rattle.text_rope.proofs.tree.Tree.+located_behind.Goals as goal
 
 pub returns-then-at-start-clause-located : goal.returns-then-at-start-clause-located
 returns-then-at-start-clause-located t c = λ a is.
     let look = c.in-Some.look in
-    rw c.in-Some.ensures.parts.texts (located_left c.args.s a look.left.now.texts look.piece.now look.right.now.texts _ _ _ _
-    (c.located_behind.ensures.located a is))
+    let texts = left_tree_part a look.left.now.texts look.piece.now look.right.now.texts in
+    rw c.in-Some.ensures.parts.texts (located_in_part _ texts (c.located_behind.ensures.located a is) (omega arith))
 
 pub after-front-requires : goal.after-front-requires
 after-front-requires t c =
@@ -81,6 +81,6 @@ returns-clause-located t c = λ a is.
     let len = ap (λ m. m.len) summed.own_is in
     let front = c.after-front.ensures a left is summed.before_is in
     let behind = c.after.ensures (a ++ left) look.piece.now front summed.own_is in
-    rw c.in-Some.ensures.parts.texts (located_right c.args.s a look.left.now.texts look.piece.now look.right.now.texts _ _ _ _ _
-    (c.located_behind-2.ensures.located ((a ++ left) ++ look.piece.now) behind)
+    let texts = right_tree_part a look.left.now.texts look.piece.now look.right.now.texts in
+    rw c.in-Some.ensures.parts.texts (located_in_part _ texts (c.located_behind-2.ensures.located ((a ++ left) ++ look.piece.now) behind)
     (omega (arith, before, len, size-append a left, size-append (a ++ left) look.piece.now, c.if-at-end.false)))
