@@ -5,12 +5,14 @@
 //! memory.
 #![tactic(auto)]
 
+mod cursor;
 mod list;
 mod piece;
 mod queries;
 mod refusals;
 mod runs;
 mod stretches;
+mod tiers;
 mod view;
 
 pub use list::PieceText;

@@ -7,8 +7,10 @@ ghost use Rattle.piece_text.specs.Pieces.{joined, joined_size, piece_at, as_piec
 ghost use Rattle.piece_text.specs.Splits.{IsEdge, IsCut, IsSplit};
 ghost use Rattle.piece_text.specs.declared.refusals.Refusal.TheVariants.{NoPiece, NotBoundary, TooLong, NoMemory};
 
+use crate::cursor::Cursor;
 use crate::piece::Piece;
 use crate::runs::{Runs, part_round};
+use crate::tiers::Tiers;
 use crate::{Pieces, Refusal, Scheme, count_in, from_in, to_in};
 use std::alloc::{AllocError, Global};
 use std::marker::Model;
@@ -21,7 +23,7 @@ const MAX_LEN: usize = isize::MAX as usize;
 /// A question passes up to 128 pieces at one look, then looks at some of the pieces one by one, and reads one at most.
 #[derive(Drop)]
 pub struct PieceText {
-    pieces: Vec<Piece>,
+    pieces: Tiers,
     runs: Runs,
     len: usize,
     alloc: Global,
@@ -35,9 +37,9 @@ impl Model for PieceText {
 
     ghost Value = { List Text };
 
-    ghost view = { λ t. t.pieces.items };
+    ghost view = { λ t. t.pieces };
 
-    ghost invariant = { λ t. (t.len ≡ joined_size t.pieces.items) × (t.len < 2 ^ 63) × AreRuns t.runs t.pieces.items };
+    ghost invariant = { λ t. (t.len ≡ joined_size t.pieces) × (t.len < 2 ^ 63) × AreRuns t.runs t.pieces };
 }
 
 impl PieceText {
@@ -46,7 +48,7 @@ impl PieceText {
         ensures { result ≡ [] }
     {
         PieceText {
-            pieces: Vec::new(alloc),
+            pieces: Tiers::new(alloc),
             runs: Runs::new(alloc),
             len: 0,
             alloc,
@@ -94,10 +96,10 @@ impl PieceText {
         let Ok(piece) = Piece::of(self.alloc, text) else {
             return Err(Refusal::NoMemory);
         };
-        match self.pieces.insert(at, piece) {
+        match self.pieces.insert(self.alloc, at, piece) {
             Ok(()) => {
                 self.len += text.len();
-                self.runs.grown(self.pieces.as_slice(), at);
+                self.runs.grown(&self.pieces, at);
                 Ok(())
             }
             Err(_) => Err(Refusal::NoMemory),
@@ -118,7 +120,7 @@ impl PieceText {
         }
         let piece = self.pieces.remove(at);
         self.len -= piece.len();
-        self.runs.shrunk(self.pieces.as_slice(), at);
+        self.runs.shrunk(&self.pieces, at);
         Ok(())
     }
 
@@ -157,11 +159,11 @@ impl PieceText {
         ensures past { result.1 ≤ byte_idx }
         ensures within { result.0 < length self.now → byte_idx < result.1 + size (piece_at self.now result.0) }
     {
-        let part = part_round(self.runs.as_slice(), self.pieces.as_slice(), byte_idx);
+        let part = part_round(self.runs.as_slice(), &self.pieces, byte_idx);
+        let mut cursor = Cursor::at(&self.pieces, part.first);
         let mut start = part.start;
         for i in part.first..part.end {
-            let piece = &self.pieces[i];
-            let len = piece.len();
+            let len = cursor.next().len();
             if byte_idx - start < len {
                 return (i, start);
             }
@@ -175,23 +177,23 @@ impl PieceText {
         requires { i < length self.now }
         ensures { IsTrue result ↔ IsBoundary (piece_at self.now i) at }
     {
-        self.pieces[i].is_boundary(at)
+        Cursor::at(&self.pieces, i).next().is_boundary(at)
     }
 
     /// Cuts piece `i` in two. Both halves, and the room for one piece more, are there before anything changes.
     fn cut(&mut self, i: usize, at: usize) -> Result<(), AllocError>
         requires inside { i < length self.old }
+        requires few { length self.old < 2 ^ 64 }
         requires above { 0 < at }
         requires below { at < size (piece_at self.old i) }
         requires boundary { IsBoundary (piece_at self.old i) at }
         ensures ok { OnOk result (IsCut self.old self.new (joined_size (take i self.old) + at)) }
         ensures err { OnErr result (self.new ≡ self.old) }
     {
-        let piece = &self.pieces[i];
-        let (left, right) = piece.halves(self.alloc, at)?;
-        self.pieces.insert(i + 1, right)?;
-        self.pieces[i] = left;
-        self.runs.grown(self.pieces.as_slice(), i);
+        let (left, right) = Cursor::at(&self.pieces, i).next().halves(self.alloc, at)?;
+        self.pieces.insert(self.alloc, i + 1, right)?;
+        self.pieces.replace(i, left);
+        self.runs.grown(&self.pieces, i);
         Ok(())
     }
 
@@ -213,7 +215,7 @@ impl PieceText {
     pub fn view(&self) -> Pieces<'_>
         ensures { result ≡ record { texts = self.now; looks = 0; reads = 0 } }
     {
-        Pieces::of(self.pieces.as_slice(), self.runs.as_slice())
+        Pieces::of(&self.pieces, self.runs.as_slice())
     }
 
     /// How many characters, UTF-16 code units or line breaks the joined text has.

@@ -1,11 +1,12 @@
 //! One piece of a text, with its summary.
-ghost use Rattle.std.specs.Prelude.{◌≡◌, ◌≢◌, ◌<◌, ◌↔◌, [], chars, IfOk, IsTrue};
+ghost use Rattle.std.specs.Prelude.{◌≡◌, ◌≢◌, ◌+◌, ◌<◌, ◌↔◌, [], chars, IfOk, IsTrue};
 ghost use Rattle.str_indices.specs.Text.{size};
 ghost use Rattle.str_indices.specs.Relations.{IsBoundary};
 ghost use Rattle.piece_text.specs.Summaries.{summary_of};
 ghost use Rattle.piece_text.specs.Splits.{IsHalved};
 
 use crate::Summary;
+use byte_chunk::Counter;
 use std::alloc::{AllocError, Global};
 use std::marker::Model;
 
@@ -44,6 +45,16 @@ impl Piece {
         ensures summary { result ≡ summary_of self.now }
         ensures some { self.now ≢ [] }
     {
+        self.summary
+    }
+
+    /// The summary of its text, for one look.
+    pub(crate) fn look(&self, looks: &mut Counter) -> Summary
+        ensures summary { result ≡ summary_of self.now }
+        ensures some { self.now ≢ [] }
+        ensures looks { looks.new ≡ looks.old + 1 }
+    {
+        looks.tick();
         self.summary
     }
 

@@ -8,9 +8,9 @@ ghost use Rattle.piece_text.specs.Summaries.{summary_of};
 ghost use Rattle.piece_text.specs.Runs.{IsRun, AreRuns, pieces_in, Grown, Shrunk};
 ghost use Rattle.piece_text.specs.Stretches.{IsPartRound};
 
-use crate::Summary;
-use crate::piece::Piece;
-use byte_chunk::Counter;
+use crate::cursor::Cursor;
+use crate::tiers::Tiers;
+use crate::{Pieces, Summary};
 use std::alloc::Global;
 use std::marker::Model;
 use text_summary::joined;
@@ -29,40 +29,45 @@ pub(crate) struct Run {
 
 impl Run {
     /// The run of so many pieces from a number on.
-    fn of(pieces: &[Piece], first: usize, count: usize) -> Run
+    fn of(pieces: &Tiers, first: usize, count: usize) -> Run
         requires some { 0 < count }
         requires within { first + count ≤ length pieces.now }
+        requires few { length pieces.now < 2 ^ 64 }
         requires short { joined_size pieces.now < 2 ^ 63 }
         ensures run { IsRun result (take count (drop first pieces.now)) }
         ensures count { result.pieces ≡ count }
     {
-        let whole = Run::sum(&pieces[first..first + count]);
+        let whole = Run::sum(pieces, first, count);
         Run {
             pieces: count,
             whole,
         }
     }
 
-    /// The summary of the joined text of some pieces.
-    fn sum(pieces: &[Piece]) -> Summary
-        requires some { 0 < length pieces.now }
+    /// The summary of the joined text of so many pieces from a number on.
+    fn sum(pieces: &Tiers, first: usize, count: usize) -> Summary
+        requires some { 0 < count }
+        requires within { first + count ≤ length pieces.now }
+        requires few { length pieces.now < 2 ^ 64 }
         requires short { joined_size pieces.now < 2 ^ 63 }
-        ensures sum { result ≡ summary_of (joined pieces.now) }
-        ensures some { joined pieces.now ≢ [] }
+        ensures sum { result ≡ summary_of (joined (take count (drop first pieces.now))) }
+        ensures some { joined (take count (drop first pieces.now)) ≢ [] }
     {
-        let mut whole = pieces[0].summary();
-        for i in 1..pieces.len() {
-            whole = joined(whole, pieces[i].summary());
+        let mut cursor = Cursor::at(pieces, first);
+        let mut whole = cursor.next().summary();
+        for _ in 1..count {
+            whole = joined(whole, cursor.next().summary());
         }
         whole
     }
 
-    /// The summary of its pieces' joined text, for one look.
-    pub(crate) fn look(&self, looks: &mut Counter) -> Summary
+    /// The summary of its pieces' joined text, for one look at a view.
+    pub(crate) fn look(&self, p: &mut Pieces) -> Summary
         ensures whole { result ≡ self.now.whole }
-        ensures looks { looks.new ≡ looks.old + 1 }
+        ensures short { joined_size p.old.texts < 2 ^ 63 }
+        ensures state { p.new ≡ record p.old { looks = p.old.looks + 1 } }
     {
-        looks.tick();
+        p.count_look();
         self.whole
     }
 }
@@ -105,8 +110,8 @@ impl Runs {
         self.runs.as_slice()
     }
 
-    /// The run that a piece is in, and the number of that run's first piece. It goes over the runs from the last one back, so
-    /// it takes no longer than to move the pieces after that one.
+    /// The run that a piece is in, and the number of that run's first piece. It goes over the runs from the last one back, a
+    /// step for each run after that one.
     fn run_of(&self, at: usize) -> (usize, usize)
         requires { at < pieces_in self.now }
         ensures run { result.0 < length self.now }
@@ -128,7 +133,7 @@ impl Runs {
     }
 
     /// Sums anew where a change made one piece more: at `at` there is a new one, or two for one.
-    pub(crate) fn grown(&mut self, pieces: &[Piece], at: usize)
+    pub(crate) fn grown(&mut self, pieces: &Tiers, at: usize)
         requires grown { Grown self.old pieces.now at }
         requires few { length pieces.now < 2 ^ 64 }
         requires short { joined_size pieces.now < 2 ^ 63 }
@@ -146,8 +151,9 @@ impl Runs {
     }
 
     /// Sums anew where piece `at` was taken out.
-    pub(crate) fn shrunk(&mut self, pieces: &[Piece], at: usize)
+    pub(crate) fn shrunk(&mut self, pieces: &Tiers, at: usize)
         requires shrunk { Shrunk self.old pieces.now at }
+        requires few { length pieces.now < 2 ^ 64 }
         requires short { joined_size pieces.now < 2 ^ 63 }
         ensures { AreRuns self.new pieces.now }
     {
@@ -165,7 +171,7 @@ impl Runs {
     }
 
     /// Makes two runs of one with many pieces. It stays one where there is no memory for a second.
-    fn halve(&mut self, pieces: &[Piece], r: usize, first: usize)
+    fn halve(&mut self, pieces: &Tiers, r: usize, first: usize)
         requires are { AreRuns self.old pieces.now }
         requires few { length pieces.now < 2 ^ 64 }
         requires run { r < length self.old }
@@ -185,7 +191,7 @@ impl Runs {
 
     /// Makes a run of the first pieces that are in none, where those are many. They stay in none where there is no
     /// memory.
-    fn gather(&mut self, pieces: &[Piece])
+    fn gather(&mut self, pieces: &Tiers)
         requires are { AreRuns self.old pieces.now }
         requires short { joined_size pieces.now < 2 ^ 63 }
         ensures { AreRuns self.new pieces.now }
@@ -214,7 +220,7 @@ pub(crate) struct Part {
 }
 
 /// The pieces of the run that a byte is in, or those that are in no run.
-pub(crate) fn part_round(runs: &[Run], pieces: &[Piece], byte_idx: usize) -> Part
+pub(crate) fn part_round(runs: &[Run], pieces: &Tiers, byte_idx: usize) -> Part
     requires runs { AreRuns runs.now pieces.now }
     requires short { joined_size pieces.now < 2 ^ 63 }
     ensures { IsPartRound pieces.now byte_idx result }

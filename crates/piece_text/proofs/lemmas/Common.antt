@@ -16,3 +16,6 @@ pub use Rattle.piece_text.specs.Summaries.{summary_of}
 pub use Rattle.piece_text.specs.declared.runs.Run.{Run}
 pub use Rattle.piece_text.specs.declared.stretches.Stretch.{Stretch}
 pub use Rattle.std.proofs.lemmas.Bool.{cases_lt}
+pub use Rattle.piece_text.specs.Tiers.{tier_size, items_of, pieces_of, AreFilled, HasPlace, IsTierOf}
+pub use Rattle.piece_text.specs.declared.tiers.Tier.{Tier}
+pub use Rattle.piece_text.specs.Cursors.{CursorState}

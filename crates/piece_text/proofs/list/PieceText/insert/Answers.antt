@@ -16,12 +16,12 @@ returns-in_default-clause-no_memory c = λ _. chars-some c.args.text.now c.utf8.
 -- the length grows by that of the text, which fits
 pub invariant_of-self : goal.invariant_of-self
 invariant_of-self c =
-    let new = c.as_slice.ensures.value ∙ c.in-Ok-insert.ensures.items
-    ∙ ap (insert c.self.inside.pieces.items c.args.at) c.in-Ok.ensures in
+    let new = c.in-Ok-insert.ensures.ok
+    ∙ ap (insert c.self.inside.pieces c.args.at) c.in-Ok.ensures in
     let are = subst (AreRuns c.grown.new.self) new c.grown.ensures in
     let sizes = size-chars c.args.text.now c.utf8.text in
-    rw (c.in-Ok-insert.ensures.items, c.in-Ok.ensures) (
-      omega (arith, joined_size-insert c.self.inside.pieces.items, sizes, c.self.invariant.0),
+    rw (c.in-Ok-insert.ensures.ok, c.in-Ok.ensures) (
+      omega (arith, joined_size-insert c.self.inside.pieces, sizes, c.self.invariant.0),
       omega (arith, c.self.invariant.1, c.if-self-text.false),
       are,
     )
@@ -29,15 +29,15 @@ invariant_of-self c =
 -- the list has one piece more
 pub grown-requires-clause-grown : goal.grown-requires-clause-grown
 grown-requires-clause-grown c =
-    let items = c.self.inside.pieces.items in
-    let within : c.args.at ≤ length items = omega (arith, c.self.inside.pieces.ok.0, c.len.ensures, c.if-len-at.false) in
-    grown_by_one c.self.inside.runs items c.as_slice.result.now c.args.at c.in-Ok.piece c.self.invariant.2 within
-    (c.as_slice.ensures.value ∙ c.in-Ok-insert.ensures.items)
+    let items = c.self.inside.pieces in
+    let within : c.args.at ≤ length items = omega (arith, c.len.ensures, c.if-len-at.false) in
+    grown_by_one c.self.inside.runs items c.insert.new.self c.args.at c.in-Ok.piece c.self.invariant.2 within
+    (c.in-Ok-insert.ensures.ok)
 
 pub grown-requires-clause-short : goal.grown-requires-clause-short
 grown-requires-clause-short c =
-    let items = c.self.inside.pieces.items in
-    let new = c.as_slice.ensures.value ∙ c.in-Ok-insert.ensures.items in
+    let items = c.self.inside.pieces in
+    let new = c.in-Ok-insert.ensures.ok in
     omega (
       arith,
       ap joined_size new,
