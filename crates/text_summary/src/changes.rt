@@ -5,7 +5,7 @@ ghost use Rattle.str_indices.specs.Joins.{starts_with_feed, ends_in_return, seam
 ghost use Rattle.str_indices.specs.Relations.{IsBoundary};
 ghost use Rattle.str_indices.specs.declared.Scheme.TheVariants.{Crlf};
 ghost use Rattle.text_summary.specs.Summaries.{summary_of};
-ghost use Rattle.text_summary.specs.Changes.{IsChange, IsSpan, FitsIn, FitsSpan};
+ghost use Rattle.text_summary.specs.Changes.{IsChange, IsExchangeOf, IsSpan, FitsIn, FitsExchange, FitsSpan};
 
 use crate::seams::{joined_ends_cr, joined_starts_lf};
 use crate::{Scheme, Summary, ends_cr, halves, lost_at_seam, starts_lf};
@@ -15,6 +15,19 @@ use crate::{Scheme, Summary, ends_cr, halves, lost_at_seam, starts_lf};
 pub struct Change {
     /// The byte index where the part starts.
     pub start: usize,
+    /// Whether the text before the part ends in CR.
+    pub ends_cr: bool,
+    /// Whether the text after the part starts with LF.
+    pub starts_lf: bool,
+    /// The summary of the part, which goes out.
+    pub out: Summary,
+    /// The summary of the text that comes in for it.
+    pub own: Summary,
+}
+
+/// A part of a text that is exchanged for another text, wherever it is, between what stays before it and after it.
+#[derive(Clone, Copy)]
+pub struct Exchange {
     /// Whether the text before the part ends in CR.
     pub ends_cr: bool,
     /// Whether the text after the part starts with LF.
@@ -105,9 +118,28 @@ pub fn changed(whole: Summary, change: Change) -> Summary
     ensures { (a m b t : Text) → whole ≡ summary_of (a ++ (m ++ b)) → IsChange a m b t change →
         result ≡ summary_of (a ++ (t ++ b)) }
 {
-    let Change { out, own, .. } = change;
-    let gained = lost_round(change.ends_cr, out, change.starts_lf);
-    let lost = lost_round(change.ends_cr, own, change.starts_lf);
+    let exchange = Exchange {
+        ends_cr: change.ends_cr,
+        starts_lf: change.starts_lf,
+        out: change.out,
+        own: change.own,
+    };
+    let starts_lf = changed_starts_lf(whole, change);
+    let ends_cr = changed_ends_cr(whole, change);
+    exchanged(whole, exchange, starts_lf, ends_cr)
+}
+
+/// The same by how the text starts and ends then, so that nobody has to know where the part is.
+#[inline(always)]
+pub fn exchanged(whole: Summary, exchange: Exchange, starts_lf: bool, ends_cr: bool) -> Summary
+    requires { FitsExchange whole exchange }
+    ensures { (a m b t : Text) → whole ≡ summary_of (a ++ (m ++ b)) → IsExchangeOf a m b t exchange →
+        starts_lf ≡ starts_with_feed (a ++ (t ++ b)) → ends_cr ≡ ends_in_return (a ++ (t ++ b)) →
+        result ≡ summary_of (a ++ (t ++ b)) }
+{
+    let Exchange { out, own, .. } = exchange;
+    let gained = lost_round(exchange.ends_cr, out, exchange.starts_lf);
+    let lost = lost_round(exchange.ends_cr, own, exchange.starts_lf);
     Summary {
         len: whole.len - out.len + own.len,
         chars: whole.chars - out.chars + own.chars,
@@ -115,8 +147,8 @@ pub fn changed(whole: Summary, change: Change) -> Summary
         lf: whole.lf - out.lf + own.lf,
         crlf: whole.crlf + gained - out.crlf + own.crlf - lost,
         lines: whole.lines + gained - out.lines + own.lines - lost,
-        starts_lf: changed_starts_lf(whole, change),
-        ends_cr: changed_ends_cr(whole, change),
+        starts_lf,
+        ends_cr,
     }
 }
 

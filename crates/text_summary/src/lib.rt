@@ -12,7 +12,7 @@ mod seams;
 mod splits;
 mod summaries;
 
-pub use changes::{Change, Span, changed};
+pub use changes::{Change, Exchange, Span, changed, exchanged};
 pub use fronts::{Front, Look};
 pub use seams::{joined, lost_at_seam};
 pub use splits::halves;
