@@ -1,20 +1,18 @@
 #!/usr/bin/env python3
 """Refuses each growth of a text in pieces and of a rope in turn, and wants all as it was.
 
-The programs tests/refused_growths.rt.txt, tests/refused_tiers.rt.txt and tests/refused_rope_growths.rt.txt make a text
-grow, step by step. `rt try`
-builds each once, beside a copy of its library, and refuses the same allocation in each of its runs. In each run the
+The programs tests/refused_growths.rt.txt, tests/refused_runs.rt.txt and tests/refused_rope_growths.rt.txt make a text
+grow, step by step; the second does so at several numbers of pieces. `rt try` builds each once, beside a copy of its library, and refuses the same allocation in each of its runs. In each run the
 program has taken less memory before its first step, so that a later growth is refused. It must answer `NoMemory` then,
 with every other answer as before, and succeed at the second try. The last runs come to an end with no growth refused.
 The last line printed is 'N passed, M failed'.
 """
 import pathlib
 import re
-import shutil
 import subprocess
 import sys
 import tempfile
-from typing import NamedTuple
+from typing import NamedTuple, Tuple
 
 from crate_copies import ROOT, copy_crate
 from tally import Tally
@@ -23,8 +21,7 @@ from tally import Tally
 class Program(NamedTuple):
     """A program, the library that it stands on, what it prints at its end, and how many growths it has at least.
 
-    Of a program that has many, the first growths are not refused. Some growths no call tells of: where a text in pieces
-    finds no memory for a sum over many pieces, it does without.
+    Of a program that has many, the first growths are not refused. It may have numbers to be put in for those in its text.
     """
 
     name: str
@@ -32,15 +29,23 @@ class Program(NamedTuple):
     made: str
     least: int
     passed_over: int = 0
-    untold: int = 0
+    numbers: Tuple[Tuple[str, int], ...] = ()
 
 
 PROGRAMS = (
-    # each of the six pieces that are put in takes its copy, each of the three splits two, and the list is longer at times
-    Program("refused_growths", "piece_text", "9 pieces, 16 bytes, 5 breaks\n", 12),
-    # each of the five pieces that are put in once the first block of the list is full takes its copy, each of the two halves
-    # of one too, and the list a second block, and one for its sums; before that the pieces alone
-    Program("refused_tiers", "piece_text", "132 pieces, 136 bytes, 3 breaks\n", 25, passed_over=115, untold=1),
+    # each of the six pieces that are put in takes its copy and its place, each of the three splits two of both, and the list
+    # is longer at times
+    Program("refused_growths", "piece_text", "9 pieces, 16 bytes, 5 breaks\n", 24),
+    # each of the five pieces that are put in takes its copy and its place, and the two halves of one too. Beside them grow:
+    # the list of pieces, and that of runs, which gets its first
+    Program("refused_runs", "piece_text", "132 pieces, 136 bytes, 3 breaks\n", 25, passed_over=250),
+    # that of four runs, which gets one more after them
+    Program("refused_runs", "piece_text", "388 pieces, 392 bytes, 2 breaks\n", 25, passed_over=764, numbers=(("PIECES", 384),)),
+    # and one more of a run that is cut
+    Program(
+        "refused_runs", "piece_text", "389 pieces, 393 bytes, 2 breaks\n", 25, passed_over=766,
+        numbers=(("PIECES", 321), ("FRONT", 64)),
+    ),
     # each new piece takes its text and its fork, and a text that is put into a full piece is put together first
     Program("refused_rope_growths", "text_rope", "5004 bytes, 750 breaks, the number 15501513337787822859\n", 25),
 )
@@ -54,7 +59,11 @@ def copy_program(program, folder):
     copy_crate(program.library, folder, f"{program.name}: {program.library}\n", left_out=("must-fail", "out"))
     crate = folder / "crates" / program.name
     (crate / "src").mkdir(parents=True)
-    shutil.copyfile(ROOT / "tests" / f"{program.name}.rt.txt", crate / "src" / "main.rt")
+    source = (ROOT / "tests" / f"{program.name}.rt.txt").read_text(encoding="utf-8")
+    for name, number in program.numbers:
+        source, made = re.subn(f"(const {name}: usize =) [0-9]+;", rf"\1 {number};", source)
+        assert made == 1, name
+    (crate / "src" / "main.rt").write_text(source, encoding="utf-8")
     return crate
 
 
@@ -87,9 +96,8 @@ def try_program(program, tally):
         output = outputs.get(number, "")
         tally.result(output == REFUSED + program.made, f"{program.name}, growth {number} is refused: {output!r}")
     growths = len(refused)
-    untold = max(refused, default=0) - growths
-    told = f"{growths} growths were refused, {untold} more with no word of it, and then none"
-    tally.result(program.least < growths and untold == program.untold and max(refused) < RUNS, told)
+    told = f"{growths} growths were refused, one after the other, and then none"
+    tally.result(program.least < growths == max(refused) < RUNS, told)
 
 
 def main():

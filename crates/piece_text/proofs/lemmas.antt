@@ -4,11 +4,9 @@ pub mod Fronts
 pub mod Splitting
 pub mod Runs
 pub mod Settled
-pub mod Tiers
 pub use Common.*
 pub use Joining.*
 pub use Fronts.*
 pub use Splitting.*
 pub use Runs.*
 pub use Settled.*
-pub use Tiers.*

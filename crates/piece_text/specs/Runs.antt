@@ -2,14 +2,15 @@
 --     IsRun run texts          the run is that of the texts
 --     AreRuns runs texts       the runs are those of the first texts, and the other texts are in none
 --     pieces_in runs           how many pieces the runs have
---     IsGrown old new at       new is old with one text put in at a place, or with two for the one there
---     Grown runs new at        the runs are those of a list that has grown so
---     Shrunk runs new at       the runs are those of a list out of which a text was taken
-use Rattle.std.specs.Prelude.{ℕ, ◌≡◌, ◌≢◌, ◌+◌, ◌<◌, ◌≤◌, List, [], ◌∷◌, ◌++◌, length, remove}
+--     IsSwap old new at swap   new is old with some texts for others at a place
+--     IsRunSwapped run new at swap   the run is that of texts that were swapped so
+--     Swapped runs new at swap       the runs are those of a list that was swapped so
+use Rattle.std.specs.Prelude.{ℕ, ◌≡◌, ◌≢◌, ◌+◌, ◌^◌, ◌<◌, ◌≤◌, List, [], ◌∷◌, ◌++◌, length}
 use Rattle.str_indices.specs.Text.{Text}
-use Rattle.piece_text.specs.Pieces.{joined}
+use Rattle.piece_text.specs.Pieces.{joined, joined_size}
 use Rattle.piece_text.specs.Summaries.{summary_of}
 use Rattle.piece_text.specs.declared.runs.Run.{Run}
+use Rattle.piece_text.specs.declared.runs.Swap.{Swap}
 
 -- its number of pieces and its sum are those of the texts, and these are not empty
 pub record IsRun (run : Run) (texts : List Text) : Type 0 where
@@ -28,27 +29,31 @@ abbrev pub pieces_in : List Run → ℕ
 pieces_in [] = 0
 pieces_in (run ∷ runs) = run.pieces + pieces_in runs
 
--- one text is put in at a place, or two are put in for the one there
-pub record IsGrown (old new : List Text) (at : ℕ) : Type 0 where
+-- at a place some texts come for others, as the swap has it
+pub record IsSwap (old new : List Text) (at : ℕ) (swap : Swap) : Type 0 where
   pub before : List Text
-  pub out : List Text
-  pub in_for : List Text
+  pub gone : List Text
+  pub come : List Text
   pub behind : List Text
-  pub was : old ≡ before ++ (out ++ behind)
-  pub is : new ≡ before ++ (in_for ++ behind)
+  pub was : old ≡ before ++ (gone ++ behind)
+  pub is : new ≡ before ++ (come ++ behind)
   pub place : length before ≡ at
-  pub one : length out ≤ 1
-  pub more : length in_for ≡ length out + 1
+  pub gone_count : length gone ≡ swap.gone
+  pub come_count : length come ≡ swap.come
+  pub out : swap.out ≡ summary_of (joined gone)
+  pub own : swap.own ≡ summary_of (joined come)
 
--- the runs are those of a list that has grown so
-pub record Grown (runs : List Run) (new : List Text) (at : ℕ) : Type 0 where
+-- the run is that of texts of which the new ones came by the swap
+pub record IsRunSwapped (run : Run) (new : List Text) (at : ℕ) (swap : Swap) : Type 0 where
+  pub old : List Text
+  pub is : IsRun run old
+  pub swap_is : IsSwap old new at swap
+  pub short : joined_size old < 2 ^ 63
+
+-- the runs are those of a list of which the new one came by the swap, where one text goes out at most
+pub record Swapped (runs : List Run) (new : List Text) (at : ℕ) (swap : Swap) : Type 0 where
   pub old : List Text
   pub are : AreRuns runs old
-  pub grown : IsGrown old new at
-
--- the runs are those of a list out of which a text was taken
-pub record Shrunk (runs : List Run) (new : List Text) (at : ℕ) : Type 0 where
-  pub old : List Text
-  pub are : AreRuns runs old
-  pub inside : at < length old
-  pub is : new ≡ remove old at
+  pub swap_is : IsSwap old new at swap
+  pub one : swap.gone ≤ 1
+  pub short : joined_size old < 2 ^ 63

@@ -5,14 +5,12 @@
 //! memory.
 #![tactic(auto)]
 
-mod cursor;
 mod list;
 mod piece;
 mod queries;
 mod refusals;
 mod runs;
 mod stretches;
-mod tiers;
 mod view;
 
 pub use list::PieceText;

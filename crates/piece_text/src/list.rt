@@ -1,5 +1,5 @@
 //! A text as the list of its pieces.
-ghost use Rattle.std.specs.Prelude.{◌≡◌, ◌≢◌, ◌+◌, ◌^◌, ◌<◌, ◌≤◌, ◌↔◌, [], ◌++◌, length, chars, take, drop, remove, Err, IsTrue, IsErrOf, IsOkUnless, OnOk, OnErr};
+ghost use Rattle.std.specs.Prelude.{◌≡◌, ◌≢◌, ◌+◌, ◌^◌, ◌<◌, ◌≤◌, ◌↔◌, [], ◌++◌, length, chars, take, drop, insert, remove, Err, IsTrue, IsErrOf, IsOkUnless, OnOk, OnErr};
 ghost use Rattle.str_indices.specs.Schemes.{count, from_byte_idx, to_byte_idx};
 ghost use Rattle.str_indices.specs.Text.{size};
 ghost use Rattle.str_indices.specs.Relations.{IsBoundary};
@@ -7,11 +7,9 @@ ghost use Rattle.piece_text.specs.Pieces.{joined, joined_size, piece_at, as_piec
 ghost use Rattle.piece_text.specs.Splits.{IsEdge, IsCut, IsSplit};
 ghost use Rattle.piece_text.specs.declared.refusals.Refusal.TheVariants.{NoPiece, NotBoundary, TooLong, NoMemory};
 
-use crate::cursor::Cursor;
 use crate::piece::Piece;
-use crate::runs::{Runs, part_round};
-use crate::tiers::Tiers;
-use crate::{Pieces, Refusal, Scheme, count_in, from_in, to_in};
+use crate::runs::{Runs, Swap, part_round};
+use crate::{Pieces, Refusal, Scheme, Summary, count_in, from_in, to_in};
 use std::alloc::{AllocError, Global};
 use std::marker::Model;
 
@@ -23,7 +21,7 @@ const MAX_LEN: usize = isize::MAX as usize;
 /// A question passes up to 128 pieces at one look, then looks at some of the pieces one by one, and reads one at most.
 #[derive(Drop)]
 pub struct PieceText {
-    pieces: Tiers,
+    pieces: Vec<Piece>,
     runs: Runs,
     len: usize,
     alloc: Global,
@@ -37,9 +35,9 @@ impl Model for PieceText {
 
     ghost Value = { List Text };
 
-    ghost view = { λ t. t.pieces };
+    ghost view = { λ t. t.pieces.items };
 
-    ghost invariant = { λ t. (t.len ≡ joined_size t.pieces) × (t.len < 2 ^ 63) × AreRuns t.runs t.pieces };
+    ghost invariant = { λ t. (t.len ≡ joined_size t.pieces.items) × (t.len < 2 ^ 63) × AreRuns t.runs t.pieces.items };
 }
 
 impl PieceText {
@@ -48,7 +46,7 @@ impl PieceText {
         ensures { result ≡ [] }
     {
         PieceText {
-            pieces: Tiers::new(alloc),
+            pieces: Vec::new(alloc),
             runs: Runs::new(alloc),
             len: 0,
             alloc,
@@ -93,17 +91,33 @@ impl PieceText {
         if text.is_empty() {
             return Ok(());
         }
-        let Ok(piece) = Piece::of(self.alloc, text) else {
-            return Err(Refusal::NoMemory);
-        };
-        match self.pieces.insert(self.alloc, at, piece) {
-            Ok(()) => {
-                self.len += text.len();
-                self.runs.grown(&self.pieces, at);
-                Ok(())
-            }
+        match self.put(at, text) {
+            Ok(()) => Ok(()),
             Err(_) => Err(Refusal::NoMemory),
         }
+    }
+
+    /// Puts a text in that is not empty. Its piece, and the room in all lists, are there before anything changes.
+    fn put(&mut self, at: usize, text: &str) -> Result<(), AllocError>
+        requires within { at ≤ length self.old }
+        requires some { chars text.now ≢ [] }
+        requires short { joined_size self.old + length text.now < 2 ^ 63 }
+        ensures ok { OnOk result (self.new ≡ insert self.old at (chars text.now)) }
+        ensures err { OnErr result (self.new ≡ self.old) }
+    {
+        let piece = Piece::of(self.alloc, text)?;
+        let own = piece.summary();
+        self.runs.make_room(self.pieces.as_slice(), at)?;
+        self.pieces.insert(at, piece)?;
+        let swap = Swap {
+            gone: 0,
+            come: 1,
+            out: Summary::none(),
+            own,
+        };
+        self.runs.swapped(self.pieces.as_slice(), at, swap);
+        self.len += text.len();
+        Ok(())
     }
 
     /// Takes piece `at` out. Takes no memory.
@@ -118,9 +132,17 @@ impl PieceText {
         if self.pieces.len() <= at {
             return Err(Refusal::NoPiece);
         }
+        let last = self.pieces.len() - 1;
+        self.runs.open_end(at, last);
         let piece = self.pieces.remove(at);
         self.len -= piece.len();
-        self.runs.shrunk(&self.pieces, at);
+        let swap = Swap {
+            gone: 1,
+            come: 0,
+            out: piece.summary(),
+            own: Summary::none(),
+        };
+        self.runs.swapped(self.pieces.as_slice(), at, swap);
         Ok(())
     }
 
@@ -159,11 +181,11 @@ impl PieceText {
         ensures past { result.1 ≤ byte_idx }
         ensures within { result.0 < length self.now → byte_idx < result.1 + size (piece_at self.now result.0) }
     {
-        let part = part_round(self.runs.as_slice(), &self.pieces, byte_idx);
-        let mut cursor = Cursor::at(&self.pieces, part.first);
+        let part = part_round(self.runs.as_slice(), self.pieces.as_slice(), byte_idx);
         let mut start = part.start;
         for i in part.first..part.end {
-            let len = cursor.next().len();
+            let piece = &self.pieces[i];
+            let len = piece.len();
             if byte_idx - start < len {
                 return (i, start);
             }
@@ -177,23 +199,31 @@ impl PieceText {
         requires { i < length self.now }
         ensures { IsTrue result ↔ IsBoundary (piece_at self.now i) at }
     {
-        Cursor::at(&self.pieces, i).next().is_boundary(at)
+        self.pieces[i].is_boundary(at)
     }
 
-    /// Cuts piece `i` in two. Both halves, and the room for one piece more, are there before anything changes.
+    /// Cuts piece `i` in two. Both halves, and the room in all lists, are there before anything changes.
     fn cut(&mut self, i: usize, at: usize) -> Result<(), AllocError>
         requires inside { i < length self.old }
-        requires few { length self.old < 2 ^ 64 }
         requires above { 0 < at }
         requires below { at < size (piece_at self.old i) }
         requires boundary { IsBoundary (piece_at self.old i) at }
         ensures ok { OnOk result (IsCut self.old self.new (joined_size (take i self.old) + at)) }
         ensures err { OnErr result (self.new ≡ self.old) }
     {
-        let (left, right) = Cursor::at(&self.pieces, i).next().halves(self.alloc, at)?;
-        self.pieces.insert(self.alloc, i + 1, right)?;
-        self.pieces.replace(i, left);
-        self.runs.grown(&self.pieces, i);
+        let piece = &self.pieces[i];
+        let whole = piece.summary();
+        let (left, right) = piece.halves(self.alloc, at)?;
+        self.runs.make_room(self.pieces.as_slice(), i)?;
+        self.pieces.insert(i + 1, right)?;
+        self.pieces[i] = left;
+        let swap = Swap {
+            gone: 1,
+            come: 2,
+            out: whole,
+            own: whole,
+        };
+        self.runs.swapped(self.pieces.as_slice(), i, swap);
         Ok(())
     }
 
@@ -215,7 +245,7 @@ impl PieceText {
     pub fn view(&self) -> Pieces<'_>
         ensures { result ≡ record { texts = self.now; looks = 0; reads = 0 } }
     {
-        Pieces::of(&self.pieces, self.runs.as_slice())
+        Pieces::of(self.pieces.as_slice(), self.runs.as_slice())
     }
 
     /// How many characters, UTF-16 code units or line breaks the joined text has.

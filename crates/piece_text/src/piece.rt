@@ -1,18 +1,25 @@
 //! One piece of a text, with its summary.
-ghost use Rattle.std.specs.Prelude.{◌≡◌, ◌≢◌, ◌+◌, ◌<◌, ◌↔◌, [], chars, IfOk, IsTrue};
+ghost use Rattle.std.specs.Prelude.{◌≡◌, ◌≢◌, ◌<◌, ◌↔◌, [], chars, IfOk, IsTrue};
 ghost use Rattle.str_indices.specs.Text.{size};
 ghost use Rattle.str_indices.specs.Relations.{IsBoundary};
 ghost use Rattle.piece_text.specs.Summaries.{summary_of};
 ghost use Rattle.piece_text.specs.Splits.{IsHalved};
 
 use crate::Summary;
-use byte_chunk::Counter;
 use std::alloc::{AllocError, Global};
 use std::marker::Model;
 
 /// A text that is not empty, and its summary. A contract sees the text's characters.
+///
+/// It takes one word in a list, so that a change of the list moves little.
 #[derive(Drop)]
 pub(crate) struct Piece {
+    body: Box<Body>,
+}
+
+/// What a piece keeps.
+#[derive(Drop)]
+struct Body {
     text: String,
     summary: Summary,
 }
@@ -24,9 +31,9 @@ impl Model for Piece {
 
     ghost Value = { Text };
 
-    ghost view = { λ p. chars (string_bytes p.text) };
+    ghost view = { λ p. chars (string_bytes p.body.value.text) };
 
-    ghost invariant = { λ p. IsPiece p.summary (chars (string_bytes p.text)) };
+    ghost invariant = { λ p. IsPiece p.body.value.summary (chars (string_bytes p.body.value.text)) };
 }
 
 impl Piece {
@@ -37,7 +44,10 @@ impl Piece {
     {
         let summary = Summary::of(text);
         let text = String::from_str(alloc, text)?;
-        Ok(Piece { text, summary })
+        let Ok(body) = Box::new(alloc, Body { text, summary }) else {
+            return Err(AllocError);
+        };
+        Ok(Piece { body })
     }
 
     /// The summary of its text.
@@ -45,38 +55,28 @@ impl Piece {
         ensures summary { result ≡ summary_of self.now }
         ensures some { self.now ≢ [] }
     {
-        self.summary
-    }
-
-    /// The summary of its text, for one look.
-    pub(crate) fn look(&self, looks: &mut Counter) -> Summary
-        ensures summary { result ≡ summary_of self.now }
-        ensures some { self.now ≢ [] }
-        ensures looks { looks.new ≡ looks.old + 1 }
-    {
-        looks.tick();
-        self.summary
+        self.body.summary
     }
 
     /// How many bytes it has.
     pub(crate) fn len(&self) -> usize
         ensures { result ≡ size self.now }
     {
-        self.summary.len
+        self.body.summary.len
     }
 
     /// Its text.
     pub(crate) fn text(&self) -> &str
         ensures { chars result.now ≡ self.now }
     {
-        self.text.as_str()
+        self.body.text.as_str()
     }
 
     /// Whether a byte index in it is between characters, or at its beginning or end.
     pub(crate) fn is_boundary(&self, at: usize) -> bool
         ensures { IsTrue result ↔ IsBoundary self.now at }
     {
-        is_boundary(self.text.as_str(), at)
+        is_boundary(self.body.text.as_str(), at)
     }
 
     /// It in two pieces, cut between characters.

@@ -1,12 +1,10 @@
 //! The answers for the joined text, from the summaries of its pieces and the text of at most one.
 ghost use Rattle.std.specs.Prelude.{◌≡◌, ◌≢◌, ℕ, ◌+◌, ◌-◌, ◌<◌, ◌≤◌, [], length, take};
 ghost use Rattle.str_indices.specs.Schemes.{count, from_byte_idx, to_byte_idx};
-ghost use Rattle.piece_text.specs.Cursors.{CursorState};
 ghost use Rattle.piece_text.specs.Pieces.{joined, piece_at};
 ghost use Rattle.text_summary.specs.Fronts.{IsFront};
 
 use crate::stretches::{past_runs, stretch_for, stretch_round};
-use crate::view::Walk;
 use crate::{Pieces, Scheme};
 use text_summary::{Front, Look};
 
@@ -27,10 +25,9 @@ pub fn count_in(p: &mut Pieces, s: Scheme) -> usize
     ensures reads { p.new.reads ≡ p.old.reads }
 {
     let rest = past_runs(p, s);
-    let mut walk = p.walk(rest.first);
     let mut front = rest.front;
     for i in rest.first..rest.end {
-        front = look_at(p, s, i, &mut walk, front).behind;
+        front = look_at(p, s, i, front).behind;
     }
     front.total
 }
@@ -45,10 +42,9 @@ pub fn from_in(p: &mut Pieces, s: Scheme, b: usize) -> usize
     ensures reads_kept { p.old.reads ≤ p.new.reads }
 {
     let stretch = stretch_round(p, s, b);
-    let mut walk = p.walk(stretch.first);
     let mut front = stretch.front;
     for i in stretch.first..stretch.end {
-        let look = look_at(p, s, i, &mut walk, front);
+        let look = look_at(p, s, i, front);
         if b < look.behind.len {
             return look.reached + s.from_byte_idx(p.text(i), b - front.len);
         }
@@ -88,7 +84,6 @@ fn piece_for(p: &mut Pieces, s: Scheme, k: usize) -> Asked
     ensures reads { p.new.reads ≡ p.old.reads }
 {
     let stretch = stretch_for(p, s, k);
-    let mut walk = p.walk(stretch.first);
     let mut front = stretch.front;
     let mut asked = Asked {
         piece: stretch.first,
@@ -96,7 +91,7 @@ fn piece_for(p: &mut Pieces, s: Scheme, k: usize) -> Asked
         index: 0,
     };
     for i in stretch.first..stretch.end {
-        let look = look_at(p, s, i, &mut walk, front);
+        let look = look_at(p, s, i, front);
         if k <= look.reached {
             return asked;
         }
@@ -110,13 +105,11 @@ fn piece_for(p: &mut Pieces, s: Scheme, k: usize) -> Asked
     asked
 }
 
-/// Looks at piece `i`, which comes next.
-fn look_at(p: &mut Pieces, s: Scheme, i: usize, walk: &mut Walk, front: Front) -> Look
+/// Looks at piece `i`.
+fn look_at(p: &mut Pieces, s: Scheme, i: usize, front: Front) -> Look
     requires inside { i < length p.old.texts }
-    requires next { walk.old ≡ record { texts = p.old.texts; place = i } }
     requires front { IsFront s (joined (take i p.old.texts)) front }
     ensures state { p.new ≡ record p.old { looks = p.old.looks + 1 } }
-    ensures next { walk.new ≡ record { texts = p.old.texts; place = i + 1 } }
     ensures some { piece_at p.old.texts i ≢ [] }
     ensures reached { result.reached ≤ front.total }
     ensures behind { IsFront s (joined (take (i + 1) p.old.texts)) result.behind }
@@ -130,6 +123,6 @@ fn look_at(p: &mut Pieces, s: Scheme, i: usize, walk: &mut Walk, front: Front) -
         to_byte_idx s (joined (take (i + 1) p.old.texts)) k
         ≡ front.len + to_byte_idx s (piece_at p.old.texts i) (k - result.reached) }
 {
-    let piece = p.look(walk);
+    let piece = p.summary(i);
     front.look(s, piece)
 }

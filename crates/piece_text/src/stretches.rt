@@ -20,7 +20,28 @@ pub(crate) struct Stretch {
 }
 
 /// The pieces that are in no run.
+#[inline(always)]
 pub(crate) fn past_runs(p: &mut Pieces, s: Scheme) -> Stretch
+    ensures stretch { IsStretch s p.old.texts result }
+    ensures end { result.end ≡ length p.old.texts }
+    ensures texts { p.new.texts ≡ p.old.texts }
+    ensures looks { p.new.looks + (result.end - result.first) ≤ p.old.looks + length p.old.texts }
+    ensures looks_kept { p.old.looks ≤ p.new.looks }
+    ensures reads { p.new.reads ≡ p.old.reads }
+{
+    if !p.runs().is_empty() {
+        return past_all_runs(p, s);
+    }
+    Stretch {
+        first: 0,
+        end: p.len(),
+        front: Front::none(),
+    }
+}
+
+/// The same, run by run.
+#[inline(never)]
+fn past_all_runs(p: &mut Pieces, s: Scheme) -> Stretch
     ensures stretch { IsStretch s p.old.texts result }
     ensures end { result.end ≡ length p.old.texts }
     ensures texts { p.new.texts ≡ p.old.texts }
@@ -44,6 +65,7 @@ pub(crate) fn past_runs(p: &mut Pieces, s: Scheme) -> Stretch
 
 /// The pieces of the run that a byte is in, or those that are in no run. Where a run is the last and no piece comes after
 /// it, the byte can be nowhere else, and it is not looked at.
+#[inline(always)]
 pub(crate) fn stretch_round(p: &mut Pieces, s: Scheme, b: usize) -> Stretch
     ensures stretch { IsStretch s p.old.texts result }
     ensures past { result.front.len ≤ b }
@@ -78,6 +100,7 @@ pub(crate) fn stretch_round(p: &mut Pieces, s: Scheme, b: usize) -> Stretch
 
 /// The pieces of the run in which the text comes to an index, and the piece after it, since that one may take the break
 /// off that the run ends with. Or those that are in no run, or in the last one that at most one piece comes after.
+#[inline(always)]
 pub(crate) fn stretch_for(p: &mut Pieces, s: Scheme, k: usize) -> Stretch
     requires { 0 < k }
     ensures stretch { IsStretch s p.old.texts result }

@@ -10,12 +10,10 @@ pub use Rattle.piece_text.specs.Pieces.{PiecesState, joined, joined_size, piece_
 pub use Rattle.piece_text.specs.Splits.{IsEdge, IsHalved, IsCut}
 pub use Rattle.text_summary.proofs.lemmas.Fronts.{TellsAt, tells_at}
 pub use Rattle.text_summary.specs.Fronts.{IsFront}
-pub use Rattle.piece_text.specs.Runs.{IsRun, AreRuns, pieces_in, IsGrown, Grown, Shrunk}
+pub use Rattle.piece_text.specs.Runs.{IsRun, AreRuns, pieces_in, IsSwap, IsRunSwapped, Swapped}
 pub use Rattle.piece_text.specs.Stretches.{IsRunAt, IsStretch, IsSettled, IsPartRound}
 pub use Rattle.piece_text.specs.Summaries.{summary_of}
 pub use Rattle.piece_text.specs.declared.runs.Run.{Run}
+pub use Rattle.piece_text.specs.declared.runs.Swap.{Swap}
 pub use Rattle.piece_text.specs.declared.stretches.Stretch.{Stretch}
 pub use Rattle.std.proofs.lemmas.Bool.{cases_lt}
-pub use Rattle.piece_text.specs.Tiers.{tier_size, items_of, pieces_of, AreFilled, HasPlace, IsTierOf}
-pub use Rattle.piece_text.specs.declared.tiers.Tier.{Tier}
-pub use Rattle.piece_text.specs.Cursors.{CursorState}

@@ -1,9 +1,9 @@
 -- Runs of pieces: the one at a place, and those of a list that has changed there.
-use Rattle.piece_text.proofs.lemmas.Common.{◌≡◌, ℕ, zero, suc, ◌+◌, ◌-◌, ◌<◌, ◌≤◌, List, [], ◌∷◌, ◌++◌, length, take, drop, remove, refl, arith, sym, ◌∙◌, ap, append_assoc, append-nil, add-one, take-append-drop, length-take-le, length-drop, take_all, take-take, Text, size, size-append, joined, joined_size, piece_at, set, insert, IsGrown, Grown, Shrunk}
+use Rattle.piece_text.proofs.lemmas.Common.{◌≡◌, ℕ, zero, suc, ◌+◌, ◌-◌, ◌<◌, ◌≤◌, List, [], ◌∷◌, ◌++◌, length, take, drop, remove, refl, arith, sym, ◌∙◌, ap, append_assoc, append-nil, add-one, take-append-drop, length-take-le, length-drop, take_all, Text, size, size-append, joined, joined_size, piece_at, set, insert, take_at, summary_of, IsSwap, IsRunSwapped, Swapped, Swap}
 use Rattle.std.proofs.Common.{subst, get_or, false, ◌^◌, zero-add, add-zero}
 use Rattle.std.proofs.Math.Seq.{drop-append-add, take-append-add, drop-append_seam, take-append_seam, drop-cons}
 use Rattle.std.proofs.Math.ListN.{length-append}
-use Rattle.std.proofs.lemmas.List.{take-append-le, drop-drop, take-set}
+use Rattle.std.proofs.lemmas.List.{take-append-le, drop-append-le, drop-drop}
 use Rattle.str_indices.specs.declared.Scheme.{Scheme}
 use Rattle.text_summary.specs.Fronts.{IsFront, IsFollowed}
 use Rattle.text_summary.specs.declared.fronts.Front.{Front}
@@ -348,26 +348,16 @@ abbrev pub AreSameAt : List Run → List Text → List Text → ℕ → Run → 
 AreSameAt runs old new r run q =
     AreSameRound old new (pieces_in (take r runs)) (pieces_in (take r runs) + run.pieces) (pieces_in (take r runs) + q)
 
-pub grown_at : (runs : List Run) (old new : List Text) (at r : ℕ) (d : Run) → IsGrown old new at → r < length runs
-    → pieces_in (take r runs) ≤ at → at < pieces_in (take (r + 1) runs)
-    → AreSameAt runs old new r (get_or runs r d) ((get_or runs r d).pieces + 1)
-grown_at runs old new at r d grown inside past within =
+pub swapped_at : (runs : List Run) (old new : List Text) (at r : ℕ) (d : Run) (swap : Swap) → IsSwap old new at swap
+    → swap.gone ≤ 1 → r < length runs → pieces_in (take r runs) ≤ at → at < pieces_in (take (r + 1) runs)
+    → AreSameAt runs old new r (get_or runs r d) ((get_or runs r d).pieces - swap.gone + swap.come)
+swapped_at runs old new at r d swap is one inside past within =
     let more = pieces_in-at runs r d inside in
-    same_round old new grown.before grown.out grown.in_for grown.behind (pieces_in (take r runs))
-    (pieces_in (take r runs) + (get_or runs r d).pieces) (pieces_in (take r runs) + ((get_or runs r d).pieces + 1))
-    grown.was grown.is (omega (arith, grown.place)) (omega (arith, grown.place, grown.one, more)) (omega (arith, grown.more))
-
-pub shrunk_at : (runs : List Run) (new : List Text) (at r : ℕ) (d : Run) (shrunk : Shrunk runs new at) → r < length runs
-    → pieces_in (take r runs) ≤ at → at < pieces_in (take (r + 1) runs)
-    → AreSameAt runs shrunk.old new r (get_or runs r d) ((get_or runs r d).pieces - 1)
-shrunk_at runs new at r d shrunk inside past within =
-    let more = pieces_in-at runs r d inside in
-    let was = sym (take-append-drop at shrunk.old) ∙ ap (λ x. take at shrunk.old ++ x) (drop-piece shrunk.old at shrunk.inside) in
-    let place = length-take-le at shrunk.old (omega (arith, shrunk.inside)) in
-    same_round shrunk.old new (take at shrunk.old) (piece_at shrunk.old at ∷ []) [] (drop (suc at) shrunk.old)
-    (pieces_in (take r runs)) (pieces_in (take r runs) + (get_or runs r d).pieces)
-    (pieces_in (take r runs) + ((get_or runs r d).pieces - 1)) was shrunk.is (omega (arith, place))
-    (omega (arith, place, more)) (omega (arith, more))
+    let m = pieces_in (take r runs) in
+    let n = (get_or runs r d).pieces in
+    same_round old new is.before is.gone is.come is.behind m (m + n) (m + (n - swap.gone + swap.come)) is.was is.is
+    (omega (arith, is.place, past)) (omega (arith, is.place, is.gone_count, one, within, more))
+    (omega (arith, is.gone_count, is.come_count, one, past, within, more))
 
 -- the runs with another one in that place, or none
 pub put_at : (runs : List Run) (old new : List Text) (r q : ℕ) (d other : Run) → AreRuns runs old → r < length runs
@@ -393,85 +383,127 @@ halved_at runs texts r h d left right are inside le is_left is_right =
     (halved runs texts r h ((get_or runs r d).pieces - h) (get_or runs r d) left right are (drop-cons runs r d inside)
     (omega arith) is_left is_right)
 
--- all that a change of the run that a new piece is in stands on
-pub record GrownAt (runs : List Run) (new : List Text) (r first : ℕ) (run : Run) : Type 0 where
-  pub within : first + (run.pieces + 1) ≤ length new
-  pub all : pieces_in runs + 1 ≤ length new
-  pub put : (other : Run) → IsRun other (take (run.pieces + 1) (drop first new)) → AreRuns (set runs r other) new
-  pub count : (other : Run) → other.pieces ≡ run.pieces + 1 → pieces_in (set runs r other) ≡ pieces_in runs + 1
-  pub first_is : (other : Run) → first ≡ pieces_in (take r (set runs r other))
+-- some texts of a list from one on, by those of a part of it
+window : (xs before mid behind : List Text) (first n j : ℕ) → xs ≡ before ++ (mid ++ behind) → first ≤ length before
+    → n ≡ length before - first + (length mid + j) → take n (drop first xs) ≡ drop first before ++ (mid ++ take j behind)
+window xs before mid behind first n j split le count =
+    let from : drop first xs ≡ drop first before ++ (mid ++ behind) =
+    ap (drop first) split ∙ drop-append-le first before (mid ++ behind) le in
+    ap (λ k. take k (drop first xs)) count
+    ∙ take_own (drop first xs) (drop first before) (mid ++ behind) (length before - first) (length mid + j) from
+    (length-drop first before)
+    ∙ ap (λ x. drop first before ++ x) (take_own (mid ++ behind) mid behind (length mid) j refl refl)
 
-pub grown_there : (runs items : List Run) (new : List Text) (at r first : ℕ) (run : Run) → items ≡ runs
-    → Grown runs new at → r < length runs → first ≡ pieces_in (take r runs) → first ≤ at
-    → at < pieces_in (take (r + 1) runs) → run ≡ get_or items r run → GrownAt items new r first run
-grown_there runs items new at r first run view grown inside first_is past within run_is =
+-- all that a swap in a run stands on
+pub record SwappedAt (runs : List Run) (new : List Text) (at r first : ℕ) (run : Run) (swap : Swap) : Type 0 where
+  pub gone_le : swap.gone ≤ run.pieces
+  pub gone_le_all : swap.gone ≤ pieces_in runs
+  pub fits : pieces_in runs - swap.gone + swap.come ≤ length new
+  pub within : first + (run.pieces - swap.gone + swap.come) ≤ length new
+  pub own : IsRunSwapped run (take (run.pieces - swap.gone + swap.come) (drop first new)) (at - first) swap
+  pub put : (other : Run) → IsRun other (take (run.pieces - swap.gone + swap.come) (drop first new))
+      → AreRuns (set runs r other) new
+  pub none : run.pieces - swap.gone + swap.come ≡ 0 → AreRuns (remove runs r) new
+  pub count : (other : Run) → other.pieces ≡ run.pieces - swap.gone + swap.come
+      → pieces_in (set runs r other) ≡ pieces_in runs - swap.gone + swap.come
+  pub count_none : run.pieces - swap.gone + swap.come ≡ 0 → pieces_in (remove runs r) ≡ pieces_in runs - swap.gone + swap.come
+
+pub swapped_there : (runs items : List Run) (new : List Text) (at r first : ℕ) (run : Run) (swap : Swap) → items ≡ runs
+    → Swapped runs new at swap → r < length runs → first ≡ pieces_in (take r runs) → first ≤ at
+    → at < pieces_in (take (r + 1) runs) → run ≡ get_or items r run → SwappedAt items new at r first run swap
+swapped_there runs items new at r first run swap view swapped inside first_is past within run_is =
     rw view (
     let d = run in
     let is : run ≡ get_or runs r d = run_is ∙ ap (λ v. get_or v r d) view in
-    let place = passing runs grown.old first r d grown.are inside first_is in
-    let size_old = pieces_in-le runs grown.old grown.are in
-    let g = grown.grown in
-    let longer : length new ≡ length grown.old + 1 = omega (
-      arith,
-      ap length g.was,
-      ap length g.is,
-      length-append g.before (g.out ++ g.behind),
-      length-append g.out g.behind,
-      length-append g.before (g.in_for ++ g.behind),
-      length-append g.in_for g.behind,
-      g.more,
-    ) in
-    let same = grown_at runs grown.old new at r d g inside (omega (arith, past, first_is)) within in
+    let n = ap (λ v. v.pieces) is in
+    let old = swapped.old in
+    let sw = swapped.swap_is in
+    let place = passing runs old first r d swapped.are inside first_is in
+    let all = pieces_in-le runs old swapped.are in
+    let round = pieces_in-round runs r d inside in
+    let more = pieces_in-at runs r d inside in
+    let was_length : length old ≡ length sw.before + (length sw.gone + length sw.behind) =
+    ap length sw.was ∙ length-append sw.before (sw.gone ++ sw.behind)
+    ∙ ap (λ k. length sw.before + k) (length-append sw.gone sw.behind) in
+    let is_length : length new ≡ length sw.before + (length sw.come + length sw.behind) =
+    ap length sw.is ∙ length-append sw.before (sw.come ++ sw.behind)
+    ∙ ap (λ k. length sw.before + k) (length-append sw.come sw.behind) in
+    let same = swapped_at runs old new at r d swap sw swapped.one inside (omega (arith, past, first_is)) within in
+    let own_run : IsRun run place.at.own = subst (λ v. IsRun v place.at.own) (sym is) place.at.is in
+    let own_is : take run.pieces (drop first old) ≡ place.at.own =
+    ap (λ k. take k (drop first old)) n ∙ run_own old first (get_or runs r d) place.at in
+    let j = run.pieces - (at - first) - swap.gone in
+    let fits : at - first + swap.gone ≤ run.pieces = omega (arith, past, within, more, first_is, swapped.one, n) in
+    let was : take run.pieces (drop first old) ≡ drop first sw.before ++ (sw.gone ++ take j sw.behind) =
+    window old sw.before sw.gone sw.behind first run.pieces j sw.was (omega (arith, sw.place, past))
+    (omega (arith, sw.place, sw.gone_count, fits, past)) in
+    let now : take (run.pieces - swap.gone + swap.come) (drop first new)
+    ≡ drop first sw.before ++ (sw.come ++ take j sw.behind) =
+    window new sw.before sw.come sw.behind first (run.pieces - swap.gone + swap.come) j sw.is (omega (arith, sw.place, past))
+    (omega (arith, sw.place, sw.come_count, fits, past)) in
     record {
-      within = omega (arith, place.within, longer, ap (λ v. v.pieces) is);
-      all = omega (arith, size_old, longer);
-      put = λ other other_is. put_at runs grown.old new r ((get_or runs r d).pieces + 1) d other grown.are inside same
-          (rw (← is, ← first_is) other_is);
-      count = λ other count. omega (arith, pieces_in-set runs r d other inside, count, ap (λ v. v.pieces) is);
-      first_is = λ other. first_is ∙ ap pieces_in (sym (take-set runs r other));
+      gone_le = omega (arith, fits);
+      gone_le_all = omega (arith, fits, round, n);
+      fits = omega (arith, all, was_length, is_length, sw.gone_count, sw.come_count);
+      within = omega (arith, place.within, was_length, is_length, sw.gone_count, sw.come_count, n, fits);
+      own = record {
+        old = take run.pieces (drop first old);
+        is = rw own_is own_run;
+        swap_is = record {
+          before = drop first sw.before;
+          gone = sw.gone;
+          come = sw.come;
+          behind = take j sw.behind;
+          was = was;
+          is = now;
+          place = omega (arith, length-drop first sw.before, sw.place);
+          gone_count = sw.gone_count;
+          come_count = sw.come_count;
+          out = sw.out;
+          own = sw.own;
+        };
+        short = omega (arith, joined_size-part old first run.pieces, swapped.short);
+      };
+      put = λ other other_is. put_at runs old new r ((get_or runs r d).pieces - swap.gone + swap.come) d other swapped.are
+          inside same (rw (← is, ← first_is) other_is);
+      none = λ none.
+          let zero_is : (get_or runs r d).pieces - swap.gone + swap.come ≡ 0 = omega (arith, none, n) in
+          gone_at runs old new r d swapped.are inside (rw zero_is at same);
+      count = λ other count. omega (arith, pieces_in-set runs r d other inside, count, n, fits, round);
+      count_none = λ none. omega (arith, pieces_in-remove runs r d inside, none, n, fits, round);
     }
     )
 
--- and of the one that a piece was in
-pub record ShrunkAt (runs : List Run) (new : List Text) (r first : ℕ) (run : Run) : Type 0 where
-  pub some : 0 < run.pieces
-  pub within : first + (run.pieces - 1) ≤ length new
-  pub put : (other : Run) → IsRun other (take (run.pieces - 1) (drop first new)) → AreRuns (set runs r other) new
-  pub gone : run.pieces - 1 ≡ 0 → AreRuns (remove runs r) new
-  pub count : (other : Run) → other.pieces ≡ run.pieces - 1 → pieces_in (set runs r other) ≡ pieces_in runs - 1
-  pub count_gone : run.pieces - 1 ≡ 0 → pieces_in (remove runs r) ≡ pieces_in runs - 1
+-- a swap in the texts of a run: what stays, and the joined texts
+pub record RunSwap (run : Run) (new : List Text) (at : ℕ) (swap : Swap) (is : IsRunSwapped run new at swap) : Type 0 where
+  pub before : take at new ≡ is.swap_is.before
+  pub behind : drop (at + swap.come) new ≡ is.swap_is.behind
+  pub old_joined : joined is.old
+      ≡ joined is.swap_is.before ++ (joined is.swap_is.gone ++ joined is.swap_is.behind)
+  pub new_joined : joined new ≡ joined is.swap_is.before ++ (joined is.swap_is.come ++ joined is.swap_is.behind)
+  pub within : at ≤ length new
 
-pub shrunk_there : (runs items : List Run) (new : List Text) (at r first : ℕ) (run : Run) → items ≡ runs
-    → Shrunk runs new at → r < length runs → first ≡ pieces_in (take r runs) → first ≤ at
-    → at < pieces_in (take (r + 1) runs) → run ≡ get_or items r run → ShrunkAt items new r first run
-shrunk_there runs items new at r first run view shrunk inside first_is past within run_is =
-    rw view (
-    let d = run in
-    let is : run ≡ get_or runs r d = run_is ∙ ap (λ v. get_or v r d) view in
-    let own = ap (λ v. v.pieces) is in
-    let place = passing runs shrunk.old first r d shrunk.are inside first_is in
-    let front = length-take-le at shrunk.old (omega (arith, shrunk.inside)) in
-    let shorter : length new + 1 ≡ length shrunk.old = omega (
-      arith,
-      ap length shrunk.is,
-      length-append (take at shrunk.old) (drop (suc at) shrunk.old),
-      front,
-      length-drop (suc at) shrunk.old,
-      shrunk.inside,
-    ) in
-    let same = shrunk_at runs new at r d shrunk inside (omega (arith, past, first_is)) within in
+joined_round : (before mid behind : List Text) → joined (before ++ (mid ++ behind)) ≡ joined before ++ (joined mid ++ joined behind)
+joined_round before mid behind =
+    joined-append before (mid ++ behind) ∙ ap (λ x. joined before ++ x) (joined-append mid behind)
+
+pub run_swap : (run : Run) (new : List Text) (at : ℕ) (swap : Swap) (is : IsRunSwapped run new at swap)
+    → RunSwap run new at swap is
+run_swap run new at swap is =
+    let sw = is.swap_is in
     record {
-      some = omega (arith, place.some, own);
-      within = omega (arith, place.within, place.some, shorter, own);
-      put = λ other other_is. put_at runs shrunk.old new r ((get_or runs r d).pieces - 1) d other shrunk.are inside same
-          (rw (← is, ← first_is) other_is);
-      gone = λ none.
-          let zero_is : (get_or runs r d).pieces - 1 ≡ 0 = omega (arith, none, own) in
-          gone_at runs shrunk.old new r d shrunk.are inside (rw zero_is at same);
-      count = λ other count. omega (arith, pieces_in-set runs r d other inside, count, place.some, own);
-      count_gone = λ none. omega (arith, pieces_in-remove runs r d inside, none, place.some, own);
+      before = ap (take at) sw.is ∙ take_at sw.before (sw.come ++ sw.behind) at sw.place;
+      behind = drop_own new sw.before (sw.come ++ sw.behind) at swap.come sw.is sw.place
+          ∙ rw (← sw.come_count) (drop-append_seam sw.come sw.behind);
+      old_joined = ap joined sw.was ∙ joined_round sw.before sw.gone sw.behind;
+      new_joined = ap joined sw.is ∙ joined_round sw.before sw.come sw.behind;
+      within = omega (arith, ap length sw.is, length-append sw.before (sw.come ++ sw.behind), sw.place);
     }
-    )
+
+-- without the last run the texts are in fewer
+pub without_last : (runs : List Run) (last : Run) (texts : List Text) → AreRuns (runs ++ last ∷ []) texts → AreRuns runs texts
+without_last [] last texts are = tt
+without_last (run ∷ runs) last texts (own, rest, split, is, more) = (own, rest, split, is, without_last runs last rest more)
 
 -- and of one that is halved
 pub record HalvedAt (runs : List Run) (texts : List Text) (r first : ℕ) (run : Run) (h : ℕ) : Type 0 where
@@ -499,56 +531,62 @@ halved_there runs items texts r first h run view are inside first_is run_is le =
     }
     )
 
--- a change after the runs leaves them as they are
-pub grown_after : (runs : List Run) (new : List Text) (at : ℕ) → Grown runs new at → pieces_in runs ≤ at → AreRuns runs new
-grown_after runs new at grown past =
-    let g = grown.grown in
-    let same = same_round grown.old new g.before g.out g.in_for g.behind (pieces_in runs) (at + length g.out)
-    (at + length g.in_for) g.was g.is (omega (arith, g.place)) (omega (arith, g.place)) (omega arith) in
-    after_runs runs grown.old new grown.are same.front
+-- a swap after the runs leaves them as they are
+pub swapped_after : (runs : List Run) (new : List Text) (at : ℕ) (swap : Swap) → Swapped runs new at swap
+    → pieces_in runs ≤ at → AreRuns runs new
+swapped_after runs new at swap swapped past =
+    let sw = swapped.swap_is in
+    let same = same_round swapped.old new sw.before sw.gone sw.come sw.behind (pieces_in runs) (at + length sw.gone)
+    (at + length sw.come) sw.was sw.is (omega (arith, sw.place, past)) (omega (arith, sw.place)) (omega arith) in
+    after_runs runs swapped.old new swapped.are same.front
 
-pub shrunk_after : (runs : List Run) (new : List Text) (at : ℕ) → Shrunk runs new at → pieces_in runs ≤ at → AreRuns runs new
-shrunk_after runs new at shrunk past =
-    let front = length-take-le at shrunk.old (omega (arith, shrunk.inside)) in
-    let same : take (pieces_in runs) new ≡ take (pieces_in runs) shrunk.old =
-    ap (take (pieces_in runs)) shrunk.is
-    ∙ take-append-le (pieces_in runs) (take at shrunk.old) (drop (suc at) shrunk.old) (omega (arith, front))
-    ∙ take-take (pieces_in runs) at shrunk.old past in
-    after_runs runs shrunk.old new shrunk.are same
-
--- a piece put in, and one cut in two, is such a change
-pub grown_by_one : (runs : List Run) (old new : List Text) (at : ℕ) (text : Text) → AreRuns runs old → at ≤ length old
-    → new ≡ insert old at text → Grown runs new at
-grown_by_one runs old new at text are within is = record {
-  old = old;
-  are = are;
-  grown = record {
-    before = take at old;
-    out = [];
-    in_for = text ∷ [];
-    behind = drop at old;
-    was = sym (take-append-drop at old);
-    is = is;
-    place = length-take-le at old within;
-    one = omega arith;
-    more = refl;
-  };
+-- a piece put in, one taken out, and one cut in two, is such a swap
+pub swap_in : (old new : List Text) (at : ℕ) (text : Text) (swap : Swap) → at ≤ length old → new ≡ insert old at text
+    → swap.gone ≡ 0 → swap.come ≡ 1 → swap.out ≡ summary_of [] → swap.own ≡ summary_of text → IsSwap old new at swap
+swap_in old new at text swap within is gone come out own = record {
+  before = take at old;
+  gone = [];
+  come = text ∷ [];
+  behind = drop at old;
+  was = sym (take-append-drop at old);
+  is = is;
+  place = length-take-le at old within;
+  gone_count = sym gone;
+  come_count = sym come;
+  out = out;
+  own = own ∙ ap summary_of (sym (append-nil text));
 }
 
-pub grown_by_cut : (runs : List Run) (old new : List Text) (i : ℕ) (left right : Text) → AreRuns runs old
-    → i < length old → new ≡ set (insert old (i + 1) right) i left → Grown runs new i
-grown_by_cut runs old new i left right are inside is = record {
-  old = old;
-  are = are;
-  grown = record {
-    before = take i old;
-    out = piece_at old i ∷ [];
-    in_for = left ∷ right ∷ [];
-    behind = drop (suc i) old;
-    was = sym (take-append-drop i old) ∙ ap (λ x. take i old ++ x) (drop-piece old i inside);
-    is = is ∙ rw add-one (cut_list old i left right inside);
-    place = length-take-le i old (omega (arith, inside));
-    one = omega arith;
-    more = refl;
-  };
+pub swap_out : (old new : List Text) (at : ℕ) (swap : Swap) → at < length old → new ≡ remove old at
+    → swap.gone ≡ 1 → swap.come ≡ 0 → swap.out ≡ summary_of (piece_at old at) → swap.own ≡ summary_of []
+    → IsSwap old new at swap
+swap_out old new at swap inside is gone come out own = record {
+  before = take at old;
+  gone = piece_at old at ∷ [];
+  come = [];
+  behind = drop (suc at) old;
+  was = sym (take-append-drop at old) ∙ ap (λ x. take at old ++ x) (drop-piece old at inside);
+  is = is;
+  place = length-take-le at old (omega (arith, inside));
+  gone_count = sym gone;
+  come_count = sym come;
+  out = out ∙ ap summary_of (sym (append-nil (piece_at old at)));
+  own = own;
+}
+
+pub swap_cut : (old new : List Text) (i : ℕ) (left right : Text) (swap : Swap) → i < length old
+    → new ≡ set (insert old (i + 1) right) i left → piece_at old i ≡ left ++ right → swap.gone ≡ 1 → swap.come ≡ 2
+    → swap.out ≡ summary_of (piece_at old i) → swap.own ≡ summary_of (piece_at old i) → IsSwap old new i swap
+swap_cut old new i left right swap inside is halves gone come out own = record {
+  before = take i old;
+  gone = piece_at old i ∷ [];
+  come = left ∷ right ∷ [];
+  behind = drop (suc i) old;
+  was = sym (take-append-drop i old) ∙ ap (λ x. take i old ++ x) (drop-piece old i inside);
+  is = is ∙ rw add-one (cut_list old i left right inside);
+  place = length-take-le i old (omega (arith, inside));
+  gone_count = sym gone;
+  come_count = sym come;
+  out = out ∙ ap summary_of (sym (append-nil (piece_at old i)));
+  own = own ∙ ap summary_of (halves ∙ ap (λ x. left ++ x) (sym (append-nil right)));
 }

@@ -5,6 +5,5 @@ use Rattle.piece_text.proofs.queries.count_in.Given as goal
 abbrev pub invariant-loop-i : goal.invariant-loop-i
 invariant-loop-i l = record {
   front : IsFront l.s (joined (take l.i l.fn.p.texts)) l.front;
-  walk : l.walk ≡ record { texts = l.fn.p.texts; place = l.i };
   state : l.p ≡ record l.initial.p { looks = l.initial.p.looks + (l.i - l.initial.i) };
 }

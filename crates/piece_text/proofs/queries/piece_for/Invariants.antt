@@ -5,7 +5,6 @@ use Rattle.piece_text.proofs.queries.piece_for.Given as goal
 abbrev pub invariant-loop-i : goal.invariant-loop-i
 invariant-loop-i l = record {
   front : IsFront l.s (joined (take l.i l.fn.p.texts)) l.front;
-  walk : l.walk ≡ record { texts = l.fn.p.texts; place = l.i };
   state : l.p ≡ record l.initial.p { looks = l.initial.p.looks + (l.i - l.initial.i) };
   below : l.i ≡ l.initial.i → l.front.total < l.k;
   inside : l.asked.piece < length l.fn.p.texts;

@@ -1,48 +1,57 @@
-use Rattle.piece_text.proofs.lemmas.{◌<◌, ◌∙◌, ap, length, size, piece_at, IsHalved, is_cut, joined-cut, arith, set, joined_size, grown_by_cut}
+use Rattle.piece_text.proofs.lemmas.{◌<◌, ◌∙◌, ap, sym, refl, length, [], get_or_default, size, summary_of, piece_at, IsHalved, is_cut, joined-cut, arith, set, subst, joined_size, AreRuns, swap_cut}
 use Rattle.piece_text.proofs.list.PieceText.cut.Goals as goal
 
 pub invariant_of-self-2 : goal.invariant_of-self-2
 invariant_of-self-2 c =
-    let items = c.self.inside.pieces in
+    let items = c.self.inside.pieces.items in
     let i = c.args.i in
     let inside : i < length items = rw (← c.self.view_is) at c.requires.inside in
-    let own = c.next.ensures.piece ∙ ap (λ v. piece_at v.texts v.place) c.at.ensures in
+    let own = c.index-piece.ensures ∙ get_or_default items i c.index-piece.result.now [] inside in
     let halved : IsHalved (piece_at items i) c.in_ok-left.left c.in_ok-left.right c.args.at =
     rw own at c.in_ok-left.ensures in
     let cut = is_cut items i c.in_ok-left.left c.in_ok-left.right c.args.at inside halved in
-    let new = c.replace.ensures ∙ ap (λ v. set v i c.in_ok-left.left) c.in_ok-insert.ensures.ok in
-    (omega (arith, ap joined_size new, ap size (joined-cut items _ _ cut), c.self.invariant.0), c.self.invariant.1, c.grown.ensures)
+    let put = ap (λ v. set v i c.in_ok-left.left) c.in_ok-insert.ensures.items in
+    (c.self.invariant.0 ∙ sym (ap joined_size put ∙ ap size (joined-cut items _ _ cut)), c.self.invariant.1, subst (AreRuns c.swapped.new.self) c.as_slice-2.ensures.value c.swapped.ensures)
 
 pub returns-clause-ok : goal.returns-clause-ok
 returns-clause-ok c =
-    let items = c.self.inside.pieces in
+    let items = c.self.inside.pieces.items in
     let i = c.args.i in
     let inside : i < length items = rw (← c.self.view_is) at c.requires.inside in
-    let own = c.next.ensures.piece ∙ ap (λ v. piece_at v.texts v.place) c.at.ensures in
+    let own = c.index-piece.ensures ∙ get_or_default items i c.index-piece.result.now [] inside in
     let halved : IsHalved (piece_at items i) c.in_ok-left.left c.in_ok-left.right c.args.at =
     rw own at c.in_ok-left.ensures in
-    let new = c.replace.ensures ∙ ap (λ v. set v i c.in_ok-left.left) c.in_ok-insert.ensures.ok in
-    rw (new, ← c.self.view_is)
+    rw (c.in_ok-insert.ensures.items, ← c.self.view_is)
     (is_cut items i c.in_ok-left.left c.in_ok-left.right c.args.at inside halved)
 
 -- there are two pieces for one
-pub grown-requires-clause-grown : goal.grown-requires-clause-grown
-grown-requires-clause-grown c =
-    let items = c.self.inside.pieces in
+pub swapped-requires-clause-swapped : goal.swapped-requires-clause-swapped
+swapped-requires-clause-swapped c =
+    let items = c.self.inside.pieces.items in
     let i = c.args.i in
     let inside : i < length items = rw (← c.self.view_is) at c.requires.inside in
-    let new = c.replace.ensures ∙ ap (λ v. set v i c.in_ok-left.left) c.in_ok-insert.ensures.ok in
-    grown_by_cut c.self.inside.runs items c.replace.new.self i c.in_ok-left.left c.in_ok-left.right c.self.invariant.2
-    inside new
+    let own = c.index-piece.ensures ∙ get_or_default items i c.index-piece.result.now [] inside in
+    let halved : IsHalved (piece_at items i) c.in_ok-left.left c.in_ok-left.right c.args.at =
+    rw own at c.in_ok-left.ensures in
+    let whole = c.summary-whole.ensures.summary ∙ ap summary_of own in
+    record {
+      old = items;
+      are = subst (AreRuns c.make_room.new.self) c.as_slice.ensures.value c.make_room.ensures;
+      swap_is = swap_cut items c.as_slice-2.result.now i c.in_ok-left.left c.in_ok-left.right _ inside
+          (c.as_slice-2.ensures.value ∙ ap (λ v. set v i c.in_ok-left.left) c.in_ok-insert.ensures.items) halved.halves refl refl
+          whole whole;
+      one = omega arith;
+      short = omega (arith, c.self.invariant.0, c.self.invariant.1);
+    }
 
-pub grown-requires-clause-short : goal.grown-requires-clause-short
-grown-requires-clause-short c =
-    let items = c.self.inside.pieces in
+pub swapped-requires-clause-short : goal.swapped-requires-clause-short
+swapped-requires-clause-short c =
+    let items = c.self.inside.pieces.items in
     let i = c.args.i in
     let inside : i < length items = rw (← c.self.view_is) at c.requires.inside in
-    let own = c.next.ensures.piece ∙ ap (λ v. piece_at v.texts v.place) c.at.ensures in
+    let own = c.index-piece.ensures ∙ get_or_default items i c.index-piece.result.now [] inside in
     let halved : IsHalved (piece_at items i) c.in_ok-left.left c.in_ok-left.right c.args.at =
     rw own at c.in_ok-left.ensures in
     let cut = is_cut items i c.in_ok-left.left c.in_ok-left.right c.args.at inside halved in
-    let new = c.replace.ensures ∙ ap (λ v. set v i c.in_ok-left.left) c.in_ok-insert.ensures.ok in
+    let new = c.as_slice-2.ensures.value ∙ ap (λ v. set v i c.in_ok-left.left) c.in_ok-insert.ensures.items in
     omega (arith, ap joined_size new, ap size (joined-cut items _ _ cut), c.self.invariant.0, c.self.invariant.1)

@@ -26,12 +26,12 @@ returns-then-at-len-clause-not_boundary c =
       λ is at. elim c.then-at-len.branch [
         | then-at-len-via-then-at-len w ↦
             let all : take i texts ≡ texts =
-            take_all i texts (omega (arith, w.if-at-len.true, c.len.ensures, count)) in
+            take_all i texts (omega (arith, w.if-at-len.true, c.len.ensures, c.self.inside.pieces.ok.0, count)) in
             no_boundary_past (joined texts) c.args.byte_idx
             (omega (arith, rw all at round.start, round.past, c.if-start-byte_idx.false)) at
         | then-at-len-via-else-at-len+then-not-is_boundary_in w ↦
             let inside : i < length texts =
-            omega (arith, round.piece, c.len.ensures, count, w.if-at-len.false) in
+            omega (arith, round.piece, c.len.ensures, c.self.inside.pieces.ok.0, count, w.if-at-len.false) in
             let inner = inside_of texts i start c.args.byte_idx round.start round.past round.within inside
             (λ same. absurd (omega (arith, c.if-start-byte_idx.false))) in
             let passes = w.is_boundary_in.ensures.1
@@ -53,7 +53,7 @@ returns-in-Ok-clause-not_boundary c =
     let i = c.piece_round-at.result.0 in
     let start = c.piece_round-at.result.1 in
     let inside : i < length texts =
-    omega (arith, round.piece, c.len.ensures, count, c.if-at-len.false) in
+    omega (arith, round.piece, c.len.ensures, c.self.inside.pieces.ok.0, count, c.if-at-len.false) in
     let inner = inside_of texts i start c.args.byte_idx round.start round.past round.within inside
     (λ same. absurd (omega (arith, c.if-start-byte_idx.false))) in
     let own = c.is_boundary_in.ensures.0 c.if-not-is_boundary_in.false in
@@ -67,7 +67,7 @@ returns-in-Err-clause-not_boundary c =
     let i = c.piece_round-at.result.0 in
     let start = c.piece_round-at.result.1 in
     let inside : i < length texts =
-    omega (arith, round.piece, c.len.ensures, count, c.if-at-len.false) in
+    omega (arith, round.piece, c.len.ensures, c.self.inside.pieces.ok.0, count, c.if-at-len.false) in
     let inner = inside_of texts i start c.args.byte_idx round.start round.past round.within inside
     (λ same. absurd (omega (arith, c.if-start-byte_idx.false))) in
     let own = c.is_boundary_in.ensures.0 c.if-not-is_boundary_in.false in
@@ -82,7 +82,7 @@ returns-in-Err-clause-no_memory c =
     let i = c.piece_round-at.result.0 in
     let start = c.piece_round-at.result.1 in
     let inside : i < length texts =
-    omega (arith, round.piece, c.len.ensures, count, c.if-at-len.false) in
+    omega (arith, round.piece, c.len.ensures, c.self.inside.pieces.ok.0, count, c.if-at-len.false) in
     let inner = inside_of texts i start c.args.byte_idx round.start round.past round.within inside
     (λ same. absurd (omega (arith, c.if-start-byte_idx.false))) in
     λ is. no_edge texts i (c.args.byte_idx - start) c.args.byte_idx inner

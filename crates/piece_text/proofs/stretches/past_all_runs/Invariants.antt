@@ -1,5 +1,5 @@
 use Rattle.piece_text.proofs.lemmas.{◌≡◌, ◌≤◌, ◌+◌, take, joined, pieces_in, IsFront}
-use Rattle.piece_text.proofs.stretches.past_runs.Given as goal
+use Rattle.piece_text.proofs.stretches.past_all_runs.Given as goal
 
 -- what is before the run is known, for one look a run
 abbrev pub invariant-loop-run : goal.invariant-loop-run

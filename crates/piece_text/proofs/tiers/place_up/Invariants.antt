@@ -1,9 +1,0 @@
-use Rattle.piece_text.proofs.lemmas.{◌≡◌, ◌+◌, length, pieces_of, HasPlace}
-use Rattle.piece_text.proofs.tiers.place_up.Given as goal
-
--- the place is in the tier that is gone over next
-abbrev pub invariant-loop-tier : goal.invariant-loop-tier
-invariant-loop-tier l = record {
-  pieces : pieces_of l.tiers.items ≡ pieces_of l.fn.tiers.items;
-  place : HasPlace l.tiers.items (length (pieces_of l.fn.tiers.items) + 1) l.tier;
-}
