@@ -5,8 +5,6 @@ pub mod Fronts
 pub mod Boundaries
 pub mod Changing
 pub mod Narrowing
-pub mod Kinds
-pub mod Absent
 pub mod Edges
 pub use Common.*
 pub use Joining.*
@@ -15,6 +13,4 @@ pub use Fronts.*
 pub use Boundaries.*
 pub use Changing.*
 pub use Narrowing.*
-pub use Kinds.*
-pub use Absent.*
 pub use Edges.*

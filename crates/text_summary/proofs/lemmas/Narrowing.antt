@@ -6,7 +6,6 @@ use Rattle.str_indices.proofs.lemmas.texts.Ends.{count_characters}
 use Rattle.str_indices.proofs.lemmas.texts.Units.{boundary_weighed_is_greatest, count-units, weight-some, weight-le}
 use Rattle.str_indices.specs.declared.Scheme.{Scheme}
 use Rattle.str_indices.specs.declared.Scheme.TheVariants.{Chars, Utf16, Lf, Crlf, Lines}
-use Rattle.str_indices.proofs.lemmas.laws.CountLaws.{count-Lf-le-count-Crlf, count-Crlf-le-count-Lines}
 use Rattle.str_indices.proofs.lemmas.Callers.{characters_weighed, boundary_of_characters}
 use Rattle.str_indices.specs.Text.{Text}
 use Rattle.std.proofs.lemmas.List.{length-map}
@@ -63,10 +62,6 @@ feeds_are_lines c is = grind (arith, nat_tests)
 breaks_are_lines : (c : ℕ) → char_set_contains (break_characters Crlf) c ≡ true
     → char_set_contains (break_characters Lines) c ≡ true
 breaks_are_lines c is = grind (arith, nat_tests)
-
--- a text with as many breaks of all kinds as LFs has as many of LF, CR and CRLF
-pub as_many_breaks : (t : Text) → count Lf t ≡ count Lines t → count Lf t ≡ count Crlf t
-as_many_breaks t same = omega (arith, count-Lf-le-count-Crlf t, count-Crlf-le-count-Lines t, same)
 
 -- where each of a text's breaks is one of a lesser set, if there are as many, they are the same
 breaks_same : (set more : List ℕ) → ((c : ℕ) → char_set_contains set c ≡ true → char_set_contains more c ≡ true)

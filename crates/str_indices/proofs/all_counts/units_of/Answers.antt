@@ -1,5 +1,5 @@
-use Rattle.text_summary.proofs.lemmas.{◌∙◌, units_without_pairs}
-use Rattle.text_summary.proofs.summaries.units_of.Goals as goal
+use Rattle.str_indices.proofs.lemmas.{◌∙◌, units_without_pairs}
+use Rattle.str_indices.proofs.all_counts.units_of.Goals as goal
 
 pub returns-then-kinds : goal.returns-then-kinds
 returns-then-kinds c = c.requires.characters

@@ -8,7 +8,7 @@
 --     HasNoWidePair bytes    no two bytes side by side are that
 --     AreKinds kinds bytes   the kinds say of the bytes what their fields mean
 use Rattle.std.specs.Prelude.{ℕ, ◌≡◌, ◌+◌, ◌<◌, ◌≢◌, ◌⊎◌, ◌↔◌, List, All, IsTrue, length, slice_index}
-use Rattle.text_summary.specs.declared.kinds.Kinds.{Kinds}
+use Rattle.str_indices.specs.declared.kinds.Kinds.{Kinds}
 
 -- each byte is ASCII
 abbrev pub HasAsciiAlone : List ℕ → Type 0

@@ -1,6 +1,6 @@
 //! Which bytes a text has and hasn't, found in one pass over it: where some kinds are absent, counts are the same.
 ghost use Rattle.std.specs.Prelude.{◌↔◌, ◌⊎◌, IsTrue};
-ghost use Rattle.text_summary.specs.Kinds.{AreKinds, HasNoWideLead, HasNoWidePair, IsWidePair};
+ghost use Rattle.str_indices.specs.Kinds.{AreKinds, HasNoWideLead, HasNoWidePair, IsWidePair};
 
 /// VT, after which come FF and CR.
 const VT: u8 = 0x0B;

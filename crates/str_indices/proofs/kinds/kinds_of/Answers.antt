@@ -1,7 +1,7 @@
-use Rattle.text_summary.proofs.lemmas.{ℕ, ◌<◌, arith}
+use Rattle.str_indices.proofs.lemmas.{ℕ, ◌<◌, arith}
 use Rattle.std.proofs.Common.{get_or}
-use Rattle.text_summary.proofs.lemmas.{greatest_more, least_more, all_below, all_past}
-use Rattle.text_summary.proofs.kinds.kinds_of.Goals as goal
+use Rattle.str_indices.proofs.lemmas.{greatest_more, least_more, all_below, all_past}
+use Rattle.str_indices.proofs.kinds.kinds_of.Goals as goal
 
 pub loop-byte-preserved : goal.loop-byte-preserved
 loop-byte-preserved c = record {

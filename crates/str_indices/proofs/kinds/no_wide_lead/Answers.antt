@@ -1,6 +1,6 @@
 use Rattle.std.proofs.Common.{rules, ◌≢◌}
-use Rattle.text_summary.proofs.lemmas.{after_block}
-use Rattle.text_summary.proofs.kinds.no_wide_lead.Goals as goal
+use Rattle.str_indices.proofs.lemmas.{after_block}
+use Rattle.str_indices.proofs.kinds.no_wide_lead.Goals as goal
 
 pub loop-block-preserved : goal.loop-block-preserved
 loop-block-preserved c =

@@ -1,5 +1,5 @@
-use Rattle.text_summary.proofs.lemmas.{◌∙◌, crlf_without_returns}
-use Rattle.text_summary.proofs.summaries.returns_of.Goals as goal
+use Rattle.str_indices.proofs.lemmas.{◌∙◌, crlf_without_returns}
+use Rattle.str_indices.proofs.all_counts.returns_of.Goals as goal
 
 pub returns-then-kinds : goal.returns-then-kinds
 returns-then-kinds c = c.requires.lf

@@ -1,6 +1,6 @@
 use Rattle.std.proofs.Common.{inl, inr}
-use Rattle.text_summary.proofs.lemmas.{◌∙◌, lines_without_leads, lines_without_pairs}
-use Rattle.text_summary.proofs.summaries.line_breaks_of.Goals as goal
+use Rattle.str_indices.proofs.lemmas.{◌∙◌, lines_without_leads, lines_without_pairs}
+use Rattle.str_indices.proofs.all_counts.line_breaks_of.Goals as goal
 
 pub returns-then-has_narrow_breaks-clause-lines : goal.returns-then-has_narrow_breaks-clause-lines
 returns-then-has_narrow_breaks-clause-lines c =

@@ -1,10 +1,7 @@
 -- The greatest byte of a text, the least distance of a byte from VT on, and what holds of each byte of a block.
-use Rattle.text_summary.proofs.lemmas.Common.{◌≡◌, ℕ, ◌+◌, ◌-◌, ◌<◌, ◌≤◌, inl, inr, List, ◌++◌, length, sym, arith, cases_lt}
-use Rattle.std.proofs.Common.{get_or, max, min, ◌%◌, ◌⊎◌, ◌↔◌, All, IsTrue, nat_lt, subst, length-append}
+use Rattle.str_indices.proofs.lemmas.Common.{◌≡◌, ℕ, ◌+◌, ◌-◌, ◌%◌, ◌<◌, ◌≤◌, ◌⊎◌, ◌↔◌, min, max, inl, inr, List, ◌++◌, length, get_or, nat_lt, All, sym, subst, arith, cases_lt, length-append, ltb-true, lt-ltb, get_or-append-add, get_or_append_left, get_or_default}
+use Rattle.std.proofs.Common.{IsTrue}
 use Rattle.std.proofs.lemmas.List.Elements.{All-append}
-use Rattle.std.proofs.lemmas.List.{get_or-append-add, get_or_append_left}
-use Rattle.std.proofs.lemmas.Bool.{ltb-true, lt-ltb}
-use Rattle.std.proofs.lemmas.List.{get_or_default}
 
 -- how far a byte is from VT on, counted round from 255 to 0
 abbrev pub from_vt : ℕ → ℕ

@@ -1,7 +1,7 @@
 use Rattle.std.proofs.Common.{◌↔◌}
 use Rattle.std.specs.Slice.Iter.{chunks_rest}
-use Rattle.text_summary.specs.Kinds.{HasNoWideLead}
-use Rattle.text_summary.proofs.kinds.no_wide_lead.Given as goal
+use Rattle.str_indices.specs.Kinds.{HasNoWideLead}
+use Rattle.str_indices.proofs.kinds.no_wide_lead.Given as goal
 
 abbrev pub invariant-loop-block : goal.invariant-loop-block
 invariant-loop-block l =

@@ -1,12 +1,13 @@
 -- What the bytes that a text hasn't tell of its characters, and so of its counts.
-use Rattle.text_summary.proofs.lemmas.Common.{◌≡◌, ℕ, ◌<◌, List, [], ◌∷◌, ◌++◌, length, chars, IsUtf8, sym, refl, ap, ◌∙◌, arith, len_utf8, count, size-chars, Text, Scheme, Chars, Crlf, Lf, Lines, Utf16}
-use Rattle.str_indices.proofs.lemmas.Common.{All, filter, map, subst, true, scalar, scalars, encode, encodes, encodes-chars, scalars-chars, length-encode, and_parts, All-head, All-tail, All-cons, get_or, inl, inr, length-append, nat_tests, sum_by, sum_by-cons, char_set_contains, placed, break_characters, is_break_end, weight, ◌+◌, ◌⊎◌, ◌≢◌}
-use Rattle.std.proofs.lemmas.List.{get_or-append-add, get_or_append_left}
+use Rattle.str_indices.proofs.lemmas.Common.{◌≡◌, ℕ, ◌+◌, ◌<◌, ◌⊎◌, ◌≢◌, List, [], ◌∷◌, ◌++◌, length, get_or, All, filter, map, chars, IsUtf8, sym, refl, ap, ◌∙◌, subst, inl, inr, true, arith, nat_tests, len_utf8, scalar, scalars, encode, encodes, encodes-chars, scalars-chars, length-encode, length-append, and_parts, All-head, All-tail, All-cons, get_or-append-add, get_or_append_left, sum_by, sum_by-cons, char_set_contains, placed, break_characters, is_break_end, weight, count, Scheme, Chars, Crlf, Lf, Lines, Utf16}
 use Rattle.str_indices.proofs.lemmas.bytes.Characters.{by_size}
+use Rattle.str_indices.proofs.lemmas.bytes.Walks.{size-chars}
 use Rattle.str_indices.proofs.lemmas.texts.Ends.{count_characters}
 use Rattle.str_indices.proofs.lemmas.texts.Units.{count-units}
-use Rattle.text_summary.proofs.lemmas.Kinds.{All-parts}
-use Rattle.text_summary.specs.Kinds.{HasAsciiAlone, HasNoPair, HasNoVtFf, HasNoReturn, HasNoWideLead, HasNoWidePair, IsWidePair}
+use Rattle.str_indices.proofs.lemmas.laws.CountLaws.{count-Lf-le-count-Crlf, count-Crlf-le-count-Lines}
+use Rattle.str_indices.proofs.lemmas.kinds.Kinds.{All-parts}
+use Rattle.str_indices.specs.Kinds.{HasAsciiAlone, HasNoPair, HasNoVtFf, HasNoReturn, HasNoWideLead, HasNoWidePair, IsWidePair}
+use Rattle.str_indices.specs.Text.{Text}
 
 -- what holds of both parts of a list of bytes where it holds of the whole
 abbrev Parts : (List ℕ → Type 0) → Type 0
@@ -173,3 +174,7 @@ module _ (bytes : List ℕ) (utf8 : IsUtf8 bytes) where
   pub lines_without_pairs : HasNoVtFf bytes → HasNoWidePair bytes → count Crlf (chars bytes) ≡ count Lines (chars bytes)
   lines_without_pairs vt_ff pairs = as_many (break_characters Lines) (break_characters Crlf)
       (of_text HasNoBreakPair (IsAlike Lines Crlf) break_pair_parts pairs_alike bytes utf8 (vt_ff, pairs))
+
+-- a text with as many breaks of all kinds as LFs has as many of LF, CR and CRLF
+pub as_many_breaks : (t : Text) → count Lf t ≡ count Lines t → count Lf t ≡ count Crlf t
+as_many_breaks t same = omega (arith, count-Lf-le-count-Crlf t, count-Crlf-le-count-Lines t, same)

@@ -1,5 +1,5 @@
 use Rattle.std.proofs.Common.{◌≡◌, ◌≢◌, ℕ, ◌<◌, false, get_or}
-use Rattle.text_summary.proofs.kinds.no_lead_in.Given as goal
+use Rattle.str_indices.proofs.kinds.no_lead_in.Given as goal
 
 abbrev pub invariant-loop-byte : goal.invariant-loop-byte
 invariant-loop-byte l = record {

@@ -1,5 +1,5 @@
-use Rattle.text_summary.proofs.lemmas.{IsGreatest, IsLeast}
-use Rattle.text_summary.proofs.kinds.kinds_of.Given as goal
+use Rattle.str_indices.proofs.lemmas.{IsGreatest, IsLeast}
+use Rattle.str_indices.proofs.kinds.kinds_of.Given as goal
 
 abbrev pub invariant-loop-byte : goal.invariant-loop-byte
 invariant-loop-byte l = record {

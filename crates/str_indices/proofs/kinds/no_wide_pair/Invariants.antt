@@ -1,6 +1,6 @@
 use Rattle.std.proofs.Common.{◌≡◌, ℕ, ◌+◌, ◌<◌, false, get_or}
-use Rattle.text_summary.specs.Kinds.{IsWidePair}
-use Rattle.text_summary.proofs.kinds.no_wide_pair.Given as goal
+use Rattle.str_indices.specs.Kinds.{IsWidePair}
+use Rattle.str_indices.proofs.kinds.no_wide_pair.Given as goal
 
 abbrev pub invariant-loop-i : goal.invariant-loop-i
 invariant-loop-i l = record {

@@ -1,5 +1,5 @@
-use Rattle.text_summary.proofs.lemmas.{◌∙◌, sym, chars, as_many_breaks}
-use Rattle.text_summary.proofs.summaries.breaks_of.Goals as goal
+use Rattle.str_indices.proofs.lemmas.{◌∙◌, sym, chars, as_many_breaks}
+use Rattle.str_indices.proofs.all_counts.breaks_of.Goals as goal
 
 pub returns-then-lf-lines : goal.returns-then-lf-lines
 returns-then-lf-lines c =
