@@ -5,6 +5,7 @@ pub mod Splitting
 pub mod Runs
 pub mod Settled
 pub mod Tiers
+pub mod Callers
 pub use Common.*
 pub use Joining.*
 pub use Fronts.*

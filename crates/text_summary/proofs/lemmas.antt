@@ -6,6 +6,7 @@ pub mod Boundaries
 pub mod Changing
 pub mod Narrowing
 pub mod Edges
+pub mod Callers
 pub use Common.*
 pub use Joining.*
 pub use Summing.*

@@ -1,4 +1,4 @@
--- Costs, one after the other.
+-- Costs, one after the other: what the proofs of other crates may cite of this one.
 use Rattle.std.proofs.Common.{ℕ, ◌≡◌, ◌+◌, ◌*◌, ◌^◌, ◌<◌, ◌≤◌, inl, inr, arith}
 use Rattle.std.proofs.Math.Nat.{mul-le-mul_left, add-mul}
 use Rattle.std.proofs.lemmas.Bool.{cases_lt}
