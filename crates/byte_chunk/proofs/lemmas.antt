@@ -5,6 +5,7 @@ pub mod Arithmetic
 pub mod Formulas
 pub mod Words
 pub mod VectorLanes
+pub mod Callers
 unfoldable pub use Common.*
 pub use Lanewise.*
 pub use Numbers.*

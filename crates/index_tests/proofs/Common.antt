@@ -2,5 +2,4 @@
 pub use Rattle.std.proofs.Common.{◌≡◌, ℕ, zero, suc, ◌+◌, ◌-◌, ◌<◌, ◌≤◌, List, [], ◌∷◌, map, get_or, replicate, refl, ap, ◌∙◌, ap₂, arith, get_or-set_other}
 pub use Rattle.std.proofs.lemmas.Simd.{get_or-zip2, Each1-zip2, Each1-replicate, Each2-of, length-replicate, get_or-replicate}
 pub use Rattle.std.specs.Simd.Lanes.{zip2, Each1}
-pub use Rattle.byte_chunk.proofs.lemmas.Lanewise.{Each2-replicate}
-pub use Rattle.byte_chunk.proofs.lemmas.Words.{word_load, word_shr, one_in_lane, word_inc, word_inc_fits, word_dec, word_sum}
+pub use Rattle.byte_chunk.proofs.lemmas.Callers.{Each2-replicate, word_load, word_shr, one_in_lane, word_inc, word_inc_fits, word_dec, word_sum}

@@ -1,6 +1,7 @@
 //! The public functions over tables of worked answers, and all kernels over every chunk type, compared with such tables
 //! and with a plain walk: wherever chunks and leading bytes may end.
 
+mod all_counts;
 mod answers;
 mod chars;
 mod edges;

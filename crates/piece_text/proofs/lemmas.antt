@@ -4,6 +4,7 @@ pub mod Fronts
 pub mod Splitting
 pub mod Runs
 pub mod Settled
+pub mod Callers
 pub use Common.*
 pub use Joining.*
 pub use Fronts.*

@@ -5,6 +5,7 @@ pub mod bytes
 pub mod schemes
 pub mod lanes
 pub mod passes
+pub mod kinds
 pub mod Callers
 unfoldable pub use Common.*
 pub use texts.*
@@ -14,4 +15,5 @@ pub use schemes.*
 pub use schemes.UnitBytes.{count-le-size}
 pub use lanes.*
 pub use passes.*
+pub use kinds.*
 pub use Callers.*

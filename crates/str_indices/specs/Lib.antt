@@ -9,5 +9,6 @@ pub mod Lanes
 pub mod SchemeGroups
 pub mod Starts
 pub mod Joins
+pub mod Kinds
 pub mod TraitLaws
 pub mod Prelude

@@ -4,8 +4,10 @@
 //! Each module is one indexing scheme. Every text and every index has an answer: nothing panics, nothing allocates.
 #![tactic(auto)]
 
+mod all_counts;
 pub mod chars;
 mod chunk_search;
+mod kinds;
 pub mod laws;
 pub mod lines;
 pub mod lines_crlf;
@@ -18,5 +20,6 @@ mod schemes;
 pub mod utf16;
 mod weights;
 
+pub use all_counts::counts;
 pub use byte_chunk;
-pub use schemes::Scheme;
+pub use schemes::{Counts, Scheme};

@@ -61,3 +61,18 @@ impl Scheme {
         }
     }
 }
+
+/// How many of each scheme a text has.
+#[derive(Clone, Copy, PartialEq, Eq, Debug)]
+pub struct Counts {
+    /// How many characters, the Unicode scalar values.
+    pub chars: usize,
+    /// How many UTF-16 code units.
+    pub utf16: usize,
+    /// How many line breaks by LF alone.
+    pub lf: usize,
+    /// How many by LF, CR and CRLF.
+    pub crlf: usize,
+    /// How many by all of the Rust crate's list.
+    pub lines: usize,
+}

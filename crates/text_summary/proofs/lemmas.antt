@@ -5,9 +5,8 @@ pub mod Fronts
 pub mod Boundaries
 pub mod Changing
 pub mod Narrowing
-pub mod Kinds
-pub mod Absent
 pub mod Edges
+pub mod Callers
 pub use Common.*
 pub use Joining.*
 pub use Summing.*
@@ -15,6 +14,4 @@ pub use Fronts.*
 pub use Boundaries.*
 pub use Changing.*
 pub use Narrowing.*
-pub use Kinds.*
-pub use Absent.*
 pub use Edges.*

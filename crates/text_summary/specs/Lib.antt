@@ -3,4 +3,3 @@ pub mod Summaries
 pub mod Changes
 pub mod Fronts
 pub mod Questions
-pub mod Kinds

@@ -6,7 +6,6 @@
 
 mod changes;
 mod fronts;
-mod kinds;
 mod questions;
 mod seams;
 mod splits;

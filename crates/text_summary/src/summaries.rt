@@ -1,13 +1,9 @@
 //! The summary of a text: its length, its counts, and how it starts and ends.
-ghost use Rattle.std.specs.Prelude.{◌≡◌, ◌⊎◌, ◌↔◌, [], chars, IsTrue};
+ghost use Rattle.std.specs.Prelude.{◌≡◌, [], chars};
 ghost use Rattle.str_indices.specs.Joins.{starts_with_feed, ends_in_return};
-ghost use Rattle.str_indices.specs.Schemes.{count};
-ghost use Rattle.str_indices.specs.declared.Scheme.TheVariants.{Chars, Utf16, Lf, Crlf, Lines};
-ghost use Rattle.text_summary.specs.Kinds.{AreKinds, HasNoVtFf, HasNoWideLead, HasNoWidePair};
 
 use crate::Scheme;
-use crate::kinds::{Kinds, kinds_of, no_wide_break};
-use str_indices::{chars, lines, lines_crlf, lines_lf, utf16};
+use str_indices::counts;
 
 const LF: u8 = 0x0A;
 
@@ -44,17 +40,14 @@ impl Summary {
         if text.is_empty() {
             return Summary::none();
         }
-        let kinds = kinds_of(text.as_bytes());
-        let chars = characters_of(text, kinds);
-        let lf = lines_lf::count_breaks(text);
-        let breaks = line_breaks_of(text, kinds, lf);
+        let counts = counts(text);
         Summary {
             len: text.len(),
-            chars,
-            utf16: units_of(text, kinds, chars),
-            lf,
-            crlf: breaks.crlf,
-            lines: breaks.lines,
+            chars: counts.chars,
+            utf16: counts.utf16,
+            lf: counts.lf,
+            crlf: counts.crlf,
+            lines: counts.lines,
             starts_lf: starts_lf(text),
             ends_cr: ends_cr(text),
         }
@@ -87,92 +80,6 @@ impl Summary {
             Scheme::Crlf => self.crlf,
             Scheme::Lines => self.lines,
         }
-    }
-}
-
-/// How many characters a text has, which are its bytes where each is ASCII.
-fn characters_of(text: &str, kinds: Kinds) -> usize
-    requires { AreKinds kinds text.now }
-    ensures { result ≡ count Chars (chars text.now) }
-{
-    if kinds.is_ascii {
-        text.len()
-    } else {
-        chars::count(text)
-    }
-}
-
-/// How many UTF-16 code units a text has, which are its characters where none takes two.
-fn units_of(text: &str, kinds: Kinds, characters: usize) -> usize
-    requires kinds { AreKinds kinds text.now }
-    requires characters { characters ≡ count Chars (chars text.now) }
-    ensures { result ≡ count Utf16 (chars text.now) }
-{
-    if kinds.no_pair {
-        characters
-    } else {
-        utf16::count(text)
-    }
-}
-
-/// How many line breaks a text has.
-#[derive(Clone, Copy)]
-struct LineBreaks {
-    /// By LF, CR and CRLF.
-    crlf: usize,
-    /// By all of the Rust crate's list.
-    lines: usize,
-}
-
-/// How many line breaks a text has, which are of one kind where it has no break of another.
-fn line_breaks_of(text: &str, kinds: Kinds, lf: usize) -> LineBreaks
-    requires kinds { AreKinds kinds text.now }
-    requires lf { lf ≡ count Lf (chars text.now) }
-    ensures crlf { result.crlf ≡ count Crlf (chars text.now) }
-    ensures lines { result.lines ≡ count Lines (chars text.now) }
-{
-    if has_narrow_breaks(text, kinds) {
-        let crlf = returns_of(text, kinds, lf);
-        return LineBreaks { crlf, lines: crlf };
-    }
-    let lines = lines::count_breaks(text);
-    LineBreaks {
-        crlf: breaks_of(text, lf, lines),
-        lines,
-    }
-}
-
-/// Whether a text has no other line break than LF, CR and CRLF for certain.
-fn has_narrow_breaks(text: &str, kinds: Kinds) -> bool
-    requires { AreKinds kinds text.now }
-    ensures { IsTrue result ↔ (HasNoVtFf text.now × (HasNoWideLead text.now ⊎ HasNoWidePair text.now)) }
-{
-    kinds.no_vt_ff && (kinds.is_ascii || no_wide_break(text.as_bytes()))
-}
-
-/// How many breaks by LF, CR and CRLF a text has, which are its LFs where it has no CR.
-fn returns_of(text: &str, kinds: Kinds, lf: usize) -> usize
-    requires kinds { AreKinds kinds text.now }
-    requires lf { lf ≡ count Lf (chars text.now) }
-    ensures { result ≡ count Crlf (chars text.now) }
-{
-    if kinds.no_return {
-        lf
-    } else {
-        lines_crlf::count_breaks(text)
-    }
-}
-
-/// How many breaks by LF, CR and CRLF a text has, which are its LFs where it has no other line break at all.
-fn breaks_of(text: &str, lf: usize, lines: usize) -> usize
-    requires lf { lf ≡ count Lf (chars text.now) }
-    requires lines { lines ≡ count Lines (chars text.now) }
-    ensures { result ≡ count Crlf (chars text.now) }
-{
-    if lf == lines {
-        lf
-    } else {
-        lines_crlf::count_breaks(text)
     }
 }
 

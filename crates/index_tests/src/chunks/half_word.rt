@@ -42,27 +42,27 @@ impl ByteChunk for HalfWord {
         HalfWord(u32::from_le_bytes([bytes[0], bytes[1], bytes[2], bytes[3]]))
     }
 
-    #[tactic(auto, using(byte_chunk::proofs::lemmas::Words::word_zero))]
+    #[tactic(auto, using(byte_chunk::proofs::lemmas::Callers::word_zero))]
     fn zero() -> Self {
         HalfWord(0)
     }
 
-    #[tactic(auto, using(byte_chunk::proofs::lemmas::Words::word_splat))]
+    #[tactic(auto, using(byte_chunk::proofs::lemmas::Callers::word_splat))]
     fn splat(n: u8) -> Self {
         HalfWord(u32::from(n) * ONES)
     }
 
-    #[tactic(auto, using(byte_chunk::proofs::lemmas::Words::word_zero, byte_chunk::proofs::lemmas::Words::word_is_zero))]
+    #[tactic(auto, using(byte_chunk::proofs::lemmas::Callers::word_zero, byte_chunk::proofs::lemmas::Callers::word_is_zero))]
     fn is_zero(&self) -> bool {
         self.0 == 0
     }
 
-    #[tactic(auto, using(byte_chunk::proofs::lemmas::Words::word_shift_back))]
+    #[tactic(auto, using(byte_chunk::proofs::lemmas::Callers::word_shift_back))]
     fn shift_back_lex(&self, n: usize) -> Self {
         HalfWord(self.0 >> (8 * n))
     }
 
-    #[tactic(auto, using(byte_chunk::proofs::lemmas::Words::word_across))]
+    #[tactic(auto, using(byte_chunk::proofs::lemmas::Callers::word_across))]
     fn shift_across(&self, n: Self) -> Self {
         HalfWord((n.0 << 8) | (self.number() >> 24))
     }
@@ -71,13 +71,13 @@ impl ByteChunk for HalfWord {
         HalfWord(self.0 >> n)
     }
 
-    #[tactic(auto, using(byte_chunk::proofs::lemmas::Words::word_is_byte))]
+    #[tactic(auto, using(byte_chunk::proofs::lemmas::Callers::word_is_byte))]
     fn cmp_eq_byte(&self, byte: u8) -> Self {
         let word = self.0 ^ (u32::from(byte) * ONES);
         HalfWord((!(((word & LOW) + LOW) | word) & HIGH) >> 7)
     }
 
-    #[tactic(auto, using(byte_chunk::proofs::lemmas::Words::word_is_between))]
+    #[tactic(auto, using(byte_chunk::proofs::lemmas::Callers::word_is_between))]
     fn bytes_between_127(&self, a: u8, b: u8) -> Self {
         let low = self.0 & LOW;
         let below = u32::from(127 + b) * ONES - low;
@@ -85,17 +85,17 @@ impl ByteChunk for HalfWord {
         HalfWord((below & !self.0 & above & HIGH) >> 7)
     }
 
-    #[tactic(auto, using(byte_chunk::proofs::lemmas::Words::word_and))]
+    #[tactic(auto, using(byte_chunk::proofs::lemmas::Callers::word_and))]
     fn bitand(&self, other: Self) -> Self {
         HalfWord(self.0 & other.0)
     }
 
-    #[tactic(auto, using(byte_chunk::proofs::lemmas::Words::word_add, byte_chunk::proofs::lemmas::Words::word_add_fits))]
+    #[tactic(auto, using(byte_chunk::proofs::lemmas::Callers::word_add, byte_chunk::proofs::lemmas::Callers::word_add_fits))]
     fn add(&self, other: Self) -> Self {
         HalfWord(self.0 + other.0)
     }
 
-    #[tactic(auto, using(byte_chunk::proofs::lemmas::Words::word_sub, byte_chunk::proofs::lemmas::Words::word_sub_fits))]
+    #[tactic(auto, using(byte_chunk::proofs::lemmas::Callers::word_sub, byte_chunk::proofs::lemmas::Callers::word_sub_fits))]
     fn sub(&self, other: Self) -> Self {
         HalfWord(self.0 - other.0)
     }
@@ -104,7 +104,7 @@ impl ByteChunk for HalfWord {
         HalfWord(self.0 + (1 << (8 * (3 - n))))
     }
 
-    #[tactic(auto, using(byte_chunk::proofs::lemmas::Words::word_dec_fits))]
+    #[tactic(auto, using(byte_chunk::proofs::lemmas::Callers::word_dec_fits))]
     fn dec_last_lex_byte(&self) -> Self {
         HalfWord(self.0 - (1 << 24))
     }

@@ -8,7 +8,7 @@ pub use Rattle.str_indices.specs.Schemes.{count, from_byte_idx, to_byte_idx}
 pub use Rattle.str_indices.specs.Text.{Text, size, line_feed, carriage_return}
 pub use Rattle.piece_text.specs.Pieces.{PiecesState, joined, joined_size, piece_at, as_pieces}
 pub use Rattle.piece_text.specs.Splits.{IsEdge, IsHalved, IsCut}
-pub use Rattle.text_summary.proofs.lemmas.Fronts.{TellsAt, tells_at}
+pub use Rattle.text_summary.proofs.lemmas.Callers.{TellsAt, tells_at}
 pub use Rattle.text_summary.specs.Fronts.{IsFront}
 pub use Rattle.piece_text.specs.Runs.{IsRun, AreRuns, pieces_in, IsSwap, IsRunSwapped, Swapped}
 pub use Rattle.piece_text.specs.Stretches.{IsRunAt, IsStretch, IsSettled, IsPartRound}

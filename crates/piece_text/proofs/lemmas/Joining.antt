@@ -1,6 +1,6 @@
 -- The joined text of a list of pieces, by a piece and those before and after it.
 use Rattle.piece_text.proofs.lemmas.Common.{List, length, arith, ◌≡◌, ◌≢◌, [], ◌∷◌, ◌++◌, ap, refl, append-nil, Text, joined, as_pieces}
-pub use Rattle.text_summary.proofs.lemmas.Joining.{joined-append, joined-split, joined-take, drop-piece, joined-drop, joined_size-insert, joined_size-take}
+pub use Rattle.text_summary.proofs.lemmas.Callers.{joined-append, joined-split, joined-take, drop-piece, joined-drop, joined_size-insert, joined_size-take}
 
 -- a text as pieces, joined, is the text
 pub joined-as_pieces : (text : Text) → joined (as_pieces text) ≡ text

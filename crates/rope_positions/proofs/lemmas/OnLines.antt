@@ -1,7 +1,6 @@
 -- A byte that does not stand between CR and LF, on its line; and the units of ASCII characters.
-use Rattle.str_indices.proofs.lemmas.laws.EndLaws.{to_le_iff}
-use Rattle.str_indices.proofs.lemmas.Callers.{to_byte_idx-le-size, to-from_is_greatest, IsCharBoundary-from_boundary, IsBoundary-from_char_boundary}
-use Rattle.text_summary.proofs.lemmas.Narrowing.{each_byte_is_boundary, characters_are_bytes, units_are_bytes}
+use Rattle.str_indices.proofs.lemmas.Callers.{to_byte_idx-le-size, to_le_iff, to-from_is_greatest, IsCharBoundary-from_boundary, IsBoundary-from_char_boundary}
+use Rattle.text_summary.proofs.lemmas.Callers.{each_byte_is_boundary, characters_are_bytes, units_are_bytes}
 use Rattle.position_mapper.specs.declared.encodings.Encoding.TheVariants.{Utf8, Utf16, Utf32}
 use Rattle.rope_positions.proofs.lemmas.Common.{◌≡◌, ℕ, ◌+◌, ◌-◌, ◌<◌, ◌≤◌, List, min, sym, ap, ◌∙◌, inl, inr, arith, IsUtf8, IsCharBoundary, chars, Text, size, count, crlf_is_not_utf16, weighed_bytes, weighed, from_byte_idx, to_byte_idx, Chars, Crlf, IsCrlfMiddle, units_of, line_end, line_end_past, break_of_line, cases_lt, position_at, units_of_position, characters_weighed, Encoding}
 use Rattle.rope_positions.proofs.lemmas.Beginnings.{bytes_weighed}

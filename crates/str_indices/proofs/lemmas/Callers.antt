@@ -6,17 +6,18 @@ pub use Rattle.std.proofs.lemmas.Str.{chars-append}
 pub use Rattle.str_indices.proofs.lemmas.bytes.BoundaryBytes.{IsBoundary-from_char_boundary}
 pub use Rattle.str_indices.proofs.lemmas.bytes.Walks.{whole_text, size-chars}
 pub use Rattle.str_indices.proofs.lemmas.bytes.Edges.{starts_with_feed-bytes, ends_in_return-bytes, chars-some, chars-none}
-pub use Rattle.str_indices.proofs.lemmas.texts.Seams.{starts_with_feed-append, ends_in_return-append, seam_loss-same}
+pub use Rattle.str_indices.proofs.lemmas.texts.Seams.{starts_with_feed_is, ends_in_return-one, ends_in_return-cons, starts_with_feed-append, ends_in_return-append, seam_loss-same}
 pub use Rattle.str_indices.proofs.lemmas.texts.JoinedUnits.{IsBoundary-before, IsBoundary-behind, IsBoundary-either}
 pub use Rattle.str_indices.proofs.lemmas.laws.CountLaws.{count-cut}
 pub use Rattle.str_indices.proofs.lemmas.laws.JoinedPlaces.{IsJoined, is_joined}
 pub use Rattle.str_indices.proofs.lemmas.laws.Bounds.{count-le-size, count-nil, to_byte_idx-le-size, to_byte_idx-zero, from_byte_idx-all, from_byte_idx-le-count}
 pub use Rattle.str_indices.proofs.lemmas.texts.Sizes.{size-cons, size-append, boundary_beside}
-pub use Rattle.str_indices.proofs.lemmas.texts.Cuts.{cut_front, cut_goes_on, cut_all, cut_is_longest}
-pub use Rattle.str_indices.proofs.lemmas.texts.Units.{weighed_at, weighed-le-weighed, boundary_weighed_is_greatest, weight-some}
+pub use Rattle.str_indices.proofs.lemmas.texts.Cuts.{IsCutAt, cut_is, cut_front, cut_goes_on, cut_all, cut_is_longest}
+pub use Rattle.str_indices.proofs.lemmas.texts.Ends.{count_characters}
+pub use Rattle.str_indices.proofs.lemmas.texts.Units.{weighed_at, weighed-le-weighed, boundary_weighed_is_greatest, count-units, weight-some, weight-le}
 pub use Rattle.str_indices.proofs.lemmas.texts.EndSets.{end_at-past, is_crlf_middle_iff}
 pub use Rattle.str_indices.proofs.lemmas.laws.CharacterLaws.{IsBoundary-to_byte_idx, from_byte_idx-le, to_byte_idx-le, boundary_adjunction, to-from_is_greatest_boundary, characters_weighed, boundary_of_characters}
-pub use Rattle.str_indices.proofs.lemmas.laws.EndLaws.{from-to, to-from_is_greatest}
+pub use Rattle.str_indices.proofs.lemmas.laws.EndLaws.{from-to, to_le_iff, to-from_is_greatest}
 pub use Rattle.str_indices.proofs.lemmas.laws.UnitLaws.{boundary_weighed_iff, boundary_weighed-le, weighed_is_greatest_boundary, weighed_or_inside, weighed_inside}
 
 -- std lets a text be sliced at each boundary

@@ -10,11 +10,10 @@ pub use Rattle.str_indices.specs.Relations.{IsBoundary}
 pub use Rattle.str_indices.specs.Schemes.{count, from_byte_idx, to_byte_idx}
 pub use Rattle.str_indices.specs.Text.{Text, size}
 pub use Rattle.str_indices.specs.declared.Scheme.TheVariants.{Chars, Crlf, Lf, Lines, Utf16}
-pub use Rattle.piece_text.proofs.lemmas.Joining.{joined-append}
 pub use Rattle.piece_text.specs.Pieces.{joined, joined_size}
 pub use Rattle.piece_text.specs.Summaries.{summary_of, count_of}
 pub use Rattle.text_summary.specs.declared.summaries.Summary.{Summary}
-pub use Rattle.text_summary.proofs.lemmas.Boundaries.{AreParts, parts_of}
+pub use Rattle.text_summary.proofs.lemmas.Callers.{joined-append, AreParts, parts_of}
 pub use Rattle.text_rope.specs.Chunks.{IsPartAt, IsCopied, IsRead}
 pub use Rattle.text_rope.specs.Edits.{IsInserted, IsRemoved, IsReplaced, IsCutAt, IsChunkAt, IsFrontOf, IsBackOf}
 pub use Rattle.text_rope.specs.Work.{WorkState, Costs, OpensFor}

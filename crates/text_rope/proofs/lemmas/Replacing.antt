@@ -1,7 +1,7 @@
 -- A part of a text that is exchanged for another text.
 use Rattle.text_rope.proofs.lemmas.Common.{◌≡◌, ℕ, ◌+◌, ◌-◌, ◌≤◌, List, [], ◌++◌, take, drop, arith, ◌∙◌, ap, append_assoc, chars, IsUtf8, Text, size, IsBoundary, size-append, IsInserted, IsRemoved, IsReplaced}
 use Rattle.text_rope.proofs.lemmas.Summing.{none_of}
-use Rattle.text_summary.proofs.lemmas.Changing.{replaced_bytes}
+use Rattle.text_summary.proofs.lemmas.Callers.{replaced_bytes}
 
 -- the bytes between two boundaries, exchanged
 pub exchanged_bytes : (bytes more whole : List ℕ) → IsUtf8 bytes → IsUtf8 more → (from to : ℕ) → from ≤ to

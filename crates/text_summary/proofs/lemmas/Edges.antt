@@ -3,7 +3,7 @@ use Rattle.text_summary.proofs.lemmas.Common.{◌≡◌, ℕ, ◌-◌, ◌<◌, 
 use Rattle.std.proofs.Common.{suc, false, true, get_or, nat_lt, ◌==◌}
 use Rattle.std.proofs.lemmas.Bool.{ltb-true, ltb-false}
 use Rattle.std.proofs.lemmas.List.{get_or_default}
-use Rattle.str_indices.proofs.lemmas.texts.Seams.{ends_in_return-one, ends_in_return-cons, starts_with_feed_is}
+use Rattle.str_indices.proofs.lemmas.Callers.{ends_in_return-one, ends_in_return-cons, starts_with_feed_is}
 
 -- a list ends in CR where its last number is CR
 last_return : (bs : List ℕ) → 0 < length bs → (get_or bs (length bs - 1) 0 == carriage_return) ≡ ends_in_return bs

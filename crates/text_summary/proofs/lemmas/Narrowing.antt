@@ -1,18 +1,14 @@
 -- Where the counts of a text tell that two schemes answer the same for it.
-use Rattle.str_indices.proofs.lemmas.Common.{◌≡◌, ℕ, ◌≤◌, inl, inr, Bool, true, min, List, [], ◌∷◌, ◌++◌, length, refl, arith, sym, ◌∙◌, ap, cases_Bool, and_parts, and_from, filter, map, char_set_contains, nat_tests, sum_by, sum_by-append, sum_by-cons, sum_by-le-sum_by, len_utf8, len_utf8_bounds, size, Placed, placed, break_characters, is_break_end, ends, weight, weighed, boundary_weighed, cut, count, IsBoundary}
-use Rattle.str_indices.proofs.lemmas.texts.Sizes.{size-append}
-use Rattle.str_indices.proofs.lemmas.texts.Cuts.{IsCutAt, cut_is}
-use Rattle.str_indices.proofs.lemmas.texts.Ends.{count_characters}
-use Rattle.str_indices.proofs.lemmas.texts.Units.{boundary_weighed_is_greatest, count-units, weight-some, weight-le}
-use Rattle.str_indices.specs.declared.Scheme.{Scheme}
-use Rattle.str_indices.specs.declared.Scheme.TheVariants.{Chars, Utf16, Lf, Crlf, Lines}
-use Rattle.str_indices.proofs.lemmas.laws.CountLaws.{count-Lf-le-count-Crlf, count-Crlf-le-count-Lines}
-use Rattle.str_indices.proofs.lemmas.Callers.{characters_weighed, boundary_of_characters}
-use Rattle.str_indices.specs.Text.{Text}
+use Rattle.text_summary.proofs.lemmas.Common.{◌≡◌, ℕ, zero, suc, ◌≤◌, inl, inr, Bool, List, [], ◌∷◌, ◌++◌, length, refl, arith, sym, ◌∙◌, ap, len_utf8, len_utf8_bounds, Text, size, size-append, count, IsBoundary, Scheme, Chars, Utf16, Lf, Crlf, Lines}
+use Rattle.std.proofs.Common.{true, min, map, filter, sum_by, count_by, nat_le, slice_index_or}
+use Rattle.std.proofs.lemmas.Bool.{cases_Bool, and_parts, and_from}
+use Rattle.std.proofs.lemmas.Bool.Decides.{nat_tests}
 use Rattle.std.proofs.lemmas.List.{length-map}
-use Rattle.std.proofs.Common.{count_by, nat_le, slice_index_or}
-use Rattle.std.specs.Prelude.{zero, suc}
-use Rattle.str_indices.specs.Schemes.{ends_up_to, end_at}
+use Rattle.std.proofs.lemmas.List.Sums.{sum_by-append, sum_by-cons, sum_by-le-sum_by}
+use Rattle.std.specs.Char.{char_set_contains}
+use Rattle.str_indices.proofs.lemmas.Callers.{IsCutAt, cut_is, count_characters, boundary_weighed_is_greatest, count-units, weight-some, weight-le, characters_weighed, boundary_of_characters}
+use Rattle.str_indices.specs.Schemes.{break_characters, is_break_end, ends, ends_up_to, end_at, weighed, boundary_weighed}
+use Rattle.str_indices.specs.Text.{Placed, placed, cut, weight}
 use Rattle.text_summary.specs.Questions.{AnswersAs, CountsBytes}
 
 -- what passes the second test passes the first, so no fewer do
@@ -63,10 +59,6 @@ feeds_are_lines c is = grind (arith, nat_tests)
 breaks_are_lines : (c : ℕ) → char_set_contains (break_characters Crlf) c ≡ true
     → char_set_contains (break_characters Lines) c ≡ true
 breaks_are_lines c is = grind (arith, nat_tests)
-
--- a text with as many breaks of all kinds as LFs has as many of LF, CR and CRLF
-pub as_many_breaks : (t : Text) → count Lf t ≡ count Lines t → count Lf t ≡ count Crlf t
-as_many_breaks t same = omega (arith, count-Lf-le-count-Crlf t, count-Crlf-le-count-Lines t, same)
 
 -- where each of a text's breaks is one of a lesser set, if there are as many, they are the same
 breaks_same : (set more : List ℕ) → ((c : ℕ) → char_set_contains set c ≡ true → char_set_contains more c ≡ true)

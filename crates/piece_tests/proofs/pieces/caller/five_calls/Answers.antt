@@ -1,6 +1,6 @@
 use Rattle.std.proofs.Common.{◌++◌, ◌∙◌, ap, chars, remove}
 use Rattle.piece_text.specs.Pieces.{joined, as_pieces}
-use Rattle.piece_text.proofs.lemmas.Joining.{joined-append, joined-as_pieces, as_pieces-some}
+use Rattle.piece_text.proofs.lemmas.Callers.{joined-append, joined-as_pieces, as_pieces-some}
 use Rattle.piece_tests.proofs.pieces.caller.five_calls.Goals as goal
 
 pub returns : goal.returns

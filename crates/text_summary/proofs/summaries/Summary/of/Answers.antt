@@ -10,11 +10,11 @@ returns-then-is_empty c =
 pub returns : goal.returns
 returns c = rw (
   sym (size-chars c.args.text.now c.utf8.text),
-  c.characters_of-chars.ensures,
-  c.units_of.ensures,
-  c.count_breaks-lf.ensures,
-  c.line_breaks_of-breaks.ensures.crlf,
-  c.line_breaks_of-breaks.ensures.lines,
+  c.counts-counts.ensures.chars,
+  c.counts-counts.ensures.utf16,
+  c.counts-counts.ensures.lf,
+  c.counts-counts.ensures.crlf,
+  c.counts-counts.ensures.lines,
   c.starts_lf.ensures,
   c.ends_cr.ensures,
 )

@@ -1,0 +1,4 @@
+pub mod Kinds
+pub mod Absent
+pub use Kinds.*
+pub use Absent.*

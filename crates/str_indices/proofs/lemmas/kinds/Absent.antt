@@ -1,0 +1,180 @@
+-- What the bytes that a text hasn't tell of its characters, and so of its counts.
+use Rattle.str_indices.proofs.lemmas.Common.{◌≡◌, ℕ, ◌+◌, ◌<◌, ◌⊎◌, ◌≢◌, List, [], ◌∷◌, ◌++◌, length, get_or, All, filter, map, chars, IsUtf8, sym, refl, ap, ◌∙◌, subst, inl, inr, true, arith, nat_tests, len_utf8, scalar, scalars, encode, encodes, encodes-chars, scalars-chars, length-encode, length-append, and_parts, All-head, All-tail, All-cons, get_or-append-add, get_or_append_left, sum_by, sum_by-cons, char_set_contains, placed, break_characters, is_break_end, weight, count, Scheme, Chars, Crlf, Lf, Lines, Utf16}
+use Rattle.str_indices.proofs.lemmas.bytes.Characters.{by_size}
+use Rattle.str_indices.proofs.lemmas.bytes.Walks.{size-chars}
+use Rattle.str_indices.proofs.lemmas.texts.Ends.{count_characters}
+use Rattle.str_indices.proofs.lemmas.texts.Units.{count-units}
+use Rattle.str_indices.proofs.lemmas.laws.CountLaws.{count-Lf-le-count-Crlf, count-Crlf-le-count-Lines}
+use Rattle.str_indices.proofs.lemmas.kinds.Kinds.{All-parts}
+use Rattle.str_indices.specs.Kinds.{HasAsciiAlone, HasNoPair, HasNoVtFf, HasNoReturn, HasNoWideLead, HasNoWidePair, IsWidePair}
+use Rattle.str_indices.specs.Text.{Text}
+
+-- what holds of both parts of a list of bytes where it holds of the whole
+abbrev Parts : (List ℕ → Type 0) → Type 0
+Parts R = (front back : List ℕ) → R (front ++ back) → R front × R back
+
+-- what follows for each character from what holds of its bytes follows for a text from what holds of its bytes
+each_character : (R : List ℕ → Type 0) (Q : ℕ → Type 0) → Parts R
+    → ((c : ℕ) → scalar c ≡ true → R (encode c) → Q c) → (cs : List ℕ) → scalars cs ≡ true → R (encodes cs) → All Q cs
+each_character R Q parts one [] are all = λ k d within. absurd (omega arith)
+each_character R Q parts one (c ∷ cs) are all =
+    let both = and_parts (scalar c) (scalars cs) are in
+    let bytes = parts (encode c) (encodes cs) all in
+    All-cons Q c cs (one c both.0 bytes.0) (each_character R Q parts one cs both.1 bytes.1)
+
+of_text : (R : List ℕ → Type 0) (Q : ℕ → Type 0) → Parts R → ((c : ℕ) → scalar c ≡ true → R (encode c) → Q c)
+    → (bytes : List ℕ) → IsUtf8 bytes → R bytes → All Q (chars bytes)
+of_text R Q parts one bytes utf8 all = each_character R Q parts one (chars bytes) (scalars-chars bytes utf8)
+    (subst R (sym (encodes-chars bytes utf8)) all)
+
+-- a character without a byte that begins four takes fewer than four
+short : (c : ℕ) → scalar c ≡ true → HasNoPair (encode c) → len_utf8 c < 4
+short c is all = omega (
+  arith,
+  length-encode c,
+  by_size (λ bs. HasNoPair bs → length bs < 4) c is
+      (λ from all. omega arith) (λ from below all. omega arith) (λ from below all. omega arith)
+      (λ from below all. absurd (omega (arith, all 0 0 (omega arith)))) all,
+)
+
+-- so it takes one UTF-16 code unit
+one_unit : (c : ℕ) → scalar c ≡ true → HasNoPair (encode c) → weight c ≡ 1
+one_unit c is all = grind (arith, nat_tests, short c is all)
+
+-- and an ASCII one takes one byte
+one_byte : (c : ℕ) → scalar c ≡ true → HasAsciiAlone (encode c) → len_utf8 c ≡ 1
+one_byte c is all = sym (length-encode c) ∙ by_size (λ bs. HasAsciiAlone bs → length bs ≡ 1) c is
+    (λ from all. refl)
+    (λ from below all. absurd (omega (arith, all 0 0 (omega arith))))
+    (λ from below all. absurd (omega (arith, all 0 0 (omega arith))))
+    (λ from below all. absurd (omega (arith, all 0 0 (omega arith)))) all
+
+-- whether a character is a break by two schemes or by neither
+abbrev IsAlike : Scheme → Scheme → ℕ → Type 0
+IsAlike s r c = char_set_contains (break_characters s) c ≡ char_set_contains (break_characters r) c
+
+-- a byte of LF or CR, or of no break
+abbrev IsNarrow : ℕ → Type 0
+IsNarrow b = ((b < 0x0B) ⊎ (0x0C < b)) × ((b ≢ 0xC2) × (b ≢ 0xE2))
+
+-- without a byte of another break, a character is a break exactly where it is LF or CR
+narrow_alike : (c : ℕ) → scalar c ≡ true → All IsNarrow (encode c) → IsAlike Lines Crlf c
+narrow_alike c is = by_size (λ bs. All IsNarrow bs → IsAlike Lines Crlf c) c is
+    (λ from all. let here = all 0 0 (omega arith) in grind (arith, nat_tests))
+    (λ from below all. let here = all 0 0 (omega arith) in grind (arith, nat_tests))
+    (λ from below all. let here = all 0 0 (omega arith) in grind (arith, nat_tests))
+    (λ from below all. grind (arith, nat_tests))
+
+-- and without a CR exactly where it is LF
+feeds_alike : (c : ℕ) → scalar c ≡ true → HasNoReturn (encode c) → IsAlike Crlf Lf c
+feeds_alike c is = by_size (λ bs. HasNoReturn bs → IsAlike Crlf Lf c) c is
+    (λ from all. let here = all 0 0 (omega arith) in grind (arith, nat_tests))
+    (λ from below all. grind (arith, nat_tests))
+    (λ from below all. grind (arith, nat_tests))
+    (λ from below all. grind (arith, nat_tests))
+
+-- bytes of no other break than LF and CR, alone or side by side
+abbrev HasNoBreakPair : List ℕ → Type 0
+HasNoBreakPair bytes = HasNoVtFf bytes × HasNoWidePair bytes
+
+-- no pair of a list is one of its parts
+pair_parts : Parts HasNoWidePair
+pair_parts front back none = (
+  λ k within. subst (λ b. ¬ (IsWidePair b (get_or front (1 + k) 0)))
+      (get_or_append_left front back 0 k (omega arith))
+      (subst (λ b. ¬ (IsWidePair (get_or (front ++ back) k 0) b))
+      (get_or_append_left front back 0 (1 + k) within) (none k (omega (arith, length-append front back)))),
+  λ k within.
+      let next : 1 + (length front + k) ≡ length front + (1 + k) = omega arith in
+      subst (λ b. ¬ (IsWidePair b (get_or back (1 + k) 0))) (get_or-append-add front back k 0)
+      (subst (λ b. ¬ (IsWidePair (get_or (front ++ back) (length front + k) 0) b))
+      (ap (λ j. get_or (front ++ back) j 0) next ∙ get_or-append-add front back (1 + k) 0)
+      (none (length front + k) (omega (arith, length-append front back)))),
+)
+
+break_pair_parts : Parts HasNoBreakPair
+break_pair_parts front back none =
+    let vt_ff = All-parts (λ b. (b < 0x0B) ⊎ (0x0C < b)) front back none.0 in
+    let pairs = pair_parts front back none.1 in
+    ((vt_ff.0, pairs.0), (vt_ff.1, pairs.1))
+
+-- without them a character is a break exactly where it is LF or CR
+pairs_alike : (c : ℕ) → scalar c ≡ true → HasNoBreakPair (encode c) → IsAlike Lines Crlf c
+pairs_alike c is = by_size (λ bs. HasNoBreakPair bs → IsAlike Lines Crlf c) c is
+    (λ from none. let here = none.0 0 0 (omega arith) in grind (arith, nat_tests))
+    (λ from below none.
+    let other : c ≢ 0x85 = λ same. none.1 0 (omega arith) (inl (omega arith, omega arith)) in
+    grind (arith, nat_tests))
+    (λ from below none.
+    let line : c ≢ 0x2028 = λ same. none.1 1 (omega arith) (inr (omega arith, inl (omega arith))) in
+    let paragraph : c ≢ 0x2029 = λ same. none.1 1 (omega arith) (inr (omega arith, inr (omega arith))) in
+    grind (arith, nat_tests))
+    (λ from below none. grind (arith, nat_tests))
+
+-- where two sets have the same of a text's characters, its breaks by them are the same
+breaks_alike : (more set : List ℕ) (start : ℕ) (t : Text)
+    → All (λ c. char_set_contains more c ≡ char_set_contains set c) t
+    → filter (is_break_end more) (placed start t) ≡ filter (is_break_end set) (placed start t)
+breaks_alike more set start [] alike = refl
+breaks_alike more set start (c ∷ cs) alike =
+    let one = All-head (λ d. char_set_contains more d ≡ char_set_contains set d) c cs alike in
+    let rest = breaks_alike more set (start + len_utf8 c) cs
+    (All-tail (λ d. char_set_contains more d ≡ char_set_contains set d) c cs alike) in
+    rw (one, rest) refl
+
+-- sums of numbers that are one at each character
+sum_by_ones : (w : ℕ → ℕ) (t : Text) → All (λ c. w c ≡ 1) t → sum_by w t ≡ sum_by (λ _. 1) t
+sum_by_ones w [] ones = refl
+sum_by_ones w (c ∷ cs) ones = omega (
+  arith,
+  sum_by-cons w c cs,
+  sum_by-cons {X = ℕ} (λ _. 1) c cs,
+  All-head (λ d. w d ≡ 1) c cs ones,
+  sum_by_ones w cs (All-tail (λ d. w d ≡ 1) c cs ones),
+)
+
+module _ (bytes : List ℕ) (utf8 : IsUtf8 bytes) where
+  -- a text of ASCII has as many characters as bytes
+  pub characters_of_ascii : HasAsciiAlone bytes → length bytes ≡ count Chars (chars bytes)
+  characters_of_ascii all = omega (
+    arith,
+    size-chars bytes utf8,
+    count_characters (chars bytes),
+    sum_by_ones len_utf8 (chars bytes) (of_text HasAsciiAlone (λ c. len_utf8 c ≡ 1) (All-parts (λ b. b < 0x80)) one_byte bytes utf8 all),
+  )
+
+  -- a text without a pair has as many UTF-16 code units as characters
+  pub units_without_pairs : HasNoPair bytes → count Chars (chars bytes) ≡ count Utf16 (chars bytes)
+  units_without_pairs all = omega (
+    arith,
+    count-units (chars bytes),
+    count_characters (chars bytes),
+    sum_by_ones weight (chars bytes) (of_text HasNoPair (λ c. weight c ≡ 1) (All-parts (λ b. b < 0xF0)) one_unit bytes utf8 all),
+  )
+
+  -- where two sets have the same of its characters, a text has as many breaks by them
+  as_many : (more set : List ℕ) → All (λ c. char_set_contains more c ≡ char_set_contains set c) (chars bytes)
+      → length (map (λ p. p.end) (filter (is_break_end set) (placed 0 (chars bytes))))
+      ≡ length (map (λ p. p.end) (filter (is_break_end more) (placed 0 (chars bytes))))
+  as_many more set alike =
+      ap (λ ps. length (map (λ p. p.end) ps)) (sym (breaks_alike more set 0 (chars bytes) alike))
+
+  -- a text without a CR has as many breaks of LF, CR and CRLF as LFs
+  pub crlf_without_returns : HasNoReturn bytes → count Lf (chars bytes) ≡ count Crlf (chars bytes)
+  crlf_without_returns all = as_many (break_characters Crlf) (break_characters Lf)
+      (of_text HasNoReturn (IsAlike Crlf Lf) (All-parts (λ b. (b < 0x0B) ⊎ (0x0D < b))) feeds_alike bytes utf8 all)
+
+  -- one without a byte of another break has as many of all breaks
+  pub lines_without_leads : HasNoVtFf bytes → HasNoWideLead bytes → count Crlf (chars bytes) ≡ count Lines (chars bytes)
+  lines_without_leads vt_ff leads = as_many (break_characters Lines) (break_characters Crlf)
+      (of_text (All IsNarrow) (IsAlike Lines Crlf) (All-parts IsNarrow) narrow_alike bytes utf8
+      (λ k d within. (vt_ff k d within, leads k d within)))
+
+  -- and so has one without the bytes of another break side by side
+  pub lines_without_pairs : HasNoVtFf bytes → HasNoWidePair bytes → count Crlf (chars bytes) ≡ count Lines (chars bytes)
+  lines_without_pairs vt_ff pairs = as_many (break_characters Lines) (break_characters Crlf)
+      (of_text HasNoBreakPair (IsAlike Lines Crlf) break_pair_parts pairs_alike bytes utf8 (vt_ff, pairs))
+
+-- a text with as many breaks of all kinds as LFs has as many of LF, CR and CRLF
+pub as_many_breaks : (t : Text) → count Lf t ≡ count Lines t → count Lf t ≡ count Crlf t
+as_many_breaks t same = omega (arith, count-Lf-le-count-Crlf t, count-Crlf-le-count-Lines t, same)

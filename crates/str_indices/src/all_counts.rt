@@ -1,0 +1,115 @@
+//! All counts of a text at once. Bytes that it hasn't tell first which of them are the same.
+ghost use Rattle.std.specs.Prelude.{◌≡◌, ◌⊎◌, ◌↔◌, chars, IsTrue};
+ghost use Rattle.str_indices.specs.Prelude.{count, Chars, Utf16, Lf, Crlf, Lines};
+ghost use Rattle.str_indices.specs.Kinds.{AreKinds, HasNoVtFf, HasNoWideLead, HasNoWidePair};
+
+use crate::kinds::{Kinds, kinds_of, no_wide_break};
+use crate::schemes::Counts;
+use crate::{chars, lines, lines_crlf, lines_lf, utf16};
+
+/// The counts of a text by every scheme, in time linear in its length.
+pub fn counts(text: &str) -> Counts
+    ensures chars { result.chars ≡ count Chars (chars text.now) }
+    ensures utf16 { result.utf16 ≡ count Utf16 (chars text.now) }
+    ensures lf { result.lf ≡ count Lf (chars text.now) }
+    ensures crlf { result.crlf ≡ count Crlf (chars text.now) }
+    ensures lines { result.lines ≡ count Lines (chars text.now) }
+{
+    let kinds = kinds_of(text.as_bytes());
+    let characters = characters_of(text, kinds);
+    let lf = lines_lf::count_breaks(text);
+    let breaks = line_breaks_of(text, kinds, lf);
+    Counts {
+        chars: characters,
+        utf16: units_of(text, kinds, characters),
+        lf,
+        crlf: breaks.crlf,
+        lines: breaks.lines,
+    }
+}
+
+/// How many characters a text has, which are its bytes where each is ASCII.
+fn characters_of(text: &str, kinds: Kinds) -> usize
+    requires { AreKinds kinds text.now }
+    ensures { result ≡ count Chars (chars text.now) }
+{
+    if kinds.is_ascii {
+        text.len()
+    } else {
+        chars::count(text)
+    }
+}
+
+/// How many UTF-16 code units a text has, which are its characters where none takes two.
+fn units_of(text: &str, kinds: Kinds, characters: usize) -> usize
+    requires kinds { AreKinds kinds text.now }
+    requires characters { characters ≡ count Chars (chars text.now) }
+    ensures { result ≡ count Utf16 (chars text.now) }
+{
+    if kinds.no_pair {
+        characters
+    } else {
+        utf16::count(text)
+    }
+}
+
+/// How many line breaks a text has.
+#[derive(Clone, Copy)]
+struct LineBreaks {
+    /// By LF, CR and CRLF.
+    crlf: usize,
+    /// By all of the Rust crate's list.
+    lines: usize,
+}
+
+/// How many line breaks a text has, which are of one kind where it has no break of another.
+fn line_breaks_of(text: &str, kinds: Kinds, lf: usize) -> LineBreaks
+    requires kinds { AreKinds kinds text.now }
+    requires lf { lf ≡ count Lf (chars text.now) }
+    ensures crlf { result.crlf ≡ count Crlf (chars text.now) }
+    ensures lines { result.lines ≡ count Lines (chars text.now) }
+{
+    if has_narrow_breaks(text, kinds) {
+        let crlf = returns_of(text, kinds, lf);
+        return LineBreaks { crlf, lines: crlf };
+    }
+    let lines = lines::count_breaks(text);
+    LineBreaks {
+        crlf: breaks_of(text, lf, lines),
+        lines,
+    }
+}
+
+/// Whether a text has no other line break than LF, CR and CRLF for certain.
+fn has_narrow_breaks(text: &str, kinds: Kinds) -> bool
+    requires { AreKinds kinds text.now }
+    ensures { IsTrue result ↔ (HasNoVtFf text.now × (HasNoWideLead text.now ⊎ HasNoWidePair text.now)) }
+{
+    kinds.no_vt_ff && (kinds.is_ascii || no_wide_break(text.as_bytes()))
+}
+
+/// How many breaks by LF, CR and CRLF a text has, which are its LFs where it has no CR.
+fn returns_of(text: &str, kinds: Kinds, lf: usize) -> usize
+    requires kinds { AreKinds kinds text.now }
+    requires lf { lf ≡ count Lf (chars text.now) }
+    ensures { result ≡ count Crlf (chars text.now) }
+{
+    if kinds.no_return {
+        lf
+    } else {
+        lines_crlf::count_breaks(text)
+    }
+}
+
+/// How many breaks by LF, CR and CRLF a text has, which are its LFs where it has no other line break at all.
+fn breaks_of(text: &str, lf: usize, lines: usize) -> usize
+    requires lf { lf ≡ count Lf (chars text.now) }
+    requires lines { lines ≡ count Lines (chars text.now) }
+    ensures { result ≡ count Crlf (chars text.now) }
+{
+    if lf == lines {
+        lf
+    } else {
+        lines_crlf::count_breaks(text)
+    }
+}

@@ -1,0 +1,95 @@
+//! Which bytes a text has and hasn't, found in one pass over it: where some kinds are absent, counts are the same.
+ghost use Rattle.std.specs.Prelude.{◌↔◌, ◌⊎◌, IsTrue};
+ghost use Rattle.str_indices.specs.Kinds.{AreKinds, HasNoWideLead, HasNoWidePair, IsWidePair};
+
+/// VT, after which come FF and CR.
+const VT: u8 = 0x0B;
+
+/// The first byte of U+0085, and of each other character from U+0080 to U+00BF.
+const NEXT_LINE_LEAD: u8 = 0xC2;
+
+/// The first byte of U+2028 and U+2029, and of each other character from U+2000 to U+2FFF.
+const SEPARATOR_LEAD: u8 = 0xE2;
+
+/// How many bytes are looked at before it is asked whether one was found.
+const BLOCK: usize = 256;
+
+/// Which bytes a text hasn't.
+#[derive(Clone, Copy)]
+pub(crate) struct Kinds {
+    /// Whether each byte is ASCII.
+    pub(crate) is_ascii: bool,
+    /// Whether none begins a character of four bytes, which takes two UTF-16 code units.
+    pub(crate) no_pair: bool,
+    /// Whether none is VT or FF.
+    pub(crate) no_vt_ff: bool,
+    /// Whether none is VT, FF or CR.
+    pub(crate) no_return: bool,
+}
+
+/// Which bytes there aren't.
+pub(crate) fn kinds_of(bytes: &[u8]) -> Kinds
+    ensures { AreKinds result bytes.now }
+{
+    let mut greatest: u8 = 0;
+    let mut least_from_vt: u8 = u8::MAX;
+    for &byte in bytes {
+        greatest = greatest.max(byte);
+        least_from_vt = least_from_vt.min(byte.wrapping_sub(VT));
+    }
+    Kinds {
+        is_ascii: greatest < 0x80,
+        no_pair: greatest < 0xF0,
+        no_vt_ff: least_from_vt > 1,
+        no_return: least_from_vt > 2,
+    }
+}
+
+/// Whether the first bytes of U+0085, U+2028 and U+2029 are absent, or else their bytes side by side.
+pub(crate) fn no_wide_break(bytes: &[u8]) -> bool
+    ensures { IsTrue result ↔ (HasNoWideLead bytes.now ⊎ HasNoWidePair bytes.now) }
+{
+    no_wide_lead(bytes) || no_wide_pair(bytes)
+}
+
+/// Whether no byte begins U+0085, U+2028 or U+2029, nor another character of the same first byte.
+fn no_wide_lead(bytes: &[u8]) -> bool
+    ensures { IsTrue result ↔ HasNoWideLead bytes.now }
+{
+    for block in bytes.chunks(BLOCK) {
+        if !no_lead_in(block) {
+            return false;
+        }
+    }
+    true
+}
+
+/// The same of one block, over which it goes to the end.
+fn no_lead_in(block: &[u8]) -> bool
+    ensures { IsTrue result ↔ HasNoWideLead block.now }
+{
+    let mut any = false;
+    for &byte in block {
+        any |= byte == NEXT_LINE_LEAD || byte == SEPARATOR_LEAD;
+    }
+    !any
+}
+
+/// Whether no two bytes are those of U+0085, or the last two of U+2028 or U+2029.
+fn no_wide_pair(bytes: &[u8]) -> bool
+    ensures { IsTrue result ↔ HasNoWidePair bytes.now }
+{
+    let mut any = false;
+    for i in 1..bytes.len() {
+        any |= is_wide_pair(bytes[i - 1], bytes[i]);
+    }
+    !any
+}
+
+/// Whether two bytes are those of U+0085, or the last two of U+2028 or U+2029.
+#[inline(always)]
+fn is_wide_pair(byte: u8, next: u8) -> bool
+    ensures { IsTrue result ↔ IsWidePair byte next }
+{
+    (byte == NEXT_LINE_LEAD && next == 0x85) || (byte == 0x80 && (next == 0xA8 || next == 0xA9))
+}
