@@ -114,9 +114,22 @@ def is_inside(path: str, function: str) -> bool:
 
 
 def proofs_of(function: str) -> List[str]:
-    """The folders that may have the function's proof files: that of a function which calls itself has a plus."""
+    """The folders that may have the function's proof files: that of a function which calls itself has a plus, and that of
+    methods of several types which call one another, in a cycle of that name, is the module's."""
     *modules, name = function.split("::")
-    return ["/".join(("proofs", *modules, f"{mark}{name}", "")) for mark in ("", "+")]
+    folders = [(*modules, name), (*modules, f"+{name}"), (*modules[:-1], f"+{name}")]
+    return ["/".join(("proofs", *folder, "")) for folder in folders]
+
+
+def head_of(function: str) -> str:
+    """What the names of the function's goals begin with in a cycle of several types."""
+    return "::".join(function.split("::")[-2:]) + "-"
+
+
+def own_goals(function: str, goals: List[str]) -> List[str]:
+    """Of these goals those of the function, without what tells in a cycle whose they are."""
+    head = head_of(function)
+    return [goal.removeprefix(head) for goal in goals if goal.startswith(head) or "::" not in goal]
 
 
 def refused_at_proofs(function: str, output: str) -> List[str]:
@@ -141,7 +154,7 @@ def open_goals(crate: pathlib.Path, function: str, output: str) -> List[str]:
                 searched = verdict[2].partition("did not prove ")[2].partition(";")[0]
                 goals += notes + re.findall(r"`([^`]*)`", searched)
             notes = []
-    return list(dict.fromkeys(goals))
+    return list(dict.fromkeys(own_goals(function, goals)))
 
 
 def refused_functions(crate: pathlib.Path, output: str) -> Set[str]:
@@ -158,7 +171,8 @@ def goals_after(crate: pathlib.Path, function: str, goals: List[str]) -> List[st
         return []
     text = holed = file.read_text(encoding="utf-8")
     for goal in goals:
-        body = re.compile(rf"^({re.escape(goal)}( \w+)* =).*?(?=^\S|\Z)", re.MULTILINE | re.DOTALL)
+        name = f"(?:{re.escape(head_of(function))})?{re.escape(goal)}"
+        body = re.compile(rf"^({name}( \w+)* =).*?(?=^\S|\Z)", re.MULTILINE | re.DOTALL)
         holed = body.sub(r"\1 ?\n\n", holed)
     file.write_text(holed, encoding="utf-8")
     _, output = check(crate, [function], "--allow-holes")

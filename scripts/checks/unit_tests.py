@@ -125,6 +125,8 @@ def try_goals(folder: pathlib.Path) -> Results:
     ]:
         edit = edit_of(folder, f"refuses: {names}")
         yield edit.is_refused([goal]) == fits, f"{names} {'fits' if fits else 'does not fit'} {goal}"
+    goals = refusals.own_goals("tree::Fork::put", ["Fork::put-returns-clause-kept", "Tree::put-returns-clause-text", "returns"])
+    yield goals == ["returns-clause-kept", "returns"], f"in a cycle of two types, those of the one that is named: {goals}"
 
 
 def try_edits(folder: pathlib.Path) -> Results:

@@ -7,6 +7,7 @@ ghost use Rattle.piece_text.specs.Pieces.{PiecesState, joined};
 ghost use Rattle.text_rope.specs.Edits.{IsInserted, IsRemoved, IsReplaced, IsCutAt, IsChunkAt};
 ghost use Rattle.text_rope.specs.Chunks.{ChunksState, IsCopied, IsRead};
 ghost use Rattle.text_rope.specs.Pieces.{max_piece};
+ghost use Rattle.text_rope.specs.Work.{WorkState, OpensFor};
 ghost use Rattle.text_rope.specs.declared.refusals.Refusal.TheVariants.{NotOrdered, NotBoundary, TooLong, NoMemory};
 
 use crate::copies::copy_chunks;
@@ -226,7 +227,7 @@ impl Rope {
         if text.is_empty() {
             return Ok(());
         }
-        match self.put(at, text) {
+        match self.put(&mut Work::none(), at, text) {
             Ok(()) => Ok(()),
             Err(_) => Err(Refusal::NoMemory),
         }
@@ -251,7 +252,7 @@ impl Rope {
         if !(self.is_char_boundary(range.start) && self.is_char_boundary(range.end)) {
             return Err(Refusal::NotBoundary);
         }
-        self.take_out(range.start, range.end);
+        self.take_out(&mut Work::none(), range.start, range.end);
         Ok(())
     }
 
@@ -281,7 +282,7 @@ impl Rope {
         if MAX_LEN - kept < text.len() {
             return Err(Refusal::TooLong);
         }
-        match self.exchange(range.start, range.end, text) {
+        match self.exchange(&mut Work::none(), range.start, range.end, text) {
             Ok(()) => Ok(()),
             Err(_) => Err(Refusal::NoMemory),
         }
@@ -337,14 +338,16 @@ impl Rope {
     }
 
     /// Puts a text in at a boundary: into a piece that has room, or else in pieces of their own.
-    fn put(&mut self, at: usize, text: &str) -> Result<(), AllocError>
+    fn put(&mut self, work: &mut Work, at: usize, text: &str) -> Result<(), AllocError>
         requires boundary { IsBoundary self.old at }
         requires short { size self.old + length text.now < 2 ^ 63 }
         ensures ok { OnOk result (IsInserted self.old self.new at (chars text.now)) }
         ensures err { OnErr result (self.new ≡ self.old) }
+        ensures opened { OpensFor 75 (size self.old + length text.now) work.old work.new }
+        ensures copied { work.new.copied ≤ work.old.copied + 4 }
     {
         let tree = mem::replace(&mut self.tree, Tree::new());
-        match put(&mut Work::none(), self.alloc, tree, at, text) {
+        match put(work, self.alloc, tree, at, text) {
             Ok(tree) => {
                 self.tree = tree;
                 Ok(())
@@ -357,53 +360,65 @@ impl Rope {
     }
 
     /// Takes out what is between two boundaries.
-    fn take_out(&mut self, from: usize, to: usize)
+    fn take_out(&mut self, work: &mut Work, from: usize, to: usize)
         requires order { from ≤ to }
         requires start { IsBoundary self.old from }
         requires end { IsBoundary self.old to }
-        ensures { IsRemoved self.old self.new from to }
+        ensures text { IsRemoved self.old self.new from to }
+        ensures opened { OpensFor 100 (size self.old) work.old work.new }
+        ensures copied { work.new.copied ≤ work.old.copied + 6 }
     {
         let tree = mem::replace(&mut self.tree, Tree::new());
-        self.tree = without(&mut Work::none(), tree, from, to);
+        let _height = tree.height();
+        self.tree = without(work, tree, from, to);
     }
 
     /// The same by a tree that is taken apart.
-    fn take_out_apart(&mut self, from: usize, to: usize)
+    fn take_out_apart(&mut self, work: &mut Work, from: usize, to: usize)
         requires order { from ≤ to }
         requires start { IsBoundary self.old from }
         requires end { IsBoundary self.old to }
-        ensures { IsRemoved self.old self.new from to }
+        ensures text { IsRemoved self.old self.new from to }
+        ensures opened { OpensFor 97 (size self.old) work.old work.new }
+        ensures copied { work.new.copied ≤ work.old.copied + 6 }
     {
         let tree = mem::replace(&mut self.tree, Tree::new());
-        self.tree = without_apart(&mut Work::none(), tree, from, to);
+        let _height = tree.height();
+        self.tree = without_apart(work, tree, from, to);
     }
 
     /// Exchanges what is between two boundaries for a text: in place, or else it puts the text in after what is taken out,
-    /// and only then takes that out, since what can be refused comes first.
-    fn exchange(&mut self, from: usize, to: usize, text: &str) -> Result<(), AllocError>
+    /// and only then takes that out, since what can be refused comes first. It opens and writes no more than both of these.
+    fn exchange(
+        &mut self,
+        work: &mut Work,
+        from: usize,
+        to: usize,
+        text: &str,
+    ) -> Result<(), AllocError>
         requires order { from ≤ to }
         requires start { IsBoundary self.old from }
         requires end { IsBoundary self.old to }
         ensures ok { OnOk result (IsReplaced self.old self.new from to (chars text.now)) }
         ensures err { OnErr result (self.new ≡ self.old) }
         ensures some { IsErr result → chars text.now ≢ [] }
+        ensures opened { OpensFor 175 (size self.old + length text.now) work.old work.new }
+        ensures copied { work.new.copied ≤ work.old.copied + 10 }
     {
         if text.is_empty() {
-            self.take_out(from, to);
+            self.take_out(work, from, to);
             return Ok(());
         }
+        let _height = self.tree.height();
         // more bytes than can be addressed at once are no memory
         if MAX_LEN - self.len() < text.len() {
             return Err(AllocError);
         }
-        if self
-            .tree
-            .exchange_in_place(&mut Work::none(), from, to, text)
-        {
+        if self.tree.exchange_in_place(work, from, to, text) {
             return Ok(());
         }
-        self.put(to, text)?;
-        self.take_out_apart(from, to);
+        self.put(work, to, text)?;
+        self.take_out_apart(work, from, to);
         Ok(())
     }
 }

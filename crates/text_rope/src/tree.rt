@@ -31,7 +31,8 @@ enum Root {
     Fork(Box<Fork>),
 }
 
-/// A piece between two trees, with the summaries of both beside it: a way down the tree reads no other fork.
+/// A piece between two trees, with the summaries of both beside it: a question reads the forks on its way down the tree, and
+/// no other.
 #[cycle(tree)]
 #[derive(Drop)]
 pub(crate) struct Fork {

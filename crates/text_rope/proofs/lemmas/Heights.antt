@@ -1,5 +1,5 @@
 -- The fewest pieces of a tree of a height.
-use Rattle.text_rope.proofs.lemmas.Common.{◌≡◌, ℕ, zero, suc, ◌+◌, ◌*◌, ◌^◌, ◌≤◌, inl, inr, arith, max, cases_lt, mul-le-mul, DifferByAtMost, fewest, WorkState, OpensFor}
+use Rattle.text_rope.proofs.lemmas.Common.{◌≡◌, ℕ, zero, suc, ◌+◌, ◌*◌, ◌^◌, ◌≤◌, inl, inr, arith, max, cases_lt, mul-le-mul, length, Seen, DifferByAtMost, fewest, joined_size, WorkState, OpensFor}
 
 -- more for a greater height
 pub fewest-suc : (h : ℕ) → fewest h ≤ fewest (suc h)
@@ -85,8 +85,21 @@ opens h m n times old new few_h few_m within = elim (cases_lt h m) [
       record { height = h; few = few_h; opened = rw is at within }
 ]
 
--- and those that are opened after as many as a tree is high
-pub opens_after : (h n : ℕ) (old mid new : WorkState) → 2 ^ h ≤ (n + 1) * (n + 1) → mid.opened ≤ old.opened + h
-    → OpensFor 74 n mid new → OpensFor 75 n old new
-opens_after h n old mid new few before after =
-    opens h after.height n 75 old new few after.few (omega (arith, after.opened))
+-- forks that are opened along a tree
+pub opens_along : (tree : Seen) (n times : ℕ) (old new : WorkState) → fewest tree.height ≤ length tree.texts + 1
+    → length tree.texts ≤ joined_size tree.texts → joined_size tree.texts ≤ n → new.opened ≤ old.opened + times * (tree.height + 3)
+    → OpensFor times n old new
+opens_along tree n times old new many few within opened = record {
+  height = tree.height;
+  few = height_of_bytes tree.height (length tree.texts) (joined_size tree.texts) n many few within;
+  opened = opened;
+}
+
+-- forks that are opened one after another
+pub opens_also : (n a b : ℕ) (old mid new : WorkState) → OpensFor a n old mid → OpensFor b n mid new → OpensFor (a + b) n old new
+opens_also n a b old mid new first after =
+    let most = max first.height after.height in
+    let of_first : a * (first.height + 3) ≤ a * (most + 3) = mul-le-mul (omega arith) (omega arith) in
+    let of_after : b * (after.height + 3) ≤ b * (most + 3) = mul-le-mul (omega arith) (omega arith) in
+    opens first.height after.height n (a + b) old new first.few after.few
+    (omega (arith, first.opened, after.opened, of_first, of_after))

@@ -1,4 +1,4 @@
-use Rattle.text_rope.proofs.lemmas.{◌+◌, arith, length, size-chars, chars, joined, joined_size, OpensFor, height_of_bytes, opens, opens_after, inserted_of}
+use Rattle.text_rope.proofs.lemmas.{◌+◌, arith, length, size-chars, chars, joined, joined_size, OpensFor, opens_along, opens_also, inserted_of}
 use Rattle.text_rope.proofs.inserts.put.Goals as goal
 
 pub replace_in_place-requires-clause-short : goal.replace_in_place-requires-clause-short
@@ -11,20 +11,14 @@ returns-then-replace_in_place-clause-ok c =
 
 pub returns-then-replace_in_place-clause-opened : goal.returns-then-replace_in_place-clause-opened
 returns-then-replace_in_place-clause-opened c =
-    let tree = c.args.tree in
-    let n = joined_size tree.texts + length c.args.text.now in
-    let few = height_of_bytes tree.height (length tree.texts) (joined_size tree.texts) n c.height-height.ensures.many
-    c.height-height.ensures.few (omega arith) in
-    opens tree.height tree.height n 75 c.args.work.now c.replace_in_place.new.work few few
-    (omega (arith, c.replace_in_place.ensures.work.opened_at_most))
+    opens_along c.args.tree (joined_size c.args.tree.texts + length c.args.text.now) 75 c.args.work.now c.replace_in_place.new.work
+    c.height-height.ensures.many c.height-height.ensures.few (omega arith) (omega (arith, c.replace_in_place.ensures.work.opened_at_most))
 
 pub returns-clause-opened : goal.returns-clause-opened
 returns-clause-opened c =
-    let tree = c.args.tree in
-    let n = joined_size tree.texts + length c.args.text.now in
-    let few = height_of_bytes tree.height (length tree.texts) (joined_size tree.texts) n c.height-height.ensures.many
-    c.height-height.ensures.few (omega arith) in
+    let n = joined_size c.args.tree.texts + length c.args.text.now in
     let same = c.replace_in_place.ensures.kept c.if-replace_in_place.false in
     let after : OpensFor 74 n c.replace_in_place.new.work c.put_apart.new.work = rw same at c.put_apart.ensures.opened in
-    opens_after tree.height n c.args.work.now c.replace_in_place.new.work c.put_apart.new.work few
-    (omega (arith, c.replace_in_place.ensures.work.opened_at_most)) after
+    let before = opens_along c.args.tree n 1 c.args.work.now c.replace_in_place.new.work c.height-height.ensures.many
+    c.height-height.ensures.few (omega arith) (omega (arith, c.replace_in_place.ensures.work.opened_at_most)) in
+    opens_also n 1 74 c.args.work.now c.replace_in_place.new.work c.put_apart.new.work before after

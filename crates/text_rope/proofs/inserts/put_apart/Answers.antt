@@ -1,4 +1,4 @@
-use Rattle.text_rope.proofs.lemmas.{◌+◌, ◌-◌, ◌++◌, length, joined_size, height_of_bytes, opens, ap, ◌∙◌, arith, chars, append_assoc, size, IsBoundary, size-append, size-chars, joined, IsInserted, boundary_of_piece, boundary-le, joined_around, size-inserted, inserted_around}
+use Rattle.text_rope.proofs.lemmas.{◌+◌, ◌-◌, ◌++◌, length, joined_size, height_of_bytes, opens, opens_along, ap, ◌∙◌, arith, chars, append_assoc, size, IsBoundary, size-append, size-chars, joined, IsInserted, boundary_of_piece, boundary-le, joined_around, size-inserted, inserted_around}
 use Rattle.text_rope.proofs.inserts.put_apart.Goals as goal
 
 pub insert-requires-clause-boundary : goal.insert-requires-clause-boundary
@@ -87,9 +87,7 @@ returns-then-text-len-clause-opened c =
     let tree = c.args.tree in
     let n = joined_size tree.texts + length c.args.text.now in
     let part = c.part-parts.ensures in
-    let few = height_of_bytes tree.height (length tree.texts) (joined_size tree.texts) n c.height-height.ensures.many
-    c.height-height.ensures.few (omega arith) in
-    opens tree.height tree.height n 74 c.args.work.now c.join.new.work few few (omega (
+    opens_along tree n 74 c.args.work.now c.join.new.work c.height-height.ensures.many c.height-height.ensures.few (omega arith) (omega (
       arith,
       part.work.opened_at_most,
       part.left_low,
@@ -103,9 +101,7 @@ returns-in_default-clause-opened c =
     let tree = c.args.tree in
     let n = joined_size tree.texts + length c.args.text.now in
     let part = c.part-parts.ensures in
-    let few = height_of_bytes tree.height (length tree.texts) (joined_size tree.texts) n c.height-height.ensures.many
-    c.height-height.ensures.few (omega arith) in
-    opens tree.height tree.height n 74 c.args.work.now c.join-in_default.new.work few few
+    opens_along tree n 74 c.args.work.now c.join-in_default.new.work c.height-height.ensures.many c.height-height.ensures.few (omega arith)
     (omega (arith, part.work.opened_at_most, part.left_low, part.right_low, c.join-in_default.ensures.work.opened_at_most))
 
 pub returns-clause-opened : goal.returns-clause-opened
