@@ -1,11 +1,12 @@
 //! What a user waits for, as programs that can be timed: a language server's day, an editor, a large file, spans of a text,
-//! a buffer of pieces, and awkward texts.
+//! a buffer of pieces, awkward texts, positions on lines that go over pieces, and buffers of few pieces.
 //!
 //! Its words are the workload's name, a seed, and how many rounds it takes. It makes its own texts from the seed, and prints
 //! the name and a digest of all answers, which is the same in each run of the same words.
 #![tactic(auto)]
 
 mod awkward;
+mod awkward_positions;
 mod digest;
 mod editor;
 mod faults;
@@ -14,6 +15,7 @@ mod pieces;
 mod random;
 mod ropes;
 mod server;
+mod short_lists;
 mod spans;
 mod texts;
 
@@ -38,6 +40,8 @@ fn run(
         "spans" => spans::run(alloc, random, rounds, digest),
         "pieces" => pieces::run(alloc, random, rounds, digest),
         "awkward" => awkward::run(alloc, random, rounds, digest),
+        "awkward_positions" => awkward_positions::run(alloc, random, rounds, digest),
+        "short_lists" => short_lists::run(alloc, random, rounds, digest),
         "all" => run_each(alloc, random, rounds, digest),
         _ => Err(Fault::Words),
     }
@@ -54,7 +58,9 @@ fn run_each(
     editor::run(alloc, random, rounds, digest)?;
     spans::run(alloc, random, rounds, digest)?;
     pieces::run(alloc, random, rounds, digest)?;
-    awkward::run(alloc, random, rounds, digest)
+    awkward::run(alloc, random, rounds, digest)?;
+    awkward_positions::run(alloc, random, rounds, digest)?;
+    short_lists::run(alloc, random, rounds, digest)
 }
 
 fn number(word: &str) -> Result<u64, Fault> {

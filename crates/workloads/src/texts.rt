@@ -17,9 +17,13 @@ const PROSE: [&str; 16] = [
     "and ", "Größe ", "is ", "in ", "counted ",
 ];
 
-const HAN: [&str; 8] = ["日本語", "の", "文字", "を", "数える", "行", "と", "、"];
+const JAPANESE: [&str; 8] = ["日本語", "の", "文字", "を", "数える", "行", "と", "、"];
 
 const EMOJI: [&str; 4] = ["🐸 ", "🎉", "🚀 ", "é"];
+
+const HAN: [&str; 8] = ["日", "本", "語", "文", "字", "数", "行", "百"];
+
+const ACCENTED: [&str; 8] = ["é", "à", "ü", "ñ", "ö", "ç", "ø", "å"];
 
 const BREAKS: [&str; 8] = [
     "\n", "\r\n", "\r", "\u{b}", "\u{c}", "\u{85}", "\u{2028}", "\u{2029}",
@@ -34,8 +38,8 @@ pub(crate) enum Shape {
     Source,
     /// Words with a few accents, ended by LF.
     Prose,
-    /// Chinese characters and kana, ended by LF.
-    Han,
+    /// Japanese, ended by LF.
+    Japanese,
     /// Words with a char above U+FFFF in each line, ended by LF.
     Emoji,
     /// Lines of code, ended by CR LF.
@@ -48,6 +52,10 @@ pub(crate) enum Shape {
     Feeds,
     /// Short words, ended by each break of the Unicode Standard's Annex 14 and its Rust crate.
     AllBreaks,
+    /// Lines of 1,500 to 3,000 Han characters, of three bytes each, ended by LF.
+    LongHan,
+    /// Lines of 1,500 to 3,000 accented letters, ended by LF.
+    LongAccented,
 }
 
 impl Shape {
@@ -56,7 +64,7 @@ impl Shape {
         match random.below(6) {
             0 => Shape::Source,
             1 => Shape::Prose,
-            2 => Shape::Han,
+            2 => Shape::Japanese,
             3 => Shape::Emoji,
             4 => Shape::Crlf,
             _ => Shape::Mixed,
@@ -70,6 +78,15 @@ impl Shape {
             1 => Shape::Feeds,
             2 => Shape::AllBreaks,
             _ => Shape::Mixed,
+        }
+    }
+
+    /// One of the three whose lines go over pieces.
+    pub(crate) fn long_lines(i: usize) -> Shape {
+        match i % 3 {
+            0 => Shape::OneLine,
+            1 => Shape::LongHan,
+            _ => Shape::LongAccented,
         }
     }
 
@@ -116,14 +133,22 @@ fn put_content(line: &mut String, random: &mut Random, shape: Shape) -> Result<(
     match shape {
         Shape::Source | Shape::Crlf | Shape::Mixed | Shape::OneLine => put_code(line, random),
         Shape::Prose => put_some(line, random, &PROSE),
-        Shape::Han => put_some(line, random, &HAN),
+        Shape::Japanese => put_some(line, random, &JAPANESE),
         Shape::Emoji => {
             put_words(line, random, &PROSE, 5)?;
             put_words(line, random, &EMOJI, 2)
         }
         Shape::Feeds => Ok(()),
         Shape::AllBreaks => put_words(line, random, &LETTERS, 3),
+        Shape::LongHan => put_many(line, random, &HAN),
+        Shape::LongAccented => put_many(line, random, &ACCENTED),
     }
+}
+
+/// Puts 1,500 to 3,000 words of a table after a line.
+fn put_many(line: &mut String, random: &mut Random, table: &[&'static str]) -> Result<(), Fault> {
+    let words = random.from(1500, 1501);
+    put_words(line, random, table, words)
 }
 
 /// Puts as many words of a table after a line as a line of prose has.
@@ -135,13 +160,11 @@ fn put_some(line: &mut String, random: &mut Random, table: &[&'static str]) -> R
 /// Puts a line's break after it.
 fn put_break(line: &mut String, random: &mut Random, shape: Shape) -> Result<(), Fault> {
     match shape {
-        Shape::Source | Shape::Prose | Shape::Han | Shape::Emoji | Shape::Feeds => {
-            put_words(line, random, &BREAKS[..1], 1)
-        }
         Shape::Crlf => put_words(line, random, &BREAKS[1..2], 1),
         Shape::Mixed => put_words(line, random, &BREAKS[..3], 1),
         Shape::AllBreaks => put_words(line, random, &BREAKS, 1),
         Shape::OneLine => Ok(()),
+        _ => put_words(line, random, &BREAKS[..1], 1),
     }
 }
 
