@@ -14,10 +14,10 @@ ghost use Rattle.rope_positions.specs.Costs.{Asks};
 use crate::boundaries::units_before_boundary_in;
 use crate::breaks::is_crlf_middle_in;
 use crate::line_starts::{LineStart, line_in, line_start_in, tells};
-use crate::pieces::{breaks_at_seam, position_in};
+use crate::pieces::{breaks_at_seam, position_in, units_before};
 use crate::plain::is_after_plain;
 use crate::units::{place_in, units_before_in};
-use position_mapper::{Encoding, Position, Range};
+use position_mapper::{Encoding, Position, Range, line_end};
 use std::ops;
 use text_rope::{Chunk, Scheme, View, count_in, located_in, to_in};
 
@@ -174,14 +174,15 @@ fn byte_from_line(
     byte_of_in(v, encoding, position)
 }
 
-/// The position of a unit on the first line of a text.
-fn on_first_line(position: Position) -> Position
-    ensures { result ≡ record { line = 0; character = position.character } }
+/// The byte index of a position on the first line of a text.
+fn byte_on_first_line(encoding: Encoding, text: &str, character: usize) -> usize
+    ensures { result ≡ byte_at encoding (chars text.now) (record { line = 0; character = character }) }
 {
-    Position {
-        line: 0,
-        character: position.character,
+    if text.len() <= character {
+        // no char takes more units than bytes, so the offset is at or past the end of the line
+        return line_end(text, 0);
     }
+    encoding.byte_of(text, Position { line: 0, character })
 }
 
 /// The byte index of a position on a line.
@@ -197,7 +198,7 @@ fn byte_on(v: &mut View, encoding: Encoding, line: &LineStart<'_>, position: Pos
     if is_after_plain(line.rest, character) {
         return line.byte + character;
     }
-    let own = encoding.byte_of(line.rest, on_first_line(position));
+    let own = byte_on_first_line(encoding, line.rest, character);
     if tells(v, line, own) {
         return line.byte + own;
     }
@@ -225,11 +226,11 @@ fn exact_byte_on(
     if is_after_plain(line.rest, character) {
         return Some(line.byte + character);
     }
-    if let Some(own) = encoding.exact_byte_of(line.rest, on_first_line(position)) {
-        return Some(line.byte + own);
-    }
-    let own = encoding.byte_of(line.rest, on_first_line(position));
+    let own = byte_on_first_line(encoding, line.rest, character);
     if tells(v, line, own) {
+        if units_before(encoding, line.rest, own) == character {
+            return Some(line.byte + own);
+        }
         return None;
     }
     let before_line = units_before_boundary_in(v, encoding, line.byte);
