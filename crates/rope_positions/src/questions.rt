@@ -1,10 +1,10 @@
 // Positions in a rope's text, by a constant number of its questions.
-ghost use Rattle.std.specs.Prelude.{◌≡◌, ◌≤◌, IfSome, chars, length};
+ghost use Rattle.std.specs.Prelude.{◌≡◌, ◌+◌, ◌/◌, ◌<◌, ◌≤◌, ◌↔◌, ◌⊎◌, IfSome, IsTrue, chars, length};
 ghost use Rattle.str_indices.specs.Relations.{IsBoundary};
 ghost use Rattle.str_indices.specs.Schemes.{count, from_byte_idx, to_byte_idx, weighed};
 ghost use Rattle.str_indices.specs.Text.{size};
 ghost use Rattle.str_indices.specs.declared.Scheme.TheVariants.{Crlf};
-ghost use Rattle.piece_text.specs.Pieces.{PiecesState, joined};
+ghost use Rattle.piece_text.specs.Pieces.{PiecesState, joined, joined_size};
 ghost use Rattle.position_mapper.specs.Encodings.{units_of};
 ghost use Rattle.position_mapper.specs.Lines.{line_end};
 ghost use Rattle.position_mapper.specs.Positions.{byte_at, byte_range_at, exact_byte_at, position_at};
@@ -185,6 +185,38 @@ fn byte_on_first_line(encoding: Encoding, text: &str, character: usize) -> usize
     encoding.byte_of(text, Position { line: 0, character })
 }
 
+/// Whether the text's lines are longer than a piece on the whole.
+fn has_long_lines(v: &mut View) -> bool
+    ensures long { IsTrue result ↔ (count Crlf (joined v.old.texts) < joined_size v.old.texts / 1024) }
+    ensures state { v.new ≡ v.old }
+{
+    let len = v.len();
+    count_in(v, Scheme::Crlf) < len / 1024
+}
+
+/// The byte index of a position on a line in the rest of its piece, where that tells it. It is not looked for where the
+/// offset is past the rest and the text's lines are long, since then the line likely goes on after it.
+fn told_in(
+    v: &mut View,
+    encoding: Encoding,
+    line: &LineStart<'_>,
+    character: usize,
+) -> Option<usize>
+    requires rest { IsChunkAt (joined v.old.texts) (chars line.now.rest.now) line.now.byte line.now.byte }
+    requires len { length line.now.rest.now ≡ size (chars line.now.rest.now) }
+    ensures byte { IfSome result (λ own. own ≡ byte_at encoding (chars line.now.rest.now)
+        (record { line = 0; character = character })) }
+    ensures tells { let rest = chars line.now.rest.now in IfSome result (λ own.
+        (own < size rest) ⊎ (line.now.byte + size rest ≡ size (joined v.old.texts))) }
+    ensures cost { Asks 0 v.old v.new }
+{
+    if line.rest.len() <= character && has_long_lines(v) {
+        return None;
+    }
+    let own = byte_on_first_line(encoding, line.rest, character);
+    if tells(v, line, own) { Some(own) } else { None }
+}
+
 /// The byte index of a position on a line.
 fn byte_on(v: &mut View, encoding: Encoding, line: &LineStart<'_>, position: Position) -> usize
     requires start { line.now.byte ≡ to_byte_idx Crlf (joined v.old.texts) position.line }
@@ -198,8 +230,7 @@ fn byte_on(v: &mut View, encoding: Encoding, line: &LineStart<'_>, position: Pos
     if is_after_plain(line.rest, character) {
         return line.byte + character;
     }
-    let own = byte_on_first_line(encoding, line.rest, character);
-    if tells(v, line, own) {
+    if let Some(own) = told_in(v, encoding, line, character) {
         return line.byte + own;
     }
     let before_line = units_before_boundary_in(v, encoding, line.byte);
@@ -226,8 +257,7 @@ fn exact_byte_on(
     if is_after_plain(line.rest, character) {
         return Some(line.byte + character);
     }
-    let own = byte_on_first_line(encoding, line.rest, character);
-    if tells(v, line, own) {
+    if let Some(own) = told_in(v, encoding, line, character) {
         if units_before(encoding, line.rest, own) == character {
             return Some(line.byte + own);
         }

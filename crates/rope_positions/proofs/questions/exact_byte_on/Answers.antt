@@ -7,15 +7,14 @@ overflow_add-result-then-units_before-character c =
     let line = c.args.line.now in
     let rest = chars line.rest.now in
     let within = place_within c.args.encoding cs c.args.position rest line.byte c.requires.start c.requires.rest
-    c.byte_on_first_line-own.result c.byte_on_first_line-own.ensures in
-    omega (arith, rest_within cs rest line.byte c.requires.rest, within, c.tells.ensures.short)
+    c.in-Some.own c.in-Some.ensures.byte in
+    omega (arith, rest_within cs rest line.byte c.requires.rest, within, c.len-len.ensures.short)
 
 pub returns-then-units_before-character-clause-answer : goal.returns-then-units_before-character-clause-answer
 returns-then-units_before-character-clause-answer c =
     let line = c.args.line.now in
     exact_told c.args.encoding (joined c.args.v.now.texts) c.args.position (chars line.rest.now) line.byte
-    c.requires.start c.requires.rest c.byte_on_first_line-own.result c.byte_on_first_line-own.ensures
-    (c.tells.ensures.tells.0 c.if-tells.true) c.requires.has
+    c.requires.start c.requires.rest c.in-Some.own c.in-Some.ensures.byte c.in-Some.ensures.tells c.requires.has
     (sym c.units_before.ensures ∙ c.if-units_before-character.true)
 
 pub returns-then-units_before-character-clause-boundary : goal.returns-then-units_before-character-clause-boundary
@@ -23,26 +22,26 @@ returns-then-units_before-character-clause-boundary c = exact_is_boundary c.args
     (joined c.args.v.now.texts) c.args.position _ (returns-then-units_before-character-clause-answer c)
 
 pub returns-then-units_before-character-clause-cost : goal.returns-then-units_before-character-clause-cost
-returns-then-units_before-character-clause-cost c = asked_within (omega arith) (none_asked c.args.v.now)
+returns-then-units_before-character-clause-cost c = asked_within (omega arith) c.told_in.ensures.cost
 
-pub returns-then-tells-clause-answer : goal.returns-then-tells-clause-answer
-returns-then-tells-clause-answer c =
+pub returns-in-Some-clause-answer : goal.returns-in-Some-clause-answer
+returns-in-Some-clause-answer c =
     let line = c.args.line.now in
     none_told c.args.encoding (joined c.args.v.now.texts) c.args.position (chars line.rest.now) line.byte
-    c.requires.start c.requires.rest c.byte_on_first_line-own.result c.byte_on_first_line-own.ensures
-    (c.tells.ensures.tells.0 c.if-tells.true)
+    c.requires.start c.requires.rest c.in-Some.own c.in-Some.ensures.byte c.in-Some.ensures.tells
     (λ same. c.if-units_before-character.false (c.units_before.ensures ∙ same))
 
-pub returns-then-tells-clause-cost : goal.returns-then-tells-clause-cost
-returns-then-tells-clause-cost c = asked_within (omega arith) (none_asked c.args.v.now)
+pub returns-in-Some-clause-cost : goal.returns-in-Some-clause-cost
+returns-in-Some-clause-cost c = asked_within (omega arith) c.told_in.ensures.cost
 
 pub returns-clause-cost : goal.returns-clause-cost
-returns-clause-cost c = asked_after c.units_before_boundary_in-before_line.ensures.cost c.exact_byte_after.ensures.cost
+returns-clause-cost c = asked_after (asked_after c.told_in.ensures.cost c.units_before_boundary_in-before_line.ensures.cost)
+    c.exact_byte_after.ensures.cost
 
 pub returns-clause-answer : goal.returns-clause-answer
 returns-clause-answer c = c.exact_byte_after.ensures.answer
     ∙ ap (λ ts. exact_byte_at c.args.encoding (joined ts) c.args.position)
-    c.units_before_boundary_in-before_line.ensures.cost.texts
+    (c.units_before_boundary_in-before_line.ensures.cost.texts ∙ c.told_in.ensures.cost.texts)
 
 pub returns-then-is_after_plain-clause-answer : goal.returns-then-is_after_plain-clause-answer
 returns-then-is_after_plain-clause-answer c =
