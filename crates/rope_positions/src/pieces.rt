@@ -68,7 +68,7 @@ fn units_between(encoding: Encoding, own: &Summary, text: &str, from: usize, to:
 }
 
 /// The units of a text's chars before a byte index.
-fn units_before(encoding: Encoding, text: &str, byte: usize) -> usize
+pub(crate) fn units_before(encoding: Encoding, text: &str, byte: usize) -> usize
     ensures { result ≡ weighed (units_of encoding) (chars text.now) byte }
 {
     match encoding {

@@ -1,10 +1,10 @@
 // Positions in a rope's text, by a constant number of its questions.
-ghost use Rattle.std.specs.Prelude.{◌≡◌, ◌≤◌, IfSome, chars, length};
+ghost use Rattle.std.specs.Prelude.{◌≡◌, ◌+◌, ◌/◌, ◌<◌, ◌≤◌, ◌↔◌, ◌⊎◌, IfSome, IsTrue, chars, length};
 ghost use Rattle.str_indices.specs.Relations.{IsBoundary};
 ghost use Rattle.str_indices.specs.Schemes.{count, from_byte_idx, to_byte_idx, weighed};
 ghost use Rattle.str_indices.specs.Text.{size};
 ghost use Rattle.str_indices.specs.declared.Scheme.TheVariants.{Crlf};
-ghost use Rattle.piece_text.specs.Pieces.{PiecesState, joined};
+ghost use Rattle.piece_text.specs.Pieces.{PiecesState, joined, joined_size};
 ghost use Rattle.position_mapper.specs.Encodings.{units_of};
 ghost use Rattle.position_mapper.specs.Lines.{line_end};
 ghost use Rattle.position_mapper.specs.Positions.{byte_at, byte_range_at, exact_byte_at, position_at};
@@ -14,10 +14,10 @@ ghost use Rattle.rope_positions.specs.Costs.{Asks};
 use crate::boundaries::units_before_boundary_in;
 use crate::breaks::is_crlf_middle_in;
 use crate::line_starts::{LineStart, line_in, line_start_in, tells};
-use crate::pieces::{breaks_at_seam, position_in};
+use crate::pieces::{breaks_at_seam, position_in, units_before};
 use crate::plain::is_after_plain;
 use crate::units::{place_in, units_before_in};
-use position_mapper::{Encoding, Position, Range};
+use position_mapper::{Encoding, Position, Range, line_end};
 use std::ops;
 use text_rope::{Chunk, Scheme, View, count_in, located_in, to_in};
 
@@ -174,14 +174,47 @@ fn byte_from_line(
     byte_of_in(v, encoding, position)
 }
 
-/// The position of a unit on the first line of a text.
-fn on_first_line(position: Position) -> Position
-    ensures { result ≡ record { line = 0; character = position.character } }
+/// The byte index of a position on the first line of a text.
+fn byte_on_first_line(encoding: Encoding, text: &str, character: usize) -> usize
+    ensures { result ≡ byte_at encoding (chars text.now) (record { line = 0; character = character }) }
 {
-    Position {
-        line: 0,
-        character: position.character,
+    if text.len() <= character {
+        // no char takes more units than bytes, so the offset is at or past the end of the line
+        return line_end(text, 0);
     }
+    encoding.byte_of(text, Position { line: 0, character })
+}
+
+/// Whether the text's lines are longer than a piece on the whole.
+fn has_long_lines(v: &mut View) -> bool
+    ensures long { IsTrue result ↔ (count Crlf (joined v.old.texts) < joined_size v.old.texts / 1024) }
+    ensures state { v.new ≡ v.old }
+{
+    let len = v.len();
+    count_in(v, Scheme::Crlf) < len / 1024
+}
+
+/// The byte index of a position on a line in the rest of its piece, where that tells it. It is not looked for where the
+/// offset is past the rest and the text's lines are long, since then the line likely goes on after it.
+fn told_in(
+    v: &mut View,
+    encoding: Encoding,
+    line: &LineStart<'_>,
+    character: usize,
+) -> Option<usize>
+    requires rest { IsChunkAt (joined v.old.texts) (chars line.now.rest.now) line.now.byte line.now.byte }
+    requires len { length line.now.rest.now ≡ size (chars line.now.rest.now) }
+    ensures byte { IfSome result (λ own. own ≡ byte_at encoding (chars line.now.rest.now)
+        (record { line = 0; character = character })) }
+    ensures tells { let rest = chars line.now.rest.now in IfSome result (λ own.
+        (own < size rest) ⊎ (line.now.byte + size rest ≡ size (joined v.old.texts))) }
+    ensures cost { Asks 0 v.old v.new }
+{
+    if line.rest.len() <= character && has_long_lines(v) {
+        return None;
+    }
+    let own = byte_on_first_line(encoding, line.rest, character);
+    if tells(v, line, own) { Some(own) } else { None }
 }
 
 /// The byte index of a position on a line.
@@ -197,8 +230,7 @@ fn byte_on(v: &mut View, encoding: Encoding, line: &LineStart<'_>, position: Pos
     if is_after_plain(line.rest, character) {
         return line.byte + character;
     }
-    let own = encoding.byte_of(line.rest, on_first_line(position));
-    if tells(v, line, own) {
+    if let Some(own) = told_in(v, encoding, line, character) {
         return line.byte + own;
     }
     let before_line = units_before_boundary_in(v, encoding, line.byte);
@@ -225,11 +257,10 @@ fn exact_byte_on(
     if is_after_plain(line.rest, character) {
         return Some(line.byte + character);
     }
-    if let Some(own) = encoding.exact_byte_of(line.rest, on_first_line(position)) {
-        return Some(line.byte + own);
-    }
-    let own = encoding.byte_of(line.rest, on_first_line(position));
-    if tells(v, line, own) {
+    if let Some(own) = told_in(v, encoding, line, character) {
+        if units_before(encoding, line.rest, own) == character {
+            return Some(line.byte + own);
+        }
         return None;
     }
     let before_line = units_before_boundary_in(v, encoding, line.byte);

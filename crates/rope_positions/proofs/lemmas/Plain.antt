@@ -7,11 +7,11 @@ use Rattle.std.proofs.lemmas.List.Elements.{All-head, All-tail}
 use Rattle.std.proofs.lemmas.List.Sums.{sum_by-cons, take_while-cons}
 use Rattle.str_indices.proofs.lemmas.Callers.{IsCharBoundary-from_boundary, boundary_weighed_iff, weighed_is_greatest_boundary, weighed_at}
 use Rattle.position_mapper.specs.Lines.{is_break, line_content}
+use Rattle.position_mapper.proofs.lemmas.Encodings.{units_of-some}
 use Rattle.position_mapper.specs.declared.encodings.Encoding.TheVariants.{Utf8, Utf16, Utf32}
 use Rattle.rope_positions.specs.Plain.{IsPlain, BeginsPlain}
-use Rattle.rope_positions.proofs.lemmas.Common.{Some, ◌≡◌, ℕ, Bool, List, [], ◌∷◌, ◌++◌, take, drop, IsUtf8, IsUtf8-take, IsCharBoundary, chars, chars-append, size-chars, take-append-drop, length-take-le, cut_front, encode_ascii, encodes-chars, subst, sym, refl, ap, ◌∙◌, arith, size-cons, Text, size, weighed, boundary_weighed, IsBoundary, units_of, byte_at, exact_byte_at, exact_by_units, units_at_place, Position, Encoding}
+use Rattle.rope_positions.proofs.lemmas.Common.{◌≡◌, ℕ, Bool, List, [], ◌∷◌, ◌++◌, take, drop, IsUtf8, IsUtf8-take, IsCharBoundary, chars, chars-append, size-chars, take-append-drop, length-take-le, cut_front, encode_ascii, encodes-chars, subst, sym, refl, ap, ◌∙◌, arith, size-cons, Text, size, weighed, boundary_weighed, IsBoundary, units_of, byte_at, Encoding}
 use Rattle.rope_positions.proofs.lemmas.Beginnings.{first_content}
-use Rattle.rope_positions.proofs.lemmas.Rests.{some_units}
 
 -- such a character takes one byte, one unit, and is no break
 one_byte : (c : ℕ) → IsPlain c → size (c ∷ []) ≡ 1
@@ -66,20 +66,18 @@ module _ (e : Encoding) (text : Text) (n : ℕ) (begins : BeginsPlain text n) wh
   place : boundary_weighed w content n ≡ n
   place =
       let least = (boundary_weighed_iff w content n n edge).1 (omega (arith, units)) in
-      let most = (weighed_is_greatest_boundary w (some_units e) content n).at_or_before in
+      let most = (weighed_is_greatest_boundary w (units_of-some e) content n).at_or_before in
       omega (arith, least, most, ap (boundary_weighed w content) units)
 
   -- it begins at that byte
   pub byte_of_plain : n ≡ byte_at e text (record { line = 0; character = n })
   byte_of_plain = omega (arith, ap (λ t. boundary_weighed w t n) content_is, place)
 
-  -- and names that place
-  pub exact_byte_of_plain : Some n ≡ exact_byte_at e text (record { line = 0; character = n })
-  exact_byte_of_plain =
-      let own : Position = record { line = 0; character = n } in
-      let told = ap (λ t. weighed w t (boundary_weighed w t n)) content_is ∙ ap (weighed w content) place ∙ units in
-      ap (λ k. Some k) byte_of_plain
-      ∙ exact_by_units e text own (omega arith) (omega (arith, units_at_place e text own, told))
+  -- and as many units are before it
+  pub units_of_plain_begin : weighed w text n ≡ n
+  units_of_plain_begin =
+      weighed_at w text n (record { front = begins.front; back = begins.back; split = begins.split; place = begins.place })
+      ∙ units_of_plain e begins.front begins.plain ∙ begins.place
 
 -- the bytes of plain characters are they themselves
 encodes_plain : (f : Text) → All IsPlain f → encodes f ≡ f

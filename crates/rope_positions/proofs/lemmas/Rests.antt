@@ -1,28 +1,34 @@
 -- The byte of a position, by the rest of the piece that its line begins in.
-use Rattle.std.specs.Prelude.{◌==◌, ◌⊎◌, true}
+use Rattle.std.specs.Prelude.{◌⊎◌, true}
 use Rattle.std.specs.List.{before_first}
-use Rattle.std.proofs.lemmas.Bool.{cases_Bool}
-use Rattle.std.proofs.Common.{eqb-true, eq-eqb, true≢false}
-use Rattle.str_indices.proofs.lemmas.Callers.{IsBoundary-before, boundary_weighed_is_greatest, boundary_weighed_iff, weighed_is_greatest_boundary, weight-some}
-use Rattle.position_mapper.specs.declared.encodings.Encoding.TheVariants.{Utf8, Utf16, Utf32}
+use Rattle.std.proofs.lemmas.List.Sums.{sum_by-le-sum_by}
+use Rattle.std.specs.Char.{len_utf8}
+use Rattle.str_indices.proofs.lemmas.Callers.{boundary_weighed_iff}
+use Rattle.position_mapper.proofs.lemmas.Encodings.{units_of-le}
 use Rattle.std.specs.declared.ops.Range as bytes
 use Rattle.position_mapper.specs.Lines.{is_break, line_content}
 use Rattle.position_mapper.specs.declared.Range.{Range}
 use Rattle.position_mapper.specs.Relations.{IsAtOrBefore}
 use Rattle.position_mapper.specs.Positions.{byte_range_at, is_at_or_before}
-use Rattle.rope_positions.proofs.lemmas.Common.{Some, None, ◌≡◌, ◌≢◌, ℕ, ◌+◌, ◌<◌, ◌≤◌, ◌++◌, sym, refl, ap, ap₂, ◌∙◌, inl, inr, arith, append-nil, len_utf8_bounds, size-append, Text, size, count, weighed, boundary_weighed, to_byte_idx, Crlf, IsBoundary, IsChunkAt, IsBoundary-byte_at, byte_at-le, units_of, byte_at, exact_byte_at, units_at_place, exact_by_units, not_exact_by_units, Position, Encoding}
-use Rattle.rope_positions.proofs.lemmas.Beginnings.{weighed_before, place_before, first_of, content_from, first_content}
-use Rattle.rope_positions.proofs.lemmas.Changing.{exact_byte, none_of}
-
--- each character takes some units
-pub some_units : (e : Encoding) (c : ℕ) → 0 < units_of e c
-some_units Utf8 c = omega (arith, len_utf8_bounds c)
-some_units Utf16 c = weight-some c
-some_units Utf32 c = omega arith
+use Rattle.rope_positions.proofs.lemmas.Common.{Some, None, [], ◌≡◌, ◌≢◌, ℕ, ◌+◌, ◌<◌, ◌≤◌, ◌++◌, sym, refl, ap, ap₂, ◌∙◌, inl, inr, arith, append-nil, size-append, Text, size, count, weighed, boundary_weighed, to_byte_idx, Crlf, IsBoundary, IsChunkAt, IsBoundary-byte_at, IsBoundary-line_end, byte_at-le, byte_of_units, line_end, units_of, byte_at, exact_byte_at, units_at_place, exact_by_units, not_exact_by_units, Position, Encoding}
+use Rattle.rope_positions.proofs.lemmas.Beginnings.{weighed_all, weighed_none, weighed_before, place_before, first_of, content_from, first_content}
+use Rattle.rope_positions.proofs.lemmas.Changing.{none_of}
 
 -- a boundary is at or before the end of the text
 boundary_within : (cs : Text) (p q : ℕ) → q ≡ p → IsBoundary cs p → q ≤ size cs
 boundary_within cs p q same at = omega (arith, ap size at.split, size-append at.front at.back, at.place, same)
+
+-- an offset of at least as many units as a text has bytes is at the end of its first line, or past it
+pub end_of_first_line : (e : Encoding) (cs : Text) (n : ℕ) → size cs ≤ n
+    → line_end cs 0 ≡ byte_at e cs (record { line = 0; character = n })
+end_of_first_line e cs n far =
+    let w = units_of e in
+    let units = sum_by-le-sum_by w len_utf8 cs (units_of-le e) in
+    let all : IsBoundary cs (size cs) = record { front = cs; back = []; split = sym (append-nil cs); place = refl } in
+    let least = (boundary_weighed_iff w cs (size cs) (weighed w cs 0 + n) all).1
+    (omega (arith, weighed_all w cs, units, far)) in
+    let within = boundary_within cs (line_end cs 0) (line_end cs 0) refl (IsBoundary-line_end cs 0) in
+    omega (arith, byte_of_units e cs (record { line = 0; character = n }), least, within)
 
 -- a line that begins at the end of the text ends there, and so does each position on it
 pub byte_past : (e : Encoding) (cs : Text) (p : Position) (len : ℕ) → len ≡ size cs → to_byte_idx Crlf cs p.line ≡ size cs
@@ -70,7 +76,7 @@ module _ (e : Encoding) (cs : Text) (p : Position) (rest : Text) (start : ℕ) (
   pub place_within : (own : ℕ) → own ≡ byte_at e rest own_position → own ≤ size rest
   place_within own is = boundary_within rest (byte_at e rest own_position) own is (IsBoundary-byte_at e rest own_position)
 
-  pub byte_in_rest : (own : ℕ) → own ≡ byte_at e rest own_position → own < size rest → start + own ≡ byte_at e cs p
+  byte_in_rest : (own : ℕ) → own ≡ byte_at e rest own_position → own < size rest → start + own ≡ byte_at e cs p
   byte_in_rest own is inside =
       let place = place_is own is in
       elim part_or_more [
@@ -81,7 +87,7 @@ module _ (e : Encoding) (cs : Text) (p : Position) (rest : Text) (start : ℕ) (
         | inr same ↦ omega (arith, start_is, place, ap (λ t. boundary_weighed w t p.character) same)
       ]
 
-  pub byte_at_end : (own : ℕ) → own ≡ byte_at e rest own_position → start + size rest ≡ size cs
+  byte_at_end : (own : ℕ) → own ≡ byte_at e rest own_position → start + size rest ≡ size cs
       → start + own ≡ byte_at e cs p
   byte_at_end own is ends = omega (
     arith,
@@ -90,68 +96,11 @@ module _ (e : Encoding) (cs : Text) (p : Position) (rest : Text) (start : ℕ) (
     ap (λ t. boundary_weighed w t p.character) (part_at_end ends),
   )
 
-  -- the units before its place there
-  own_units : weighed w (line_content rest 0) (boundary_weighed w (line_content rest 0) p.character)
-      ≡ weighed w part (boundary_weighed w part p.character)
-  own_units = ap (λ t. weighed w t (boundary_weighed w t p.character)) (first_content rest)
-
-  -- where the position names a place of the rest, it names one of the text
-  own_exact : (own : ℕ) → Some own ≡ exact_byte_at e rest own_position
-      → weighed w part (boundary_weighed w part p.character) ≡ p.character
-  own_exact own is = elim (cases_Bool (weighed w part (boundary_weighed w part p.character) == p.character)) [
-    | inl same ↦ eqb-true _ _ same
-    | inr other ↦
-        let not_same : weighed w rest (byte_at e rest own_position) ≢ weighed w rest 0 + p.character = λ same.
-        let equal : weighed w part (boundary_weighed w part p.character) ≡ p.character =
-        omega (arith, same, units_at_place e rest own_position, own_units) in
-        absurd (true≢false (sym (eq-eqb _ _ equal) ∙ other)) in
-        let none = not_exact_by_units e rest own_position (inr not_same) in
-        cc
-  ]
-
-  -- and where it names none there, it does not
-  not_own_exact : None ≡ exact_byte_at e rest own_position
-      → weighed w part (boundary_weighed w part p.character) ≢ p.character
-  not_own_exact is = λ same.
-      let some = exact_by_units e rest own_position (omega arith)
-      (omega (arith, same, units_at_place e rest own_position, own_units)) in
-      cc
-
-  -- a place of the part before which its characters have so many units is that of the content
-  exact_place : weighed w part (boundary_weighed w part p.character) ≡ p.character
-      → (boundary_weighed w content p.character ≡ boundary_weighed w part p.character)
-      × (weighed w content (boundary_weighed w content p.character) ≡ p.character)
-  exact_place same = elim part_or_more [
-    | inr equal ↦ (
-      ap (λ t. boundary_weighed w t p.character) equal,
-      ap (λ t. weighed w t (boundary_weighed w t p.character)) equal ∙ same,
-    )
-    | inl (none, more) ↦
-        let whole = rest ++ before_first is_break chunk.back in
-        let g = boundary_weighed w rest p.character in
-        let here = ap (λ t. boundary_weighed w t p.character) none in
-        let units : weighed w rest g ≡ p.character =
-        sym (ap (λ t. weighed w t (boundary_weighed w t p.character)) none) ∙ same in
-        let at = (boundary_weighed_is_greatest w rest p.character).boundary in
-        let within = boundary_within rest g g refl at in
-        let all = weighed_before w rest (before_first is_break chunk.back) g within ∙ units in
-        let least = (boundary_weighed_iff w whole g p.character (IsBoundary-before rest (before_first is_break chunk.back) g at)).1
-        (omega (arith, all)) in
-        let most = (weighed_is_greatest_boundary w (some_units e) whole g).at_or_before in
-        let place : boundary_weighed w whole p.character ≡ g =
-        omega (arith, least, most, ap (boundary_weighed w whole) all) in (
-          ap (λ t. boundary_weighed w t p.character) more ∙ place ∙ sym here,
-          ap (λ t. weighed w t (boundary_weighed w t p.character)) more ∙ ap (weighed w whole) place ∙ all,
-        )
-  ]
-
-  pub exact_in_rest : (own : ℕ) → p.line ≤ count Crlf cs → Some own ≡ exact_byte_at e rest own_position
-      → Some (start + own) ≡ exact_byte_at e cs p
-  exact_in_rest own has is =
-      let (place, units) = exact_place (own_exact own is) in
-      let here = place_is own (exact_byte e rest own_position own is) in
-      let byte : start + own ≡ byte_at e cs p = omega (arith, start_is, here, place) in
-      ap (λ n. Some n) byte ∙ exact_by_units e cs p has (omega (arith, units_at_place e cs p, units))
+  -- where it is before the end of the rest, or the text ends there, it is the place in the text
+  pub byte_told : (own : ℕ) → own ≡ byte_at e rest own_position → (own < size rest) ⊎ (start + size rest ≡ size cs)
+      → start + own ≡ byte_at e cs p
+  byte_told own is (inl inside) = byte_in_rest own is inside
+  byte_told own is (inr ends) = byte_at_end own is ends
 
   -- the units before its place in the content are those in the part, where that place is told
   units_told : (own : ℕ) → own ≡ byte_at e rest own_position → (own < size rest) ⊎ (start + size rest ≡ size cs)
@@ -169,12 +118,30 @@ module _ (e : Encoding) (cs : Text) (p : Position) (rest : Text) (start : ℕ) (
         ∙ sym (ap (λ t. weighed w t (boundary_weighed w t p.character)) none)
   ]
 
-  pub none_in_rest : (own : ℕ) → None ≡ exact_byte_at e rest own_position → own ≡ byte_at e rest own_position
-      → (own < size rest) ⊎ (start + size rest ≡ size cs) → None ≡ exact_byte_at e cs p
-  none_in_rest own none is told =
-      let not_same : weighed w cs (byte_at e cs p) ≢ weighed w cs (to_byte_idx Crlf cs p.line) + p.character =
-      λ same. not_own_exact none (omega (arith, same, units_at_place e cs p, units_told own is told)) in
-      not_exact_by_units e cs p (inr not_same)
+  -- so the units before it in the rest are those on the line
+  units_in_rest : (own : ℕ) → own ≡ byte_at e rest own_position → (own < size rest) ⊎ (start + size rest ≡ size cs)
+      → weighed w cs (byte_at e cs p) ≡ weighed w cs (to_byte_idx Crlf cs p.line) + weighed w rest own
+  units_in_rest own is told =
+      let first = ap (λ t. weighed w t (boundary_weighed w t p.character)) (first_content rest) in
+      omega (
+        arith,
+        units_at_place e cs p,
+        units_told own is told,
+        first,
+        units_at_place e rest own_position,
+        weighed_none w rest,
+        ap (weighed w rest) is,
+      )
+
+  pub exact_told : (own : ℕ) → own ≡ byte_at e rest own_position → (own < size rest) ⊎ (start + size rest ≡ size cs)
+      → p.line ≤ count Crlf cs → weighed w rest own ≡ p.character → Some (start + own) ≡ exact_byte_at e cs p
+  exact_told own is told has same = ap (λ n. Some n) (byte_told own is told)
+      ∙ exact_by_units e cs p has (omega (arith, units_in_rest own is told, same))
+
+  pub none_told : (own : ℕ) → own ≡ byte_at e rest own_position → (own < size rest) ⊎ (start + size rest ≡ size cs)
+      → weighed w rest own ≢ p.character → None ≡ exact_byte_at e cs p
+  none_told own is told other =
+      not_exact_by_units e cs p (inr (λ same. other (omega (arith, units_in_rest own is told, same))))
 
 -- a line that begins at the end of the text has a place there alone
 module _ (e : Encoding) (cs : Text) (p : Position) (past : to_byte_idx Crlf cs p.line ≡ size cs) where
