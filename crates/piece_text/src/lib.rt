@@ -1,8 +1,8 @@
 //! A text in pieces, with the counts of each piece beside it.
 //!
-//! A rope or an editor's buffer keeps its text in pieces. This is the plain list of them: every question is answered as
-//! for the joined text, from the pieces' summaries and the text of at most one piece. Only putting a piece in takes
-//! memory.
+//! A rope or an editor's buffer keeps its text in pieces. This is the list of them: every question is answered as
+//! for the joined text, from the pieces' summaries and the text of at most one piece. Only putting a piece in, and cutting
+//! one, takes memory.
 #![tactic(auto)]
 
 mod list;

@@ -143,8 +143,8 @@ impl Runs {
         self.runs.as_slice()
     }
 
-    /// The run that a piece is in, and the number of that run's first piece. It goes over the runs from the last one back, so
-    /// it takes no longer than to move the pieces after that one.
+    /// The run that a piece is in, and the number of that run's first piece. It goes over the runs from the last one back, a
+    /// step for each run after that one.
     fn run_of(&self, at: usize) -> (usize, usize)
         requires { at < pieces_in self.now }
         ensures run { result.0 < length self.now }
