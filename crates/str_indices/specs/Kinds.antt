@@ -44,3 +44,4 @@ pub record AreKinds (kinds : Kinds) (bytes : List ℕ) : Type 0 where
   pub no_pair : IsTrue kinds.no_pair ↔ HasNoPair bytes
   pub no_vt_ff : IsTrue kinds.no_vt_ff ↔ HasNoVtFf bytes
   pub no_return : IsTrue kinds.no_return ↔ HasNoReturn bytes
+  pub has_wide_lead : IsTrue kinds.has_wide_lead → ¬ (HasNoWideLead bytes)

@@ -75,20 +75,22 @@ fn line_breaks_of(text: &str, kinds: Kinds, lf: usize) -> LineBreaks
     }
     let lines = lines::count_breaks(text);
     LineBreaks {
-        crlf: breaks_of(text, lf, lines),
+        crlf: breaks_of(text, kinds, lf, lines),
         lines,
     }
 }
 
-/// Whether a text has no other line break than LF, CR and CRLF for certain.
+/// Whether a text has no other line break than LF, CR and CRLF, where that is told soon.
 fn has_narrow_breaks(text: &str, kinds: Kinds) -> bool
     requires { AreKinds kinds text.now }
-    ensures { IsTrue result ↔ (HasNoVtFf text.now × (HasNoWideLead text.now ⊎ HasNoWidePair text.now)) }
+    ensures narrow { IsTrue result → HasNoVtFf text.now × (HasNoWideLead text.now ⊎ HasNoWidePair text.now) }
+    ensures told { HasNoVtFf text.now → HasNoWideLead text.now → IsTrue result }
 {
-    kinds.no_vt_ff && (kinds.is_ascii || no_wide_break(text.as_bytes()))
+    kinds.no_vt_ff && (kinds.is_ascii || no_wide_break(text.as_bytes(), kinds))
 }
 
 /// How many breaks by LF, CR and CRLF a text has, which are its LFs where it has no CR.
+#[inline(always)]
 fn returns_of(text: &str, kinds: Kinds, lf: usize) -> usize
     requires kinds { AreKinds kinds text.now }
     requires lf { lf ≡ count Lf (chars text.now) }
@@ -102,7 +104,8 @@ fn returns_of(text: &str, kinds: Kinds, lf: usize) -> usize
 }
 
 /// How many breaks by LF, CR and CRLF a text has, which are its LFs where it has no other line break at all.
-fn breaks_of(text: &str, lf: usize, lines: usize) -> usize
+fn breaks_of(text: &str, kinds: Kinds, lf: usize, lines: usize) -> usize
+    requires kinds { AreKinds kinds text.now }
     requires lf { lf ≡ count Lf (chars text.now) }
     requires lines { lines ≡ count Lines (chars text.now) }
     ensures { result ≡ count Crlf (chars text.now) }
@@ -110,6 +113,6 @@ fn breaks_of(text: &str, lf: usize, lines: usize) -> usize
     if lf == lines {
         lf
     } else {
-        lines_crlf::count_breaks(text)
+        returns_of(text, kinds, lf)
     }
 }

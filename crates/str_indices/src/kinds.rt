@@ -1,5 +1,5 @@
 //! Which bytes a text has and hasn't, found in one pass over it: where some kinds are absent, counts are the same.
-ghost use Rattle.std.specs.Prelude.{◌↔◌, ◌⊎◌, IsTrue};
+ghost use Rattle.std.specs.Prelude.{◌≡◌, ◌↔◌, ◌⊎◌, IsTrue};
 ghost use Rattle.str_indices.specs.Kinds.{AreKinds, HasNoWideLead, HasNoWidePair, IsWidePair};
 
 /// VT, after which come FF and CR.
@@ -14,6 +14,15 @@ const SEPARATOR_LEAD: u8 = 0xE2;
 /// How many bytes are looked at before it is asked whether one was found.
 const BLOCK: usize = 256;
 
+/// From this many bytes on, two bytes side by side are sought in less time than all line breaks are counted,
+const FEW: usize = 9;
+
+/// but not from as many on as a chunk has, which are counted by chunks,
+const CHUNK: usize = 16;
+
+/// up to this many.
+const MANY: usize = 65;
+
 /// Which bytes a text hasn't.
 #[derive(Clone, Copy)]
 pub(crate) struct Kinds {
@@ -25,6 +34,8 @@ pub(crate) struct Kinds {
     pub(crate) no_vt_ff: bool,
     /// Whether none is VT, FF or CR.
     pub(crate) no_return: bool,
+    /// Whether the greatest begins U+0085, U+2028 or U+2029, or another character of the same first byte.
+    pub(crate) has_wide_lead: bool,
 }
 
 /// Which bytes there aren't.
@@ -42,20 +53,41 @@ pub(crate) fn kinds_of(bytes: &[u8]) -> Kinds
         no_pair: greatest < 0xF0,
         no_vt_ff: least_from_vt > 1,
         no_return: least_from_vt > 2,
+        has_wide_lead: is_wide_lead(greatest),
     }
 }
 
-/// Whether the first bytes of U+0085, U+2028 and U+2029 are absent, or else their bytes side by side.
-pub(crate) fn no_wide_break(bytes: &[u8]) -> bool
-    ensures { IsTrue result ↔ (HasNoWideLead bytes.now ⊎ HasNoWidePair bytes.now) }
+/// Whether U+0085, U+2028 and U+2029 are absent, where that is told in less time than it takes to count them.
+pub(crate) fn no_wide_break(bytes: &[u8], kinds: Kinds) -> bool
+    requires { AreKinds kinds bytes.now }
+    ensures absent { IsTrue result → HasNoWideLead bytes.now ⊎ HasNoWidePair bytes.now }
+    ensures told { HasNoWideLead bytes.now → IsTrue result }
 {
-    no_wide_lead(bytes) || no_wide_pair(bytes)
+    if !kinds.has_wide_lead && no_wide_lead(bytes) {
+        return true;
+    }
+    let seeks_pairs = match bytes.len() {
+        FEW..CHUNK => true,
+        len => MANY <= len,
+    };
+    seeks_pairs && no_wide_pair(bytes)
+}
+
+/// Whether a byte begins U+0085, U+2028 or U+2029, or another character of the same first byte.
+#[inline(always)]
+fn is_wide_lead(byte: u8) -> bool
+    ensures { IsTrue result ↔ ((byte ≡ 0xC2) ⊎ (byte ≡ 0xE2)) }
+{
+    byte == NEXT_LINE_LEAD || byte == SEPARATOR_LEAD
 }
 
 /// Whether no byte begins U+0085, U+2028 or U+2029, nor another character of the same first byte.
 fn no_wide_lead(bytes: &[u8]) -> bool
     ensures { IsTrue result ↔ HasNoWideLead bytes.now }
 {
+    if bytes.len() <= BLOCK {
+        return no_lead_in(bytes);
+    }
     for block in bytes.chunks(BLOCK) {
         if !no_lead_in(block) {
             return false;
@@ -70,7 +102,7 @@ fn no_lead_in(block: &[u8]) -> bool
 {
     let mut any = false;
     for &byte in block {
-        any |= byte == NEXT_LINE_LEAD || byte == SEPARATOR_LEAD;
+        any |= is_wide_lead(byte);
     }
     !any
 }

@@ -1,6 +1,6 @@
 use Rattle.str_indices.proofs.lemmas.{ℕ, ◌<◌, arith}
 use Rattle.std.proofs.Common.{get_or}
-use Rattle.str_indices.proofs.lemmas.{greatest_more, least_more, all_below, all_past}
+use Rattle.str_indices.proofs.lemmas.{greatest_more, least_more, greatest_lead, all_below, all_past}
 use Rattle.str_indices.proofs.kinds.kinds_of.Goals as goal
 
 pub loop-byte-preserved : goal.loop-byte-preserved
@@ -19,4 +19,5 @@ returns c =
       no_pair = all_below _ _ _ 0xF0 greatest (omega arith) (omega arith);
       no_vt_ff = all_past _ _ _ 1 least (omega arith) fit (omega arith);
       no_return = all_past _ _ _ 2 least (omega arith) fit (omega arith);
+      has_wide_lead = λ is. greatest_lead _ _ _ greatest (omega arith) (c.is_wide_lead.ensures.0 is);
     }

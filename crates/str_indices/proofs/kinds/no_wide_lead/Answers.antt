@@ -8,5 +8,5 @@ loop-block-preserved c =
       search rules,
       tt,
       after_block (λ b. (b ≢ 0xC2) × (b ≢ 0xE2)) _ _ _ _ c.in-Some.ensures.steps.1.0
-          (c.no_lead_in.ensures.0 c.if-not-no_lead_in.false) so_far.2,
+          (c.no_lead_in-in-loop-block.ensures.0 c.if-not-no_lead_in.false) so_far.2,
     )

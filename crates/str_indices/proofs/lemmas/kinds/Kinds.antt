@@ -1,7 +1,8 @@
 -- The greatest byte of a text, the least distance of a byte from VT on, and what holds of each byte of a block.
-use Rattle.str_indices.proofs.lemmas.Common.{◌≡◌, ℕ, ◌+◌, ◌-◌, ◌%◌, ◌<◌, ◌≤◌, ◌⊎◌, ◌↔◌, min, max, inl, inr, List, ◌++◌, length, get_or, nat_lt, All, sym, subst, arith, cases_lt, length-append, ltb-true, lt-ltb, get_or-append-add, get_or_append_left, get_or_default}
+use Rattle.str_indices.proofs.lemmas.Common.{◌≡◌, ℕ, ◌+◌, ◌-◌, ◌%◌, ◌<◌, ◌≤◌, ◌⊎◌, ◌↔◌, ◌≢◌, ◌∙◌, min, max, inl, inr, List, ◌++◌, length, get_or, nat_lt, All, sym, subst, arith, cases_lt, length-append, ltb-true, lt-ltb, get_or-append-add, get_or_append_left, get_or_default}
 use Rattle.std.proofs.Common.{IsTrue}
 use Rattle.std.proofs.lemmas.List.Elements.{All-append}
+use Rattle.str_indices.specs.Kinds.{HasNoWideLead}
 
 -- how far a byte is from VT on, counted round from 255 to 0
 abbrev pub from_vt : ℕ → ℕ
@@ -46,6 +47,27 @@ all_below bytes n g most is whole some = (
       rw (get_or_default bytes k d 0 within) (omega (arith, ltb-true g most below, is.above k (omega arith))),
   λ all. lt-ltb g most (omega (arith, is.least (most - 1) (λ k before. omega (arith, all k 0 (omega arith))))),
 )
+
+-- where the greatest of all bytes begins a wide break, or another character of the same first byte, there is such a byte
+pub greatest_lead : (bytes : List ℕ) (n g : ℕ) → IsGreatest bytes n g → n ≡ length bytes → (g ≡ 0xC2) ⊎ (g ≡ 0xE2)
+    → ¬ (HasNoWideLead bytes)
+greatest_lead bytes n g is whole lead = λ none.
+    let less = is.least (g - 1) (λ k before. less_of k before (none k 0 (omega arith))) in
+    elim lead [
+      | inl c2 ↦ omega (arith, less)
+      | inr e2 ↦ omega (arith, less)
+    ]
+  where
+    less_of : (k : ℕ) → k < n → (get_or bytes k 0 ≢ 0xC2) × (get_or bytes k 0 ≢ 0xE2) → get_or bytes k 0 ≤ g - 1
+    less_of k before other = elim (cases_lt (get_or bytes k 0) g) [
+      | inl less ↦ omega (arith, less)
+      | inr same ↦
+          let equal : get_or bytes k 0 ≡ g = omega (arith, is.above k before) in
+          elim lead [
+            | inl c2 ↦ absurd (other.0 (equal ∙ c2))
+            | inr e2 ↦ absurd (other.1 (equal ∙ e2))
+          ]
+    ]
 
 -- and the least distance is above one exactly where no byte is within that distance
 pub all_past : (bytes : List ℕ) (n l near : ℕ) → IsLeast bytes n l → n ≡ length bytes
