@@ -61,7 +61,7 @@ returns-clause-opened c =
     let put : OpensFor 75 n c.exchange_in_place.new.work c.put.new.work = rw same at c.put.ensures.opened in
     let looked = opens_along c.self.inside.tree n 3 c.args.work.now c.exchange_in_place.new.work c.height-height.ensures.many
     c.height-height.ensures.few (omega (arith, ap size c.self.view_is)) (omega (arith, c.exchange_in_place.ensures.work.opened_at_most)) in
-    let sizes = size-inserted old c.put.new.self c.args.to (chars c.args.text.now) (rw same at c.in_ok-put.ensures.ok) in
+    let sizes = size-inserted old c.put.new.self _ (chars c.args.text.now) (rw same at c.in_ok-put.ensures.ok) in
     let is : size c.put.new.self ≡ n = omega (arith, sizes, size-chars c.args.text.now c.utf8.text) in
     let out : OpensFor 97 n c.put.new.work c.take_out_apart.new.work = rw is at c.take_out_apart.ensures.opened in
     opens_also n 3 172 c.args.work.now c.exchange_in_place.new.work c.take_out_apart.new.work looked
