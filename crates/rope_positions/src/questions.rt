@@ -195,7 +195,7 @@ fn has_long_lines(v: &mut View) -> bool
 }
 
 /// The byte index of a position on a line in the rest of its piece, where that tells it. It is not looked for where the
-/// offset is past the rest and the text's lines are long, since then the line likely goes on after it.
+/// offset is past the rest, but not past the text, and the text's lines are long: the line likely goes on after the piece.
 fn told_in(
     v: &mut View,
     encoding: Encoding,
@@ -210,7 +210,7 @@ fn told_in(
         (own < size rest) ⊎ (line.now.byte + size rest ≡ size (joined v.old.texts))) }
     ensures cost { Asks 0 v.old v.new }
 {
-    if line.rest.len() <= character && has_long_lines(v) {
+    if line.rest.len() <= character && character < v.len() && has_long_lines(v) {
         return None;
     }
     let own = byte_on_first_line(encoding, line.rest, character);

@@ -1,4 +1,4 @@
-use Rattle.rope_positions.proofs.lemmas.{◌∙◌, ap, sym, arith, inl, chars, joined, exact_byte_at, byte_of_plain, units_of_plain_begin, exact_told, none_told, exact_is_boundary, place_within, rest_within, none_asked, asked_after, asked_within}
+use Rattle.rope_positions.proofs.lemmas.{◌∙◌, ap, sym, subst, arith, inl, chars, joined, IsBoundary, IsBoundary-byte_at, exact_byte_at, byte_told, byte_of_plain, units_of_plain_begin, exact_told, none_told, exact_is_boundary, place_within, rest_within, none_asked, asked_after, asked_within}
 use Rattle.rope_positions.proofs.questions.exact_byte_on.Goals as goal
 
 pub overflow_add-result-then-units_before-character : goal.overflow_add-result-then-units_before-character
@@ -18,8 +18,13 @@ returns-then-units_before-character-clause-answer c =
     (sym c.units_before.ensures ∙ c.if-units_before-character.true)
 
 pub returns-then-units_before-character-clause-boundary : goal.returns-then-units_before-character-clause-boundary
-returns-then-units_before-character-clause-boundary c = exact_is_boundary c.args.encoding
-    (joined c.args.v.now.texts) c.args.position _ (returns-then-units_before-character-clause-answer c)
+returns-then-units_before-character-clause-boundary c =
+    let e = c.args.encoding in
+    let cs = joined c.args.v.now.texts in
+    let line = c.args.line.now in
+    let byte = byte_told e cs c.args.position (chars line.rest.now) line.byte c.requires.start c.requires.rest
+    c.in-Some.own c.in-Some.ensures.byte c.in-Some.ensures.tells in
+    subst (IsBoundary cs) (sym byte) (IsBoundary-byte_at e cs c.args.position)
 
 pub returns-then-units_before-character-clause-cost : goal.returns-then-units_before-character-clause-cost
 returns-then-units_before-character-clause-cost c = asked_within (omega arith) c.told_in.ensures.cost
