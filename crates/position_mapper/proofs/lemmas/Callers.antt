@@ -1,5 +1,5 @@
 -- What the proofs of other crates may cite of this one.
-pub use Rattle.position_mapper.proofs.lemmas.Encodings.{weighed_bytes, boundary_of_bytes}
+pub use Rattle.position_mapper.proofs.lemmas.Encodings.{weighed_bytes, boundary_of_bytes, units_of-some, units_of-le}
 pub use Rattle.position_mapper.proofs.lemmas.LineBreaks.{line_end_past, break_of_line}
 pub use Rattle.position_mapper.proofs.lemmas.Lines.{crlf_is_not_utf16, IsBoundary-line_end}
 pub use Rattle.position_mapper.proofs.lemmas.Positions.{IsBoundary-byte_at, byte_at-le}

@@ -7,7 +7,7 @@ use Rattle.std.proofs.lemmas.List.Elements.{All-head, All-tail}
 use Rattle.std.proofs.lemmas.List.Sums.{sum_by-cons, take_while-cons}
 use Rattle.str_indices.proofs.lemmas.Callers.{IsCharBoundary-from_boundary, boundary_weighed_iff, weighed_is_greatest_boundary, weighed_at}
 use Rattle.position_mapper.specs.Lines.{is_break, line_content}
-use Rattle.position_mapper.proofs.lemmas.Encodings.{units_of-some}
+use Rattle.position_mapper.proofs.lemmas.Callers.{units_of-some}
 use Rattle.position_mapper.specs.declared.encodings.Encoding.TheVariants.{Utf8, Utf16, Utf32}
 use Rattle.rope_positions.specs.Plain.{IsPlain, BeginsPlain}
 use Rattle.rope_positions.proofs.lemmas.Common.{◌≡◌, ℕ, Bool, List, [], ◌∷◌, ◌++◌, take, drop, IsUtf8, IsUtf8-take, IsCharBoundary, chars, chars-append, size-chars, take-append-drop, length-take-le, cut_front, encode_ascii, encodes-chars, subst, sym, refl, ap, ◌∙◌, arith, size-cons, Text, size, weighed, boundary_weighed, IsBoundary, units_of, byte_at, Encoding}

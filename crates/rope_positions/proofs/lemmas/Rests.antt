@@ -4,7 +4,7 @@ use Rattle.std.specs.List.{before_first}
 use Rattle.std.proofs.lemmas.List.Sums.{sum_by-le-sum_by}
 use Rattle.std.specs.Char.{len_utf8}
 use Rattle.str_indices.proofs.lemmas.Callers.{boundary_weighed_iff}
-use Rattle.position_mapper.proofs.lemmas.Encodings.{units_of-le}
+use Rattle.position_mapper.proofs.lemmas.Callers.{units_of-le}
 use Rattle.std.specs.declared.ops.Range as bytes
 use Rattle.position_mapper.specs.Lines.{is_break, line_content}
 use Rattle.position_mapper.specs.declared.Range.{Range}
