@@ -11,7 +11,7 @@ use crate::tree::Tree;
 use crate::{Chunk, View};
 use byte_chunk::Counter;
 use piece_text::{Scheme, Summary};
-use text_summary::{Front, lost_at_seam};
+use text_summary::Front;
 
 /// A piece's text with its summary, where it starts, and what is known of the text before it.
 #[derive(Clone, Copy)]
