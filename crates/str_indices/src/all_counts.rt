@@ -1,5 +1,5 @@
 //! All counts of a text at once. Bytes that it hasn't tell first which of them are the same.
-ghost use Rattle.std.specs.Prelude.{◌≡◌, ◌⊎◌, ◌↔◌, chars, IsTrue};
+ghost use Rattle.std.specs.Prelude.{◌≡◌, ◌⊎◌, chars, IsTrue};
 ghost use Rattle.str_indices.specs.Prelude.{count, Chars, Utf16, Lf, Crlf, Lines};
 ghost use Rattle.str_indices.specs.Kinds.{AreKinds, HasNoVtFf, HasNoWideLead, HasNoWidePair};
 
