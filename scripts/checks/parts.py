@@ -54,7 +54,7 @@ RELEASED = (
     "VERSION", "LICENSE-*", "NOTICE", "scripts/release",
     *(f"{SCRIPTS}/{name}.py" for name in ("man_pages", "crate_copies")),
     *(f"bindings/{name}/README.md" for name in ("web", "rust", "positions", "rope")),
-    *(f"docs/{name}.md" for name in ("DEFINITIONS", "LAWS", "PROVED")),
+    *(f"docs/{name}.md" for name in ("DEFINITIONS", "PROVED")),
     "release/README.md", "CHANGELOG.md", "SECURITY.md",
 )
 

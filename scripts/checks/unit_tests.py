@@ -306,7 +306,7 @@ def try_parts(folder: pathlib.Path) -> Results:
     for path, changed in {
         "docs/GATE.md": set(), "README.md": {"test_pages.py"}, "crates/idx/src/main.rt": {"test_program.py", "failing_calls.py", "test_release.py"},
         "bindings/c/heap.c": {"test_c.py", "test_pages.py", "test_release.py", "test_rust.py", "test_editor.py"},
-        "bindings/web/page.css": {"test_browser.py", "test_release.py"}, "docs/LAWS.md": {"test_release.py"},
+        "bindings/web/page.css": {"test_browser.py", "test_release.py"}, "docs/DEFINITIONS.md": {"test_release.py"},
         "tests/editor/changes.lua": {"test_editor.py"}, "scripts/checks/exchanges.py": {"test_c.py", "test_rust.py"},
         "scripts/checks/position_model.py": {"test_positions.py", "test_editor.py"},
     }.items():
