@@ -1,0 +1,124 @@
+"""Builds the libraries for C; what they declare, by their headers, and have, by the exports in Rattle and their symbols.
+
+The headers are read and not listed, so what is added to them is tried by itself.
+"""
+import pathlib
+import re
+import subprocess
+from typing import NamedTuple
+
+ROOT = pathlib.Path(__file__).resolve().parents[2]
+
+COMMENT = re.compile(r"/\*.*?\*/|^#.*?$", re.MULTILINE | re.DOTALL)
+PARAMETER = re.compile(r"(\w+): ([^,]+)")
+
+# how C says a type of Rattle's; a struct has its name in C after the library's, and the allocator takes no bytes
+C_TYPES = {
+    "&[u8]": "const char *, size_t", "&mut [u8]": "char *, size_t", "usize": "size_t", "bool": "bool", "()": "void",
+    "&mut Slot": "str_rope *",
+}
+ALLOCATOR = "Global"
+# a number of 32 bits is an enum in C: by the parameter's name, and of a result
+ENUMS = {"scheme": "str_rope_scheme", "encoding": "str_rope_encoding", "result": "str_rope_status"}
+
+
+class Function(NamedTuple):
+    """A function of a header: its name, and its types as C says them."""
+
+    name: str
+    result: str
+    parameters: str
+
+    def pointer(self, name):
+        """The declaration of a pointer to such a function."""
+        return f"{self.result} (*{name})({self.parameters})"
+
+    def shape(self):
+        return self.result, self.parameters
+
+
+class Library(NamedTuple):
+    """A library for C: its name, with which its headers and functions begin, the crate of its exports, the script that
+    builds it, and the functions that it has besides.
+    """
+
+    name: str
+    crate: str
+    script: str
+    added: tuple
+
+    def headers(self):
+        return sorted((ROOT / "bindings/c/include").glob(f"{self.name}*.h"))
+
+    def is_here(self):
+        return (ROOT / "bindings/c" / self.script).is_file()
+
+
+def build(tally, script, *words):
+    """What a script of bindings/c builds, by the last line that it prints; None where it fails."""
+    done = subprocess.run([ROOT / "bindings/c" / script, *words], stdout=subprocess.PIPE, text=True)
+    right = tally.result(done.returncode == 0, " ".join([script, *words]))
+    return pathlib.Path(done.stdout.splitlines()[-1]) if right else None
+
+
+STR_INDICES = Library(
+    "str_indices", "str_indices_c", "build_library", (Function("str_indices_is_wide", "bool", "size_t"),))
+STR_ROPE = Library("str_rope", "text_rope_c", "build_rope", ())
+
+# those that are built here
+LIBRARIES = [library for library in [STR_INDICES, STR_ROPE] if library.is_here()]
+HEADERS = STR_INDICES.headers()
+PREFIX = "str_indices_"
+
+
+def types_of(parameters):
+    """The types of parameters, without their names."""
+    words = [" ".join(parameter.split()) for parameter in parameters.split(",")]
+    return ", ".join(re.sub(r"(?<=[ *])\w+$", "", word).rstrip() for word in words)
+
+
+def declared(library=STR_INDICES):
+    """The functions of the library's headers, by name."""
+    texts = [COMMENT.sub("", header.read_text(encoding="utf-8")) for header in library.headers()]
+    function = re.compile(rf"^([a-z][\w ]*?[ *]+)({library.name}_\w+)\(([^)]*)\);", re.MULTILINE)
+    found = [match for text in texts for match in function.findall(text)]
+    return {name: Function(name, result.strip(), types_of(parameters)) for result, name, parameters in found}
+
+
+def c_type(name, rattle):
+    """How C says a type of Rattle's, of a parameter of that name or of the result."""
+    if rattle == "u32":
+        return ENUMS[name]
+    return C_TYPES.get(rattle, "str_indices_" + re.sub(r"(?<!^)(?=[A-Z])", "_", rattle).lower())
+
+
+def c_types(parameters):
+    """How C says the types of an export's parameters."""
+    named = [(name, rattle.strip()) for name, rattle in PARAMETER.findall(parameters)]
+    return ", ".join(c_type(name, rattle) for name, rattle in named if rattle != ALLOCATOR)
+
+
+def exported(library=STR_INDICES):
+    """The functions that the exports in Rattle give to C, by name, and what is added to them in C."""
+    functions = {function.name: function for function in library.added}
+    export = re.compile(
+        rf'^pub extern "C" fn {library.name}_(?:narrow_)?(\w+)\(([^)]*)\)(?: -> (.*?))?$', re.MULTILINE)
+    for path in sorted((ROOT / "crates" / library.crate / "src").glob("**/*.rt")):
+        for word, parameters, result in export.findall(path.read_text(encoding="utf-8")):
+            name = f"{library.name}_{word}"
+            functions[name] = Function(name, c_type("result", result.strip() or "()"), c_types(parameters))
+    return functions
+
+
+def symbols(archive, library=STR_INDICES):
+    """The names that a library gives to a linker, but for those of its two halves."""
+    prefix = library.name
+    told = subprocess.run(["nm", "-g", "--defined-only", archive], capture_output=True, text=True, check=True).stdout
+    names = {line.split()[-1] for line in told.splitlines() if " T " in line}
+    return {name for name in names if name.startswith(prefix) and not re.match(f"{prefix}_(narrow|wide)_", name)}
+
+
+def pairs(library=STR_INDICES):
+    """Each function with each other one of its shape."""
+    functions = declared(library).values()
+    return [(one, other) for one in functions for other in functions if one != other and one.shape() == other.shape()]
