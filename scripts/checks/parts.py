@@ -47,7 +47,8 @@ RUST = ("cargo", "rustc", "cc", "pkg-config")
 # what builds the libraries for C
 FUNCTIONS = tuple(f"bindings/c/{name}" for name in ("build_library", "choose_half.c", "include/*"))
 ROPE = tuple(f"bindings/c/{name}" for name in ("build_rope", "heap.c", "include/*"))
-CARGO_CRATES = (*(f"bindings/{name}/**/*" for name in ("rust", "positions", "rope", "original")), "bindings/find_library.rs")
+CARGO_CRATES = ("Cargo.toml", "bindings/find_library.rs",
+                *(f"bindings/{name}/**/*" for name in ("rust", "positions", "rope", "original")))
 # what scripts/release packs and runs beside these
 RELEASED = (
     "bindings/c/install", "bindings/c/examples/*", "bindings/web/*", "release/**/*", "examples/**/*", "docs/man/*",
@@ -69,8 +70,9 @@ PARTS = (
          (*SHELL, *BINUTILS, *RUST, "c++", "cmake", "make")),
     Part("test_release.py", 90, (*FOR_C, "position_mapper", "idx"), (*FUNCTIONS, *ROPE, *CARGO_CRATES, *RELEASED),
          (*SHELL, *BINUTILS, *RUST, "c++", "cmake", "make", "node", "groff", "git", "tar", "sha256sum")),
-    Part("test_rust.py", 60, FOR_C, (*FUNCTIONS, *ROPE, *CARGO_CRATES, "VERSION", "examples/rust/**/*", "bench/Cargo.toml",
-         "bench/build.rs", "bench/run", "bench/picture.py", "bench/src/**/*"), (*SHELL, *BINUTILS, *RUST)),
+    Part("test_rust.py", 60, FOR_C, (*FUNCTIONS, *ROPE, *CARGO_CRATES, "VERSION", "examples/rust/**/*",
+         *(f"bench/{name}" for name in ("Cargo.toml", "build.rs", "run", "picture.py", "src/**/*", "plain/**/*"))),
+         (*SHELL, *BINUTILS, *RUST)),
     Part("test_browser.py", 60, ("str_indices_c", "position_mapper"), ("bindings/web/**/*", f"{SCRIPTS}/crate_copies.py"),
          ("node", "chromium", "chromium-browser", "google-chrome", "bash", "tsc", "esbuild", "rollup")),
     Part("test_positions.py", 30, ("str_indices_c", "str_indices_c_wide", "rope_positions"),

@@ -199,6 +199,7 @@ def copy_of(folder):
     ignored = shutil.ignore_patterns("target", "Cargo.lock")
     for name in ["bindings", "examples/language_server"]:
         shutil.copytree(ROOT / name, folder / name, ignore=ignored)
+    shutil.copy(ROOT / "Cargo.toml", folder)
     return folder / "examples/language_server"
 
 
