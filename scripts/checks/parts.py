@@ -73,7 +73,7 @@ PARTS = (
     Part("test_rust.py", 60, FOR_C, (*FUNCTIONS, *ROPE, *CARGO_CRATES, "VERSION", "examples/rust/**/*",
          *(f"bench/{name}" for name in ("Cargo.toml", "build.rs", "run", "picture.py", "src/**/*", "plain/**/*"))),
          (*SHELL, *BINUTILS, *RUST)),
-    Part("test_browser.py", 60, ("str_indices_c", "position_mapper"), ("bindings/web/**/*", f"{SCRIPTS}/crate_copies.py"),
+    Part("test_browser.py", 60, ("str_indices_c", "position_mapper"), ("bindings/web/**/*", "VERSION", f"{SCRIPTS}/crate_copies.py"),
          ("node", "chromium", "chromium-browser", "google-chrome", "bash", "tsc", "esbuild", "rollup")),
     Part("test_positions.py", 30, ("str_indices_c", "str_indices_c_wide", "rope_positions"),
          (*FUNCTIONS, "tests/rope_positions.rt.txt"), (*SHELL, *BINUTILS, "cc")),
