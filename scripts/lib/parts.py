@@ -59,7 +59,7 @@ RELEASED = (
     "bindings/c/install", "bindings/c/examples/*", "bindings/web/*", "release/cmake/*", "release/examples/**/*",
     "examples/rust/**/*", "examples/language_server/*", "examples/language_server/src/*", "docs/man/*",
     "VERSION", "LICENSE-*", "NOTICE", "scripts/release",
-    *(f"{SHARED}/{name}.py" for name in ("man_pages", "crate_copies")),
+    *(f"{SHARED}/{name}.py" for name in ("man_pages", "debian_crates", "crate_copies")),
     *(f"bindings/{name}/README.md" for name in ("web", "rust", "positions", "rope")),
     *(f"docs/{name}.md" for name in ("DEFINITIONS", "PROVED")),
     "release/README.md", "CHANGELOG.md", "SECURITY.md",

@@ -292,7 +292,8 @@ def try_results(folder: pathlib.Path) -> Results:
     """What is kept of what was tried in a copy."""
     edits = [edit_of(folder, f"refuses: {LOAD} state", *CHANGE, name=name) for name in ("right", "wrong", "unsound")]
     trial = refusals.Trial({})
-    told = list(trial.results(refusals.Copy("sum", [refusals.Tried(edits[0], True, "a"), refusals.Tried(edits[1], False, "b")], "")))
+    tried = [refusals.Tried(edits[0], True, "a"), refusals.Tried(edits[1], False, "b")]
+    told = list(trial.results(refusals.Copy("sum", tried, "")))
     is_kept = [trial.kept.told(trial.name("sum", edit)) for edit in edits[:2]]
     yield told == [(True, "a"), (False, "b")] and is_kept == ["a", None], f"what was not refused is not kept: {is_kept}"
     told = list(trial.results(refusals.Copy("sum", [refusals.Tried(edits[2], True, "c")], "not proved")))
@@ -307,7 +308,8 @@ def try_parts(folder: pathlib.Path) -> Results:
     base = {part.name: parts.name_of(root, part) for part in parts.PARTS}
     yield base == {part.name: parts.name_of(ROOT, part) for part in parts.PARTS}, "a copy elsewhere has the same names"
     for path, changed in {
-        "docs/GATE.md": set(), "README.md": {"test_pages.py"}, "crates/idx/src/main.rt": {"test_program.py", "failing_calls.py", "test_release.py"},
+        "docs/GATE.md": set(), "README.md": {"test_pages.py"},
+        "crates/idx/src/main.rt": {"test_program.py", "failing_calls.py", "test_release.py"},
         "bindings/c/heap.c": {"test_c.py", "test_pages.py", "test_release.py", "test_rust.py", "test_editor.py"},
         "bindings/web/page.css": {"test_browser.py", "test_release.py"}, "docs/DEFINITIONS.md": {"test_release.py"},
         "examples/language_server/tests/changes.lua": {"test_editor.py"}, "bindings/rust/tests/test_rust.py": {"test_rust.py"},
@@ -323,7 +325,8 @@ def try_parts(folder: pathlib.Path) -> Results:
     part = next(part for part in parts.PARTS if part.name == "failing_calls.py")
     parts.copy(root, part, folder / "small")
     has = {str(path.relative_to(folder / "small")) for path in (folder / "small").rglob("*") if path.is_file()}
-    yield "crates/idx/tests/failing_calls.c" in has and not [name for name in has if name.startswith(("docs", "bindings"))], "its copy has no more"
+    others = [name for name in has if name.startswith(("docs", "bindings"))]
+    yield "crates/idx/tests/failing_calls.c" in has and not others, "its copy has no more"
     yield parts.name_of(folder / "small", part) == base[part.name], "and has its name"
     real, parts.tool = parts.tool, lambda name: ()
     yield parts.name_of(root, part) != base[part.name], "without a tool the name is another"
@@ -346,7 +349,8 @@ def try_verdicts(_: pathlib.Path) -> Results:
         (f"{most} passed, 0 failed\n", 0, True, True), (f"{most} passed, 0 failed, 1 skipped\n", 0, True, False),
         (f"{most - 1} passed, 0 failed\n", 0, False, False), (f"{most - 1} passed, 0 failed, 1 skipped\n", 0, True, False),
         (f"{most} passed, 1 failed\n", 1, True, False), (f"{most} passed, 0 failed\n", 1, False, False),
-        (f"2 passed, 1 failed\n{most} passed, 0 failed\n", 0, False, False), ("killed\n", -9, False, False), ("", 0, False, False),
+        (f"2 passed, 1 failed\n{most} passed, 0 failed\n", 0, False, False), ("killed\n", -9, False, False),
+        ("", 0, False, False),
     ]:
         part = module.Ended.__new__(module.Ended)
         part.name, part.said, part.status = "word_chunks.py", said_by_it, status
