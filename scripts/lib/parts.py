@@ -52,8 +52,9 @@ RUST = ("cargo", "rustc", "cc", "pkg-config")
 # what builds the libraries for C
 FUNCTIONS = tuple(f"bindings/c/{name}" for name in ("build_library", "choose_half.c", "include/*"))
 ROPE = tuple(f"bindings/c/{name}" for name in ("build_rope", "heap.c", "include/*"))
-CARGO_CRATES = ("Cargo.toml", "bindings/find_library.rs",
-                *(f"bindings/{name}/**/*" for name in ("rust", "positions", "rope", "original")))
+# the workspace of cargo, of which a part needs all members
+CARGO_CRATES = ("Cargo.toml", "bench/Cargo.toml", "bench/build.rs", "bench/src/**/*", "bench/plain/**/*",
+                "bindings/find_library.rs", *(f"bindings/{name}/**/*" for name in ("rust", "positions", "rope", "original")))
 # what scripts/release packs and runs beside these
 RELEASED = (
     "bindings/c/install", "bindings/c/examples/*", "bindings/web/*", "release/cmake/*", "release/examples/**/*",
@@ -77,8 +78,7 @@ PARTS = (
     Part("release/tests/test_release.py", 90, (*FOR_C, "position_mapper", "idx"), (*FUNCTIONS, *ROPE, *CARGO_CRATES, *RELEASED),
          (*SHELL, *BINUTILS, *RUST, "c++", "cmake", "make", "node", "groff", "git", "tar", "sha256sum")),
     Part("bindings/rust/tests/test_rust.py", 60, FOR_C, (*FUNCTIONS, *ROPE, *CARGO_CRATES, "VERSION", "examples/rust/**/*",
-         *(f"bench/{name}" for name in ("Cargo.toml", "build.rs", "run", "picture.py", "src/**/*", "plain/**/*"))),
-         (*SHELL, *BINUTILS, *RUST)),
+         "bench/run", "bench/picture.py"), (*SHELL, *BINUTILS, *RUST)),
     Part("bindings/web/tests/test_browser.py", 60, ("str_indices_c", "position_mapper"),
          ("bindings/web/**/*", "VERSION", f"{SHARED}/crate_copies.py"),
          ("node", "chromium", "chromium-browser", "google-chrome", "bash", "tsc", "esbuild", "rollup")),
