@@ -17,7 +17,7 @@ sys.path.insert(0, str(ROOT / "scripts/lib"))
 from page_lines import blocks, environment, try_lines  # noqa: E402
 from tally import Tally  # noqa: E402
 
-LEFT_OUT = shutil.ignore_patterns(".git", "out", "target", "__pycache__", "Cargo.lock", "bench", "refusals")
+LEFT_OUT = shutil.ignore_patterns(".git", "out", "target", "__pycache__", "Cargo.lock", "refusals")
 # each page with its lines, and where on it they stand
 PAGES = {"README.md": ("**From C and C++**", "**From JavaScript**"), "bindings/c/README.md": ("## Install", None)}
 ROPE_PAGE = "bindings/rope/README.md"

@@ -18,7 +18,7 @@ TOOLS = ["pkg-config", "cmake", "cargo", "c++", "node"]
 def blocks(text, begin=None, end=None):
     """The blocks of a page from one of its texts up to another, each with its language."""
     first = text.index(begin) if begin else 0
-    return BLOCK.findall(text[first : text.index(end, first) if end else len(text)])
+    return BLOCK.findall(text[first:text.index(end, first) if end else len(text)])
 
 
 def environment(home, path):
