@@ -70,7 +70,7 @@ def links(text):
 
 
 def listed(text, marks):
-    """The files and the folders that the items with one of these marks list, each with the folder that its item starts with."""
+    """The files and the folders that items with one of these marks list, each below the folder that its item starts with."""
     found = []
     for mark, item in ITEM.findall(text):
         folder, *paths = PATH.findall(item)
@@ -90,7 +90,7 @@ def with_every_scheme():
     variants = VARIANT.findall(SCHEMES.read_text(encoding="utf-8").partition("pub enum Scheme {")[2].partition("}")[0])
     schemes = {variant.lower() for variant in variants}
     code = [name for name in files() if pathlib.Path(name).suffix not in NO_CODE]
-    words = {name: WORD.findall((ROOT / name).read_text(encoding="utf-8")) for name in code}
+    words = {name: WORD.findall((ROOT / name).read_text(encoding="utf-8", errors="replace")) for name in code}
     return [name for name in code if schemes and schemes <= {word.lower() for word in words[name]}]
 
 
