@@ -304,7 +304,8 @@ def try_parts(folder: pathlib.Path) -> Results:
     base = {part.script: parts.name_of(root, part) for part in parts.PARTS}
     yield base == {part.script: parts.name_of(ROOT, part) for part in parts.PARTS}, "a copy elsewhere has the same names"
     for path, changed in {
-        "docs/GATE.md": set(), "README.md": {"test_pages.py"}, "crates/idx/src/main.rt": {"test_program.py", "failing_calls.py", "test_release.py"},
+        "docs/GATE.md": set(), "README.md": {"test_pages.py"},
+        "crates/idx/src/main.rt": {"test_program.py", "failing_calls.py", "test_pages.py", "test_release.py"},
         "bindings/c/heap.c": {"test_c.py", "test_pages.py", "test_release.py", "test_rust.py", "test_editor.py"},
         "bindings/web/page.css": {"test_browser.py", "test_release.py"}, "docs/DEFINITIONS.md": {"test_release.py"},
         "tests/editor/changes.lua": {"test_editor.py"}, "scripts/checks/exchanges.py": {"test_c.py", "test_rust.py"},
