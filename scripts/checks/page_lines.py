@@ -1,7 +1,7 @@
 """Runs the lines of a page as they stand there, in one shell and with nothing set, and reads what they print.
 
 A block of C is the file that its first line names. Where a line ends in a comment, that is what it prints. What a machine
-has no tool for is left out. The original's source is in the home folder, where a variable says where it is.
+has no tool for is left out. The home folder has the original's source, where STR_INDICES_ORIGINAL names it.
 """
 import os
 import pathlib

@@ -22,7 +22,7 @@ PAGES = {
     **{f"bindings/{name}/README.md": f"bindings/{name}" for name in ("rust", "positions", "rope")},
 }
 LANGUAGES = {"sh", "c", "toml", "rust", "text"}
-# what a project has before it takes an entry, and where the entry is for what it takes already
+# the project that an entry goes into; one that replaces the original is for a project that has that
 PROJECT = '[package]\nname = "project"\nversion = "0.1.0"\nedition = "2021"\n\n'
 TAKES_ORIGINAL = '[dependencies]\nstr_indices = "0.4"\n\n'
 EMPTY = "fn main() {}\n"
