@@ -1,0 +1,214 @@
+#!/usr/bin/env python3
+"""Builds and runs what Rust has of the library, as a user would.
+
+The tests and the doc examples of bindings/rust, by each half of the library, and once over the library without its wide
+half, and the message where a library is missing; outside the repository, over installed libraries which pkg-config
+finds; those of bindings/positions, of bindings/rope, of bindings/original and of the benchmark; each function of
+str_indices exchanged for each other one of its shape, which a worked answer must see; the example of a project that
+uses bindings/rust; a program without std; and the benchmark, one round over small texts, whose times nobody looks at. The
+original is compared where the environment variable STR_INDICES_ORIGINAL names its folder. Where cargo is not on the path
+nothing is tried. The last line printed is 'N passed, M failed', with what is left out.
+"""
+import json
+import os
+import pathlib
+import re
+import shutil
+import subprocess
+import sys
+import tempfile
+
+ROOT = pathlib.Path(__file__).resolve().parents[3]
+sys.path.insert(0, str(ROOT / "scripts/lib"))
+
+from c_exports import declared, pairs  # noqa: E402
+from exchanges import exchanging_library, try_exchanges  # noqa: E402
+from halves import ASKED, halves, missing  # noqa: E402
+from line_and_column import check_example  # noqa: E402
+from tally import Tally, least  # noqa: E402
+
+BINDINGS = ROOT / "bindings/rust"
+POSITIONS = ROOT / "bindings/positions"
+EXAMPLE = ROOT / "examples/rust"
+NO_STD = BINDINGS / "tests/no_std"
+ROPE = ROOT / "bindings/rope"
+
+# each folder with tests of its own, beside that of the library's functions, which has them by each half
+OTHERS = [POSITIONS, ROPE, ROOT / "bindings/original", ROOT / "bench"]
+
+TEST_RESULT = re.compile(r"^test result: \w+\. (\d+) passed; (\d+) failed", re.MULTILINE)
+COMPARED = re.compile(r"^random texts: .* (\d+) answers, none differs.*", re.MULTILINE)
+NOT_COMPARED = "STR_INDICES_ORIGINAL names no folder"
+
+tally = Tally()
+
+
+def cargo(folder, *words, **options):
+    return subprocess.run(["cargo", *words, "--offline"], cwd=folder, capture_output=True, text=True, **options)
+
+
+def right_tests(output):
+    """How many tests and doc examples passed."""
+    return sum(int(right) for right, wrong in TEST_RESULT.findall(output))
+
+
+def enough_tests(folder, done, how):
+    """Whether as many tests and doc examples passed as the folder should have, and none failed."""
+    name = str(folder.relative_to(ROOT))
+    right = right_tests(done.stdout) if done.returncode == 0 else 0
+    if not tally.enough(f"tests of {name}", right, f"{name}{how}, tests and doc examples"):
+        print(done.stdout + done.stderr)
+
+
+def compare_with_original(output):
+    """The comparison with the original on random texts, which is left out where that is not at hand."""
+    if NOT_COMPARED in output:
+        tally.leave_out(1, f"the comparison with the original, as {NOT_COMPARED}")
+        return
+    compared = COMPARED.search(output)
+    tally.enough("answers of random_texts.rs", int(compared[1]) if compared else 0, "answers compared with the original's")
+
+
+def test_bindings(environment, texts):
+    """The tests, where the wide half is to answer for those texts."""
+    done = cargo(BINDINGS, "test", env=environment)
+    enough_tests(BINDINGS, done, f" where the wide half answers for {texts}")
+    told = f"random texts: the wide half answers for {texts}" in done.stdout
+    tally.result(told, f"the wide half answers for {texts}")
+    compare_with_original(done.stdout)
+
+
+def test_without_the_wide_half():
+    library = build_library("--narrow")
+    if library:
+        test_bindings(dict(os.environ, STR_INDICES_LIB_DIR=str(library.parent)), "no text")
+
+
+def test_others():
+    for folder in OTHERS:
+        enough_tests(folder, cargo(folder, "test"), "")
+
+
+def install(library, prefix):
+    """A library below the prefix, with a file for pkg-config, as install has them."""
+    name = library.stem.removeprefix("lib")
+    (prefix / "lib/pkgconfig").mkdir(parents=True, exist_ok=True)
+    shutil.copy(library, prefix / "lib")
+    told = f"libdir={prefix}/lib\nName: {name}\nDescription: proved\nVersion: 0.4.4\nLibs: -l{name}\n"
+    (prefix / f"lib/pkgconfig/{name}.pc").write_text(told, encoding="utf-8")
+
+
+def test_outside(libraries, folder):
+    """The crates in a folder where there is nothing else of the repository, over the installed libraries."""
+    if not shutil.which("pkg-config"):
+        tally.leave_out(2, "the crates over installed libraries, as pkg-config is not on the path")
+        return
+    bindings = folder / "bindings"
+    shutil.copytree(ROOT / "bindings", bindings, ignore=shutil.ignore_patterns("target", "Cargo.lock"))
+    for library in libraries:
+        install(library, folder / "a prefix")
+    search = str(folder / "a prefix/lib/pkgconfig")
+    named = dict(os.environ, PKG_CONFIG_PATH=search)
+    for name in ["positions", "rope"]:
+        done = cargo(bindings / name, "test", env=named)
+        right = right_tests(done.stdout) if done.returncode == 0 else 0
+        if not tally.enough(f"tests of bindings/{name}", right, f"bindings/{name} outside the repository, by pkg-config"):
+            print(done.stdout + done.stderr)
+
+
+def test_program(folder, name, environment):
+    """The program that cargo makes of a file of tests; None where it makes none."""
+    done = cargo(folder, "test", "--no-run", "--test", name, "--message-format", "json", env=environment)
+    made = [json.loads(line).get("executable") for line in done.stdout.splitlines() if line.startswith("{")]
+    programs = [program for program in made if program and pathlib.Path(program).name.startswith(f"{name}-")]
+    if not tally.result(bool(programs), f"the program of tests {name}, over a library that exchanges"):
+        print(done.stdout + done.stderr)
+    return programs[-1] if programs else None
+
+
+def test_exchanges(library, folder):
+    """Each function that the crates take exchanged for each other one of its shape."""
+    copy = exchanging_library(library, folder)
+    named = dict(os.environ, STR_INDICES_LIB_DIR=str(copy.parent))
+    sources = "".join(path.read_text(encoding="utf-8") for path in sorted(ROOT.glob("bindings/*/src/*.rs")))
+    taken = {name for name in declared() if re.search(rf"\bfn {name}\(", sources)}
+    missed = [name for name in declared() if name not in taken and not re.search("_is_(utf8|wide)$", name)]
+    tally.result(not missed, f"the crates take each function{''.join(f', but not {name}' for name in missed)}")
+    programs = [test_program(BINDINGS, "worked_answers", named), test_program(POSITIONS, "positions", named)]
+    if all(programs):
+        of_both = [(one, other) for one, other in pairs() if {one.name, other.name} <= taken]
+        try_exchanges(tally, programs, of_both, "", "the Cargo crates")
+
+
+def test_missing_library(crate, folder, missed):
+    """What a crate says where the environment variable names a folder without its library."""
+    named = dict(os.environ, STR_INDICES_LIB_DIR=str(folder))
+    done = cargo(crate, "build", env=named)
+    said = f"STR_INDICES_LIB_DIR names {folder}, which has no {missed}" in done.stderr
+    tally.result(done.returncode != 0 and said, f"{crate.relative_to(ROOT)} says what is missing")
+
+
+def test_example(target):
+    done = cargo(EXAMPLE, "build")
+    if not tally.result(done.returncode == 0, "examples/rust builds"):
+        print(done.stderr)
+        return
+    check_example(tally, target / "debug/line_and_column", "of examples/rust")
+
+
+def test_no_std(target):
+    """A program without std: nothing of the compiler's library is linked, which only std asks for."""
+    for profile, words in [("debug", []), ("release", ["--release"])]:
+        done = cargo(NO_STD, "build", *words)
+        built = done.returncode == 0
+        status = subprocess.run([target / profile / "no_std"]).returncode if built else None
+        if not tally.result(status == 0, f"a program without std, {profile}: status {status}"):
+            print(done.stderr)
+
+
+def test_benchmark():
+    done = subprocess.run([ROOT / "bench/run", "--small", "--rounds", "1"], capture_output=True, text=True)
+    if not tally.result(done.returncode == 0 and "chars::count" in done.stdout, "bench/run, one round over small texts"):
+        print(done.stdout + done.stderr)
+
+
+def build_library(*words, script="build_library"):
+    """The library that the script builds; None where it fails."""
+    done = subprocess.run([ROOT / "bindings/c" / script, *words], capture_output=True, text=True)
+    if tally.result(done.returncode == 0, " ".join([script, *words])):
+        return pathlib.Path(done.stdout.splitlines()[-1])
+    return None
+
+
+def test_all(library, rope, folder):
+    empty = folder / "empty"
+    empty.mkdir()
+    os.environ["CARGO_TARGET_DIR"] = str(folder / "target")
+    for environment, texts in halves(library):
+        test_bindings(environment, texts)
+    if missing(library):
+        tally.leave_out(3 * (len(ASKED) - 1), f"the wide half, as {missing(library)}")
+    test_without_the_wide_half()
+    test_missing_library(BINDINGS, empty, library.name)
+    test_missing_library(ROPE, library.parent / "narrow", rope.name)
+    test_others()
+    test_outside([library, rope], folder)
+    test_exchanges(library, folder)
+    test_example(folder / "target")
+    test_no_std(folder / "target")
+    test_benchmark()
+
+
+def main():
+    if not shutil.which("cargo"):
+        tally.leave_out(least("test_rust.py"), "cargo is not on the path")
+    else:
+        library, rope = build_library(), build_library(script="build_rope")
+        if library and rope:
+            with tempfile.TemporaryDirectory() as folder:
+                test_all(library, rope, pathlib.Path(folder))
+    return tally.end()
+
+
+if __name__ == "__main__":
+    sys.exit(main())

@@ -1,0 +1,220 @@
+#!/usr/bin/env python3
+"""Proves and builds the functions for a browser, and runs them and the page in Chromium and Node.
+
+Every function on worked answers and on random texts beside the engine's own strings, served as a site serves them; the
+module's types, bundles of it, and the program of its README; then
+the page as it is opened from the disk, driven by the browser's own protocol: what it shows at some cursors, what goes
+into its field, and what those have of it who hear it, or use a phone. Where no Chromium is on the path, it says so and
+only proves and builds. With `--pictures` it makes those of the page in docs/ anew. The last line printed is
+'N passed, M failed', with what is left out.
+"""
+import functools
+import http.server
+import importlib.machinery
+import importlib.util
+import json
+import pathlib
+import re
+import shutil
+import subprocess
+import sys
+import tempfile
+import threading
+
+ROOT = pathlib.Path(__file__).resolve().parents[3]
+sys.path.insert(0, str(ROOT / "scripts/lib"))
+
+import page_tests  # noqa: E402
+from devtools import Browser  # noqa: E402
+from page_lines import blocks  # noqa: E402
+from tally import Tally  # noqa: E402
+from web_package import BUNDLERS, OF_BUNDLER, try_bundles, try_types  # noqa: E402
+
+NAMES = ["chromium", "chromium-browser", "google-chrome"]
+# how many results there are of what Node and of what a Chromium is asked
+IN_NODE = 7 + OF_BUNDLER * len(BUNDLERS)
+IN_BROWSER = 107
+# no time is judged: an engine that hangs ends the script, also on a slow machine
+SECONDS = 600
+PICTURES = {"page.png": 1280, "page-390.png": 390}
+
+COMPARE = 'import("./compare.mjs").then((module) => module.compareAll()).then(JSON.stringify)'
+EXCHANGE = 'import("./exchanges.mjs").then((module) => module.tryExchanges()).then(JSON.stringify)'
+# where a program says in a comment what it prints
+PRINTED = re.compile(r"^console\.log\(.*\); +// (.*)$", re.MULTILINE)
+# 64-bit memory is there without a flag in a Node of this version, or this flag asks for it
+FLAG = "--experimental-wasm-memory64"
+
+tally = Tally()
+
+
+class Site(http.server.SimpleHTTPRequestHandler):
+    """Serves a folder to a page that may share memory."""
+
+    extensions_map = {**http.server.SimpleHTTPRequestHandler.extensions_map, ".mjs": "text/javascript"}
+
+    def end_headers(self):
+        self.send_header("Cross-Origin-Opener-Policy", "same-origin")
+        self.send_header("Cross-Origin-Embedder-Policy", "require-corp")
+        super().end_headers()
+
+    def log_message(self, *_):
+        pass
+
+
+def serve(folder):
+    """A server of the folder; answers it, and its address."""
+    server = http.server.ThreadingHTTPServer(("127.0.0.1", 0), functools.partial(Site, directory=folder))
+    threading.Thread(target=server.serve_forever, daemon=True).start()
+    return server, f"http://127.0.0.1:{server.server_address[1]}"
+
+
+def build_web():
+    """The script that builds the page, as a module."""
+    loader = importlib.machinery.SourceFileLoader("build_web", str(ROOT / "bindings/web/build"))
+    module = importlib.util.module_from_spec(importlib.util.spec_from_loader("build_web", loader))
+    loader.exec_module(module)
+    return module
+
+
+def fill(folder, built, modules):
+    """What a site has, with the comparison beside it."""
+    for name in ["str_indices_web.wasm", "package.json"]:
+        shutil.copy(built / name, folder)
+    for name in modules:
+        shutil.copy(ROOT / "bindings/web" / name, folder)
+    for name in ["compare.mjs", "exchanges.mjs"]:
+        shutil.copy(ROOT / "bindings/web/tests" / name, folder)
+    (folder / "site.html").write_text("<!doctype html><title>A site</title>")
+
+
+def judge(where, printed):
+    """Counts what the comparison found."""
+    found = json.loads(printed)
+    for line in found["told"]:
+        print(line)
+    passed = 0 if found["failed"] else found["passed"]
+    tally.enough("compare.mjs", passed, f"every function {where}, {found['failed']} failed")
+
+
+def compare_in_browser(browser, address):
+    page = browser.open(f"{address}/site.html")
+    judge("in the browser", page.value(COMPARE))
+    tally.result(page.value("crossOriginIsolated"), "the site shares memory")
+
+
+def node_answer(folder, script, *flags):
+    command = ["node", *flags, "--input-type=module", "-e", script]
+    return subprocess.run(command, cwd=folder, capture_output=True, text=True, timeout=SECONDS)
+
+
+def try_exchanges(folder, flags):
+    """Each two functions of the module that are asked alike, exchanged: the worked answers must see it."""
+    done = node_answer(folder, f"console.log(await {EXCHANGE})", *flags)
+    found = json.loads(done.stdout) if done.returncode == 0 else {"right": False, "tried": 0, "unseen": [done.stderr[-200:]]}
+    seen = found["tried"] if found["right"] and not found["unseen"] else 0
+    told = "".join(f"; not {one}" for one in found["unseen"])
+    tally.enough("exchanges of the module", seen, f"each of {found['tried']} exchanges of the module is seen{told}")
+
+
+def try_program(built, flags):
+    """The program of the README, as it stands there, beside what was built."""
+    [program] = [text for language, text in blocks(ROOT / "bindings/web/README.md") if language == "js"]
+    done = node_answer(built, program, *flags)
+    told = f"the program of the README prints {done.stdout.splitlines()} {done.stderr[-200:]}"
+    tally.result(done.stdout.splitlines() == PRINTED.findall(program) != [], told)
+
+
+def compare_in_node(folder, built):
+    """The module as a package of Node's, and what it says where 64-bit memory is behind a flag."""
+    package = folder / "project/node_modules/str_indices"
+    package.mkdir(parents=True)
+    for path in folder.glob("*.*"):
+        shutil.copy(path, package)
+    use = (
+        'import { load, isSupported } from "str_indices";'
+        "try { const { positions } = await load();"
+        ' console.log(isSupported(), positions.utf16.positionOf("one\\r\\ntwo", 6).line);'
+        "} catch (error) { console.log(isSupported(), error.message); }"
+    )
+    without = node_answer(folder / "project", use).stdout
+    said = "true 1" in without or ("false" in without and FLAG in without)
+    tally.result(said, f"Node without a flag: {without.strip()}")
+    flags = [] if without.startswith("true") else [FLAG]
+    done = node_answer(folder / "project", use, *flags)
+    tally.result(done.stdout == "true 1\n", f"a package of Node's: {done.stdout.strip()}{done.stderr[-200:]}")
+    try_bundles(tally, built, folder / "project", ["node", *flags])
+    try_program(built, flags)
+    done = node_answer(folder, f"console.log(await {COMPARE})", *flags)
+    if tally.result(done.returncode == 0, "the comparison runs in Node"):
+        judge("in Node", done.stdout)
+    try_exchanges(folder, flags)
+    by_path = 'import { load } from "str_indices"; try { await load("/nowhere/a.wasm"); } catch (e) { console.log(e.message); }'
+    done = node_answer(folder / "project", by_path, *flags)
+    tally.result("/nowhere/a.wasm cannot be read" in done.stdout, f"a file that is missing: {done.stdout.strip()}")
+
+
+def check_types():
+    """The types name what the module has."""
+    types = (ROOT / "bindings/web/str_indices.d.mts").read_text()
+    module = (ROOT / "bindings/web/str_indices.mjs").read_text()
+    names = {name for path in page_tests.functions_of(module) for name in path.split(".")}
+    missing = sorted(name for name in names if f"readonly {name}:" not in types)
+    tally.result(len(names) == 18 and not missing, f"the types name the module's functions; missing: {missing}")
+
+
+def take_pictures(browser, page_file, folder):
+    """A picture of the page at each width."""
+    for name, width in PICTURES.items():
+        page = page_tests.opened(browser, page_file.as_uri(), width)
+        page.value("document.activeElement.blur()")
+        page.settle()
+        page.picture(folder / name, width)
+        header = (folder / name).read_bytes()[:24]
+        size = [int.from_bytes(header[16:20], "big"), int.from_bytes(header[20:24], "big")]
+        tally.result(size[0] == width and size[1] > 400, f"a picture of the page, {size[0]} by {size[1]}")
+
+
+def try_in_browser(program, built, pictures):
+    modules = build_web().MODULES
+    with tempfile.TemporaryDirectory() as folder, Browser(program) as browser:
+        folder = pathlib.Path(folder)
+        fill(folder, built, modules)
+        server, address = serve(folder)
+        compare_in_browser(browser, address)
+        server.shutdown()
+        page_tests.try_all(browser, built / "index.html", tally, folder)
+        take_pictures(browser, built / "index.html", ROOT / "docs" if pictures else folder)
+
+
+def try_package(built):
+    with tempfile.TemporaryDirectory() as folder:
+        try_types(tally, built, pathlib.Path(folder))
+
+
+def try_in_node(built):
+    if shutil.which("node") is None:
+        tally.leave_out(IN_NODE, "no node is on the path (Debian's package nodejs)")
+        return
+    with tempfile.TemporaryDirectory() as folder:
+        fill(pathlib.Path(folder), built, build_web().MODULES)
+        compare_in_node(pathlib.Path(folder), built)
+
+
+def main():
+    browser = next(filter(None, map(shutil.which, NAMES)), None)
+    built = subprocess.run([ROOT / "bindings/web/build"], stdout=subprocess.PIPE, text=True)
+    right = tally.result(built.returncode == 0, "bindings/web/build, which proves the exports")
+    check_types()
+    if right:
+        try_package(pathlib.Path(built.stdout.splitlines()[-1]))
+        try_in_node(pathlib.Path(built.stdout.splitlines()[-1]))
+    if browser is None:
+        tally.leave_out(IN_BROWSER, "no Chromium is on the path (Debian's package chromium)")
+    elif right:
+        try_in_browser(browser, pathlib.Path(built.stdout.splitlines()[-1]), "--pictures" in sys.argv)
+    return tally.end()
+
+
+if __name__ == "__main__":
+    sys.exit(main())

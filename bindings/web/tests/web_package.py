@@ -1,0 +1,89 @@
+"""Tries the module for JavaScript as a package: its types by a compiler of TypeScript, and what bundlers make of it.
+
+A bundle runs in Node in a folder of its own, with nothing beside it but what the page says: the entry that has the
+functions inside needs nothing, and the other one wants the WebAssembly beside the bundle.
+"""
+import pathlib
+import shutil
+import subprocess
+
+ROOT = pathlib.Path(__file__).resolve().parents[3]
+TYPES = ROOT / "bindings/web/tests/types.mts"
+
+# how a project finds modules, by the compiler's names
+RESOLUTIONS = {"node16": "node16", "node": "esnext"}
+BUNDLERS = {
+    "esbuild": ["esbuild", "app.mjs", "--bundle", "--format=esm", "--log-level=error", "--outfile=bundle/app.mjs"],
+    "rollup": ["rollup", "app.mjs", "--format", "es", "--silent", "--file", "bundle/app.mjs"],
+}
+ENTRIES = {"str_indices_inline.mjs": [], "str_indices.mjs": ["str_indices_web.wasm"]}
+# how many results there are of the compiler, and of each bundler
+OF_TYPES = 2 * len(RESOLUTIONS) + 1
+OF_BUNDLER = len(ENTRIES)
+
+APP = """import { load } from "./%s";
+const { linesCrlf, positions } = await load();
+console.log(linesCrlf.toByteIdx("one\\r\\ntwo", 1), positions.utf16.exactByteOf("one\\r\\ntwo", { line: 0, character: 4 }));
+"""
+
+
+def compiled(folder, resolution, program):
+    """What the compiler says of the program, or nothing."""
+    command = ["tsc", "--noEmit", "--strict", "--target", "es2022", "--module", RESOLUTIONS[resolution],
+               "--moduleResolution", resolution, program]
+    done = subprocess.run(command, cwd=folder, capture_output=True, text=True)
+    return done.stdout + done.stderr if done.returncode or done.stdout else ""
+
+
+def by_name(text):
+    """The program, where it takes the modules from the package of that name."""
+    return text.replace('"./str_indices.mjs"', '"str_indices"').replace('"./str_indices_inline.mjs"', '"str_indices/inline"')
+
+
+def try_types(tally, built, folder):
+    """The types, beside the program and as those of an installed package."""
+    if not shutil.which("tsc"):
+        tally.leave_out(OF_TYPES, "the types, as tsc is not on the path (Debian's package node-typescript)")
+        return
+    beside, project = folder / "beside", folder / "project"
+    shutil.copytree(built, beside)
+    shutil.copytree(built, project / "node_modules/str_indices")
+    text = TYPES.read_text(encoding="utf-8")
+    (beside / TYPES.name).write_text(text, encoding="utf-8")
+    (project / TYPES.name).write_text(by_name(text), encoding="utf-8")
+    for place in [beside, project]:
+        for resolution in RESOLUTIONS:
+            told = compiled(place, resolution, TYPES.name)
+            tally.result(not told, f"the types in {place.name}, by {resolution} {told}")
+    wrong = "\n".join(line for line in text.splitlines() if "@ts-expect-error" not in line)
+    (beside / TYPES.name).write_text(wrong, encoding="utf-8")
+    found, marked = compiled(beside, "node16", TYPES.name).count("error TS"), text.count("@ts-expect-error")
+    tally.result(found == marked > 0, f"of {marked} lines that are wrong the compiler finds {found}")
+
+
+def bundled(bundler, entry, beside, built, folder, node):
+    """What the bundle prints, alone in a folder with the files beside it."""
+    shutil.copytree(built, folder)
+    (folder / "app.mjs").write_text(APP % entry, encoding="utf-8")
+    made = subprocess.run(BUNDLERS[bundler], cwd=folder, capture_output=True, text=True)
+    if made.returncode != 0:
+        return made.stdout + made.stderr
+    (folder / "bundle").rename(folder / "site")
+    for name in beside:
+        shutil.move(folder / name, folder / "site")
+    for path in built.iterdir():
+        (folder / path.name).unlink(missing_ok=True)
+    done = subprocess.run([*node, "app.mjs"], cwd=folder / "site", capture_output=True, text=True)
+    return done.stdout + done.stderr[-500:]
+
+
+def try_bundles(tally, built, folder, node):
+    """Each entry by each bundler; `node` runs a module."""
+    for bundler in BUNDLERS:
+        if not shutil.which(bundler):
+            tally.leave_out(OF_BUNDLER, f"bundles, as {bundler} is not on the path (Debian's package {bundler})")
+            continue
+        for entry, beside in ENTRIES.items():
+            printed = bundled(bundler, entry, beside, built, folder / f"{bundler}_{entry}", node)
+            told = f" beside {' and '.join(beside)}" if beside else ""
+            tally.result(printed == "5 null\n", f"a bundle of {entry} by {bundler} runs{told}: {printed.strip()}")

@@ -1,0 +1,114 @@
+#!/usr/bin/env python3
+"""Refuses each growth of a text in pieces and of a rope in turn, and wants all as it was.
+
+The programs refused_growths.rt.txt, refused_runs.rt.txt and refused_rope_growths.rt.txt beside this file make a text grow,
+step by step; the second does so at several numbers of pieces. `rt try` builds each once, beside a copy of its library, and
+refuses the same allocation in each of its runs. In each run the program has taken less memory before its first step, so
+that a later growth is refused. It must answer `NoMemory` then, with every other answer as before, and succeed at the
+second try. The last runs come to an end with no growth refused. The last line printed is 'N passed, M failed'.
+"""
+import pathlib
+import re
+import subprocess
+import sys
+import tempfile
+from typing import NamedTuple, Tuple
+
+ROOT = pathlib.Path(__file__).resolve().parents[3]
+sys.path.insert(0, str(ROOT / "scripts/lib"))
+
+from crate_copies import copy_crate  # noqa: E402
+from tally import Tally  # noqa: E402
+
+
+class Program(NamedTuple):
+    """A program, the library that it stands on, what it prints at its end, and how many growths it has at least.
+
+    Of a program that has many, the first growths are not refused. It may have numbers to be put in for those in its text.
+    """
+
+    name: str
+    library: str
+    made: str
+    least: int
+    passed_over: int = 0
+    numbers: Tuple[Tuple[str, int], ...] = ()
+
+
+PROGRAMS = (
+    # each of the six pieces that are put in takes its copy and its place, each of the three splits two of both, and the list
+    # is longer at times
+    Program("refused_growths", "piece_text", "9 pieces, 16 bytes, 5 breaks\n", 24),
+    # each of the five pieces that are put in takes its copy and its place, and the two halves of one too. Beside them grow:
+    # the list of pieces, and that of runs, which gets its first
+    Program("refused_runs", "piece_text", "132 pieces, 136 bytes, 3 breaks\n", 25, passed_over=250),
+    # that of four runs, which gets one more after them
+    Program("refused_runs", "piece_text", "388 pieces, 392 bytes, 2 breaks\n", 25, passed_over=764, numbers=(("PIECES", 384),)),
+    # and one more of a run that is cut
+    Program(
+        "refused_runs", "piece_text", "389 pieces, 393 bytes, 2 breaks\n", 25, passed_over=766,
+        numbers=(("PIECES", 321), ("FRONT", 64)),
+    ),
+    # each new piece takes its text and its fork, and a text that is put into a full piece is put together first
+    Program("refused_rope_growths", "text_rope", "5004 bytes, 750 breaks, the number 15501513337787822859\n", 25),
+)
+RUNS = 40
+
+REFUSED = "no memory, and all as before\n"
+
+
+def copy_program(program, folder):
+    """Puts the program beside a copy of the sources of its library, and answers where it is."""
+    copy_crate(program.library, folder, f"{program.name}: {program.library}\n", left_out=("must-fail", "out"))
+    crate = folder / "crates" / program.name
+    (crate / "src").mkdir(parents=True)
+    source = (ROOT / f"crates/text_rope/tests/{program.name}.rt.txt").read_text(encoding="utf-8")
+    for name, number in program.numbers:
+        source, made = re.subn(f"(const {name}: usize =) [0-9]+;", rf"\1 {number};", source)
+        assert made == 1, name
+    (crate / "src" / "main.rt").write_text(source, encoding="utf-8")
+    return crate
+
+
+def run_all(program, crate, cases):
+    """Runs the program so often that in run N its growth N is refused, of those not passed over, where it has as many."""
+    cases.mkdir()
+    for number in range(1, RUNS + 1):
+        (cases / str(number)).write_bytes(bytes(RUNS - number))
+    # one step of the interpreter, which makes of these runs twice the time: only the built program runs
+    command = ["rt", "try", "--steps", "1", "--fail-alloc", str(RUNS + program.passed_over), "--cases", cases]
+    return subprocess.run(command, cwd=crate, capture_output=True, text=True)
+
+
+def outputs_of(done):
+    """What the program printed in each run, by the run's number."""
+    parts = re.split(r"^== ([0-9]+)\n", done.stdout, flags=re.MULTILINE)
+    return dict(zip(map(int, parts[1::2]), parts[2::2]))
+
+
+def try_program(program, tally):
+    """Refuses each growth of the program in turn."""
+    with tempfile.TemporaryDirectory() as folder:
+        folder = pathlib.Path(folder)
+        done = run_all(program, copy_program(program, folder), folder / "cases")
+    if not tally.result(done.returncode == 0, f"{program.name} is built once, and comes to an end in {RUNS} runs"):
+        print(done.stdout + done.stderr)
+    outputs = outputs_of(done)
+    refused = [number for number in range(1, RUNS + 1) if outputs.get(number) != program.made]
+    for number in refused:
+        output = outputs.get(number, "")
+        tally.result(output == REFUSED + program.made, f"{program.name}, growth {number} is refused: {output!r}")
+    growths = len(refused)
+    told = f"{growths} growths were refused, one after the other, and then none"
+    tally.result(program.least < growths == max(refused) < RUNS, told)
+
+
+def main():
+    tally = Tally()
+    for program in PROGRAMS:
+        try_program(program, tally)
+    return tally.end()
+
+
+if __name__ == "__main__":
+    sys.exit(main())

@@ -1,0 +1,117 @@
+#!/usr/bin/env python3
+"""Builds the release, and uses it as a stranger would: test_release.py [--twice]
+
+The archive is built from a commit of a copy, and unpacked into an empty folder. There its README's lines run as they
+stand, in an environment where nothing is set and Rattle's command is not to be found: each language's first program, by
+pkg-config and by CMake, shared and static, and the programs. Then once more where the folder was moved. The sums, the
+manual pages and the page's links are looked at too. With --twice the archive is built in two folders, and has to have the
+same bytes. The last line printed is 'N passed, M failed', with what is left out.
+"""
+import json
+import os
+import pathlib
+import re
+import shutil
+import subprocess
+import sys
+import tempfile
+
+ROOT = pathlib.Path(__file__).resolve().parents[2]
+sys.path.insert(0, str(ROOT / "scripts/lib"))
+
+from page_lines import blocks, environment, try_lines  # noqa: E402
+from tally import Tally  # noqa: E402
+
+LEFT_OUT = shutil.ignore_patterns(".git", "out", "target", "dist", "__pycache__", "Cargo.lock")
+# what stands in for the gate's output; a release has the real one
+GATE_OUTPUT = "1 passed, 0 failed\n"
+COMMIT = ["-c", "user.name=test", "-c", "user.email=test", "commit", "-q", "-m", "A copy"]
+WHEN = {"GIT_AUTHOR_DATE": "2026-01-01T00:00:00Z", "GIT_COMMITTER_DATE": "2026-01-01T00:00:00Z"}
+
+tally = Tally()
+
+
+def build(folder):
+    """The archive, from a commit of a copy in the folder; None where that fails."""
+    top = folder / "pauskern"
+    shutil.copytree(ROOT, top, ignore=LEFT_OUT)
+    for words in [["init", "-q", "."], ["add", "-A"], COMMIT]:
+        subprocess.run(["git", *words], cwd=top, env=dict(os.environ, **WHEN), check=True)
+    (folder / "gate.txt").write_text(GATE_OUTPUT, encoding="utf-8")
+    done = subprocess.run([top / "scripts/release", folder / "gate.txt"], stdout=subprocess.PIPE, text=True)
+    if not tally.result(done.returncode == 0, "scripts/release"):
+        return None
+    return pathlib.Path(done.stdout.splitlines()[-1])
+
+
+def path_without_rattle():
+    """The path, without the folders in which Rattle's command is."""
+    return os.pathsep.join(folder for folder in os.environ["PATH"].split(os.pathsep) if not shutil.which("rt", path=folder))
+
+
+def try_server(top, path):
+    """The language server answers a client that says hello."""
+    told = {"jsonrpc": "2.0", "id": 1, "method": "initialize", "params": {"capabilities": {}}}
+    body = json.dumps(told).encode()
+    done = subprocess.run([top / "bin/language_server"], input=b"Content-Length: %d\r\n\r\n%s" % (len(body), body),
+                          env={"PATH": path}, capture_output=True)
+    tally.result(b'"capabilities"' in done.stdout, f"the language server answers: {done.stdout[:80]!r}")
+
+
+def try_contents(top):
+    """The sums, the manual pages, the page's links, and that one version is said everywhere."""
+    summed = subprocess.run(["sha256sum", "--check", "--quiet", "SHA256SUMS"], cwd=top, capture_output=True, text=True)
+    listed = {line.split("  ")[1] for line in (top / "SHA256SUMS").read_text(encoding="utf-8").splitlines()}
+    files = {str(path.relative_to(top)) for path in top.rglob("*") if path.is_file() and not path.is_symlink()}
+    right = summed.returncode == 0 and files - listed == {"SHA256SUMS"}
+    tally.result(right, f"the sums of {len(listed)} files are right {summed.stdout}")
+    pages = sorted((top / "share/man").rglob("*.[13]"))
+    names = [page.name for page in pages]
+    tally.result(names == ["idx.1", "str_indices.3", "str_rope.3"], f"the manual pages: {' '.join(names)}")
+    if shutil.which("groff"):
+        warned = [subprocess.run(["groff", "-man", "-Tutf8", "-ww", page], capture_output=True).stderr for page in pages]
+        tally.result(not any(warned), f"groff has no warning about them {b''.join(warned).decode()}")
+    else:
+        tally.leave_out(1, "warnings about manual pages, as groff is not on the path")
+    links = re.findall('<a href="([^"]+)"', (top / "web/index.html").read_text(encoding="utf-8"))
+    tally.result(bool(links) and all((top / "web" / link).is_file() for link in links), f"{len(links)} links of the page")
+
+
+def try_moved(top, folder, path):
+    """All of the README's lines, at that top."""
+    folder.mkdir()
+    try_lines(tally, top.name, blocks(top / "README.md"), top, folder, path)
+
+
+def use(archive, folder):
+    """The archive, unpacked into the folder, and the folder moved."""
+    path = path_without_rattle()
+    tally.result(shutil.which("rt", path=path) is None, "Rattle's command is not to be found")
+    command = ["tar", "-xzf", archive]
+    subprocess.run(command, cwd=folder, env=environment(folder, path), check=True)
+    top = folder / archive.name.removesuffix(".tar.gz")
+    try_contents(top)
+    shutil.copytree(top, folder / "moved", symlinks=True)
+    try_moved(top, folder / "first", path)
+    try_server(top, path)
+    shutil.rmtree(top)
+    try_moved(folder / "moved", folder / "second", path)
+
+
+def main():
+    with tempfile.TemporaryDirectory() as folder:
+        folder = pathlib.Path(folder)
+        for name in ["one", "another", "empty"]:
+            (folder / name).mkdir()
+        archive = build(folder / "one")
+        if archive and "--twice" in sys.argv:
+            other = build(folder / "another")
+            same = other is not None and other.read_bytes() == archive.read_bytes()
+            tally.result(same, "two builds in two folders give the same bytes")
+        if archive:
+            use(archive, folder / "empty")
+    return tally.end()
+
+
+if __name__ == "__main__":
+    sys.exit(main())

@@ -1,0 +1,61 @@
+#!/usr/bin/env python3
+"""Shows by their texts that a crate's proofs cite of another crate what that one's file `Callers` passes on.
+
+The other lemma files are a crate's own, and may move. So where a file of one crate names the proofs of another, it names
+`proofs/lemmas/Callers`. The search is tried on edited texts too, in which it must find the fault. The last line printed
+is 'N passed, M failed'.
+"""
+import pathlib
+import re
+import sys
+
+ROOT = pathlib.Path(__file__).resolve().parents[2]
+sys.path.insert(0, str(ROOT / "scripts/lib"))
+
+from tally import Tally  # noqa: E402
+
+CITED = re.compile(r"\bRattle\.(\w+)\.(proofs[\w.]*)|\b(\w+)::(proofs[\w:]*)")
+CALLERS = re.compile(r"proofs\.lemmas\.Callers\b")
+
+
+def crates():
+    """The crates that the repository lists."""
+    lines = (ROOT / "crates.txt").read_text(encoding="utf-8").splitlines()
+    return [re.match(r"\w+", line).group() for line in lines if re.match(r"\w", line)]
+
+
+def cited(text, own, others):
+    """What the text cites of the proofs of others, as (crate, path)."""
+    for match in CITED.finditer(text):
+        crate = match.group(1) or match.group(3)
+        if crate != own and crate in others:
+            yield crate, (match.group(2) or match.group(4)).replace("::", ".")
+
+
+def faults(text, own, others):
+    """What the text cites of others that their callers may not."""
+    return [f"{crate}.{path}" for crate, path in cited(text, own, others) if not CALLERS.match(path)]
+
+
+def try_crate(tally, own, others):
+    files = [path for path in sorted((ROOT / "crates" / own).rglob("*")) if path.suffix in (".antt", ".rt")]
+    texts = {path: path.read_text(encoding="utf-8") for path in files if "out" not in path.relative_to(ROOT).parts}
+    found = [f"{path.relative_to(ROOT)}: {fault}" for path, text in texts.items() for fault in faults(text, own, others)]
+    tally.result(not found, f"{own} cites of other crates what they pass on" + "".join(f"\n  {line}" for line in found))
+    citing = [text for text in texts.values() if any(cited(text, own, others))]
+    edited = [re.sub(r"lemmas(\.|::)Callers\b", r"lemmas\1Common", text) for text in citing]
+    if citing:
+        tally.result(all(faults(text, own, others) for text in edited), f"{own} with lemmas of other files is refused")
+
+
+def main():
+    tally = Tally()
+    names = crates()
+    tally.result(len(names) > 15, f"{len(names)} crates are listed")
+    for own in names:
+        try_crate(tally, own, names)
+    return tally.end()
+
+
+if __name__ == "__main__":
+    sys.exit(main())

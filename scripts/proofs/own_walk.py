@@ -1,0 +1,58 @@
+#!/usr/bin/env python3
+"""Shows that each public function has its answer from the function that it calls, and from no walk of its own.
+
+A public function of str_indices calls its kernel, and a query of piece_text or of text_rope the function over a view. Each
+edit of a folder refusals/own-walk/CRATE takes the answer out of the contract of one function of that crate that is
+called so: the clause keeps its name and says nothing. The edit names the public function too. With that edit, the public
+function and all that it calls are checked: it alone must be refused, at the goal of its own answer. A function with a
+walk of its own would still be proved. Where an answer in the proof of the function that is called fits the clause alone,
+the edit says it so that it fits the struck one too. Of each module one edit is tried at once. The last line printed is
+'N passed, M failed'.
+"""
+import pathlib
+import sys
+
+ROOT = pathlib.Path(__file__).resolve().parents[2]
+sys.path.insert(0, str(ROOT / "scripts/lib"))
+
+from refusals import Edit, Trial  # noqa: E402
+from tally import Tally  # noqa: E402
+
+CASES = ROOT / "refusals/own-walk"
+
+
+def grouped(edits):
+    """The edits in groups that are tried at once, of one edit a file, so that each answer misses its own clause alone."""
+    by_file = {}
+    for edit in edits:
+        (file, _, _), *_ = edit.changes
+        by_file.setdefault(file, []).append(edit)
+    most = max(map(len, by_file.values()))
+    return [[of_file[at] for of_file in by_file.values() if at < len(of_file)] for at in range(most)]
+
+
+def edits_of():
+    """The edits of each crate."""
+    return {folder.name: [Edit(path) for path in sorted(folder.glob("*.edit"))] for folder in sorted(CASES.iterdir())}
+
+
+def trial(cases):
+    return Trial({crate: grouped(edits) for crate, edits in cases.items()}, nothing_else=True)
+
+
+def main():
+    tally = Tally()
+    cases = edits_of()
+    for crate, edits in cases.items():
+        for edit in edits:
+            (_, old, new), *answers = edit.changes
+            keeps = old.split("{")[0] == new.split("{")[0] and new.endswith("{ result ≡ result }")
+            of_proofs = all(file.startswith("proofs/") for file, _, _ in answers)
+            tally.result(keeps and of_proofs, f"own-walk {crate} {edit.name} strikes a clause and keeps its name")
+    for good, told in trial(cases).run():
+        tally.result(good, f"own-walk {told}")
+    return tally.end()
+
+
+if __name__ == "__main__":
+    sys.exit(main())

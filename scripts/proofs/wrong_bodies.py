@@ -1,0 +1,99 @@
+#!/usr/bin/env python3
+"""Tries wrong bodies: each must be refused by the function, and at the clause, that it names.
+
+A wrong body is an edit of refusals/bodies/CRATE, as refusals.py reads them. It fails where another function alone is
+refused, where none is, where another goal is open, and where only a name in a proof file is no longer there. The few of
+crates/CRATE/must-fail are tried by the gate of the toolchain, and gate_edits.py reads what that tells of them.
+
+Wrong bodies of several functions are tried at once, each by its own function: of another function a proof sees the
+contract alone. What changes more than the body of the named function is tried alone. docs/WRONG_BODIES.md lists them all,
+and must be what 'wrong_bodies.py --write' writes. A list of names tries those alone, those of must-fail/ too. The last
+line printed is 'N passed, M failed'.
+"""
+import pathlib
+import re
+import sys
+
+ROOT = pathlib.Path(__file__).resolve().parents[2]
+sys.path.insert(0, str(ROOT / "scripts/lib"))
+
+import wrong_bodies_page  # noqa: E402
+from crate_copies import stands_on  # noqa: E402
+from refusals import Edit, Trial, apply_together  # noqa: E402
+from tally import Tally  # noqa: E402
+
+# how many are tried at once
+MOST = 12
+
+# what may stand at the head of a changed line outside of a body
+NO_BODY = re.compile(r"\s*(ensures|requires|ghost|const|static|use|type|#\[|///)")
+HEAD = re.compile(r"\bfn (\w+)")
+
+
+def edits_of(crate):
+    folders = [ROOT / "crates" / crate / "must-fail", ROOT / "refusals/bodies" / crate]
+    return [Edit(path) for folder in folders for path in sorted(folder.glob("*.edit"))]
+
+
+def is_of_the_gate(edit):
+    """Whether the gate of the toolchain tries the edit."""
+    return edit.path.parent.name == "must-fail"
+
+
+def changes_a_body(crate, edit):
+    """Whether the edit changes nothing but the body of the function that it names."""
+    for file, old, _ in edit.changes:
+        if not file.startswith("src/"):
+            return False
+        before, _, _ = (ROOT / "crates" / crate / file).read_text(encoding="utf-8").partition(old)
+        heads = HEAD.findall(before)
+        line = before.rsplit("\n", 1)[-1] + old
+        if not heads or heads[-1] != edit.function.split("::")[-1] or NO_BODY.match(line):
+            return False
+    return True
+
+
+def fits(crate, group, edit):
+    """Whether the edit can be tried with the group: not too many, none of the same function, and each can be made."""
+    is_alone = edit.function not in [other.function for other in group]
+    return len(group) < MOST and is_alone and apply_together(ROOT / "crates" / crate, [*group, edit])
+
+
+def grouped(crate, edits):
+    """The edits in groups that are tried at once, of one edit a function, and each other one alone."""
+    groups = []
+    for edit in [edit for edit in edits if changes_a_body(crate, edit)]:
+        group = next((group for group in groups if fits(crate, group, edit)), None)
+        if group is None:
+            group = []
+            groups.append(group)
+        group.append(edit)
+    return groups + [[edit] for edit in edits if not changes_a_body(crate, edit)]
+
+
+def trial(edits, names=()):
+    """The edits that are tried: all but those that the gate of the toolchain tries, or those of these names."""
+    groups = {}
+    for crate, them in edits.items():
+        tried = [edit for edit in them if (edit.name in names if names else not is_of_the_gate(edit))]
+        if tried:
+            groups[crate] = grouped(crate, tried)
+    return Trial(groups)
+
+
+def main(words):
+    names = [word for word in words if word != "--write"]
+    edits = {crate: edits_of(crate) for crate in stands_on()}
+    if "--write" in words:
+        wrong_bodies_page.write(edits)
+        return 0
+    tally = Tally()
+    if not names:
+        tally.result(wrong_bodies_page.is_written(edits), "docs/WRONG_BODIES.md lists them")
+    for good, told in trial(edits, names).run():
+        tally.result(good, told)
+    return tally.end()
+
+
+if __name__ == "__main__":
+    sys.exit(main(sys.argv[1:]))
