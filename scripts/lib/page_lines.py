@@ -1,7 +1,7 @@
 """Runs the lines of a page as they stand there, in one shell and with nothing set, and reads what they print.
 
 A block of C is the file that its first line names. Where a line ends in a comment, that is what it prints. What a machine
-has no tool for is left out. The home folder has the original's source, where STR_INDICES_ORIGINAL names it.
+has no tool for is left out.
 """
 import os
 import pathlib
@@ -13,7 +13,6 @@ BLOCK = re.compile(r"^```(\w+)\n(.*?)^```$", re.MULTILINE | re.DOTALL)
 NAME = re.compile(r"/\* (\w+\.c)\b")
 # what a line may want that not each machine has
 TOOLS = ["pkg-config", "cmake", "cargo", "c++", "node"]
-ORIGINAL = "STR_INDICES_ORIGINAL"
 # what runs the test itself is not run again: it has to be there
 LOOKED_FOR = {"scripts/test": "test -x scripts/test"}
 
@@ -43,8 +42,6 @@ def why_not(line, path, is_static):
     missing = [tool for tool in TOOLS if f"{tool} " in line and not shutil.which(tool, path=path)]
     if missing:
         return f"{missing[0]} is not on the path"
-    if ORIGINAL in line and not os.environ.get(ORIGINAL):
-        return f"{ORIGINAL} names no folder"
     return "there is no static C library" if "cc -static" in line and not is_static else None
 
 
@@ -58,7 +55,7 @@ def run_lines(lines, top, said, environment):
 
 def judge(tally, page, at, line, said):
     """Whether the line ended well, and printed what its comment says."""
-    command, _, wanted = LOOKED_FOR.get(line, line).partition("   # ")
+    command, _, wanted = line.partition("   # ")
     printed, errors, status = ((said / f"{at}{end}").read_text(encoding="utf-8") for end in ["", ".errors", ".status"])
     right = status == "0\n" and (not wanted or printed.strip() == wanted)
     if not tally.result(right, f"{page}: {command}"):
@@ -69,16 +66,13 @@ def try_lines(tally, page, found, top, folder, path):
     """All lines of those blocks of a page, at that top, with the programs that they show; the folder is empty."""
     for text in [text for language, text in found if language == "c"]:
         (top / NAME.match(text)[1]).write_text(text, encoding="utf-8")
-    lines = [line for language, text in found if language == "sh" for line in text.splitlines()]
+    lines = [LOOKED_FOR.get(line, line) for language, text in found if language == "sh" for line in text.splitlines()]
     home, said = folder / "home", folder / "said"
     home.mkdir()
     said.mkdir()
-    if os.environ.get(ORIGINAL):
-        (home / "str_indices").symlink_to(os.environ[ORIGINAL])
     is_static = links_statically(folder)
     reasons = [why_not(line, path, is_static) for line in lines]
-    tried = ["true" if why else LOOKED_FOR.get(line, line) for line, why in zip(lines, reasons)]
-    run_lines(tried, top, said, environment(home, path))
+    run_lines(["true" if why else line for line, why in zip(lines, reasons)], top, said, environment(home, path))
     for at, (line, why) in enumerate(zip(lines, reasons)):
         if why:
             tally.leave_out(1, f"{page}: {line}, as {why}")

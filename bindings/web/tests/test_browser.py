@@ -2,11 +2,10 @@
 """Proves and builds the functions for a browser, and runs them and the page in Chromium and Node.
 
 Every function on worked answers and on random texts beside the engine's own strings, served as a site serves them; the
-module's types, bundles of it, and the program of its README; then
-the page as it is opened from the disk, driven by the browser's own protocol: what it shows at some cursors, what goes
-into its field, and what those have of it who hear it, or use a phone. Where no Chromium is on the path, it says so and
-only proves and builds. With `--pictures` it makes those of the page in docs/ anew. The last line printed is
-'N passed, M failed', with what is left out.
+module's types, bundles of it, and the program of its README; then the page as it is opened from the disk, driven by the
+browser's own protocol: what it shows at some cursors, what goes into its field, and what those have of it who hear it, or
+use a phone. Where no Chromium is on the path, it says so. With `--pictures` it makes those of the page in docs/ anew. The
+last line printed is 'N passed, M failed', with what is left out.
 """
 import functools
 import http.server
