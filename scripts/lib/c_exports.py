@@ -1,4 +1,4 @@
-"""What the libraries for C declare, by their headers, and what they have, by the exports in Rattle and by their symbols.
+"""Builds the libraries for C; what they declare, by their headers, and have, by the exports in Rattle and their symbols.
 
 The headers are read and not listed, so what is added to them is tried by itself.
 """
@@ -52,6 +52,13 @@ class Library(NamedTuple):
 
     def is_here(self):
         return (ROOT / "bindings/c" / self.script).is_file()
+
+
+def build(tally, script, *words):
+    """What a script of bindings/c builds, by the last line that it prints; None where it fails."""
+    done = subprocess.run([ROOT / "bindings/c" / script, *words], stdout=subprocess.PIPE, text=True)
+    right = tally.result(done.returncode == 0, " ".join([script, *words]))
+    return pathlib.Path(done.stdout.splitlines()[-1]) if right else None
 
 
 STR_INDICES = Library(

@@ -44,3 +44,11 @@ def copy_crate(name: str, folder: pathlib.Path, *more_lines: str, **how) -> path
     """Copies the crate and all below it, with their lines of crates.txt and more; answers where it is."""
     copy_crates([name], folder, *more_lines, **how)
     return folder / "crates" / name
+
+
+def copy_program(name: str, libraries: List[str], source: str, folder: pathlib.Path, **how) -> pathlib.Path:
+    """Puts a program of that name and source beside copies of the libraries that it stands on; answers where it is."""
+    copy_crates(libraries, folder, f"{name}: {' '.join(libraries)}\n", **how)
+    (folder / "crates" / name / "src").mkdir(parents=True)
+    (folder / "crates" / name / "src/main.rt").write_text(source, encoding="utf-8")
+    return folder / "crates" / name

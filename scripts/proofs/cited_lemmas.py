@@ -12,16 +12,11 @@ import sys
 ROOT = pathlib.Path(__file__).resolve().parents[2]
 sys.path.insert(0, str(ROOT / "scripts/lib"))
 
+from crate_copies import stands_on  # noqa: E402
 from tally import Tally  # noqa: E402
 
 CITED = re.compile(r"\bRattle\.(\w+)\.(proofs[\w.]*)|\b(\w+)::(proofs[\w:]*)")
 CALLERS = re.compile(r"proofs\.lemmas\.Callers\b")
-
-
-def crates():
-    """The crates that the repository lists."""
-    lines = (ROOT / "crates.txt").read_text(encoding="utf-8").splitlines()
-    return [re.match(r"\w+", line).group() for line in lines if re.match(r"\w", line)]
 
 
 def cited(text, own, others):
@@ -50,7 +45,7 @@ def try_crate(tally, own, others):
 
 def main():
     tally = Tally()
-    names = crates()
+    names = list(stands_on())
     tally.result(len(names) > 15, f"{len(names)} crates are listed")
     for own in names:
         try_crate(tally, own, names)

@@ -6,10 +6,10 @@ So an edit that stands there is not tried once more. An edit of a definition nam
 lemma.
 """
 import re
-from typing import Iterator, Tuple
+from typing import Dict, Iterator, List, Tuple
 
 from crate_copies import ROOT, stands_on
-from refusals import Edit, proofs_of
+from refusals import Edit, edits_in, proofs_of
 
 TOLD = re.compile(r"^(?:rt: )?must-fail (\w+)/(\S+)\.edit: refused, as it must be: (.*)$", re.MULTILINE)
 IN_SOURCE = re.compile(r"note: (src/\S+\.rt):(\d+):\d+: .*\(`([^`]*)`\)")
@@ -18,10 +18,14 @@ HEAD = re.compile(r"\bfn (\w+)")
 ATTRIBUTE = re.compile(r"\s*(#\[|///)")
 
 
-def edits() -> dict:
+def edits_of(crate: str) -> List[Edit]:
+    """The edits of a crate that the gate of the toolchain tries."""
+    return [edit for path in sorted((ROOT / "crates" / crate / "must-fail").glob("*.edit")) for edit in edits_in(path)]
+
+
+def edits() -> Dict[Tuple[str, str], Edit]:
     """The edits that the gate of the toolchain tries, by their crate and name."""
-    folders = {crate: ROOT / "crates" / crate / "must-fail" for crate in stands_on()}
-    return {(crate, path.stem): Edit(path) for crate, folder in folders.items() for path in sorted(folder.glob("*.edit"))}
+    return {(crate, edit.name): edit for crate in stands_on() for edit in edits_of(crate)}
 
 
 def is_in_function(crate: str, file: str, line: int, function: str) -> bool:

@@ -2,7 +2,7 @@
 """Shows that each public function has its answer from the function that it calls, and from no walk of its own.
 
 A public function of str_indices calls its kernel, and a query of piece_text or of text_rope the function over a view. Each
-edit of a folder refusals/own-walk/CRATE takes the answer out of the contract of one function of that crate that is
+edit of a file refusals/own-walk/CRATE.edits takes the answer out of the contract of one function of that crate that is
 called so: the clause keeps its name and says nothing. The edit names the public function too. With that edit, the public
 function and all that it calls are checked: it alone must be refused, at the goal of its own answer. A function with a
 walk of its own would still be proved. Where an answer in the proof of the function that is called fits the clause alone,
@@ -15,7 +15,7 @@ import sys
 ROOT = pathlib.Path(__file__).resolve().parents[2]
 sys.path.insert(0, str(ROOT / "scripts/lib"))
 
-from refusals import Edit, Trial  # noqa: E402
+from refusals import Trial, edits_in  # noqa: E402
 from tally import Tally  # noqa: E402
 
 CASES = ROOT / "refusals/own-walk"
@@ -33,7 +33,7 @@ def grouped(edits):
 
 def edits_of():
     """The edits of each crate."""
-    return {folder.name: [Edit(path) for path in sorted(folder.glob("*.edit"))] for folder in sorted(CASES.iterdir())}
+    return {path.stem: edits_in(path) for path in sorted(CASES.glob("*.edits"))}
 
 
 def trial(cases):

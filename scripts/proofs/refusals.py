@@ -1,9 +1,11 @@
 """Tries edits of crates: each must be refused by the function, and at the goal, that it names.
 
-An edit is a file with lines of a word and a text. 'refuses:' names a function and what must be open in it: a clause of
+An edit has lines of a word and a text. 'refuses:' names a function and what must be open in it: a clause of
 its contract, or 'returns' for one without a name; 'invariant' for that of a type whose value it leaves; what a call in it
 asks, as 'CALL asks CLAUSE'; or 'proof', where a file Proof.antt proves it step by step, which names no clause. 'file:'
-names a file of the crate, and each 'old:' text, which stands once in it, becomes the 'new:' text of the next line.
+names a file of the crate, and each 'old:' text, which stands once in it, becomes the 'new:' text of the next line. A file
+CRATE.edits has many: each begins with its name in brackets, and what begins with '#' is for the reader. A file NAME.edit,
+as the toolchain's gate reads it, has one.
 
 Each crate is copied with all below it, and proved as it stands, before and after. What a script puts into one group is
 tried in one check of a copy, each edit by the function that it names and no other. What was refused where it should be, in
@@ -16,10 +18,10 @@ import re
 import subprocess
 import tempfile
 import time
-from typing import Dict, Iterator, List, NamedTuple, Set, Tuple
+from typing import Dict, Iterable, Iterator, List, NamedTuple, Set, Tuple
 
 from crate_copies import ROOT, copy_crate, copy_crates, stands_on, with_all_below
-from kept import Kept, crate_sum, scripts_sum, sum_of, sum_of_file
+from kept import Kept, crate_sum, scripts_sum, sum_of
 
 # side by side; one processor is left to whatever runs beside, and more of them would each take longer
 JOBS = max(1, min(3, (os.cpu_count() or 1) - 1))
@@ -30,14 +32,20 @@ MOST_GROUPS = 5
 STALE_NAME = re.compile(r"has no field|is not in scope(?! here, so what is shown)|has no `|was not admitted")
 
 
+# the words that a line of an edit may begin with
+WORDS = {"refuses", "file", "old", "new"}
+
+
 class Edit:
-    def __init__(self, path: pathlib.Path) -> None:
-        self.path = path
-        self.name = path.stem
+    def __init__(self, name: str, lines: Iterable[str]) -> None:
+        self.name = name
+        self.lines = list(lines)
         self.changes: List[Tuple[str, str, str]] = []
         fields = {}
-        for line in path.read_text(encoding="utf-8").splitlines():
+        for line in self.lines:
             word, _, text = line.partition(":")
+            if word not in WORDS:
+                raise ValueError(f"{name}: a line that no edit has: {line}")
             fields[word] = text.removeprefix(" ")
             if word == "new":
                 self.changes.append((fields["file"], fields["old"], fields["new"]))
@@ -79,6 +87,19 @@ class Edit:
 
     def is_refused(self, goals: List[str]) -> bool:
         return any(self.wants().match(goal) for goal in goals)
+
+
+def edits_in(path: pathlib.Path) -> List[Edit]:
+    """The edits of a file, in its order: one of a file NAME.edit, and many of CRATE.edits."""
+    lines = [line for line in path.read_text(encoding="utf-8").splitlines() if line and not line.startswith("#")]
+    if path.suffix == ".edit":
+        return [Edit(path.stem, lines)]
+    heads = [at for at, line in enumerate(lines) if line.startswith("[")]
+    edits = [Edit(lines[at][1:-1], lines[at + 1 : end]) for at, end in zip(heads, [*heads[1:], len(lines)])]
+    names = [edit.name for edit in edits]
+    if heads[:1] != [0] or len(set(names)) < len(names):
+        raise ValueError(f"{path}: a line before the first name, or two edits of one name")
+    return edits
 
 
 def read(crate: pathlib.Path, files: List[str]) -> Dict[str, str]:
@@ -292,7 +313,7 @@ class Trial:
     def name(self, of_crate: str, edit: Edit) -> str:
         """The name under which the edit of a crate with that sum is kept."""
         scripts = scripts_sum("lib/kept.py", "proofs/refusals.py", "lib/crate_copies.py")
-        return sum_of(of_crate, scripts, edit.name, sum_of_file(edit.path), self.nothing_else)
+        return sum_of(of_crate, scripts, edit.name, edit.lines, self.nothing_else)
 
     def take(self, of_crate: str, edits: List[Edit]) -> None:
         """Takes what an earlier run told of these edits of a crate with that sum."""

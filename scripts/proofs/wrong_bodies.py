@@ -1,14 +1,13 @@
 #!/usr/bin/env python3
 """Tries wrong bodies: each must be refused by the function, and at the clause, that it names.
 
-A wrong body is an edit of refusals/bodies/CRATE, as refusals.py reads them. It fails where another function alone is
+A wrong body is an edit of refusals/bodies/CRATE.edits, as refusals.py reads them. It fails where another function alone is
 refused, where none is, where another goal is open, and where only a name in a proof file is no longer there. The few of
 crates/CRATE/must-fail are tried by the gate of the toolchain, and gate_edits.py reads what that tells of them.
 
 Wrong bodies of several functions are tried at once, each by its own function: of another function a proof sees the
-contract alone. What changes more than the body of the named function is tried alone. docs/WRONG_BODIES.md lists them all,
-and must be what 'wrong_bodies.py --write' writes. A list of names tries those alone, those of must-fail/ too. The last
-line printed is 'N passed, M failed'.
+contract alone. What changes more than the body of the named function is tried alone. A list of names tries those alone,
+those of must-fail/ too. The last line printed is 'N passed, M failed'.
 """
 import pathlib
 import re
@@ -17,9 +16,9 @@ import sys
 ROOT = pathlib.Path(__file__).resolve().parents[2]
 sys.path.insert(0, str(ROOT / "scripts/lib"))
 
-import wrong_bodies_page  # noqa: E402
+import gate_edits  # noqa: E402
 from crate_copies import stands_on  # noqa: E402
-from refusals import Edit, Trial, apply_together  # noqa: E402
+from refusals import Trial, apply_together, edits_in  # noqa: E402
 from tally import Tally  # noqa: E402
 
 # how many are tried at once
@@ -31,13 +30,9 @@ HEAD = re.compile(r"\bfn (\w+)")
 
 
 def edits_of(crate):
-    folders = [ROOT / "crates" / crate / "must-fail", ROOT / "refusals/bodies" / crate]
-    return [Edit(path) for folder in folders for path in sorted(folder.glob("*.edit"))]
-
-
-def is_of_the_gate(edit):
-    """Whether the gate of the toolchain tries the edit."""
-    return edit.path.parent.name == "must-fail"
+    """The wrong bodies of a crate."""
+    path = ROOT / "refusals/bodies" / f"{crate}.edits"
+    return edits_in(path) if path.is_file() else []
 
 
 def changes_a_body(crate, edit):
@@ -71,26 +66,21 @@ def grouped(crate, edits):
     return groups + [[edit] for edit in edits if not changes_a_body(crate, edit)]
 
 
-def trial(edits, names=()):
+def trial(names=()):
     """The edits that are tried: all but those that the gate of the toolchain tries, or those of these names."""
     groups = {}
-    for crate, them in edits.items():
-        tried = [edit for edit in them if (edit.name in names if names else not is_of_the_gate(edit))]
-        if tried:
-            groups[crate] = grouped(crate, tried)
+    for crate in stands_on():
+        edits = edits_of(crate)
+        if names:
+            edits = [edit for edit in [*edits, *gate_edits.edits_of(crate)] if edit.name in names]
+        if edits:
+            groups[crate] = grouped(crate, edits)
     return Trial(groups)
 
 
-def main(words):
-    names = [word for word in words if word != "--write"]
-    edits = {crate: edits_of(crate) for crate in stands_on()}
-    if "--write" in words:
-        wrong_bodies_page.write(edits)
-        return 0
+def main(names):
     tally = Tally()
-    if not names:
-        tally.result(wrong_bodies_page.is_written(edits), "docs/WRONG_BODIES.md lists them")
-    for good, told in trial(edits, names).run():
+    for good, told in trial(names).run():
         tally.result(good, told)
     return tally.end()
 

@@ -33,10 +33,8 @@ def said(name: str) -> str:
     return (SAID / f"{name}.txt").read_text(encoding="utf-8")
 
 
-def edit_of(folder: pathlib.Path, *lines: str, name: str = "an_edit") -> refusals.Edit:
-    path = folder / f"{name}.edit"
-    path.write_text("".join(f"{line}\n" for line in lines), encoding="utf-8")
-    return refusals.Edit(path)
+def edit_of(*lines: str, name: str = "an_edit") -> refusals.Edit:
+    return refusals.Edit(name, lines)
 
 
 class Checker:
@@ -84,16 +82,16 @@ CHANGE = ("file: src/text_probe.rt", "old: self.loads.tick();", "new:")
 def try_readings(folder: pathlib.Path) -> Results:
     """What is read of what the checker says."""
     crate = small_crate(folder)
-    at_state = edit_of(folder, f"refuses: {LOAD} state", *CHANGE)
+    at_state = edit_of(f"refuses: {LOAD} state", *CHANGE)
     goals, as_before = goals_alone(at_state, crate, (1, said("at_the_goal")))
     yield at_state.is_refused(goals) and as_before, f"refused at its goal: {goals}"
-    at_text = edit_of(folder, f"refuses: {LOAD} text", *CHANGE)
+    at_text = edit_of(f"refuses: {LOAD} text", *CHANGE)
     goals, _ = goals_alone(at_text, crate, (1, said("at_the_goal")))
     yield not at_text.is_refused(goals), f"another clause than the one that is named does not count: {goals}"
-    at_answer = edit_of(folder, f"refuses: {ADD} returns", *CHANGE)
+    at_answer = edit_of(f"refuses: {ADD} returns", *CHANGE)
     goals, _ = goals_alone(at_answer, crate, (1, said("at_an_answer")))
     yield at_answer.is_refused(goals), f"refused at an answer: {goals}"
-    other = edit_of(folder, "refuses: counters::Counter::tick returns", *CHANGE)
+    other = edit_of("refuses: counters::Counter::tick returns", *CHANGE)
     goals, _ = goals_alone(other, crate, (1, said("elsewhere")))
     yield not other.is_refused(goals), f"refused elsewhere alone: {goals}"
     goals, _ = goals_alone(at_state, crate, (1, said("elsewhere")), nothing_else=True)
@@ -110,7 +108,7 @@ def try_readings(folder: pathlib.Path) -> Results:
 def try_holes(folder: pathlib.Path) -> Results:
     """Beside a wrong answer the checker names no other goal: the answer becomes a hole, and it is asked again."""
     crate = small_crate(folder)
-    at_state = edit_of(folder, f"refuses: {LOAD} state", *CHANGE)
+    at_state = edit_of(f"refuses: {LOAD} state", *CHANGE)
     goals, as_before = goals_alone(at_state, crate, (1, said("a_wrong_answer")), (1, said("at_the_goal")))
     yield at_state.is_refused(goals) and as_before, f"a wrong answer that became a hole: {goals}"
     goals, as_before = goals_alone(at_state, crate, (1, said("a_wrong_answer")), (0, ""))
@@ -126,7 +124,7 @@ def try_goals(folder: pathlib.Path) -> Results:
         ("f g asks end", "h-requires-clause-end", False), ("f g asks", "g-requires", True),
         ("f g asks", "g-requires-clause-end", False), ("f proof", "f_spec", True), ("f proof", "returns", False),
     ]:
-        edit = edit_of(folder, f"refuses: {names}")
+        edit = edit_of(f"refuses: {names}")
         yield edit.is_refused([goal]) == fits, f"{names} {'fits' if fits else 'does not fit'} {goal}"
     goals = refusals.own_goals("tree::Fork::put", ["Fork::put-returns-clause-kept", "Tree::put-returns-clause-text", "returns"])
     yield goals == ["returns-clause-kept", "returns"], f"in a cycle of two types, those of the one that is named: {goals}"
@@ -135,16 +133,33 @@ def try_goals(folder: pathlib.Path) -> Results:
 def try_edits(folder: pathlib.Path) -> Results:
     """Where an edit can be made, alone and with others."""
     crate = small_crate(folder)
-    one = edit_of(folder, f"refuses: {LOAD} state", *CHANGE, name="one")
-    same = edit_of(folder, f"refuses: {LOAD} state", *CHANGE, name="same")
-    other = edit_of(folder, f"refuses: {LOAD} low", CHANGE[0], "old: place(at)", "new: place(0)", name="other")
-    twice = edit_of(folder, f"refuses: {LOAD} low", CHANGE[0], "old: self.loads", "new: self", name="twice")
+    one = edit_of(f"refuses: {LOAD} state", *CHANGE, name="one")
+    same = edit_of(f"refuses: {LOAD} state", *CHANGE, name="same")
+    other = edit_of(f"refuses: {LOAD} low", CHANGE[0], "old: place(at)", "new: place(0)", name="other")
+    twice = edit_of(f"refuses: {LOAD} low", CHANGE[0], "old: self.loads", "new: self", name="twice")
     yield refusals.apply_together(crate, [one, other]), "two edits of other places can be made together"
     yield not refusals.apply_together(crate, [one, same]), "two edits of one place cannot"
     yield not refusals.apply_together(crate, [twice]), "a text that stands twice cannot be changed"
     before = (crate / "src/text_probe.rt").read_text()
     texts, fault = twice.apply(crate)
     yield bool(fault) and not texts and (crate / "src/text_probe.rt").read_text() == before, f"nothing is made then: {fault}"
+
+
+def try_files(folder: pathlib.Path) -> Results:
+    """How a file of many edits is read."""
+    def names(*lines: str) -> object:
+        (folder / "crate.edits").write_text("\n".join(lines), encoding="utf-8")
+        try:
+            return [(edit.name, edit.goal, len(edit.changes)) for edit in refusals.edits_in(folder / "crate.edits")]
+        except ValueError:
+            return "refused"
+
+    head = f"refuses: {LOAD} state"
+    two = names("# a promise", "", "[one]", head, *CHANGE, "", "# why", "[two]", f"refuses: {LOAD} low", *CHANGE, *CHANGE[1:])
+    yield two == [("one", "state", 1), ("two", "low", 2)], f"two edits: {two}"
+    yield names("[one]", head, *CHANGE, "[one]", head, *CHANGE) == "refused", "two of one name are refused"
+    yield names(head, "[one]", head, *CHANGE) == "refused", "a line before the first name is refused"
+    yield names("[one]", head, "nwe: x") == "refused", "a word that no edit has is refused"
 
 
 def try_gate(_: pathlib.Path) -> Results:
@@ -259,7 +274,7 @@ def try_entries(folder: pathlib.Path) -> Results:
     store = kept.Kept()
     crate = small_crate(folder)
     trial = refusals.Trial({})
-    edit = edit_of(folder, f"refuses: {LOAD} state", *CHANGE)
+    edit = edit_of(f"refuses: {LOAD} state", *CHANGE)
     name = trial.name("a sum", edit)
     yield store.told(name) is None, "what was never kept is not taken"
     store.keep(name, "told")
@@ -276,9 +291,9 @@ def try_entries(folder: pathlib.Path) -> Results:
     yield store.told(name) is None, "with GATE_ANEW nothing is taken"
     del os.environ["GATE_ANEW"]
     others = {
-        "another text of the edit": trial.name("a sum", edit_of(folder, f"refuses: {LOAD} state", *CHANGE, "")),
-        "another rule": refusals.Trial({}, nothing_else=True).name("a sum", edit_of(folder, f"refuses: {LOAD} state", *CHANGE)),
-        "another sum of the crate": trial.name("another", edit_of(folder, f"refuses: {LOAD} state", *CHANGE)),
+        "another text of the edit": trial.name("a sum", edit_of(f"refuses: {LOAD} state", *CHANGE[:-1], "new: other")),
+        "another rule": refusals.Trial({}, nothing_else=True).name("a sum", edit_of(f"refuses: {LOAD} state", *CHANGE)),
+        "another sum of the crate": trial.name("another", edit_of(f"refuses: {LOAD} state", *CHANGE)),
     }
     for what, other in others.items():
         yield store.told(other) is None, f"{what} is tried again"
@@ -290,7 +305,7 @@ def try_entries(folder: pathlib.Path) -> Results:
 
 def try_results(folder: pathlib.Path) -> Results:
     """What is kept of what was tried in a copy."""
-    edits = [edit_of(folder, f"refuses: {LOAD} state", *CHANGE, name=name) for name in ("right", "wrong", "unsound")]
+    edits = [edit_of(f"refuses: {LOAD} state", *CHANGE, name=name) for name in ("right", "wrong", "unsound")]
     trial = refusals.Trial({})
     told = list(trial.results(refusals.Copy("sum", [refusals.Tried(edits[0], True, "a"), refusals.Tried(edits[1], False, "b")], "")))
     is_kept = [trial.kept.told(trial.name("sum", edit)) for edit in edits[:2]]
@@ -358,7 +373,7 @@ def try_verdicts(_: pathlib.Path) -> Results:
 
 
 GROUPS = [
-    try_readings, try_holes, try_goals, try_edits, try_gate, try_tally, try_crate_sums, try_toolchains, try_entries,
+    try_readings, try_holes, try_goals, try_edits, try_files, try_gate, try_tally, try_crate_sums, try_toolchains, try_entries,
     try_results, try_parts, try_verdicts,
 ]
 

@@ -53,8 +53,8 @@
  * STR_ROPE_MAX_PIECE bytes: a question visits at most twice the logarithm to
  * base 2 of n + 1, and reads the text of one; one about positions asks up to 16
  * such questions. A read goes down to its first piece, and from there over those
- * that it writes out. A change takes a number of steps of that order too, and
- * copies the text that is put in once.
+ * that it writes out. A change takes a number of steps of that order too. It
+ * copies the text that is put in, and the pieces beside it.
  */
 #ifndef STR_ROPE_H
 #define STR_ROPE_H

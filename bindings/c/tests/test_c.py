@@ -22,7 +22,7 @@ import tempfile
 ROOT = pathlib.Path(__file__).resolve().parents[3]
 sys.path.insert(0, str(ROOT / "scripts/lib"))
 
-from c_exports import LIBRARIES, STR_INDICES, STR_ROPE, declared, pairs  # noqa: E402
+from c_exports import LIBRARIES, STR_INDICES, STR_ROPE, build, declared, pairs  # noqa: E402
 from c_halves import copy_for_builds, try_builds, try_halves  # noqa: E402
 from c_headers import try_headers  # noqa: E402
 from c_install import try_install  # noqa: E402
@@ -31,6 +31,7 @@ from exchanges import exchanging_library, try_exchanges  # noqa: E402
 from install_faults import try_faults  # noqa: E402
 from halves import ASKED, halves, has_wide_half, missing  # noqa: E402
 from line_and_column import ROWS, check_example  # noqa: E402
+from page_lines import links_statically  # noqa: E402
 from tally import Tally, least, sums_of  # noqa: E402
 
 EXAMPLE = ROOT / "bindings/c/examples/line_and_column.c"
@@ -186,13 +187,6 @@ def compile_installed(prefix, source, kind, folder, environment):
         run_as_installed(prefix, source, program, kind, environment)
 
 
-def links_statically(folder):
-    """Whether there is a C library to link a program with that starts alone."""
-    source = folder / "empty.c"
-    source.write_text("int main(void) { return 0; }\n", encoding="utf-8")
-    return subprocess.run(["cc", "-static", source, "-o", folder / "empty"], capture_output=True).returncode == 0
-
-
 def why_not(kind, folder):
     """Why no program is linked with an installed library of the kind, or None where one can be."""
     if not shutil.which("pkg-config"):
@@ -252,14 +246,6 @@ def run_exchanged(library, folder):
             try_exchanges(tally, programs, pairs(), "wide", "C by the wide half")
 
 
-def build(script, *words):
-    """What a script builds, by the last line that it prints; None where it fails."""
-    done = subprocess.run([ROOT / "bindings/c" / script, *words], stdout=subprocess.PIPE, text=True)
-    if tally.result(done.returncode == 0, " ".join([script, *words])):
-        return pathlib.Path(done.stdout.splitlines()[-1])
-    return None
-
-
 def run_all(library, rope, folder, size):
     for language, command in COMPILERS.items():
         compile_and_run(language, command, library, folder)
@@ -283,8 +269,8 @@ def run_all(library, rope, folder, size):
 
 def main():
     size = "large" if sys.argv[1:] == ["--large"] else "usual"
-    example = build("build_example")
-    rope = build(STR_ROPE.script) if STR_ROPE in LIBRARIES else None
+    example = build(tally, "build_example")
+    rope = build(tally, STR_ROPE.script) if STR_ROPE in LIBRARIES else None
     if example:
         check_example(tally, example, "by build_example")
         with tempfile.TemporaryDirectory() as folder:

@@ -16,6 +16,7 @@ import tempfile
 ROOT = pathlib.Path(__file__).resolve().parents[3]
 sys.path.insert(0, str(ROOT / "scripts/lib"))
 
+from c_exports import build  # noqa: E402
 from position_model import CHARACTERS, ENCODINGS, GREATEST, Lines, units  # noqa: E402
 from tally import Tally  # noqa: E402
 
@@ -143,10 +144,10 @@ def compare(library):
 
 
 def main():
-    built = subprocess.run([ROOT / "bindings/c/build_library"], stdout=subprocess.PIPE, stderr=subprocess.PIPE, text=True)
-    if tally.result(built.returncode == 0, "build_library"):
+    archive = build(tally, "build_library")
+    if archive:
         with tempfile.TemporaryDirectory() as folder:
-            library = link(built.stdout.splitlines()[-1], pathlib.Path(folder))
+            library = link(archive, pathlib.Path(folder))
             if library is not None:
                 compare(library)
     return tally.end()

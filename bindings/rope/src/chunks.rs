@@ -106,8 +106,8 @@ impl fmt::Debug for Chunks<'_> {
 }
 
 impl Rope {
-    /// The text in chunks, in order. Each is found in the logarithm of the number of pieces, and copied. All are about as
-    /// long as [`MAX_CHUNK`] says, but for the last one.
+    /// The text in chunks, in order. Each is found by its own way down the tree, and copied. All are about as long as
+    /// [`MAX_CHUNK`] says, but for the last one.
     ///
     /// ```
     /// # fn main() -> Result<(), str_rope::Error> {

@@ -21,7 +21,8 @@ pub enum Scheme {
     Lines = 4,
 }
 
-/// A text in a balanced tree of pieces. Each question and each change takes the logarithm of the number of pieces.
+/// A text in a balanced tree of pieces. A question looks at a number of places that is logarithmic in the number of pieces.
+/// A change goes down the tree too, copies what it puts in, and frees what it takes out.
 ///
 /// It may go to another thread, but two threads cannot ask one rope at once:
 ///

@@ -21,7 +21,7 @@ import tempfile
 ROOT = pathlib.Path(__file__).resolve().parents[3]
 sys.path.insert(0, str(ROOT / "scripts/lib"))
 
-from c_exports import declared, pairs  # noqa: E402
+from c_exports import build, declared, pairs  # noqa: E402
 from exchanges import exchanging_library, try_exchanges  # noqa: E402
 from halves import ASKED, halves, missing  # noqa: E402
 from line_and_column import check_example  # noqa: E402
@@ -79,7 +79,7 @@ def test_bindings(environment, texts):
 
 
 def test_without_the_wide_half():
-    library = build_library("--narrow")
+    library = build(tally, "build_library", "--narrow")
     if library:
         test_bindings(dict(os.environ, STR_INDICES_LIB_DIR=str(library.parent)), "no text")
 
@@ -172,14 +172,6 @@ def test_benchmark():
         print(done.stdout + done.stderr)
 
 
-def build_library(*words, script="build_library"):
-    """The library that the script builds; None where it fails."""
-    done = subprocess.run([ROOT / "bindings/c" / script, *words], capture_output=True, text=True)
-    if tally.result(done.returncode == 0, " ".join([script, *words])):
-        return pathlib.Path(done.stdout.splitlines()[-1])
-    return None
-
-
 def test_all(library, rope, folder):
     empty = folder / "empty"
     empty.mkdir()
@@ -203,7 +195,7 @@ def main():
     if not shutil.which("cargo"):
         tally.leave_out(least("test_rust.py"), "cargo is not on the path")
     else:
-        library, rope = build_library(), build_library(script="build_rope")
+        library, rope = build(tally, "build_library"), build(tally, "build_rope")
         if library and rope:
             with tempfile.TemporaryDirectory() as folder:
                 test_all(library, rope, pathlib.Path(folder))

@@ -8,5 +8,4 @@
 mod chunks;
 #[cfg(test)]
 mod indices;
-#[cfg(test)]
-mod slices;
+pub mod slices;

@@ -42,11 +42,15 @@ impl Piece {
         requires { chars text.now ≢ [] }
         ensures { IfOk result (λ piece. piece ≡ chars text.now) }
     {
-        let summary = Summary::of(text);
-        let text = String::from_str(alloc, text)?;
-        let Ok(body) = Box::new(alloc, Body { text, summary }) else {
+        let body = Body {
+            text: String::new(alloc),
+            summary: Summary::of(text),
+        };
+        // before its text, so that both lie side by side
+        let Ok(mut body) = Box::new(alloc, body) else {
             return Err(AllocError);
         };
+        body.text = String::from_str(alloc, text)?;
         Ok(Piece { body })
     }
 

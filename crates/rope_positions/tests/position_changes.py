@@ -8,7 +8,6 @@ The last line printed is 'N passed, M failed'.
 import pathlib
 import random
 import re
-import shutil
 import subprocess
 import sys
 import tempfile
@@ -16,7 +15,7 @@ import tempfile
 ROOT = pathlib.Path(__file__).resolve().parents[3]
 sys.path.insert(0, str(ROOT / "scripts/lib"))
 
-from crate_copies import copy_crate  # noqa: E402
+from crate_copies import copy_program  # noqa: E402
 from position_model import CHARACTERS, ENCODINGS, GREATEST, Lines  # noqa: E402
 from tally import Tally  # noqa: E402
 
@@ -110,11 +109,9 @@ def asked(source, number):
 
 def run(lists, folder):
     """What the program prints for each list, by its number."""
-    names = "rope_changes: rope_positions text_rope position_mapper\n"
-    copy_crate("rope_positions", folder, names, left_out=("must-fail", "out"))
-    crate = folder / "crates" / "rope_changes"
-    (crate / "src").mkdir(parents=True)
-    shutil.copyfile(ROOT / "crates/rope_positions/tests/rope_positions.rt.txt", crate / "src" / "main.rt")
+    libraries = ["rope_positions", "text_rope", "position_mapper"]
+    source = (ROOT / "crates/rope_positions/tests/rope_positions.rt.txt").read_text(encoding="utf-8")
+    crate = copy_program("rope_changes", libraries, source, folder, left_out=("must-fail", "out"))
     cases = folder / "cases"
     cases.mkdir()
     for number, case in enumerate(lists):

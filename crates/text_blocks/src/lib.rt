@@ -1,7 +1,6 @@
-//! The leaves of a rope: blocks of pieces of a text.
+//! The leaves of a rope: pieces of a text, each with its counts.
 //!
-//! A [`Block`] has a few pieces side by side, with the counts of each and of the whole. It answers as its text, reads one
-//! piece at most for a question, and is changed where it stands. A contract sees a block as its text.
+//! A [`Piece`] is changed where it stands. A contract sees it as its text.
 #![tactic(auto)]
 
 mod counts;

@@ -1,8 +1,8 @@
 //! A text that changes: one text in a balanced tree of pieces.
 //!
-//! An editor or a language server changes one long text thousands of times and asks after each change. A [`Rope`] takes
-//! the logarithm of the number of pieces for every question and every change, and answers as `str_indices` does for the
-//! whole text.
+//! An editor or a language server changes one long text thousands of times and asks after each change. A [`Rope`] goes
+//! down its tree for a question or a change, in place of over the text, and answers as `str_indices` does for the whole
+//! text.
 #![tactic(auto)]
 
 mod chunks;

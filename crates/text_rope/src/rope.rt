@@ -29,8 +29,8 @@ const MAX_LEN: usize = isize::MAX as usize;
 
 /// A text that is kept in a balanced tree of its pieces. A contract sees the text, the list of its characters.
 ///
-/// A question takes time logarithmic in the number of pieces, and so does a change, besides the time for the bytes that it
-/// puts in or takes out.
+/// A question looks at a number of places that is logarithmic in the number of pieces, and reads one piece. A change goes
+/// down the tree too, copies what it puts in, and frees what it takes out.
 #[derive(Drop)]
 pub struct Rope {
     tree: Tree,

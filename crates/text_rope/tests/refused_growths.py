@@ -17,7 +17,7 @@ from typing import NamedTuple, Tuple
 ROOT = pathlib.Path(__file__).resolve().parents[3]
 sys.path.insert(0, str(ROOT / "scripts/lib"))
 
-from crate_copies import copy_crate  # noqa: E402
+from crate_copies import copy_program  # noqa: E402
 from tally import Tally  # noqa: E402
 
 
@@ -57,17 +57,13 @@ RUNS = 40
 REFUSED = "no memory, and all as before\n"
 
 
-def copy_program(program, folder):
-    """Puts the program beside a copy of the sources of its library, and answers where it is."""
-    copy_crate(program.library, folder, f"{program.name}: {program.library}\n", left_out=("must-fail", "out"))
-    crate = folder / "crates" / program.name
-    (crate / "src").mkdir(parents=True)
+def source_of(program):
+    """The text of the program, with its numbers."""
     source = (ROOT / f"crates/text_rope/tests/{program.name}.rt.txt").read_text(encoding="utf-8")
     for name, number in program.numbers:
         source, made = re.subn(f"(const {name}: usize =) [0-9]+;", rf"\1 {number};", source)
         assert made == 1, name
-    (crate / "src" / "main.rt").write_text(source, encoding="utf-8")
-    return crate
+    return source
 
 
 def run_all(program, crate, cases):
@@ -90,7 +86,8 @@ def try_program(program, tally):
     """Refuses each growth of the program in turn."""
     with tempfile.TemporaryDirectory() as folder:
         folder = pathlib.Path(folder)
-        done = run_all(program, copy_program(program, folder), folder / "cases")
+        crate = copy_program(program.name, [program.library], source_of(program), folder, left_out=("must-fail", "out"))
+        done = run_all(program, crate, folder / "cases")
     if not tally.result(done.returncode == 0, f"{program.name} is built once, and comes to an end in {RUNS} runs"):
         print(done.stdout + done.stderr)
     outputs = outputs_of(done)

@@ -21,6 +21,7 @@ import tempfile
 ROOT = pathlib.Path(__file__).resolve().parents[3]
 sys.path.insert(0, str(ROOT / "scripts/lib"))
 
+from c_exports import build  # noqa: E402
 from server_by_hand import try_by_hand  # noqa: E402
 from tally import Tally, least  # noqa: E402
 from wrong_client import try_wrong_client  # noqa: E402
@@ -203,15 +204,6 @@ def copy_of(folder):
     return folder / "examples/language_server"
 
 
-def libraries():
-    """The folder of both libraries; None where a script fails."""
-    for script in ["build_library", "build_rope"]:
-        done = subprocess.run([ROOT / "bindings/c" / script], stdout=subprocess.PIPE, text=True)
-        if not tally.result(done.returncode == 0, script):
-            return None
-    return pathlib.Path(done.stdout.splitlines()[-1]).parent
-
-
 def try_own_tests(server):
     """The tests of the server's own, in Rust."""
     done = cargo(server, "test", "--release")
@@ -226,10 +218,10 @@ def try_server(folder):
     if cargo(server, "generate-lockfile").returncode != 0:
         tally.leave_out(3 + BY_HAND + IN_EDITOR + IN_EMACS, "the crate serde_json is not at hand (Debian's package librust-serde-json-dev)")
         return
-    libraries_folder = libraries()
-    if libraries_folder is None:
+    library, rope = build(tally, "build_library"), build(tally, "build_rope")
+    if not library or not rope:
         return
-    os.environ.update(STR_INDICES_LIB_DIR=str(libraries_folder), CARGO_TARGET_DIR=str(folder / "target"))
+    os.environ.update(STR_INDICES_LIB_DIR=str(library.parent), CARGO_TARGET_DIR=str(folder / "target"))
     done = cargo(server, "build", "--release")
     if not tally.result(done.returncode == 0, "examples/language_server builds"):
         print(done.stderr)

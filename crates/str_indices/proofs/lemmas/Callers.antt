@@ -1,5 +1,5 @@
--- What the proofs of other crates may cite, of std and of this crate: `CALLING.md` has the statements, and says of each
--- what it is for.
+-- What the proofs of other crates may cite of this crate, and one lemma of std beside it: `CALLING.md` says in groups
+-- what they are for.
 use Rattle.str_indices.proofs.lemmas.Common.{◌≡◌, ℕ, ◌≤◌, inl, inr, List, length, get_or, arith, true, false, sym, ◌∙◌, ap, subst, chars, IsUtf8, IsCharBoundary, cases_lt, size, Scheme, to_byte_idx, IsBoundary, is_trailing}
 use Rattle.str_indices.proofs.lemmas.bytes.{is_trailing_later, boundary_begins}
 pub use Rattle.std.proofs.lemmas.Str.{chars-append}
