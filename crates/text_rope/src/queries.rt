@@ -17,7 +17,7 @@ use crate::{Chunk, View};
 use byte_chunk::Counter;
 use piece_text::{Scheme, Summary};
 
-/// How many characters, UTF-16 code units or line breaks the text has. Visits no fork.
+/// How many characters, UTF-16 code units or line breaks the text has. It asks the root, and goes down no further.
 pub fn count_in(v: &mut View, s: Scheme) -> usize
     ensures answer { result ≡ count s (joined v.old.texts) }
     ensures state { v.new ≡ v.old }
