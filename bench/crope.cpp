@@ -30,22 +30,33 @@ struct Taken {
 };
 
 // Pseudo-random numbers, the same in each program.
-uint64_t next(uint64_t seed) { return seed * 6364136223846793005u + 1442695040888963407u; }
+uint64_t next(uint64_t seed)
+{
+    return seed * 6364136223846793005u + 1442695040888963407u;
+}
 
-size_t below(uint64_t seed, size_t n) { return n == 0 ? 0 : (seed >> 33) % n; }
+size_t below(uint64_t seed, size_t n)
+{
+    return n == 0 ? 0 : (seed >> 33) % n;
+}
 
 // Nanoseconds that a call takes.
-template <class F> uint64_t timed(F call) {
+template <class F> uint64_t timed(F call)
+{
     const auto start = std::chrono::steady_clock::now();
     call();
     const auto taken = std::chrono::steady_clock::now() - start;
     return std::chrono::duration_cast<std::chrono::nanoseconds>(taken).count();
 }
 
-bool is_inside(const crope &text, size_t at) { return at < text.size() && (text[at] & 0xc0) == 0x80; }
+bool is_inside(const crope &text, size_t at)
+{
+    return at < text.size() && (text[at] & 0xc0) == 0x80;
+}
 
 // Where the character begins that the byte is in.
-size_t floor_of(const crope &text, size_t at) {
+size_t floor_of(const crope &text, size_t at)
+{
     while (is_inside(text, at)) {
         at--;
     }
@@ -53,7 +64,8 @@ size_t floor_of(const crope &text, size_t at) {
 }
 
 // A check sum of the bytes and their order.
-uint64_t hashed(const crope &text) {
+uint64_t hashed(const crope &text)
+{
     uint64_t sum = 0;
     for (auto byte = text.begin(); byte != text.end(); ++byte) {
         sum = sum * 31 + static_cast<unsigned char>(*byte);
@@ -61,16 +73,21 @@ uint64_t hashed(const crope &text) {
     return sum;
 }
 
-crope loaded(const std::string &source) { return crope(source.data(), source.size()); }
+crope loaded(const std::string &source)
+{
+    return crope(source.data(), source.size());
+}
 
-Change found_insert(crope &text, uint64_t seed) {
+Change found_insert(crope &text, uint64_t seed)
+{
     const size_t at = floor_of(text, below(seed, text.size() + 1));
     const size_t len = below(next(seed), 20) + 1;
     text.insert(at, LETTERS, len);
     return {at, len};
 }
 
-Change found_removal(crope &text, uint64_t seed) {
+Change found_removal(crope &text, uint64_t seed)
+{
     const size_t at = floor_of(text, below(seed, text.size() + 1));
     size_t to = at;
     for (size_t left = below(next(seed), 20) + 1; left > 0 && to < text.size(); left--) {
@@ -83,7 +100,8 @@ Change found_removal(crope &text, uint64_t seed) {
 }
 
 // The places of a round, each in the text that those before it leave.
-std::vector<Change> find(Change found(crope &, uint64_t), crope &text, uint64_t seed, size_t n) {
+std::vector<Change> find(Change found(crope &, uint64_t), crope &text, uint64_t seed, size_t n)
+{
     std::vector<Change> changes;
     for (size_t i = 0; i < n; i++) {
         seed = next(next(seed));
@@ -93,7 +111,8 @@ std::vector<Change> find(Change found(crope &, uint64_t), crope &text, uint64_t 
 }
 
 // Times a round's changes at random places of a fresh text.
-void change(const std::string &source, const Scale &scale, uint64_t seed, Taken &taken) {
+void change(const std::string &source, const Scale &scale, uint64_t seed, Taken &taken)
+{
     crope twin = loaded(source);
     const auto inserts = find(found_insert, twin, seed, scale.changes);
     const auto removals = find(found_removal, twin, next(seed), scale.changes);
@@ -113,7 +132,8 @@ void change(const std::string &source, const Scale &scale, uint64_t seed, Taken 
 }
 
 // Times a round's typing in the middle of a fresh text.
-void typed(const std::string &source, const Scale &scale, Taken &taken) {
+void typed(const std::string &source, const Scale &scale, Taken &taken)
+{
     crope text = loaded(source);
     const size_t at = floor_of(text, text.size() / 2);
     taken.typing += timed([&] {
@@ -124,11 +144,13 @@ void typed(const std::string &source, const Scale &scale, Taken &taken) {
     taken.typed += hashed(text);
 }
 
-void tell(const char *name, uint64_t figure, uint64_t sum) {
+void tell(const char *name, uint64_t figure, uint64_t sum)
+{
     std::printf("%s %llu %llu\n", name, static_cast<unsigned long long>(figure), static_cast<unsigned long long>(sum));
 }
 
-void tell_load(const std::string &source, const Scale &scale) {
+void tell_load(const std::string &source, const Scale &scale)
+{
     const size_t repeats = scale.bytes < 1000000 ? 1000000 / scale.bytes : 1;
     uint64_t best = UINT64_MAX;
     for (int i = 0; i < 3; i++) {
@@ -144,7 +166,8 @@ void tell_load(const std::string &source, const Scale &scale) {
 
 } // namespace
 
-int main(int argc, char **argv) {
+int main(int argc, char **argv)
+{
     if (argc != 7) {
         return 2;
     }

@@ -41,10 +41,20 @@ enum { WORTH_WIDE = 256 };
 /* What x86-64-v3 has that x86-64-v2 has not, by the bits of the cpuid
  * instruction. A processor below x86-64-v2 runs no half. */
 enum {
-    FMA = 1 << 12, MOVBE = 1 << 22, OSXSAVE = 1 << 27, AVX = 1 << 28, F16C = 1 << 29, /* leaf 1, ecx */
-    BMI1 = 1 << 3, AVX2 = 1 << 5, BMI2 = 1 << 8, /* leaf 7, ebx */
-    LZCNT = 1 << 5, /* leaf 0x80000001, ecx */
-    SAVED_VECTORS = 1 << 1 | 1 << 2 /* register 0 of xgetbv */
+    /* leaf 1, ecx */
+    FMA = 1 << 12,
+    MOVBE = 1 << 22,
+    OSXSAVE = 1 << 27,
+    AVX = 1 << 28,
+    F16C = 1 << 29,
+    /* leaf 7, ebx */
+    BMI1 = 1 << 3,
+    AVX2 = 1 << 5,
+    BMI2 = 1 << 8,
+    /* leaf 0x80000001, ecx */
+    LZCNT = 1 << 5,
+    /* register 0 of xgetbv */
+    SAVED_VECTORS = 1 << 1 | 1 << 2
 };
 
 static bool has_all(unsigned bits, unsigned wanted)
@@ -85,7 +95,9 @@ __attribute__((constructor)) static void choose_half(void)
     __atomic_store_n(&wide_from, always ? 0 : WORTH_WIDE, __ATOMIC_RELAXED);
 }
 
-#define WHERE_WIDE(times, answer) if (len / (times) >= least_wide()) return answer;
+#define WHERE_WIDE(times, answer) \
+    if (len / (times) >= least_wide()) \
+        return answer;
 #else
 #define WHERE_WIDE(times, answer)
 #endif
@@ -93,18 +105,17 @@ __attribute__((constructor)) static void choose_half(void)
 /* No program sees a half, also in a shared object. */
 #define HALF __attribute__((visibility("hidden")))
 
-#define HAND_ON(type, times, name, parameters, arguments)       \
-    HALF type str_indices_narrow_##name parameters;             \
-    HALF type str_indices_wide_##name parameters;               \
-    type str_indices_##name parameters                          \
-    {                                                           \
-        WHERE_WIDE(times, str_indices_wide_##name arguments)    \
-        return str_indices_narrow_##name arguments;             \
+#define HAND_ON(type, times, name, parameters, arguments) \
+    HALF type str_indices_narrow_##name parameters; \
+    HALF type str_indices_wide_##name parameters; \
+    type str_indices_##name parameters \
+    { \
+        WHERE_WIDE(times, str_indices_wide_##name arguments) \
+        return str_indices_narrow_##name arguments; \
     }
 
 #define COUNT(name) HAND_ON(size_t, 1, name, (const char *text, size_t len), (text, len))
-#define CONVERT(name) \
-    HAND_ON(size_t, 1, name, (const char *text, size_t len, size_t index), (text, len, index))
+#define CONVERT(name) HAND_ON(size_t, 1, name, (const char *text, size_t len, size_t index), (text, len, index))
 
 COUNT(chars_count)
 CONVERT(chars_from_byte_idx)
@@ -135,14 +146,14 @@ enum { LONGER_BY_LINE = 6 };
 #define OF_LINE(name) \
     HAND_ON(size_t, LONGER_BY_LINE, name, (const char *text, size_t len, size_t line), (text, len, line))
 #define POSITION_OF(name) \
-    HAND_ON(str_indices_position, LONGER_BY_LINE, name, \
-            (const char *text, size_t len, size_t byte_idx), (text, len, byte_idx))
+    HAND_ON(str_indices_position, LONGER_BY_LINE, name, (const char *text, size_t len, size_t byte_idx), \
+            (text, len, byte_idx))
 #define BYTE_OF(name) \
-    HAND_ON(size_t, LONGER_BY_LINE, name, \
-            (const char *text, size_t len, str_indices_position position), (text, len, position))
+    HAND_ON(size_t, LONGER_BY_LINE, name, (const char *text, size_t len, str_indices_position position), \
+            (text, len, position))
 #define BYTE_RANGE(name) \
-    HAND_ON(str_indices_bytes, LONGER_BY_LINE, name, \
-            (const char *text, size_t len, str_indices_range range), (text, len, range))
+    HAND_ON(str_indices_bytes, LONGER_BY_LINE, name, (const char *text, size_t len, str_indices_range range), \
+            (text, len, range))
 
 OF_LINE(line_end)
 

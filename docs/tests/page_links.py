@@ -2,7 +2,8 @@
 """Looks where the links of the pages lead: each to a file of the repository, and to a heading where it names one.
 
 The pages are all that git knows which end in .md, and the page for a browser, whose links go from the folder in which it
-is built. The search is tried on links that lead nowhere too. The last line printed is 'N passed, M failed'.
+is built. The files that the recipes of CONTRIBUTING.md name must be there, and the recipe for a scheme must list exactly
+those that name every scheme. Each search is tried on what it must find too. The last line printed is 'N passed, M failed'.
 """
 import pathlib
 import re
@@ -21,15 +22,31 @@ CODE = re.compile(r"^```.*?^```$|`[^`\n]*`", re.MULTILINE | re.DOTALL)
 LINK = re.compile(r"\]\(([^)\s]+)\)|<a href=\"([^\"]+)\"")
 HEADING = re.compile(r"^#+ (.*)$", re.MULTILINE)
 
+# an item of a recipe's list, which starts with a folder, and a path in it
+ITEM = re.compile(r"^(-|\d\.) (`[\w./]+/`.*(?:\n .*)*)", re.MULTILINE)
+PATH = re.compile(r"`([\w./{},+-]*[./][\w./{},+-]*)`")
+BRACES = re.compile(r"\{([^}]*)\}")
+
+# the schemes, a word of a name in code, so that `lines_lf` and `linesLf` have those of one, and what is no code
+SCHEMES = ROOT / "crates/str_indices/src/schemes.rt"
+VARIANT = re.compile(r"^    (\w+),$", re.MULTILINE)
+WORD = re.compile(r"[A-Z]?[a-z]+(?:16)?|(?<=_)[A-Z]+(?:16)?")
+NO_CODE = {".md", ".svg", ".png", ".edit", ".edits"}
+
 # links of the README, and whether each leads somewhere
 ROWS = {"docs/GATE.md": True, "docs/GATE.md#what-is-kept": True, "#use-it": True, "docs": True, "docs/GATES.md": False,
         "docs/GATE.md#what-is-lost": False, "#use": False, "../README.md": False}
 
 
+def files(*patterns):
+    """The files that git knows, by their paths from the top."""
+    command = ["git", "ls-files", "--", *patterns]
+    return subprocess.run(command, cwd=ROOT, capture_output=True, text=True, check=True).stdout.splitlines()
+
+
 def pages():
     """The pages, by their paths from the top, and where each is read."""
-    told = subprocess.run(["git", "ls-files", "*.md"], cwd=ROOT, capture_output=True, text=True, check=True).stdout
-    return {**{page: page for page in told.splitlines()}, WEB_PAGE: BUILT_WEB_PAGE}
+    return {**{page: page for page in files("*.md")}, WEB_PAGE: BUILT_WEB_PAGE}
 
 
 def anchors(path):
@@ -52,6 +69,49 @@ def links(text):
     return [link for link in found if not re.match(r"\w+:", link)]
 
 
+def listed(text, marks):
+    """The files and the folders that items with one of these marks list, each below the folder that its item starts with."""
+    found = []
+    for mark, item in ITEM.findall(text):
+        folder, *paths = PATH.findall(item)
+        if mark[-1] in marks:
+            found += [folder + one for path in paths for one in expanded(path)] or [folder]
+    return found
+
+
+def expanded(path):
+    """The paths that one with braces stands for."""
+    braces = BRACES.search(path)
+    return [path.replace(braces[0], word) for word in braces[1].split(",")] if braces else [path]
+
+
+def with_every_scheme():
+    """The files of code that name every scheme."""
+    variants = VARIANT.findall(SCHEMES.read_text(encoding="utf-8").partition("pub enum Scheme {")[2].partition("}")[0])
+    schemes = {variant.lower() for variant in variants}
+    code = [name for name in files() if pathlib.Path(name).suffix not in NO_CODE]
+    words = {name: WORD.findall((ROOT / name).read_text(encoding="utf-8", errors="replace")) for name in code}
+    return [name for name in code if schemes and schemes <= {word.lower() for word in words[name]}]
+
+
+def differing(found, names):
+    """What is found and not listed, and what is listed, a file or a folder, where nothing is found."""
+    unlisted = [file for file in found if not file.startswith(tuple(names))]
+    return [*unlisted, *(name for name in names if not any(file.startswith(name) for file in found))]
+
+
+def try_recipes(tally, text):
+    """The recipes name files that are there, and that for a scheme those that name every scheme."""
+    gone = [path for path in listed(text, "-.") if not (ROOT / path).exists()]
+    tally.result(not gone, f"the recipes name {len(listed(text, '-.'))} files {' '.join(gone)}")
+    recipe = text.partition("\n## A scheme\n")[2].partition("\n## ")[0]
+    found, names = with_every_scheme(), [path for path in listed(recipe, "-") if not path.endswith(".md")]
+    wrong = differing(found, names)
+    tally.result(not wrong, f"the recipe for a scheme lists the {len(found)} files that name every scheme {' '.join(wrong)}")
+    right = differing(found, names[1:]) and differing(found, [*names, "VERSION"])
+    tally.result(bool(right), "the search finds a file that is not listed, and one that names no scheme")
+
+
 def main():
     tally = Tally()
     for page, read_at in pages().items():
@@ -59,6 +119,8 @@ def main():
         astray = [link for link in found if not leads_somewhere(link, read_at)]
         if found:
             tally.result(not astray, f"{page}: {len(found)} links {' '.join(astray)}")
+    contributing, = files("*CONTRIBUTING.md")
+    try_recipes(tally, (ROOT / contributing).read_text(encoding="utf-8"))
     found = {link: leads_somewhere(link, "README.md") for link in ROWS}
     tally.result(found == ROWS, "the search finds a link that leads nowhere")
     return tally.end()

@@ -17,7 +17,7 @@ sys.path.insert(0, str(ROOT / "scripts/lib"))
 from page_lines import blocks, environment, try_lines  # noqa: E402
 from tally import Tally  # noqa: E402
 
-LEFT_OUT = shutil.ignore_patterns(".git", "out", "target", "__pycache__", "Cargo.lock", "bench", "refusals")
+LEFT_OUT = shutil.ignore_patterns(".git", "out", "target", "__pycache__", "Cargo.lock", "refusals")
 # each page, and the folder in which its lines run
 PAGES = {
     "README.md": ".", "bindings/c/README.md": ".",

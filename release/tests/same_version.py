@@ -1,8 +1,9 @@
 #!/usr/bin/env python3
-"""Looks that all parts say the one version that the file VERSION has.
+"""Looks that all parts say the one version that the file VERSION has: same_version.py [VERSION]
 
-What says it is listed here by file and pattern. The search is tried on another version too, which each must miss. The last
-line printed is 'N passed, M failed'.
+What says it is listed here by file and pattern. With a version that one is written first, into VERSION and all that says
+it but CHANGELOG.md, which you write. The search is tried on another version too, which each must miss. The last line
+printed is 'N passed, M failed'.
 """
 import pathlib
 import re
@@ -13,16 +14,23 @@ sys.path.insert(0, str(ROOT / "scripts/lib"))
 
 from tally import Tally  # noqa: E402
 
+BY_HAND = "CHANGELOG.md"
 PLACES = {
-    "bindings/rust/Cargo.toml": r'^version = "(.*)"$',
-    "bindings/positions/Cargo.toml": r'^version = "(.*)"$',
-    "bindings/rope/Cargo.toml": r'^version = "(.*)"$',
-    "bindings/web/package.json": r'^  "version": "(.*)",$',
+    "Cargo.toml": r'^version = "(.*)"$',
     "bindings/c/include/str_indices.h": r'^#define STR_INDICES_VERSION "(.*)"$',
     "bindings/c/include/str_rope.h": r'^#define STR_ROPE_VERSION "(.*)"$',
-    "docs/man/idx.1": r'^\.TH IDX 1 "" "pauskern (.*)"$',
-    "CHANGELOG.md": r"^## ([0-9.]+)",
+    BY_HAND: r"^## ([0-9.]+)",
 }
+
+
+def write(version):
+    """Writes that version wherever it is not written by hand."""
+    (ROOT / "VERSION").write_text(f"{version}\n", encoding="utf-8")
+    for name, pattern in PLACES.items():
+        if name != BY_HAND:
+            text = (ROOT / name).read_text(encoding="utf-8")
+            start, end = re.search(pattern, text, re.MULTILINE).span(1)
+            (ROOT / name).write_text(text[:start] + version + text[end:], encoding="utf-8")
 
 
 def differing(version):
@@ -36,6 +44,8 @@ def differing(version):
 
 def main():
     tally = Tally()
+    if len(sys.argv) > 1:
+        write(sys.argv[1])
     version = (ROOT / "VERSION").read_text(encoding="utf-8").strip()
     others = differing(version)
     for name in PLACES:

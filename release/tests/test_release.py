@@ -65,6 +65,8 @@ def try_contents(top):
     files = {str(path.relative_to(top)) for path in top.rglob("*") if path.is_file() and not path.is_symlink()}
     right = summed.returncode == 0 and files - listed == {"SHA256SUMS"}
     tally.result(right, f"the sums of {len(listed)} files are right {summed.stdout}")
+    unfilled = [name for name in sorted(files) if re.search(rb"@VERSION@|workspace = true", (top / name).read_bytes())]
+    tally.result(not unfilled, f"each file has its version {' '.join(unfilled)}")
     pages = sorted((top / "share/man").rglob("*.[13]"))
     names = [page.name for page in pages]
     tally.result(names == ["idx.1", "str_indices.3", "str_rope.3"], f"the manual pages: {' '.join(names)}")

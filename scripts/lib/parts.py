@@ -52,13 +52,15 @@ RUST = ("cargo", "rustc", "cc", "pkg-config")
 # what builds the libraries for C
 FUNCTIONS = tuple(f"bindings/c/{name}" for name in ("build_library", "choose_half.c", "include/*"))
 ROPE = tuple(f"bindings/c/{name}" for name in ("build_rope", "heap.c", "include/*"))
-CARGO_CRATES = (*(f"bindings/{name}/**/*" for name in ("rust", "positions", "rope", "original")), "bindings/find_library.rs")
+# the workspace of cargo, of which a part needs all members
+CARGO_CRATES = ("Cargo.toml", "bench/Cargo.toml", "bench/build.rs", "bench/src/**/*", "bench/plain/**/*",
+                "bindings/find_library.rs", *(f"bindings/{name}/**/*" for name in ("rust", "positions", "rope", "original")))
 # what scripts/release packs and runs beside these
 RELEASED = (
     "bindings/c/install", "bindings/c/examples/*", "bindings/web/*", "release/cmake/*", "release/examples/**/*",
     "examples/rust/**/*", "examples/language_server/*", "examples/language_server/src/*", "docs/man/*",
     "VERSION", "LICENSE-*", "NOTICE", "scripts/release",
-    *(f"{SHARED}/{name}.py" for name in ("man_pages", "crate_copies")),
+    *(f"{SHARED}/{name}.py" for name in ("man_pages", "debian_crates", "crate_copies")),
     *(f"bindings/{name}/README.md" for name in ("web", "rust", "positions", "rope")),
     *(f"docs/{name}.md" for name in ("DEFINITIONS", "PROVED")),
     "release/README.md", "CHANGELOG.md", "SECURITY.md",
@@ -70,17 +72,16 @@ PARTS = (
     Part("crates/idx/tests/failing_calls.py", 60, ("idx",), ("crates/idx/tests/failing_calls.c",), ("cc",)),
     Part("bindings/c/tests/test_c.py", 60, FOR_C, ("bindings/c/**/*", "VERSION"),
          (*SHELL, *BINUTILS, "cc", "c++", "pkg-config", "cmake", "make", "valgrind", "qemu-x86_64")),
-    Part("docs/tests/test_pages.py", 60, (*FOR_C, "idx"), (*FUNCTIONS, *ROPE, "bindings/c/install", "VERSION",
-         "bindings/c/examples/*", *CARGO_CRATES, "examples/rust/**/*", "scripts/test", "README.md",
-         *(f"bindings/{name}/README.md" for name in ("c", "rust", "positions", "rope"))),
+    Part("docs/tests/test_pages.py", 60, (*FOR_C, "idx"),
+         (*FUNCTIONS, *ROPE, *CARGO_CRATES, "bindings/c/install", "bindings/c/examples/*", "examples/rust/**/*", "VERSION",
+          "scripts/test", "README.md", *(f"bindings/{name}/README.md" for name in ("c", "rust", "positions", "rope"))),
          (*SHELL, *BINUTILS, *RUST, "c++", "cmake", "make")),
     Part("release/tests/test_release.py", 90, (*FOR_C, "position_mapper", "idx"), (*FUNCTIONS, *ROPE, *CARGO_CRATES, *RELEASED),
          (*SHELL, *BINUTILS, *RUST, "c++", "cmake", "make", "node", "groff", "git", "tar", "sha256sum")),
     Part("bindings/rust/tests/test_rust.py", 60, FOR_C, (*FUNCTIONS, *ROPE, *CARGO_CRATES, "VERSION", "examples/rust/**/*",
-         "bench/Cargo.toml", "bench/build.rs", "bench/run", "bench/picture.py", "bench/src/**/*"),
-         (*SHELL, *BINUTILS, *RUST)),
+         "bench/run", "bench/picture.py"), (*SHELL, *BINUTILS, *RUST)),
     Part("bindings/web/tests/test_browser.py", 60, ("str_indices_c", "position_mapper"),
-         ("bindings/web/**/*", "bindings/web/README.md", f"{SHARED}/crate_copies.py"),
+         ("bindings/web/**/*", "bindings/web/README.md", "VERSION", f"{SHARED}/crate_copies.py"),
          ("node", "chromium", "chromium-browser", "google-chrome", "bash", "tsc", "esbuild", "rollup")),
     Part("bindings/c/tests/test_positions.py", 30, ("str_indices_c", "str_indices_c_wide"), FUNCTIONS,
          (*SHELL, *BINUTILS, "cc")),

@@ -18,7 +18,7 @@ def units(text, codec, size):
 def line_before(data, byte):
     """The line of a byte and that line's text before it: what stands before the byte, split into lines."""
     before = data[:byte].decode("utf-8", "ignore")
-    if data[byte - 1 : byte + 1] == b"\r\n" and byte > 0:
+    if data[byte - 1:byte + 1] == b"\r\n" and byte > 0:
         before = before[:-1]
     lines = BREAK.split(before)
     return len(lines) - 1, lines[-1]
@@ -79,4 +79,4 @@ class Lines:
         found = self.byte_range(start, end, encoding)
         if found is None:
             return None
-        return (self.data[: found[0]] + text.encode() + self.data[found[1] :]).decode()
+        return (self.data[:found[0]] + text.encode() + self.data[found[1]:]).decode()

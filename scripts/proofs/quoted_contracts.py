@@ -201,9 +201,9 @@ def edits_of(block):
         line = lines[number]
         exchanged = re.sub(r"\w+", "another", line, count=1)
         if exchanged != line:
-            yield f"a word exchanged in {line.strip()}", "\n".join([*lines[:number], exchanged, *lines[number + 1 :]])
+            yield f"a word exchanged in {line.strip()}", "\n".join([*lines[:number], exchanged, *lines[number + 1:]])
         if is_needed(lines, number):
-            yield f"{line.strip()} left out", "\n".join([*lines[:number], *lines[number + 1 :]])
+            yield f"{line.strip()} left out", "\n".join([*lines[:number], *lines[number + 1:]])
 
 
 def quoted_lines(lines):
@@ -220,7 +220,7 @@ def quoted_lines(lines):
 def is_needed(lines, number):
     """Whether a line is a part of something that a block shows, or its head, where nothing else is left out beside it."""
     before = next(line for line in reversed(lines[:number]) if line.strip())
-    after = next((line for line in lines[number + 1 :] if line.strip()), "")
+    after = next((line for line in lines[number + 1:] if line.strip()), "")
     if LEFT_OUT.fullmatch(before.strip()) or LEFT_OUT.fullmatch(after.strip()):
         return False
     return lines[number].startswith((" ", "}")) or [*lines, ""][number + 1].startswith(" ")

@@ -95,7 +95,7 @@ def edits_in(path: pathlib.Path) -> List[Edit]:
     if path.suffix == ".edit":
         return [Edit(path.stem, lines)]
     heads = [at for at, line in enumerate(lines) if line.startswith("[")]
-    edits = [Edit(lines[at][1:-1], lines[at + 1 : end]) for at, end in zip(heads, [*heads[1:], len(lines)])]
+    edits = [Edit(lines[at][1:-1], lines[at + 1:end]) for at, end in zip(heads, [*heads[1:], len(lines)])]
     names = [edit.name for edit in edits]
     if heads[:1] != [0] or len(set(names)) < len(names):
         raise ValueError(f"{path}: a line before the first name, or two edits of one name")

@@ -66,7 +66,7 @@ fn tell_load(name: &str, source: &str, repeats: usize, taken: u128) {
 }
 
 fn time_load<K>(source: &str, repeats: usize, load: fn(&str) -> K) -> u128 {
-    best(|| (0..repeats).map(|_| black_box(load(black_box(source)))).last())
+    best(|| (0..repeats).fold(None, |_, _| Some(black_box(load(black_box(source))))))
 }
 
 fn tell_reading<K: Kept>(text: &K, bytes: usize, repeats: usize) {

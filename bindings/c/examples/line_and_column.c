@@ -24,8 +24,8 @@ int main(int argc, char **argv)
     }
     size_t line = str_indices_lines_crlf_from_byte_idx(text, len, byte);
     size_t start = str_indices_lines_crlf_to_byte_idx(text, len, line);
-    size_t column = str_indices_utf16_from_byte_idx(text, len, byte)
-                  - str_indices_utf16_from_byte_idx(text, len, start);
+    size_t column =
+        str_indices_utf16_from_byte_idx(text, len, byte) - str_indices_utf16_from_byte_idx(text, len, start);
     printf("%zu:%zu\n", line, column);
     return 0;
 }

@@ -78,7 +78,9 @@ typedef struct str_rope {
 } str_rope;
 
 /* The empty text: str_rope rope = STR_ROPE_EMPTY; */
+/* clang-format off */
 #define STR_ROPE_EMPTY {NULL}
+/* clang-format on */
 
 /* How many bytes a piece has at most. */
 #define STR_ROPE_MAX_PIECE 1024
@@ -264,8 +266,8 @@ str_rope_status str_rope_change(str_rope *rope, str_rope_encoding encoding,
  * is not 0, STR_ROPE_NO_MEMORY. */
 str_rope_status str_rope_change_exact(str_rope *rope,
                                       str_rope_encoding encoding,
-                                      str_indices_range range,
-                                      const char *text, size_t len);
+                                      str_indices_range range, const char *text,
+                                      size_t len);
 
 #ifdef __cplusplus
 }

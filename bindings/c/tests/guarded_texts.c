@@ -28,11 +28,13 @@ struct counted {
 enum { CHARS, UTF16, LF, CRLF, LINES, PAIRS, KINDS };
 static struct counted model[KINDS];
 
+/* clang-format off */
 static const char *const characters[] = {
     "a", " ", "\n", "\r", "\r\n", "\v", "\f", "\302\205", "\302\204", "\303\251",
     "\342\200\250", "\342\200\251", "\342\200\247", "\343\201\233", "\340\252\205",
     "\360\237\220\270", "\364\217\277\277", "\n\r", "\0",
 };
+/* clang-format on */
 enum { CHARACTERS = sizeof characters / sizeof characters[0] };
 
 static size_t passed, failed;

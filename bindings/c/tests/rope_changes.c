@@ -57,11 +57,13 @@ static size_t pick(size_t below)
 }
 
 /* What texts are made of: each length of a char, each break, a combining char. */
+/* clang-format off */
 static const char *const parts[] = {
     "\r\n", "\r", "\n", "\v", "\f", "\302\205", "\342\200\250", "\342\200\251",
     "\303\251", "e\314\201", "\343\201\233", "\360\237\220\270",
     "a", "b", " ", "word ", "line ", "text ", "long ", "of letters ",
 };
+/* clang-format on */
 enum { PARTS = sizeof parts / sizeof parts[0], OTHERS = 12 };
 
 /* Fills the room with a random text, and answers its length: a few bytes less at most. */
@@ -437,7 +439,8 @@ static void fill(str_rope *rope, model *text, size_t size)
 
 int main(int number, char **words)
 {
-    size_t bytes = number > 1 ? (size_t)atoll(words[1]) : 100000, changes = number > 2 ? (size_t)atoll(words[2]) : 10000;
+    size_t bytes = number > 1 ? (size_t)atoll(words[1]) : 100000;
+    size_t changes = number > 2 ? (size_t)atoll(words[2]) : 10000;
     str_rope rope = STR_ROPE_EMPTY;
     model text = {NULL, 0, 0};
     fill(&rope, &text, bytes);

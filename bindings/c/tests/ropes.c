@@ -74,10 +74,9 @@ static void from_bytes(void)
     static const struct {
         size_t byte, by_scheme[SCHEMES + 1];
     } rows[] = {
-        {0, {0, 0, 0, 0, 0, 0}},     {2, {2, 2, 0, 0, 0, 0}},     {3, {3, 3, 1, 1, 1, 1}},
-        {5, {3, 3, 1, 1, 1, 1}},     {7, {4, 5, 1, 1, 1, 1}},     {9, {6, 7, 1, 2, 2, 2}},
-        {13, {8, 9, 2, 3, 3, 3}},    {15, {8, 9, 2, 3, 3, 3}},    {16, {9, 10, 2, 3, 4, 4}},
-        {17, {10, 11, 2, 3, 4, 4}},  {18, {10, 11, 2, 3, 4, 4}},  {MOST, {10, 11, 2, 3, 4, 4}},
+        {0, {0, 0, 0, 0, 0, 0}},   {2, {2, 2, 0, 0, 0, 0}},    {3, {3, 3, 1, 1, 1, 1}},    {5, {3, 3, 1, 1, 1, 1}},
+        {7, {4, 5, 1, 1, 1, 1}},   {9, {6, 7, 1, 2, 2, 2}},    {13, {8, 9, 2, 3, 3, 3}},   {15, {8, 9, 2, 3, 3, 3}},
+        {16, {9, 10, 2, 3, 4, 4}}, {17, {10, 11, 2, 3, 4, 4}}, {18, {10, 11, 2, 3, 4, 4}}, {MOST, {10, 11, 2, 3, 4, 4}},
     };
     str_rope rope = WITH(breaks);
     for (size_t i = 0; i < NUMBER_OF(rows); i++)
@@ -121,14 +120,16 @@ static void ask_the_empty_text(str_rope *rope)
     for (size_t i = 0; i < SCHEMES; i++) {
         str_rope_scheme scheme = (str_rope_scheme)i;
         same(str_rope_count(rope, scheme) == 0 && str_rope_from_byte_idx(rope, scheme, 9) == 0 &&
-                 str_rope_to_byte_idx(rope, scheme, 9) == 0, "no text, by scheme", i, 0);
+                 str_rope_to_byte_idx(rope, scheme, 9) == 0,
+             "no text, by scheme", i, 0);
     }
     for (size_t i = 0; i < ENCODINGS; i++) {
         str_rope_encoding encoding = (str_rope_encoding)i;
         str_indices_position end = str_rope_position_of(rope, encoding, 9);
         same(end.line == 0 && end.character == 0 && str_rope_byte_of(rope, encoding, behind) == 0 &&
                  str_rope_exact_byte_of(rope, encoding, begin) == 0 &&
-                 str_rope_exact_byte_of(rope, encoding, behind) == NONE, "no text, by encoding", i, 0);
+                 str_rope_exact_byte_of(rope, encoding, behind) == NONE,
+             "no text, by encoding", i, 0);
     }
     same(str_rope_len(rope) == 0 && str_rope_line_end(rope, 9) == 0, "no text, len and line_end", 0, 0);
     same(str_rope_is_char_boundary(rope, 0) && !str_rope_is_char_boundary(rope, 1), "no text, is_char_boundary", 0, 0);
@@ -239,7 +240,8 @@ static void reading(void)
     same(memcmp(out, "???????", 8) == 0, "what refusals leave of the room", 0, 0);
     same(str_rope_copy_to(&rope, 1, 5, out, 4) == STR_ROPE_OK, "copy_to", 1, 5);
     same(memcmp(out, "\360\237\220\270???", 8) == 0, "copy_to", 1, 5);
-    same(str_rope_copy_to(&rope, 5, 6, out, 8) == STR_ROPE_OK && memcmp(out, "b\237\220\270???", 8) == 0, "copy_to", 5, 6);
+    same(str_rope_copy_to(&rope, 5, 6, out, 8) == STR_ROPE_OK && memcmp(out, "b\237\220\270???", 8) == 0, "copy_to", 5,
+         6);
     str_rope_free(&rope);
 }
 
@@ -260,13 +262,16 @@ static void a_break_over_two_pieces(void)
     same(str_rope_append(&rope, &rest) == STR_ROPE_OK, "append", HALF, HALF);
     has(&rope, whole, 2 * HALF, "append");
     same(str_rope_count(&rope, STR_ROPE_CRLF) == 1 && str_rope_count(&rope, STR_ROPE_LF) == 1, "count", 1, 1);
-    same(str_rope_count(&rope, STR_ROPE_LINES) == 1 && str_rope_count(&rope, STR_ROPE_CHARS) == 2 * HALF, "count", 1, 0);
+    same(str_rope_count(&rope, STR_ROPE_LINES) == 1 && str_rope_count(&rope, STR_ROPE_CHARS) == 2 * HALF, "count", 1,
+         0);
     same(str_rope_from_byte_idx(&rope, STR_ROPE_CRLF, HALF) == 0, "from_byte_idx", HALF, 0);
     same(str_rope_from_byte_idx(&rope, STR_ROPE_CRLF, HALF + 1) == 1, "from_byte_idx", HALF + 1, 1);
     same(str_rope_to_byte_idx(&rope, STR_ROPE_CRLF, 1) == HALF + 1, "to_byte_idx", 1, HALF + 1);
     same(str_rope_line_end(&rope, 0) == HALF - 1, "line_end", 0, HALF - 1);
-    same(str_rope_insert(&rope, HALF, "x", 1) == STR_ROPE_OK && str_rope_count(&rope, STR_ROPE_CRLF) == 2, "insert", 1, 2);
-    same(str_rope_remove(&rope, HALF, HALF + 1) == STR_ROPE_OK && str_rope_count(&rope, STR_ROPE_CRLF) == 1, "remove", 1, 1);
+    same(str_rope_insert(&rope, HALF, "x", 1) == STR_ROPE_OK && str_rope_count(&rope, STR_ROPE_CRLF) == 2, "insert", 1,
+         2);
+    same(str_rope_remove(&rope, HALF, HALF + 1) == STR_ROPE_OK && str_rope_count(&rope, STR_ROPE_CRLF) == 1, "remove",
+         1, 1);
     same(str_rope_split_off(&rope, HALF, &rest) == STR_ROPE_OK, "split_off", HALF, 0);
     same(str_rope_count(&rope, STR_ROPE_CRLF) == 1 && str_rope_count(&rest, STR_ROPE_CRLF) == 1, "count", 1, 1);
     str_rope_free(&rope);
@@ -282,8 +287,8 @@ static void positions_of_bytes(void)
     static const struct {
         size_t byte, line, character[ENCODINGS + 1];
     } rows[] = {
-        {0, 0, {0, 0, 0, 0}},  {2, 0, {1, 1, 1, 1}},  {3, 1, {0, 0, 0, 0}},  {6, 1, {0, 0, 0, 0}},
-        {7, 1, {2, 4, 1, 1}},  {8, 1, {3, 5, 2, 2}},  {11, 2, {0, 0, 0, 0}}, {12, 2, {1, 3, 1, 1}},
+        {0, 0, {0, 0, 0, 0}},  {2, 0, {1, 1, 1, 1}},  {3, 1, {0, 0, 0, 0}},    {6, 1, {0, 0, 0, 0}},
+        {7, 1, {2, 4, 1, 1}},  {8, 1, {3, 5, 2, 2}},  {11, 2, {0, 0, 0, 0}},   {12, 2, {1, 3, 1, 1}},
         {13, 3, {0, 0, 0, 0}}, {15, 4, {1, 1, 1, 1}}, {MOST, 4, {1, 1, 1, 1}},
     };
     str_rope rope = WITH(lines);
@@ -321,7 +326,8 @@ static void bytes_of_positions(void)
             str_rope_encoding encoding = (str_rope_encoding)number;
             str_indices_position position = rows[i].position;
             same(str_rope_byte_of(&rope, encoding, position) == rows[i].byte[number], "byte_of", number, i);
-            same(str_rope_exact_byte_of(&rope, encoding, position) == rows[i].exact[number], "exact_byte_of", number, i);
+            same(str_rope_exact_byte_of(&rope, encoding, position) == rows[i].exact[number], "exact_byte_of", number,
+                 i);
         }
     str_rope_free(&rope);
 }
@@ -365,8 +371,7 @@ static void changes_by_positions(void)
         {{{1, 1}, {1, 1}}, "x", {"ab\r\nx" FROG "c", "ab\r\nx" FROG "c", "ab\r\n" FROG "xc", "ab\r\n" FROG "xc"}},
         {{{0, 9}, {0, 9}}, "!", {"ab!\r\n" FROG "c", "ab!\r\n" FROG "c", "ab!\r\n" FROG "c", "ab!\r\n" FROG "c"}},
         {{{0, 2}, {1, 0}}, "", {"ab" FROG "c", "ab" FROG "c", "ab" FROG "c", "ab" FROG "c"}},
-        {{{7, 0}, {9, 9}}, "\n",
-         {"ab\r\n" FROG "c\n", "ab\r\n" FROG "c\n", "ab\r\n" FROG "c\n", "ab\r\n" FROG "c\n"}},
+        {{{7, 0}, {9, 9}}, "\n", {"ab\r\n" FROG "c\n", "ab\r\n" FROG "c\n", "ab\r\n" FROG "c\n", "ab\r\n" FROG "c\n"}},
     };
     for (size_t i = 0; i < NUMBER_OF(rows); i++)
         for (size_t encoding = 0; encoding <= ENCODINGS; encoding++) {
@@ -414,8 +419,10 @@ static void refusals_by_positions(void)
     same(str_rope_change(&rope, STR_ROPE_ENCODING_UTF16, back, "\200", 1) == STR_ROPE_NOT_UTF8, "change", 1, 0);
     same(str_rope_change(&rope, STR_ROPE_ENCODING_UTF8, back, "x", 1) == STR_ROPE_NOT_ORDERED, "change", 1, 0);
     same(str_rope_change(&rope, STR_ROPE_ENCODING_UTF32, forth, "\343\201", 2) == STR_ROPE_NOT_UTF8, "change", 0, 1);
-    same(str_rope_change_exact(&rope, STR_ROPE_ENCODING_UTF16, back, "\200", 1) == STR_ROPE_NOT_UTF8, "change_exact", 1, 0);
-    same(str_rope_change_exact(&rope, STR_ROPE_ENCODING_UTF8, back, "x", 1) == STR_ROPE_NOT_ORDERED, "change_exact", 1, 0);
+    same(str_rope_change_exact(&rope, STR_ROPE_ENCODING_UTF16, back, "\200", 1) == STR_ROPE_NOT_UTF8, "change_exact", 1,
+         0);
+    same(str_rope_change_exact(&rope, STR_ROPE_ENCODING_UTF8, back, "x", 1) == STR_ROPE_NOT_ORDERED, "change_exact", 1,
+         0);
     HAS(&rope, lines, "what refusals leave");
     str_rope_free(&rope);
 }

@@ -11,14 +11,12 @@
 #include <str_indices.h>
 
 /* 45 bytes, 23 chars, 27 UTF-16 code units. */
-static const char frogs[] =
-    "Hel\360\237\220\270lo world! \343\201\223\343\202\223\360\237\220\270"
-    "\343\201\253\343\201\241\360\237\220\270\360\237\220\270\343\201\257!";
+static const char frogs[] = "Hel\360\237\220\270lo world! \343\201\223\343\202\223\360\237\220\270"
+                            "\343\201\253\343\201\241\360\237\220\270\360\237\220\270\343\201\257!";
 
 /* 48 bytes: LF, CR LF, CR, VT, FF, NEL, LS and PS between words. */
-static const char all_breaks[] =
-    "\nHello\r\n\r\343\201\233\013\343\201\213\014\343\201\204\302\205."
-    " There\342\200\250is something.\342\200\251";
+static const char all_breaks[] = "\nHello\r\n\r\343\201\233\013\343\201\213\014\343\201\204\302\205."
+                                 " There\342\200\250is something.\342\200\251";
 
 static const char crlf[] = "Here\r\nare\r\nsome\r\nwords";
 static const char crs[] = "\r\r\n\n";
@@ -44,8 +42,7 @@ static void same(const char *call, size_t answer, size_t expected)
 }
 
 /* Each SAME is one call over a text which is an array. */
-#define SAME(expected, name, text) \
-    same(#name " of " #text, str_indices_##name(text, sizeof text - 1), expected)
+#define SAME(expected, name, text) same(#name " of " #text, str_indices_##name(text, sizeof text - 1), expected)
 #define SAME_AT(expected, name, text, index) \
     same(#name " of " #text " at " #index, str_indices_##name(text, sizeof text - 1, index), expected)
 

@@ -113,12 +113,18 @@ fn a_range_has_the_bytes_of_its_ends_in_order() {
     for (_, line, character) in PLACES {
         for (_, next, offset) in PLACES {
             let start = Position { line, character };
-            let end = Position { line: next, character: offset };
+            let end = Position {
+                line: next,
+                character: offset,
+            };
             let bytes = (start <= end).then(|| byte_of(TEXT, start)..byte_of(TEXT, end));
             assert_eq!(byte_range(TEXT, Range { start, end }), bytes, "{start:?} to {end:?}");
         }
     }
-    let inside = Range { start: Position { line: 1, character: 1 }, end: Position { line: 2, character: 2 } };
+    let inside = Range {
+        start: Position { line: 1, character: 1 },
+        end: Position { line: 2, character: 2 },
+    };
     assert_eq!(Encoding::Utf8.byte_range(TEXT, inside), Some(3..9));
     assert_eq!(Encoding::Utf16.byte_range(TEXT, inside), Some(3..12));
     assert_eq!(Encoding::Utf32.byte_range(TEXT, inside), Some(7..12));

@@ -219,9 +219,6 @@ impl Rope {
             return len;
         }
         // The text goes on, and its last char here may do so too: it is left to the next chunk.
-        written
-            .iter()
-            .rposition(|byte| byte & 0xC0 != 0x80)
-            .unwrap_or(len)
+        written.iter().rposition(|byte| byte & 0xC0 != 0x80).unwrap_or(len)
     }
 }

@@ -99,18 +99,19 @@ def install(library, prefix):
 
 
 def test_outside(libraries, folder):
-    """The crates in a folder where there is nothing else of the repository, over the installed libraries."""
+    """The workspace in a folder where there is nothing else of the repository, over the installed libraries."""
     if not shutil.which("pkg-config"):
         tally.leave_out(2, "the crates over installed libraries, as pkg-config is not on the path")
         return
-    bindings = folder / "bindings"
-    shutil.copytree(ROOT / "bindings", bindings, ignore=shutil.ignore_patterns("target", "Cargo.lock"))
+    for name in ["bindings", "bench"]:
+        shutil.copytree(ROOT / name, folder / name)
+    shutil.copy(ROOT / "Cargo.toml", folder)
     for library in libraries:
         install(library, folder / "a prefix")
     search = str(folder / "a prefix/lib/pkgconfig")
     named = dict(os.environ, PKG_CONFIG_PATH=search)
     for name in ["positions", "rope"]:
-        done = cargo(bindings / name, "test", env=named)
+        done = cargo(folder / "bindings" / name, "test", env=named)
         right = right_tests(done.stdout) if done.returncode == 0 else 0
         if not tally.enough(f"tests of bindings/{name}", right, f"bindings/{name} outside the repository, by pkg-config"):
             print(done.stdout + done.stderr)

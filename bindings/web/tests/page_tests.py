@@ -26,7 +26,10 @@ CONVERSIONS = {
     "chars": "9 7:7 7:7", "utf16": "10, pairs: 1 7:7 8:7", "linesLf": "0 7:0 0:0", "linesCrlf": "0 7:0 0:0", "lines": "0 7:0 0:0",
 }
 # addresses that name no place, and what is said of each
-NOWHERE = {"9:0-0": "there is no example 9", "1:50-60": "has 10 units", "1:5-3": "a range ends after it begins", "frog": "names no place"}
+NOWHERE = {
+    "9:0-0": "there is no example 9", "1:50-60": "has 10 units", "1:5-3": "a range ends after it begins",
+    "frog": "names no place",
+}
 NO_INDEX = "write a number, 0 or more"
 BUTTONS = {"CR": "0D", "CR LF": "0D 0A", "NEL": "C2 85", "LS": "E2 80 A8", "frog": "F0 9F 90 B8"}
 
@@ -36,10 +39,14 @@ CELLS = (
     ".map((part) => part.textContent).join('/') + '/' + [...cell.querySelectorAll('.mark')].map((mark) => mark.classList[1])"
     ".join('+') + ['selected', 'cursor'].map((kind) => cell.classList.contains(kind) ? '/' + kind : '').join(''))"
 )
-ROWS = "Array.from(document.querySelectorAll('#places tbody tr'), (row) => [...row.cells].map((cell) => cell.textContent).join(' '))"
+ROWS = (
+    "Array.from(document.querySelectorAll('#places tbody tr'),"
+    " (row) => [...row.cells].map((cell) => cell.textContent).join(' '))"
+)
 HEADINGS = (
     "(() => { const [rows, cell] = ['.headings', '.char'].map((one) => document.querySelector(`#cells ${one}`));"
-    " const tops = (one) => Array.from(one.querySelectorAll(':scope > span:not(.marks)'), (row) => row.getBoundingClientRect().top);"
+    " const tops = (one) => Array.from(one.querySelectorAll(':scope > span:not(.marks)'),"
+    " (row) => row.getBoundingClientRect().top);"
     " return [Array.from(rows.children, (row) => row.textContent).join(' '), tops(rows).join() === tops(cell).join()]; })()"
 )
 NAMED = "document.getElementById('example').selectedOptions[0].textContent"
@@ -88,8 +95,9 @@ class Trial:
 
     def becomes(self, page, expression, expected, what):
         """Waits until the expression has the value; how long is not judged, but for the browser's hanging."""
+        wanted = json.dumps(expected, ensure_ascii=False, separators=(",", ":"))
         try:
-            page.wait(f"JSON.stringify({expression}) === {json.dumps(json.dumps(expected, ensure_ascii=False, separators=(',', ':')))}")
+            page.wait(f"JSON.stringify({expression}) === {json.dumps(wanted)}")
         except TimeoutError:
             pass
         self.same(page.value(expression), expected, what)
@@ -128,7 +136,8 @@ class Trial:
         self.becomes(page, CELLS, expected, "cells, marks, what is selected, and the cursor")
         self.same(page.value("document.querySelector('.joined').textContent"), "0DCR000D0ALF000A", "CR LF are one block")
         page = opened(self.browser, f"{self.address}#0:12-14")
-        self.same(page.value(CELLS)[10:13], ["0D/CR/000D/", f"0A/LF/000A/{all_three}", "F0 9F 90 B8/🐸 U+1F438/D83D DC38//selected/cursor"], "a pair")
+        pair = ["0D/CR/000D/", f"0A/LF/000A/{all_three}", "F0 9F 90 B8/🐸 U+1F438/D83D DC38//selected/cursor"]
+        self.same(page.value(CELLS)[10:13], pair, "a pair")
         self.same(page.value(CELLS)[18], "E2 80 A8/LS/2028/lines", "a line that ends by Unicode alone")
         self.same(page.value(HEADINGS), ["bytes char UTF-16 units", True], "the rows of cells have headings, beside them")
 
@@ -161,7 +170,8 @@ class Trial:
     def buttons(self):
         page = self.empty()
         for name, expected in BUTTONS.items():
-            page.value(f"[...document.querySelectorAll('[data-insert]')].find((one) => (one.ariaLabel ?? one.textContent) === '{name}').click()")
+            page.value("[...document.querySelectorAll('[data-insert]')]"
+                       f".find((one) => (one.ariaLabel ?? one.textContent) === '{name}').click()")
             self.becomes(page, BYTES, expected, f"the button {name}")
             page.key("z", ["undo"], CONTROL)
             self.becomes(page, f"[{FIELD}.value, {BYTES}]", ["", ""], f"{name} is taken back")
@@ -215,7 +225,8 @@ class Trial:
         self.becomes(page, BYTES, hexed("é\r\nb\rc\n↵"), "a file is opened")
         file.write_bytes(b"a\xff")
         page.ask("DOM.setFileInputFiles", nodeId=node, files=[str(file)])
-        self.becomes(page, "document.getElementById('trouble').textContent", "windows.txt cannot be shown: it is not UTF-8", "a file that is not UTF-8")
+        trouble = "document.getElementById('trouble').textContent"
+        self.becomes(page, trouble, "windows.txt cannot be shown: it is not UTF-8", "a file that is not UTF-8")
         self.same(page.value(BYTES), hexed("é\r\nb\rc\n↵"), "leaves the text")
 
     def readers(self):
@@ -224,10 +235,12 @@ class Trial:
         named = {}
         for node in nodes:
             named.setdefault(node["role"]["value"], []).append(node.get("name", {}).get("value", ""))
-        for role in ["button", "textbox", "combobox", "listbox", "option", "table", "row", "rowheader", "columnheader", "heading", "region"]:
+        for role in ["button", "textbox", "combobox", "listbox", "option", "table", "row", "rowheader", "columnheader",
+                     "heading", "region"]:
             names = named.get(role, [])
             found = names if role != "row" else [""] if not names else ["rows"]
-            self.tally.result(bool(found) and all(name.strip() for name in found), f"every {role} has a name: {len(names)} of them")
+            right = bool(found) and all(name.strip() for name in found)
+            self.tally.result(right, f"every {role} has a name: {len(names)} of them")
         boxes = [name for name in named["textbox"]]
         self.same(boxes[0], "Text", "the field's name")
         self.same("UTF-16 units: unit index, to byte index" in boxes, True, "a field's name tells what it converts")
@@ -264,7 +277,8 @@ class Trial:
         for width in [320, 390, 700, 1280]:
             page.resize(width, 700)
             page.settle()
-            self.same(page.value(f"document.documentElement.scrollWidth <= {width}"), True, f"{width} pixels have no sideways scrolling")
+            fits = page.value(f"document.documentElement.scrollWidth <= {width}")
+            self.same(fits, True, f"{width} pixels have no sideways scrolling")
         grounds = []
         for dark in [False, True]:
             page.dark(dark)
@@ -308,7 +322,8 @@ class Trial:
         page.copy(text)
         page.value(f"{FIELD}.focus()")
         page.paste()
-        self.becomes(page, f"{ROWS}[0]", f"byte {len(text.encode())} {len(text.encode())} {len(text.encode())}", "a megabyte is pasted, with each CR LF")
+        size = len(text.encode())
+        self.becomes(page, f"{ROWS}[0]", f"byte {size} {size} {size}", "a megabyte is pasted, with each CR LF")
         middle = len(text.encode("utf-16-le")) // 4
         page.value(f"{FIELD}.setSelectionRange({middle}, {middle})")
         before = len(text.encode("utf-16-le")[:middle * 2].decode("utf-16-le").encode())
@@ -331,7 +346,8 @@ class Trial:
         page.value(f"{FIELD}.setSelectionRange(100, 100)")
         page.wait(f"{ROWS}[2].startsWith('UTF-16 unit 100 ') && document.querySelector('.char.cursor')")
         self.becomes(page, seen, True, "the cursor's cell is in view")
-        self.same(page.value("document.getElementById('left-out').textContent").startswith("Shown are 192 chars"), True, "what is left out is told")
+        told = page.value("document.getElementById('left-out').textContent")
+        self.same(told.startswith("Shown are 192 chars"), True, "what is left out is told")
 
 
 def try_all(browser, page_file, tally, folder):

@@ -2,8 +2,9 @@
 """Runs the program as a shell does, and compares its status and both of its outputs.
 
 The program is proved and built first. Then come texts from a file and from a pipe, 64 MiB among them; streams that are
-closed, a full device, a folder as input, and a pipe that nobody reads; words and text that are not UTF-8; and a limit on
-memory. So each fault has its line and its status once through `main`. The last line printed is 'N passed, M failed'.
+closed, a full device, a folder as input, and a pipe that nobody reads; words and text that are not UTF-8; and limits on
+memory and on the stack. So each fault has its line and its status once through `main`. The last line printed is
+'N passed, M failed'.
 """
 import os
 import pathlib
@@ -66,6 +67,9 @@ COMMANDS = [
     # 64 MiB of memory for all that the program holds
     ("ulimit -v 65536; idx chars.count < large", NO_MEMORY),
     ("ulimit -v 65536; printf abc | idx chars.count", number(3)),
+    # 64 KiB of stack, the words and the environment among it
+    ("ulimit -s 64; idx chars.count < large", number(3 * LINES_IN_LARGE)),
+    ("ulimit -s 64; cat large | idx lines.to_byte_idx 1 wide 1", number(4)),
 ]
 
 

@@ -22,13 +22,12 @@ ROOT = pathlib.Path(__file__).resolve().parents[3]
 sys.path.insert(0, str(ROOT / "scripts/lib"))
 
 from c_exports import build  # noqa: E402
+from debian_crates import source_flags  # noqa: E402
 from server_by_hand import try_by_hand  # noqa: E402
 from tally import Tally, least  # noqa: E402
 from wrong_client import try_wrong_client  # noqa: E402
 
 CHANGES, CHANGES_IN_EMACS = (ROOT / "examples/language_server/tests" / name for name in ("changes.lua", "changes.el"))
-# where Debian's packages put the sources of crates
-REGISTRY = pathlib.Path("/usr/share/cargo/registry")
 # how many results there are of what is tried without an editor, in Neovim and in Emacs
 BY_HAND = 77
 IN_EDITOR = 40
@@ -184,14 +183,6 @@ def without_eglot():
     return None if done.returncode == 0 else "emacs has no eglot (Debian's package elpa-eglot)"
 
 
-def source_flags():
-    """The flags with which cargo takes the crates that Debian's packages have; none where there is no serde_json of theirs."""
-    if not any(REGISTRY.glob("serde_json-1.*")):
-        return []
-    settings = ['source.crates-io.replace-with="debian"', f'source.debian.directory="{REGISTRY}"']
-    return [word for setting in settings for word in ["--config", setting]]
-
-
 def cargo(folder, *words):
     return subprocess.run(["cargo", *words, "--offline", *source_flags()], cwd=folder, capture_output=True, text=True)
 
@@ -201,6 +192,7 @@ def copy_of(folder):
     ignored = shutil.ignore_patterns("target", "Cargo.lock")
     for name in ["bindings", "examples/language_server"]:
         shutil.copytree(ROOT / name, folder / name, ignore=ignored)
+    shutil.copy(ROOT / "Cargo.toml", folder)
     return folder / "examples/language_server"
 
 
@@ -216,7 +208,8 @@ def try_server(folder):
     """Builds the server, and tries it."""
     server = copy_of(folder)
     if cargo(server, "generate-lockfile").returncode != 0:
-        tally.leave_out(3 + BY_HAND + IN_EDITOR + IN_EMACS, "the crate serde_json is not at hand (Debian's package librust-serde-json-dev)")
+        missing = "the crate serde_json is not at hand (Debian's package librust-serde-json-dev)"
+        tally.leave_out(3 + BY_HAND + IN_EDITOR + IN_EMACS, missing)
         return
     library, rope = build(tally, "build_library"), build(tally, "build_rope")
     if not library or not rope:

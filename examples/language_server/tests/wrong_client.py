@@ -27,9 +27,10 @@ OUT_OF_STEP, NO_DOCUMENT, NO_METHOD = -32803, -32602, -32601
 PIECES = ["a", "word", " ", "  ", "\t", "é", "せ", "🐸", "\n", "\r\n", "\r", "\u2028", "\"", "\\", "\0"]
 BLANKS = re.compile("[ \t]+$")
 JUNK = [
-    b"\r\n", b"\n", b"x: y\r\n", b"Content-Length: ", b"Content-Length: 7\r\n", b"Content-Length: 30\r\n\r\n", b"Content-Length: -1\r\n\r\n",
-    b"Content-Length: 99999999999999999999\r\n\r\n", b"Content-Length: 100000000\r\n\r\n", b"\xff\xfe", b"\0", b"{}", b"[", b"]", b"\"",
-    b"{\"jsonrpc\": \"2.0\", \"id\": 1", b"junk", b":", b"Content-Len", b"Content-Length: 2\r\n\r\n{}", b"\x1b[31m", b"[[[[[[[[[[[[",
+    b"\r\n", b"\n", b"x: y\r\n", b"Content-Length: ", b"Content-Length: 7\r\n", b"Content-Length: 30\r\n\r\n",
+    b"Content-Length: -1\r\n\r\n", b"Content-Length: 99999999999999999999\r\n\r\n", b"Content-Length: 100000000\r\n\r\n",
+    b"\xff\xfe", b"\0", b"{}", b"[", b"]", b"\"", b"{\"jsonrpc\": \"2.0\", \"id\": 1", b"junk", b":", b"Content-Len",
+    b"Content-Length: 2\r\n\r\n{}", b"\x1b[31m", b"[[[[[[[[[[[[",
 ]
 
 
@@ -211,7 +212,8 @@ class WrongClient:
 
     def refused_events(self, document):
         one = self.random.choice([
-            event((0, 1), (0, 0), "x"), event((9, 0), (2, 7), "x"), event((0, 0), (0, LONGEST * 9), "x"), event((LONGEST * 9, 0), (LONGEST * 9, 0), "x"),
+            event((0, 1), (0, 0), "x"), event((9, 0), (2, 7), "x"), event((0, 0), (0, LONGEST * 9), "x"),
+            event((LONGEST * 9, 0), (LONGEST * 9, 0), "x"),
             {"range": 7, "text": "x"}, {"range": {"start": {"line": -1, "character": 0}}, "text": "x"}, {"text": 7}, {}, 7, None,
             {"range": {"start": {"line": 0, "character": 0}, "end": {"line": 2**70, "character": 0}}, "text": "x"},
         ])
@@ -232,7 +234,8 @@ class WrongClient:
         whole = frame(json.dumps(message).encode())
         at = self.random.randrange(len(whole))
         cut = self.random.randrange(1, 30)
-        self.write(self.random.choice([whole[:at], whole[:at] + whole[at + cut :], whole.replace(b": ", b": 1", 1), whole + whole[:at]]))
+        broken = [whole[:at], whole[:at] + whole[at + cut:], whole.replace(b": ", b": 1", 1), whole + whole[:at]]
+        self.write(self.random.choice(broken))
 
     def junk(self):
         pieces = [self.random.choice(JUNK) for _ in range(self.random.randrange(1, 12))]
@@ -243,11 +246,13 @@ class WrongClient:
     def wrong_json(self):
         self.write(frame(self.random.choice([
             b"", b"{", b"nil", b"\xff", b"[" * 5000, b"{}", b"[]", b"7", b"null", b"\"x\"", b"[1, [2]]", b'{"jsonrpc": "2.0"}',
-            b'{"jsonrpc": "2.0", "id": [], "method": "x"}', b'{"jsonrpc": "2.0", "method": 7}', b'{"jsonrpc": "2.0", "id": 1e400}',
-            b'{"jsonrpc": "2.0", "method": "textDocument/didChange"}', b'{"jsonrpc": "2.0", "method": "textDocument/didOpen", "params": []}',
+            b'{"jsonrpc": "2.0", "id": [], "method": "x"}', b'{"jsonrpc": "2.0", "method": 7}',
+            b'{"jsonrpc": "2.0", "id": 1e400}', b'{"jsonrpc": "2.0", "method": "textDocument/didChange"}',
+            b'{"jsonrpc": "2.0", "method": "textDocument/didOpen", "params": []}',
         ])))
 
-    RIGHT = [ask_for_text, ask_for_text, ask_for_hover, ask_for_nothing, ask_in_a_batch, open, open, close, change, change, change, change]
+    RIGHT = [ask_for_text, ask_for_text, ask_for_hover, ask_for_nothing, ask_in_a_batch, open, open, close,
+             change, change, change, change]
     WRONG = [wrong_change, half_a_pair, cut_frame, cut_frame, junk, junk, junk, wrong_json]
 
     def step(self):
@@ -294,7 +299,8 @@ class WrongClient:
             except queue.Empty:
                 message = None
             if message is None:
-                self.wrong.append(f"the server ended, with {self.server.poll()}, or is silent, and owes {len(self.wanted)} answers")
+                status, owed = self.server.poll(), len(self.wanted)
+                self.wrong.append(f"the server ended, with {status}, or is silent, and owes {owed} answers")
                 return False
             self.take(message)
         return self.compare_warnings()
@@ -337,5 +343,6 @@ def try_wrong_client(program, seed, seconds, tally):
         number = 0 if client.wrong else client.counts[what]
         tally.enough(f"{what} of wrong_client.py", number, f"a client that speaks wrongly: {what}")
     counts = ", ".join(f"{number} {what}" for what, number in client.counts.items())
-    tally.result(not client.wrong and status == 0, f"all its right requests are answered, and the server ends with {status}: {counts}")
+    right = not client.wrong and status == 0
+    tally.result(right, f"all its right requests are answered, and the server ends with {status}: {counts}")
     tally.result(memory <= MOST_MEMORY, f"the server has {memory} kB at the most, of {MOST_MEMORY}")
