@@ -1,8 +1,8 @@
 #!/usr/bin/env python3
-"""Runs the lines of the pages for C, C++ and Rust as they stand there, in a clone where nothing was set or built.
+"""Runs what the README and the pages for C, C++ and Rust print, as it stands there, in a clone with nothing set or built.
 
-The page of the Rust crate for a rope gives a project its entry and its program. The last line printed is
-'N passed, M failed', with what is left out.
+An entry for Cargo goes into a project beside the clone, with the page's program where it has one. What the README quotes
+of Rattle is compared elsewhere. The last line printed is 'N passed, M failed', with what is left out.
 """
 import os
 import pathlib
@@ -18,10 +18,18 @@ from page_lines import blocks, environment, try_lines  # noqa: E402
 from tally import Tally  # noqa: E402
 
 LEFT_OUT = shutil.ignore_patterns(".git", "out", "target", "__pycache__", "Cargo.lock", "refusals")
-# each page with its lines, and where on it they stand
-PAGES = {"README.md": ("**From C and C++**", "**From JavaScript**"), "bindings/c/README.md": ("## Install", None)}
-ROPE_PAGE = "bindings/rope/README.md"
+# each page, and the folder in which its lines run
+PAGES = {
+    "README.md": ".", "bindings/c/README.md": ".",
+    **{f"bindings/{name}/README.md": f"bindings/{name}" for name in ("rust", "positions", "rope")},
+}
+LANGUAGES = {"sh", "c", "toml", "rust", "text"}
+# the project that an entry goes into; one that replaces the original is for a project that has that
 PROJECT = '[package]\nname = "project"\nversion = "0.1.0"\nedition = "2021"\n\n'
+TAKES_ORIGINAL = '[dependencies]\nstr_indices = "0.4"\n\n'
+EMPTY = "fn main() {}\n"
+# what the programs of pages print
+PRINTED = {"bindings/rope/README.md": "one\nand 🐸 two\n"}
 
 tally = Tally()
 
@@ -33,32 +41,44 @@ def clone(folder):
     return folder
 
 
-def try_rope_page(top, folder):
-    """The program of the page for a rope, as a project beside the clone."""
+def try_entry(page, found, folder):
+    """The entry that a page has for a project, in one beside the clone."""
     if not shutil.which("cargo"):
-        tally.leave_out(1, f"{ROPE_PAGE}, as cargo is not on the path")
+        tally.leave_out(1, f"{page}: its entry, as cargo is not on the path")
         return
-    found = dict(blocks((top / ROPE_PAGE).read_text(encoding="utf-8"), end="Names are those"))
-    project = folder / "project"
+    [entry] = [text for language, text in found if language == "toml"]
+    [program] = [text for language, text in found if language == "rust" and "fn main" in text] or [EMPTY]
+    project = folder / page.replace("/", "_")
     (project / "src").mkdir(parents=True)
-    (project / "Cargo.toml").write_text(PROJECT + found["toml"], encoding="utf-8")
-    (project / "src/main.rs").write_text(found["rust"], encoding="utf-8")
+    (project / "Cargo.toml").write_text(PROJECT + TAKES_ORIGINAL * ("[patch" in entry) + entry, encoding="utf-8")
+    (project / "src/main.rs").write_text(program, encoding="utf-8")
     command = ["cargo", "run", "--quiet", "--offline"]
     done = subprocess.run(command, cwd=project, env=environment(folder, os.environ["PATH"]), capture_output=True, text=True)
-    right = done.returncode == 0 and done.stdout == "one\nand 🐸 two\n"
-    if not tally.result(right, f"{ROPE_PAGE}: its program"):
+    right = done.returncode == 0 and done.stdout == PRINTED.get(page, "")
+    if not tally.result(right, f"{page}: its entry in a project{', with its program' if program != EMPTY else ''}"):
         print(done.returncode, done.stdout, done.stderr)
+
+
+def try_page(page, top, folder, place):
+    """All that a page prints; the place is an empty folder."""
+    found = blocks(top / page)
+    others = {language for language, _ in found} - LANGUAGES
+    fences = (top / page).read_text(encoding="utf-8").count("```")
+    right = not others and fences == 2 * len(found)
+    tally.result(right, f"{page}: {fences} fences of {len(found)} blocks, all of known languages {' '.join(others)}")
+    try_lines(tally, page, found, top / PAGES[page], place, os.environ["PATH"])
+    if any(language == "toml" for language, _ in found):
+        try_entry(page, found, folder)
 
 
 def main():
     with tempfile.TemporaryDirectory() as folder:
         folder = pathlib.Path(folder)
         top = clone(folder / "pauskern")
-        for number, (page, part) in enumerate(PAGES.items()):
-            (folder / str(number)).mkdir()
-            found = blocks((top / page).read_text(encoding="utf-8"), *part)
-            try_lines(tally, page, found, top, folder / str(number), os.environ["PATH"])
-        try_rope_page(top, folder)
+        for number, page in enumerate(PAGES):
+            place = folder / str(number)
+            place.mkdir()
+            try_page(page, top, folder, place)
     return tally.end()
 
 

@@ -82,8 +82,7 @@ def try_contents(top):
 def try_moved(top, folder, path):
     """All of the README's lines, at that top."""
     folder.mkdir()
-    found = blocks((top / "README.md").read_text(encoding="utf-8"))
-    try_lines(tally, top.name, found, top, folder, path)
+    try_lines(tally, top.name, blocks(top / "README.md"), top, folder, path)
 
 
 def use(archive, folder):

@@ -1,7 +1,7 @@
 """Runs the lines of a page as they stand there, in one shell and with nothing set, and reads what they print.
 
-A block of C whose first line names a file is that file. Where a line ends in a comment, that is what it prints. What a
-machine has no tool for is left out.
+A block of C is the file that its first line names. Where a line ends in a comment, that is what it prints. What a machine
+has no tool for is left out.
 """
 import os
 import pathlib
@@ -13,12 +13,13 @@ BLOCK = re.compile(r"^```(\w+)\n(.*?)^```$", re.MULTILINE | re.DOTALL)
 NAME = re.compile(r"/\* (\w+\.c)\b")
 # what a line may want that not each machine has
 TOOLS = ["pkg-config", "cmake", "cargo", "c++", "node"]
+# what runs the test itself is not run again: it has to be there
+LOOKED_FOR = {"scripts/test": "test -x scripts/test"}
 
 
-def blocks(text, begin=None, end=None):
-    """The blocks of a page from one of its texts up to another, each with its language."""
-    first = text.index(begin) if begin else 0
-    return BLOCK.findall(text[first:text.index(end, first) if end else len(text)])
+def blocks(page):
+    """The blocks of a page, each with its language."""
+    return BLOCK.findall(page.read_text(encoding="utf-8"))
 
 
 def environment(home, path):
@@ -63,10 +64,9 @@ def judge(tally, page, at, line, said):
 
 def try_lines(tally, page, found, top, folder, path):
     """All lines of those blocks of a page, at that top, with the programs that they show; the folder is empty."""
-    for name, text in [(NAME.match(text), text) for language, text in found if language == "c"]:
-        if name:
-            (top / name[1]).write_text(text, encoding="utf-8")
-    lines = [line for language, text in found if language == "sh" for line in text.splitlines()]
+    for text in [text for language, text in found if language == "c"]:
+        (top / NAME.match(text)[1]).write_text(text, encoding="utf-8")
+    lines = [LOOKED_FOR.get(line, line) for language, text in found if language == "sh" for line in text.splitlines()]
     home, said = folder / "home", folder / "said"
     home.mkdir()
     said.mkdir()

@@ -410,7 +410,7 @@ def test_a_copy_elsewhere_has_the_same_names(copy, names):
 
 @pytest.mark.parametrize("path, changed", [
     ("docs/GATE.md", ""), ("README.md", "test_pages.py"),
-    ("crates/idx/src/main.rt", "test_program.py failing_calls.py test_release.py"),
+    ("crates/idx/src/main.rt", "test_program.py failing_calls.py test_pages.py test_release.py"),
     ("bindings/c/heap.c", "test_c.py test_pages.py test_release.py test_rust.py test_editor.py"),
     ("bindings/web/page.css", "test_browser.py test_release.py"), ("docs/DEFINITIONS.md", "test_release.py"),
     ("examples/language_server/tests/changes.lua", "test_editor.py"), ("bindings/rust/tests/test_rust.py", "test_rust.py"),

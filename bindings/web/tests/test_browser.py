@@ -2,11 +2,10 @@
 """Proves and builds the functions for a browser, and runs them and the page in Chromium and Node.
 
 Every function on worked answers and on random texts beside the engine's own strings, served as a site serves them; the
-module's types, and bundles of it; then
-the page as it is opened from the disk, driven by the browser's own protocol: what it shows at some cursors, what goes
-into its field, and what those have of it who hear it, or use a phone. Where no Chromium is on the path, it says so and
-only proves and builds. With `--pictures` it makes those of the page in docs/ anew. The last line printed is
-'N passed, M failed', with what is left out.
+module's types, bundles of it, and the program of its README; then the page as it is opened from the disk, driven by the
+browser's own protocol: what it shows at some cursors, what goes into its field, and what those have of it who hear it, or
+use a phone. Where no Chromium is on the path, it says so. With `--pictures` it makes those of the page in docs/ anew. The
+last line printed is 'N passed, M failed', with what is left out.
 """
 import functools
 import http.server
@@ -14,6 +13,7 @@ import importlib.machinery
 import importlib.util
 import json
 import pathlib
+import re
 import shutil
 import subprocess
 import sys
@@ -25,12 +25,13 @@ sys.path.insert(0, str(ROOT / "scripts/lib"))
 
 import page_tests  # noqa: E402
 from devtools import Browser  # noqa: E402
+from page_lines import blocks  # noqa: E402
 from tally import Tally  # noqa: E402
 from web_package import BUNDLERS, OF_BUNDLER, try_bundles, try_types  # noqa: E402
 
 NAMES = ["chromium", "chromium-browser", "google-chrome"]
 # how many results there are of what Node and of what a Chromium is asked
-IN_NODE = 6 + OF_BUNDLER * len(BUNDLERS)
+IN_NODE = 7 + OF_BUNDLER * len(BUNDLERS)
 IN_BROWSER = 107
 # no time is judged: an engine that hangs ends the script, also on a slow machine
 SECONDS = 600
@@ -38,6 +39,8 @@ PICTURES = {"page.png": 1280, "page-390.png": 390}
 
 COMPARE = 'import("./compare.mjs").then((module) => module.compareAll()).then(JSON.stringify)'
 EXCHANGE = 'import("./exchanges.mjs").then((module) => module.tryExchanges()).then(JSON.stringify)'
+# where a program says in a comment what it prints
+PRINTED = re.compile(r"^console\.log\(.*\); +// (.*)$", re.MULTILINE)
 # 64-bit memory is there without a flag in a Node of this version, or this flag asks for it
 FLAG = "--experimental-wasm-memory64"
 
@@ -113,6 +116,14 @@ def try_exchanges(folder, flags):
     tally.enough("exchanges of the module", seen, f"each of {found['tried']} exchanges of the module is seen{told}")
 
 
+def try_program(built, flags):
+    """The program of the README, as it stands there, beside what was built."""
+    [program] = [text for language, text in blocks(ROOT / "bindings/web/README.md") if language == "js"]
+    done = node_answer(built, program, *flags)
+    told = f"the program of the README prints {done.stdout.splitlines()} {done.stderr[-200:]}"
+    tally.result(done.stdout.splitlines() == PRINTED.findall(program) != [], told)
+
+
 def compare_in_node(folder, built):
     """The module as a package of Node's, and what it says where 64-bit memory is behind a flag."""
     package = folder / "project/node_modules/str_indices"
@@ -132,6 +143,7 @@ def compare_in_node(folder, built):
     done = node_answer(folder / "project", use, *flags)
     tally.result(done.stdout == "true 1\n", f"a package of Node's: {done.stdout.strip()}{done.stderr[-200:]}")
     try_bundles(tally, built, folder / "project", ["node", *flags])
+    try_program(built, flags)
     done = node_answer(folder, f"console.log(await {COMPARE})", *flags)
     if tally.result(done.returncode == 0, "the comparison runs in Node"):
         judge("in Node", done.stdout)
