@@ -1,5 +1,8 @@
 //! A digest of all answers.
 
+/// How far apart the bytes are that are taken of a text that is read in parts.
+const STEP: usize = 997;
+
 /// A number that depends on each number that it took, and on their order.
 #[derive(Clone, Copy)]
 pub(crate) struct Digest {
@@ -32,6 +35,19 @@ impl Digest {
         if let (Some(first), Some(last)) = (bytes.first(), bytes.last()) {
             self.take(usize::from(*first));
             self.take(usize::from(*last));
+        }
+    }
+
+    /// Takes of a text that is read from its beginning on, and of which a part begins at a byte, what is in that part at
+    /// multiples of 997.
+    pub(crate) fn part(&mut self, start: usize, part: &str) {
+        let bytes = part.as_bytes();
+        let first = STEP - 1 - start.saturating_add(STEP - 1) % STEP;
+        for i in 0..(bytes.len() / STEP).saturating_add(1) {
+            let at = first.saturating_add(i.saturating_mul(STEP));
+            if let Some(byte) = bytes.get(at) {
+                self.take(usize::from(*byte));
+            }
         }
     }
 

@@ -1,5 +1,5 @@
 //! What a user waits for, as programs that can be timed: a language server's day, an editor, a large file, spans of a text,
-//! a buffer of pieces, awkward texts, positions on lines that go over pieces, and buffers of few pieces.
+//! a buffer of pieces, awkward texts, positions on lines that go over pieces, buffers of few pieces, and undo.
 //!
 //! Its words are the workload's name, a seed, and how many rounds it takes. It makes its own texts from the seed, and prints
 //! the name and a digest of all answers, which is the same in each run of the same words.
@@ -18,6 +18,7 @@ mod server;
 mod short_lists;
 mod spans;
 mod texts;
+mod undo;
 
 use digest::Digest;
 use faults::Fault;
@@ -42,6 +43,8 @@ fn run(
         "awkward" => awkward::run(alloc, random, rounds, digest),
         "awkward_positions" => awkward_positions::run(alloc, random, rounds, digest),
         "short_lists" => short_lists::run(alloc, random, rounds, digest),
+        "undo" => undo::run(alloc, random, 1_000_000, rounds, digest),
+        "undo_large" => undo::run(alloc, random, 100_000_000, rounds, digest),
         "all" => run_each(alloc, random, rounds, digest),
         _ => Err(Fault::Words),
     }
@@ -60,7 +63,8 @@ fn run_each(
     pieces::run(alloc, random, rounds, digest)?;
     awkward::run(alloc, random, rounds, digest)?;
     awkward_positions::run(alloc, random, rounds, digest)?;
-    short_lists::run(alloc, random, rounds, digest)
+    short_lists::run(alloc, random, rounds, digest)?;
+    undo::run(alloc, random, 1_000_000, rounds, digest)
 }
 
 fn number(word: &str) -> Result<u64, Fault> {

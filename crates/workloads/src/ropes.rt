@@ -5,11 +5,14 @@ use crate::faults::Fault;
 use crate::random::Random;
 use text_rope::{Rope, Scheme};
 
-/// Reads all of the text.
+/// Reads all of the text, wherever its chunks begin and end.
 pub(crate) fn read_all(rope: &Rope, digest: &mut Digest) {
+    let mut start: usize = 0;
     for chunk in rope.chunks() {
-        digest.text(chunk);
+        digest.part(start, chunk);
+        start = start.saturating_add(chunk.len());
     }
+    digest.take(start);
 }
 
 /// Reads so many lines from a line on.
@@ -24,6 +27,7 @@ pub(crate) fn read_lines(
     let to = rope.to_byte_idx(s, line.saturating_add(n));
     let mut bytes: usize = 0;
     for chunk in rope.chunks_in(from..to)? {
+        digest.part(bytes, chunk);
         bytes = bytes.saturating_add(chunk.len());
     }
     digest.take(bytes);
