@@ -1,0 +1,10 @@
+pub mod Common
+pub mod Heights
+pub mod Forks
+pub mod Shifts
+pub mod Places
+pub use Common.*
+pub use Heights.*
+pub use Forks.*
+pub use Shifts.*
+pub use Places.*
