@@ -3,8 +3,12 @@ pub mod Heights
 pub mod Forks
 pub mod Shifts
 pub mod Places
+pub mod RowEnds
+pub mod Cutting
 pub use Common.*
 pub use Heights.*
 pub use Forks.*
 pub use Shifts.*
 pub use Places.*
+pub use RowEnds.*
+pub use Cutting.*

@@ -6,3 +6,4 @@ pub mod Views
 pub mod Looks
 pub mod Places
 pub mod States
+pub mod RowEnds

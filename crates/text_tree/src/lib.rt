@@ -2,7 +2,9 @@
 #![tactic(auto)]
 
 mod block;
+mod changes;
 mod joins;
+mod loads;
 mod queries;
 mod row;
 mod shifts;
