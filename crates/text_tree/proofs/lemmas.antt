@@ -5,6 +5,7 @@ pub mod Shifts
 pub mod Places
 pub mod RowEnds
 pub mod Cutting
+pub mod Chunks
 pub use Common.*
 pub use Heights.*
 pub use Forks.*
@@ -12,3 +13,4 @@ pub use Shifts.*
 pub use Places.*
 pub use RowEnds.*
 pub use Cutting.*
+pub use Chunks.*

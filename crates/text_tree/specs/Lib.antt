@@ -7,3 +7,4 @@ pub mod Looks
 pub mod Places
 pub mod States
 pub mod RowEnds
+pub mod Chunks

@@ -3,12 +3,20 @@
 
 mod block;
 mod changes;
+mod chunks;
 mod joins;
 mod loads;
 mod queries;
+mod refusals;
+mod rope;
 mod row;
 mod shifts;
 mod tree;
 
+pub use chunks::{Chunk, Found, Located, chunk_in, found_in, located_in};
+pub use queries::{count_in, from_in, is_boundary_in, to_in};
+pub use refusals::Refusal;
+pub use rope::Rope;
 pub use row::MAX_PIECE;
-pub use text_summary::{Scheme, Summary};
+pub use text_summary::{Front, Scheme, Summary};
+pub use tree::View;

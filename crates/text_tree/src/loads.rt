@@ -3,8 +3,11 @@ ghost use Rattle.std.specs.Prelude.{◌≡◌, ◌≢◌, ◌^◌, ◌<◌, ◌�
 ghost use Rattle.str_indices.specs.Text.{size};
 ghost use Rattle.text_summary.specs.Pieces.{joined};
 ghost use Rattle.text_tree.specs.Rows.{max_piece};
+ghost use Rattle.text_tree.specs.States.{texts_of};
 
+use crate::changes::tree_of;
 use crate::row::{MAX_PIECE, Row};
+use crate::tree::Side;
 use std::alloc::{AllocError, Global};
 
 /// How many bytes a row of a long text has at most: there is room for the first changes.
@@ -12,6 +15,15 @@ const LOADED: usize = MAX_PIECE / 8 * 7;
 
 /// How many bytes a character takes at most.
 const WIDEST: usize = 4;
+
+/// A tree of a text, in even rows.
+pub(crate) fn tree_from(alloc: Global, text: &str) -> Result<Option<Side>, AllocError>
+    requires { length text.now < 2 ^ 63 }
+    ensures { IfOk result (λ whole. joined (texts_of whole) ≡ chars text.now) }
+{
+    let rows = rows_of(alloc, text)?;
+    Ok(tree_of(alloc, rows)?)
+}
 
 /// The rows of a text, of about as many bytes.
 pub(crate) fn rows_of(alloc: Global, text: &str) -> Result<Vec<Row>, AllocError>

@@ -1,5 +1,5 @@
 //! A balanced tree of rows, whose nodes may have several owners.
-ghost use Rattle.std.specs.Prelude.{◌≡◌, ◌+◌, ◌^◌, ◌<◌, ◌≤◌, length, IfOk};
+ghost use Rattle.std.specs.Prelude.{◌≡◌, ◌+◌, ◌^◌, ◌<◌, ◌≤◌, [], length, IsOk, IfOk};
 ghost use Rattle.text_summary.specs.Pieces.{joined, joined_size};
 ghost use Rattle.text_summary.specs.Summaries.{summary_of};
 ghost use Rattle.text_tree.specs.Blocks.{max_rows};
@@ -177,6 +177,33 @@ impl Tree {
         ensures { result ≡ texts_of root }
     {
         Tree { root }
+    }
+
+    /// How many bytes its text has.
+    pub(crate) fn len(&self) -> usize
+        ensures len { result ≡ joined_size self.now }
+        ensures short { joined_size self.now < 2 ^ 63 }
+    {
+        match &self.root {
+            None => 0,
+            Some(side) => side.summary().len,
+        }
+    }
+
+    /// The same tree once more. Copies no node.
+    pub(crate) fn share(&self) -> Result<Tree, AllocError>
+        ensures ok { IfOk result (λ tree. tree ≡ self.now) }
+        ensures empty { joined self.now ≡ [] → IsOk result }
+    {
+        match &self.root {
+            None => Ok(Tree { root: None }),
+            Some(side) => {
+                let _some = side.summary();
+                Ok(Tree {
+                    root: Some(side.share()?),
+                })
+            }
+        }
     }
 
     /// It as a question sees it, with nothing counted.

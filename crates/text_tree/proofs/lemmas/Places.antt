@@ -170,3 +170,10 @@ to_nil s k = omega (arith, to_byte_idx-le-size s [] k)
 pub short_of : (texts front : List Text) (row : Text) (back : List Text) → texts ≡ front ++ row ∷ back
     → joined_size texts < 2 ^ 63 → size (joined front) + size row < 2 ^ 63
 short_of texts front row back parts short = omega (arith, ap joined_size parts, size-parts [] front row back, short)
+
+-- past the last, the answer is the length
+pub to_past : (s : Scheme) (cs : Text) (k : ℕ) → count s cs < k → to_byte_idx s cs k ≡ size cs
+to_past s cs k past =
+    let i = k + seam_loss s cs [] - count s cs in
+    let beyond = (is_joined s cs []).to_behind k i (omega (arith, past)) (omega (arith, past)) in
+    omega (arith, ap (λ t. to_byte_idx s t k) (append-nil cs), beyond, to_nil s i)
