@@ -6,6 +6,7 @@ pub mod Places
 pub mod RowEnds
 pub mod Cutting
 pub mod Chunks
+pub mod Edits
 pub use Common.*
 pub use Heights.*
 pub use Forks.*
@@ -14,3 +15,4 @@ pub use Places.*
 pub use RowEnds.*
 pub use Cutting.*
 pub use Chunks.*
+pub use Edits.*

@@ -1,5 +1,5 @@
 //! Whole rows of a tree exchanged for others, beside the tree as it was.
-ghost use Rattle.std.specs.Prelude.{◌≡◌, ◌+◌, ◌^◌, ◌<◌, ◌≤◌, ◌++◌, length, take, IfOk, OnOk};
+ghost use Rattle.std.specs.Prelude.{◌≡◌, ◌+◌, ◌-◌, ◌^◌, ◌<◌, ◌≤◌, ◌++◌, length, take, IfOk, OnOk};
 ghost use Rattle.text_summary.specs.Changes.{IsReplaced};
 ghost use Rattle.text_summary.specs.Pieces.{joined, joined_size};
 ghost use Rattle.text_tree.specs.RowEnds.{IsRowEnd};
@@ -26,7 +26,7 @@ pub(crate) fn replaced(
     requires order { from ≤ to }
     requires start { IsRowEnd side.now.texts from }
     requires end { IsRowEnd side.now.texts to }
-    requires short { joined_size side.now.texts + joined_size rows.items < 2 ^ 63 }
+    requires short { joined_size side.now.texts + joined_size rows.items < 2 ^ 63 + (to - from) }
     ensures { IfOk result (λ whole.
         IsReplaced (joined side.now.texts) (joined (texts_of whole)) from to (joined rows.items)) }
 {
@@ -62,7 +62,7 @@ fn replaced_rows(
     requires order { from ≤ to }
     requires start { IsRowEnd own.now from }
     requires end { IsRowEnd own.now to }
-    requires short { joined_size own.now + joined_size rows.items < 2 ^ 63 }
+    requires short { joined_size own.now + joined_size rows.items < 2 ^ 63 + (to - from) }
     ensures { IfOk result (λ whole.
         IsReplaced (joined own.now) (joined (texts_of whole)) from to (joined rows.items)) }
 {
@@ -77,8 +77,7 @@ fn replaced_rows(
 
 /// How many rows are before a byte index at which a row ends.
 fn rows_before(rows: &[Row], at: usize) -> usize
-    requires end { IsRowEnd rows.now at }
-    requires short { joined_size rows.now < 2 ^ 63 }
+    requires { IsRowEnd rows.now at }
     ensures place { joined_size (take result rows.now) ≡ at }
     ensures within { result ≤ length rows.now }
 {

@@ -4,6 +4,7 @@
 mod block;
 mod changes;
 mod chunks;
+mod edits;
 mod joins;
 mod loads;
 mod queries;

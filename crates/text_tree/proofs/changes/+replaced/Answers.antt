@@ -1,4 +1,4 @@
-use Rattle.text_tree.proofs.lemmas.{◌≡◌, ◌-◌, ◌++◌, ◌∙◌, [], ap, arith, length-append, Text, joined, joined_size, IsReplaced, row_end_left, row_end_right, row_end_all, row_end_none, replaced_left, replaced_right, replaced_both}
+use Rattle.text_tree.proofs.lemmas.{◌≡◌, ◌-◌, ◌++◌, ◌∙◌, [], ap, arith, length-append, Text, joined, joined_size, IsReplaced, row_end_left, row_end_right, row_end_all, row_end_none, row_end_le, replaced_left, replaced_right, replaced_both}
 use Rattle.text_tree.specs.RowEnds.{IsRowEnd}
 use Rattle.text_tree.specs.States.{texts_of}
 use Rattle.text_tree.proofs.changes.+replaced.Goals as goal
@@ -55,7 +55,10 @@ replaced-requires-else-middle-from t c =
         omega arith,
         (
           row_end_left left right c.args.from start (omega (arith, len)),
-          (rw len (row_end_all left), omega (arith, fork.size_is, c.requires.short)),
+          (
+            rw len (row_end_all left),
+            omega (arith, fork.size_is, c.requires.short, len, row_end_le c.args.side.now.texts c.args.to c.requires.end),
+          ),
         ),
       ),
     )

@@ -3,25 +3,13 @@ use Rattle.text_tree.specs.RowEnds.{IsRowEnd}
 use Rattle.text_tree.specs.States.{texts_of}
 use Rattle.text_tree.proofs.changes.replaced_rows.Goals as goal
 
-pub rows_before-requires : goal.rows_before-requires
-rows_before-requires c = record { end = c.requires.start; short = omega (arith, c.requires.short) }
-
 pub rows_before-requires-2 : goal.rows_before-requires-2
 rows_before-requires-2 c =
     let own = c.args.own.now in
     let i = c.rows_before.result in
     let parts : IsRowEnd (take i own ++ drop i own) c.args.to = rw (take-append-drop i own) c.requires.end in
-    record {
-      end = rw c.split_at.ensures.back (row_end_right (take i own) (drop i own) c.args.to (c.args.to - c.args.from) parts
-          (omega (arith, c.rows_before.ensures.place, c.requires.order)));
-      short = omega (
-        arith,
-        ap joined_size c.split_at.ensures.back,
-        ap joined_size (take-append-drop i own),
-        joined_size-append (take i own) (drop i own),
-        c.requires.short,
-      );
-    }
+    rw c.split_at.ensures.back (row_end_right (take i own) (drop i own) c.args.to (c.args.to - c.args.from) parts
+    (omega (arith, c.rows_before.ensures.place, c.requires.order)))
 
 pub tree_of-requires : goal.tree_of-requires
 tree_of-requires c =

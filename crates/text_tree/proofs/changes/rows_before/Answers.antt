@@ -1,4 +1,4 @@
-use Rattle.text_tree.proofs.lemmas.{◌≡◌, ◌+◌, ◌∙◌, [], take, ap, arith, size, size-append, length, joined, joined_size, joined-take, joined_size-take, piece_at, get_or_default, take_all, next_row, row_end_le}
+use Rattle.text_tree.proofs.lemmas.{◌≡◌, ◌∙◌, [], take, ap, arith, size, size-append, length, joined, joined_size, joined-take, piece_at, get_or_default, take_all, next_row, row_end_le}
 use Rattle.text_tree.proofs.changes.rows_before.Goals as goal
 
 pub overflow_add-start : goal.overflow_add-start
@@ -8,15 +8,8 @@ overflow_add-start c =
     let row = c.index-rows-i.result in
     let own : row ≡ piece_at rows i = c.index-rows-i.is ∙ get_or_default rows i row [] c.loop-i-test.true in
     let more = ap size (joined-take rows i c.loop-i-test.true) ∙ size-append (joined (take i rows)) (piece_at rows i) in
-    omega (
-      arith,
-      more,
-      ap size own,
-      ap (λ s. s.len) c.summary.ensures.summary,
-      c.loop-i.invariant.start,
-      joined_size-take rows (i + 1),
-      c.requires.short,
-    )
+    let next = next_row rows i c.args.at c.requires (omega (arith, c.loop-i.invariant.start, c.if-at-start.false)) in
+    omega (arith, more, ap size own, ap (λ s. s.len) c.summary.ensures.summary, c.loop-i.invariant.start, next, c.ranges.at)
 
 pub loop-i-preserved : goal.loop-i-preserved
 loop-i-preserved c =
@@ -26,7 +19,7 @@ loop-i-preserved c =
     let own : row ≡ piece_at rows i = c.index-rows-i.is ∙ get_or_default rows i row [] c.loop-i-test.true in
     let more = ap size (joined-take rows i c.loop-i-test.true) ∙ size-append (joined (take i rows)) (piece_at rows i) in
     let len = ap (λ s. s.len) c.summary.ensures.summary in
-    let next = next_row rows i c.args.at c.requires.end (omega (arith, c.loop-i.invariant.start, c.if-at-start.false)) in
+    let next = next_row rows i c.args.at c.requires (omega (arith, c.loop-i.invariant.start, c.if-at-start.false)) in
     record {
       start = omega (arith, more, ap size own, len, c.loop-i.invariant.start);
       past = omega (arith, more, ap size own, len, c.loop-i.invariant.start, next);
@@ -43,5 +36,5 @@ returns-clause-place c =
       ap joined_size here,
       c.loop-i.invariant.start,
       c.loop-i.invariant.past,
-      row_end_le rows c.args.at c.requires.end,
+      row_end_le rows c.args.at c.requires,
     )
