@@ -1,0 +1,43 @@
+use Rattle.text_tree.proofs.lemmas.{◌-◌, arith, ap, take, drop, take-append-drop, joined_size, joined_size-append}
+use Rattle.text_tree.proofs.changes.+built.Goals as goal
+
+pub block_of-requires-clause-short : goal.block_of-requires-clause-short
+block_of-requires-clause-short t c =
+    let rows = c.args.rows.now.items in
+    let at = c.len.result - c.args.many in
+    omega (
+      arith,
+      ap joined_size c.in_ok-own.ensures.tail,
+      ap joined_size (take-append-drop at rows),
+      joined_size-append (take at rows) (drop at rows),
+      c.requires.short,
+    )
+
+pub built-requires-2 : goal.built-requires-2
+built-requires-2 t c = (
+  omega arith,
+  (
+    omega arith,
+    (
+      omega (arith, c.in_ok-right.ensures.rest),
+      omega (
+        arith,
+        ap joined_size c.in_ok-right.ensures.rows,
+        joined_size-append c.built.new.rows.items c.in_ok-right.right.texts,
+        c.requires.short,
+      ),
+    ),
+  ),
+)
+
+pub join-requires : goal.join-requires
+join-requires t c = record {
+  short = omega (
+    arith,
+    ap joined_size c.in_ok-right.ensures.rows,
+    joined_size-append c.built.new.rows.items c.in_ok-right.right.texts,
+    ap joined_size c.in_ok-left.ensures.rows,
+    joined_size-append c.built-2.new.rows.items c.in_ok-left.left.texts,
+    c.requires.short,
+  );
+}

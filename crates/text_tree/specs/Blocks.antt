@@ -1,0 +1,14 @@
+-- A block: some rows in one node of a tree.
+--     max_rows          how many rows a block has at most
+--     IsBlock rows      what holds of each block
+use Rattle.std.specs.Prelude.{ℕ, ◌<◌, ◌≤◌, List, length}
+use Rattle.str_indices.specs.Text.{Text}
+
+-- how many rows a block has at most
+abbrev pub max_rows : ℕ
+max_rows = 32
+
+-- what holds of each block
+pub record IsBlock (rows : List Text) : Type 0 where
+  pub some : 0 < length rows
+  pub few : length rows ≤ max_rows

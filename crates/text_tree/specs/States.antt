@@ -1,0 +1,24 @@
+-- A tree as a question sees it.
+--     RowsState            the rows' texts, and how many nodes were looked at and rows read
+--     texts_of root        the rows' texts of a tree that may have none
+--     texts_under root     the same where it is lent
+use Rattle.std.specs.Prelude.{ℕ, List, [], Option, Some, None}
+use Rattle.std.specs.Borrow.{Bor}
+use Rattle.str_indices.specs.Text.{Text}
+use Rattle.text_tree.specs.Shapes.{Seen}
+
+-- what contracts see of `View`
+pub record RowsState : Type 0 where
+  pub texts : List Text
+  pub looks : ℕ
+  pub reads : ℕ
+
+-- the rows' texts of a tree that may have none
+abbrev pub texts_of : Option Seen → List Text
+texts_of None = []
+texts_of (Some side) = side.texts
+
+-- the same where it is lent
+abbrev pub texts_under : Option (Bor Seen) → List Text
+texts_under None = []
+texts_under (Some side) = side.now.texts

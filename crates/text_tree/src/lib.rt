@@ -1,0 +1,23 @@
+//! A text that changes: one text in a balanced tree of rows, whose nodes may have several owners.
+#![tactic(auto)]
+
+mod block;
+mod changes;
+mod chunks;
+mod edits;
+mod joins;
+mod loads;
+mod queries;
+mod refusals;
+mod rope;
+mod row;
+mod shifts;
+mod tree;
+
+pub use chunks::{Chunk, Found, Located, chunk_in, found_in, located_in};
+pub use queries::{count_in, from_in, is_boundary_in, to_in};
+pub use refusals::Refusal;
+pub use rope::Rope;
+pub use row::MAX_PIECE;
+pub use text_summary::{Front, Scheme, Summary};
+pub use tree::View;
