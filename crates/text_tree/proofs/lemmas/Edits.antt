@@ -1,7 +1,8 @@
 -- A part of a text exchanged by the rows round it.
-use Rattle.text_tree.proofs.lemmas.Common.{◌≡◌, ℕ, ◌-◌, ◌≤◌, List, [], ◌∷◌, ◌++◌, sym, ap, ◌∙◌, arith, append_assoc, Text, size, size-append, joined, IsBoundary, boundary_right, boundary_upto, parts_of, same_cut, IsReplaced}
+use Rattle.text_tree.proofs.lemmas.Common.{◌≡◌, ℕ, ◌-◌, ◌≤◌, List, [], ◌∷◌, ◌++◌, sym, ap, ◌∙◌, arith, append_assoc, Text, size, size-append, joined, IsBoundary, boundary_right, boundary_upto, parts_of, same_cut, none_of, IsReplaced}
 use Rattle.text_tree.proofs.lemmas.Forks.{joined_size-append}
 use Rattle.text_tree.proofs.lemmas.Places.{text_of_place}
+use Rattle.text_tree.specs.Edits.{IsInserted, IsRemoved}
 use Rattle.text_tree.specs.RowEnds.{IsRowEnd, IsRowRound}
 
 -- where the row starts, and where it ends
@@ -69,3 +70,28 @@ exchanged_round texts new first last head behind before tail more text a b c d f
           ∙ ap (λ x. f ++ ((head ++ (more ++ tail)) ++ x)) end_same.back ∙ same
           ∙ ap (λ x. x ++ (more ++ (tail ++ back))) (sym from_same.front) ∙ ap (λ x. p.front ++ (more ++ x)) (sym to_same.back);
     }
+
+-- nothing exchanged for a text is that text put in
+pub inserted_of : (old new : Text) (at : ℕ) (text : Text) → IsReplaced old new at at text → IsInserted old new at text
+inserted_of old new at text r =
+    let none : r.middle ≡ [] = none_of r.middle (omega (arith, r.start, r.end)) in
+    record {
+      front = r.front;
+      back = r.back;
+      was = r.was ∙ ap (λ m. r.front ++ (m ++ r.back)) none;
+      place = r.start;
+      is = r.is;
+    }
+
+-- a part exchanged for nothing is taken out
+pub removed_of : (old new : Text) (from to : ℕ) (text : Text) → text ≡ [] → IsReplaced old new from to text
+    → IsRemoved old new from to
+removed_of old new from to text none r = record {
+  front = r.front;
+  middle = r.middle;
+  back = r.back;
+  was = r.was;
+  start = r.start;
+  end = r.end;
+  is = r.is ∙ ap (λ t. r.front ++ (t ++ r.back)) none;
+}
