@@ -1,6 +1,7 @@
 -- What a change does to a text, in cases of one that exchanges a part.
 --     IsInserted old new at text     a text is put in
 --     IsRemoved old new from to      a part is taken out
+--     IsCutAt whole front back at    a text in two
 use Rattle.std.specs.Prelude.{ℕ, ◌≡◌, ◌+◌, ◌++◌}
 use Rattle.str_indices.specs.Text.{Text, size}
 
@@ -21,3 +22,8 @@ pub record IsRemoved (old new : Text) (from to : ℕ) : Type 0 where
   pub start : size front ≡ from
   pub end : size front + size middle ≡ to
   pub is : new ≡ front ++ back
+
+-- a text in two, the second of which starts at a byte index
+pub record IsCutAt (whole front back : Text) (at : ℕ) : Type 0 where
+  pub parts : whole ≡ front ++ back
+  pub place : size front ≡ at

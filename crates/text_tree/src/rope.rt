@@ -6,7 +6,7 @@ ghost use Rattle.str_indices.specs.Text.{size};
 ghost use Rattle.text_summary.specs.Changes.{IsReplaced};
 ghost use Rattle.text_summary.specs.Pieces.{joined};
 ghost use Rattle.text_tree.specs.Chunks.{IsChunkAt};
-ghost use Rattle.text_tree.specs.Edits.{IsInserted, IsRemoved};
+ghost use Rattle.text_tree.specs.Edits.{IsInserted, IsRemoved, IsCutAt};
 ghost use Rattle.text_tree.specs.Rows.{max_piece};
 ghost use Rattle.text_tree.specs.States.{RowsState};
 ghost use Rattle.text_tree.specs.declared.refusals.Refusal.TheVariants.{NotOrdered, NotBoundary, TooLong, NoMemory};
@@ -254,6 +254,42 @@ impl Rope {
             }
             Err(_) => Err(Refusal::NoMemory),
         }
+    }
+
+    /// Takes what is from a byte index on out of the text, into a rope of its own.
+    ///
+    /// After a refusal every answer is as before. It is `NotBoundary` where the byte index is inside a character or past
+    /// the end, and else `NoMemory` where memory was refused.
+    pub fn split_off(&mut self, at: usize) -> Result<Rope, Refusal>
+        ensures ok { IfOk result (λ back. IsCutAt self.old self.new back at) }
+        ensures err { OnErr result (self.new ≡ self.old) }
+        ensures not_boundary { IsErrOf result NotBoundary ↔ (¬ (IsBoundary self.old at)) }
+        ensures not_ordered { result ≢ Err NotOrdered }
+        ensures too_long { result ≢ Err TooLong }
+    {
+        if !self.is_char_boundary(at) {
+            return Err(Refusal::NotBoundary);
+        }
+        match self.cut(at) {
+            Ok(back) => Ok(back),
+            Err(_) => Err(Refusal::NoMemory),
+        }
+    }
+
+    /// Cuts the text at a boundary: what is from there on is the result.
+    fn cut(&mut self, at: usize) -> Result<Rope, AllocError>
+        requires { IsBoundary self.old at }
+        ensures ok { IfOk result (λ back. IsCutAt self.old self.new back at) }
+        ensures err { OnErr result (self.new ≡ self.old) }
+    {
+        let len = self.len();
+        let mut back = Rope {
+            tree: self.tree.share()?,
+            alloc: self.alloc,
+        };
+        back.take_out(0, at)?;
+        self.take_out(at, len)?;
+        Ok(back)
     }
 
     /// Takes out what is between two boundaries.
