@@ -8,3 +8,4 @@ pub mod Places
 pub mod States
 pub mod RowEnds
 pub mod Chunks
+pub mod Edits

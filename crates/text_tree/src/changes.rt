@@ -8,7 +8,7 @@ ghost use Rattle.text_tree.specs.States.{texts_of};
 use crate::block::{MAX_ROWS, push_copies};
 use crate::joins::join;
 use crate::row::Row;
-use crate::tree::{Look, Side, block_of};
+use crate::tree::{Look, Side, Tree, block_of};
 use std::alloc::{AllocError, Global};
 
 /// How many rows a block has where there are many: there is room for the first changes.
@@ -106,6 +106,16 @@ pub(crate) fn joined(
         (Some(left), None) => Ok(Some(left)),
         (None, back) => Ok(back),
     }
+}
+
+/// All of two trees in one, beside both.
+pub(crate) fn appended(alloc: Global, front: &Tree, back: &Tree) -> Result<Tree, AllocError>
+    requires { joined_size front.now + joined_size back.now < 2 ^ 63 }
+    ensures { IfOk result (λ tree. tree ≡ front.now ++ back.now) }
+{
+    let front = front.share()?.into_root();
+    let back = back.share()?.into_root();
+    Ok(Tree::of(joined(alloc, front, back)?))
 }
 
 /// A tree of some rows, in blocks of about as many.

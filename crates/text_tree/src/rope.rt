@@ -1,15 +1,17 @@
 //! A text that is kept in a balanced tree of its rows.
-ghost use Rattle.std.specs.Prelude.{◌≡◌, ◌+◌, ◌-◌, ◌^◌, ◌<◌, ◌≤◌, ◌↔◌, [], chars, length, IsOk, IsErrOf, IsTrue, IsOkUnless, IsSome, IfSome, IfOk, OnOk, OnErr};
+ghost use Rattle.std.specs.Prelude.{◌≡◌, ◌≢◌, ◌+◌, ◌-◌, ◌^◌, ◌<◌, ◌≤◌, ◌↔◌, [], ◌++◌, chars, length, Err, IsOk, IsErrOf, IsTrue, IsOkUnless, IsSome, IfSome, IfOk, OnOk, OnErr};
 ghost use Rattle.str_indices.specs.Relations.{IsBoundary};
 ghost use Rattle.str_indices.specs.Schemes.{count, from_byte_idx, to_byte_idx};
 ghost use Rattle.str_indices.specs.Text.{size};
 ghost use Rattle.text_summary.specs.Changes.{IsReplaced};
 ghost use Rattle.text_summary.specs.Pieces.{joined};
 ghost use Rattle.text_tree.specs.Chunks.{IsChunkAt};
+ghost use Rattle.text_tree.specs.Edits.{IsInserted, IsRemoved, IsCutAt};
 ghost use Rattle.text_tree.specs.Rows.{max_piece};
 ghost use Rattle.text_tree.specs.States.{RowsState};
 ghost use Rattle.text_tree.specs.declared.refusals.Refusal.TheVariants.{NotOrdered, NotBoundary, TooLong, NoMemory};
 
+use crate::changes::appended;
 use crate::edits::exchanged_in;
 use crate::loads::tree_from;
 use crate::tree::Tree;
@@ -177,6 +179,130 @@ impl Rope {
             Ok(()) => Ok(()),
             Err(_) => Err(Refusal::NoMemory),
         }
+    }
+
+    /// Puts a text in at a byte index between characters.
+    ///
+    /// After a refusal every answer is as before. It is `NotBoundary` where the byte index is inside a character or past
+    /// the end, or else `TooLong` where the text would have more than `isize::MAX` bytes, and else `NoMemory` where
+    /// memory was refused.
+    pub fn insert(&mut self, at: usize, text: &str) -> Result<(), Refusal>
+        ensures ok { OnOk result (IsInserted self.old self.new at (chars text.now)) }
+        ensures err { OnErr result (self.new ≡ self.old) }
+        ensures not_boundary { IsErrOf result NotBoundary ↔ (¬ (IsBoundary self.old at)) }
+        ensures too_long { IsErrOf result TooLong
+            ↔ (IsBoundary self.old at × (2 ^ 63 ≤ size self.old + length text.now)) }
+        ensures not_ordered { result ≢ Err NotOrdered }
+    {
+        if !self.is_char_boundary(at) {
+            return Err(Refusal::NotBoundary);
+        }
+        if MAX_LEN - self.len() < text.len() {
+            return Err(Refusal::TooLong);
+        }
+        match self.exchange(at, at, text) {
+            Ok(()) => Ok(()),
+            Err(_) => Err(Refusal::NoMemory),
+        }
+    }
+
+    /// Takes out what is between two byte indices, each between characters.
+    ///
+    /// After a refusal every answer is as before. It is `NotOrdered` where the first index is above the second, or else
+    /// `NotBoundary` where one is inside a character or past the end, and else `NoMemory` where memory was refused.
+    pub fn remove(&mut self, range: Range<usize>) -> Result<(), Refusal>
+        ensures ok { OnOk result (IsRemoved self.old self.new range.start range.end) }
+        ensures err { OnErr result (self.new ≡ self.old) }
+        ensures not_ordered { IsErrOf result NotOrdered ↔ (range.end < range.start) }
+        ensures not_boundary { IsErrOf result NotBoundary
+            ↔ ((range.start ≤ range.end) × ¬ (IsBoundary self.old range.start × IsBoundary self.old range.end)) }
+        ensures too_long { result ≢ Err TooLong }
+    {
+        if range.end < range.start {
+            return Err(Refusal::NotOrdered);
+        }
+        if !(self.is_char_boundary(range.start) && self.is_char_boundary(range.end)) {
+            return Err(Refusal::NotBoundary);
+        }
+        let _len = self.len();
+        match self.take_out(range.start, range.end) {
+            Ok(()) => Ok(()),
+            Err(_) => Err(Refusal::NoMemory),
+        }
+    }
+
+    /// Moves all of another text to the end of this one.
+    ///
+    /// After a refusal both are as before. It is `TooLong` where the text would have more than `isize::MAX` bytes, and
+    /// else `NoMemory` where memory was refused.
+    pub fn append(&mut self, other: &mut Rope) -> Result<(), Refusal>
+        ensures ok { OnOk result (self.new ≡ self.old ++ other.old) }
+        ensures moved { OnOk result (other.new ≡ []) }
+        ensures err { OnErr result ((self.new ≡ self.old) × (other.new ≡ other.old)) }
+        ensures too_long { IsErrOf result TooLong ↔ (2 ^ 63 ≤ size self.old + size other.old) }
+        ensures not_ordered { result ≢ Err NotOrdered }
+        ensures not_boundary { result ≢ Err NotBoundary }
+    {
+        if MAX_LEN - self.len() < other.len() {
+            return Err(Refusal::TooLong);
+        }
+        match appended(self.alloc, &self.tree, &other.tree) {
+            Ok(tree) => {
+                self.tree = tree;
+                other.tree = Tree::of(None);
+                Ok(())
+            }
+            Err(_) => Err(Refusal::NoMemory),
+        }
+    }
+
+    /// Takes what is from a byte index on out of the text, into a rope of its own.
+    ///
+    /// After a refusal every answer is as before. It is `NotBoundary` where the byte index is inside a character or past
+    /// the end, and else `NoMemory` where memory was refused.
+    pub fn split_off(&mut self, at: usize) -> Result<Rope, Refusal>
+        ensures ok { IfOk result (λ back. IsCutAt self.old self.new back at) }
+        ensures err { OnErr result (self.new ≡ self.old) }
+        ensures not_boundary { IsErrOf result NotBoundary ↔ (¬ (IsBoundary self.old at)) }
+        ensures not_ordered { result ≢ Err NotOrdered }
+        ensures too_long { result ≢ Err TooLong }
+    {
+        if !self.is_char_boundary(at) {
+            return Err(Refusal::NotBoundary);
+        }
+        match self.cut(at) {
+            Ok(back) => Ok(back),
+            Err(_) => Err(Refusal::NoMemory),
+        }
+    }
+
+    /// Cuts the text at a boundary: what is from there on is the result.
+    fn cut(&mut self, at: usize) -> Result<Rope, AllocError>
+        requires { IsBoundary self.old at }
+        ensures ok { IfOk result (λ back. IsCutAt self.old self.new back at) }
+        ensures err { OnErr result (self.new ≡ self.old) }
+    {
+        let len = self.len();
+        let mut back = Rope {
+            tree: self.tree.share()?,
+            alloc: self.alloc,
+        };
+        back.take_out(0, at)?;
+        self.take_out(at, len)?;
+        Ok(back)
+    }
+
+    /// Takes out what is between two boundaries.
+    fn take_out(&mut self, from: usize, to: usize) -> Result<(), AllocError>
+        requires order { from ≤ to }
+        requires start { IsBoundary self.old from }
+        requires end { IsBoundary self.old to }
+        requires short { size self.old < 2 ^ 63 }
+        ensures ok { OnOk result (IsRemoved self.old self.new from to) }
+        ensures err { OnErr result (self.new ≡ self.old) }
+    {
+        self.exchange(from, to, "")?;
+        Ok(())
     }
 
     /// Exchanges what is between two boundaries for a text: all is made beside the tree, and the root is exchanged last.

@@ -179,6 +179,13 @@ impl Tree {
         Tree { root }
     }
 
+    /// The tree; none where there are no rows.
+    pub(crate) fn into_root(self) -> Option<Side>
+        ensures { texts_of result ≡ self }
+    {
+        self.root
+    }
+
     /// How many bytes its text has.
     pub(crate) fn len(&self) -> usize
         ensures len { result ≡ joined_size self.now }

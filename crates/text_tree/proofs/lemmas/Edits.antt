@@ -1,7 +1,8 @@
 -- A part of a text exchanged by the rows round it.
-use Rattle.text_tree.proofs.lemmas.Common.{◌≡◌, ℕ, ◌-◌, ◌≤◌, List, [], ◌∷◌, ◌++◌, sym, ap, ◌∙◌, arith, append_assoc, Text, size, size-append, joined, IsBoundary, boundary_right, boundary_upto, parts_of, same_cut, IsReplaced}
+use Rattle.text_tree.proofs.lemmas.Common.{◌≡◌, ℕ, ◌-◌, ◌≤◌, List, [], ◌∷◌, ◌++◌, sym, ap, ◌∙◌, arith, append_assoc, Text, size, size-append, joined, IsBoundary, boundary_right, boundary_upto, parts_of, same_cut, none_of, append-nil, IsReplaced}
 use Rattle.text_tree.proofs.lemmas.Forks.{joined_size-append}
 use Rattle.text_tree.proofs.lemmas.Places.{text_of_place}
+use Rattle.text_tree.specs.Edits.{IsInserted, IsRemoved, IsCutAt}
 use Rattle.text_tree.specs.RowEnds.{IsRowEnd, IsRowRound}
 
 -- where the row starts, and where it ends
@@ -68,4 +69,44 @@ exchanged_round texts new first last head behind before tail more text a b c d f
       is = r.is ∙ ap (λ x. x ++ (text ++ r.back)) start_same.front ∙ ap (λ x. f ++ (x ++ r.back)) text_is
           ∙ ap (λ x. f ++ ((head ++ (more ++ tail)) ++ x)) end_same.back ∙ same
           ∙ ap (λ x. x ++ (more ++ (tail ++ back))) (sym from_same.front) ∙ ap (λ x. p.front ++ (more ++ x)) (sym to_same.back);
+    }
+
+-- nothing exchanged for a text is that text put in
+pub inserted_of : (old new : Text) (at : ℕ) (text : Text) → IsReplaced old new at at text → IsInserted old new at text
+inserted_of old new at text r =
+    let none : r.middle ≡ [] = none_of r.middle (omega (arith, r.start, r.end)) in
+    record {
+      front = r.front;
+      back = r.back;
+      was = r.was ∙ ap (λ m. r.front ++ (m ++ r.back)) none;
+      place = r.start;
+      is = r.is;
+    }
+
+-- a part exchanged for nothing is taken out
+pub removed_of : (old new : Text) (from to : ℕ) (text : Text) → text ≡ [] → IsReplaced old new from to text
+    → IsRemoved old new from to
+removed_of old new from to text none r = record {
+  front = r.front;
+  middle = r.middle;
+  back = r.back;
+  was = r.was;
+  start = r.start;
+  end = r.end;
+  is = r.is ∙ ap (λ t. r.front ++ (t ++ r.back)) none;
+}
+
+-- what is before a place, with the rest taken out, and what is from it on, taken from a copy
+pub cut_of : (whole copy front back : Text) (at len : ℕ) → copy ≡ whole → len ≡ size whole → IsRemoved whole front at len
+    → IsRemoved copy back 0 at → IsCutAt whole front back at
+cut_of whole copy front back at len same len_is a b =
+    let no_back : a.back ≡ [] = none_of a.back (omega (arith, ap size a.was, size-append a.front (a.middle ++ a.back), size-append a.middle a.back, a.end, len_is)) in
+    let no_front : b.front ≡ [] = none_of b.front b.start in
+    let front_is : front ≡ a.front = a.is ∙ ap (λ t. a.front ++ t) no_back ∙ append-nil a.front in
+    let back_is : back ≡ b.back = b.is ∙ ap (λ t. t ++ b.back) no_front in
+    let whole_is : whole ≡ b.middle ++ b.back = sym same ∙ b.was ∙ ap (λ t. t ++ (b.middle ++ b.back)) no_front in
+    let cut = same_cut a.front (a.middle ++ a.back) b.middle b.back (sym a.was ∙ whole_is) (omega (arith, a.start, b.start, b.end)) in
+    record {
+      parts = whole_is ∙ ap (λ t. t ++ b.back) (sym cut.front ∙ sym front_is) ∙ ap (λ t. front ++ t) (sym back_is);
+      place = ap size front_is ∙ a.start;
     }
