@@ -1,15 +1,15 @@
 //! A part of a text exchanged for another text, beside the tree as it was.
-ghost use Rattle.std.specs.Prelude.{◌≡◌, ◌+◌, ◌^◌, ◌<◌, ◌≤◌, ◌++◌, chars, length, string_bytes, IfOk};
+ghost use Rattle.std.specs.Prelude.{◌≡◌, ◌+◌, ◌-◌, ◌^◌, ◌<◌, ◌≤◌, ◌++◌, chars, length, string_bytes, IfOk};
 ghost use Rattle.str_indices.specs.Relations.{IsBoundary};
 ghost use Rattle.str_indices.specs.Text.{size};
 ghost use Rattle.text_summary.specs.Changes.{IsReplaced};
 ghost use Rattle.text_summary.specs.Pieces.{joined, joined_size};
 ghost use Rattle.text_tree.specs.RowEnds.{IsRowRound};
 ghost use Rattle.text_tree.specs.Rows.{max_piece};
-ghost use Rattle.text_tree.specs.States.{texts_of};
+ghost use Rattle.text_tree.specs.States.{RowsState, texts_of};
 
 use crate::changes::replaced;
-use crate::loads::rows_of;
+use crate::loads::{rows_of, tree_from};
 use crate::queries::place_at;
 use crate::row::MAX_PIECE;
 use crate::tree::{Side, View};
@@ -24,9 +24,29 @@ pub(crate) struct Stretch<'a> {
     pub(crate) end: usize,
 }
 
-/// The tree with what is between two boundaries exchanged for a text: the rows that both are in, and those between, are
-/// written anew.
-pub(crate) fn exchanged(
+/// The tree of a text with what is between two boundaries exchanged for another one; it may have no rows before or then.
+pub(crate) fn exchanged_in(
+    v: &mut View,
+    alloc: Global,
+    from: usize,
+    to: usize,
+    more: &str,
+) -> Result<Option<Side>, AllocError>
+    requires order { from ≤ to }
+    requires start { IsBoundary (joined v.old.texts) from }
+    requires end { IsBoundary (joined v.old.texts) to }
+    requires short { joined_size v.old.texts + length more.now < 2 ^ 63 + (to - from) }
+    ensures { IfOk result (λ whole.
+        IsReplaced (joined v.old.texts) (joined (texts_of whole)) from to (chars more.now)) }
+{
+    match v.root() {
+        Some(side) => Ok(exchanged(v, alloc, side, from, to, more)?),
+        None => Ok(tree_from(alloc, more)?),
+    }
+}
+
+/// The same where it has rows: those that both ends are in, and those between, are written anew.
+fn exchanged(
     v: &mut View,
     alloc: Global,
     side: &Side,
@@ -37,7 +57,7 @@ pub(crate) fn exchanged(
     requires order { from ≤ to }
     requires start { IsBoundary (joined side.now.texts) from }
     requires end { IsBoundary (joined side.now.texts) to }
-    requires short { joined_size side.now.texts + length more.now < 2 ^ 63 }
+    requires short { joined_size side.now.texts + length more.now < 2 ^ 63 + (to - from) }
     ensures { IfOk result (λ whole.
         IsReplaced (joined side.now.texts) (joined (texts_of whole)) from to (chars more.now)) }
 {

@@ -1,19 +1,22 @@
 //! A text that is kept in a balanced tree of its rows.
-ghost use Rattle.std.specs.Prelude.{◌≡◌, ◌^◌, ◌<◌, ◌≤◌, ◌↔◌, [], chars, IsOk, IsTrue, IsOkUnless, IsSome, IfSome, IfOk};
+ghost use Rattle.std.specs.Prelude.{◌≡◌, ◌+◌, ◌-◌, ◌^◌, ◌<◌, ◌≤◌, ◌↔◌, [], chars, length, IsOk, IsErrOf, IsTrue, IsOkUnless, IsSome, IfSome, IfOk, OnOk, OnErr};
 ghost use Rattle.str_indices.specs.Relations.{IsBoundary};
 ghost use Rattle.str_indices.specs.Schemes.{count, from_byte_idx, to_byte_idx};
 ghost use Rattle.str_indices.specs.Text.{size};
+ghost use Rattle.text_summary.specs.Changes.{IsReplaced};
 ghost use Rattle.text_summary.specs.Pieces.{joined};
 ghost use Rattle.text_tree.specs.Chunks.{IsChunkAt};
 ghost use Rattle.text_tree.specs.Rows.{max_piece};
 ghost use Rattle.text_tree.specs.States.{RowsState};
-ghost use Rattle.text_tree.specs.declared.refusals.Refusal.TheVariants.{NoMemory};
+ghost use Rattle.text_tree.specs.declared.refusals.Refusal.TheVariants.{NotOrdered, NotBoundary, TooLong, NoMemory};
 
+use crate::edits::exchanged_in;
 use crate::loads::tree_from;
 use crate::tree::Tree;
 use crate::{Chunk, Refusal, Scheme, View, chunk_in, count_in, from_in, is_boundary_in, to_in};
-use std::alloc::Global;
+use std::alloc::{AllocError, Global};
 use std::marker::Model;
+use std::ops::Range;
 
 /// The greatest length of a text in bytes.
 const MAX_LEN: usize = isize::MAX as usize;
@@ -143,5 +146,50 @@ impl Rope {
         ensures some { IsSome result ↔ (byte_idx < size self.now) }
     {
         chunk_in(&mut self.view(), byte_idx)
+    }
+
+    /// Exchanges what is between two byte indices, each between characters, for a text.
+    ///
+    /// After a refusal every answer is as before. It is `NotOrdered` where the first index is above the second, or else
+    /// `NotBoundary` where one is inside a character or past the end, or else `TooLong` where the text would have more
+    /// than `isize::MAX` bytes, and else `NoMemory` where memory was refused.
+    pub fn replace(&mut self, range: Range<usize>, text: &str) -> Result<(), Refusal>
+        ensures ok { OnOk result (IsReplaced self.old self.new range.start range.end (chars text.now)) }
+        ensures err { OnErr result (self.new ≡ self.old) }
+        ensures not_ordered { IsErrOf result NotOrdered ↔ (range.end < range.start) }
+        ensures not_boundary { IsErrOf result NotBoundary
+            ↔ ((range.start ≤ range.end) × ¬ (IsBoundary self.old range.start × IsBoundary self.old range.end)) }
+        ensures too_long { IsErrOf result TooLong
+            ↔ ((range.start ≤ range.end) × (IsBoundary self.old range.start × IsBoundary self.old range.end)
+            × (2 ^ 63 + (range.end - range.start) ≤ size self.old + length text.now)) }
+    {
+        if range.end < range.start {
+            return Err(Refusal::NotOrdered);
+        }
+        if !(self.is_char_boundary(range.start) && self.is_char_boundary(range.end)) {
+            return Err(Refusal::NotBoundary);
+        }
+        let kept = self.len() - (range.end - range.start);
+        if MAX_LEN - kept < text.len() {
+            return Err(Refusal::TooLong);
+        }
+        match self.exchange(range.start, range.end, text) {
+            Ok(()) => Ok(()),
+            Err(_) => Err(Refusal::NoMemory),
+        }
+    }
+
+    /// Exchanges what is between two boundaries for a text: all is made beside the tree, and the root is exchanged last.
+    fn exchange(&mut self, from: usize, to: usize, text: &str) -> Result<(), AllocError>
+        requires order { from ≤ to }
+        requires start { IsBoundary self.old from }
+        requires end { IsBoundary self.old to }
+        requires short { size self.old + length text.now < 2 ^ 63 + (to - from) }
+        ensures ok { OnOk result (IsReplaced self.old self.new from to (chars text.now)) }
+        ensures err { OnErr result (self.new ≡ self.old) }
+    {
+        let root = exchanged_in(&mut self.tree.view(), self.alloc, from, to, text)?;
+        self.tree = Tree::of(root);
+        Ok(())
     }
 }
