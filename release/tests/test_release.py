@@ -4,7 +4,8 @@
 The archive is built from a commit of a copy, and unpacked into an empty folder. There its README's lines run as they
 stand, in an environment where nothing is set and Rattle's command is not to be found: each language's first program, by
 pkg-config and by CMake, shared and static, and the programs. Then once more where the folder was moved. The sums, the
-manual pages and the page's links are looked at too. With --twice the archive is built in two folders, and has to have the
+manual pages and the page's links are looked at too. Where Cargo does not get the crate that the language server takes, the
+archive is built without the server. With --twice the archive is built in two folders, and has to have the
 same bytes. The last line printed is 'N passed, M failed', with what is left out.
 """
 import json
@@ -19,6 +20,7 @@ import tempfile
 ROOT = pathlib.Path(__file__).resolve().parents[2]
 sys.path.insert(0, str(ROOT / "scripts/lib"))
 
+from debian_crates import source_flags  # noqa: E402
 from page_lines import blocks, environment, try_lines  # noqa: E402
 from tally import Tally  # noqa: E402
 
@@ -31,14 +33,25 @@ WHEN = {"GIT_AUTHOR_DATE": "2026-01-01T00:00:00Z", "GIT_COMMITTER_DATE": "2026-0
 tally = Tally()
 
 
-def build(folder):
+def has_crates_of_server():
+    """Whether Cargo gets what the language server takes from elsewhere."""
+    with tempfile.TemporaryDirectory() as folder:
+        folder = pathlib.Path(folder)
+        for name in ["bindings", "examples/language_server"]:
+            shutil.copytree(ROOT / name, folder / name, ignore=LEFT_OUT)
+        shutil.copy(ROOT / "Cargo.toml", folder)
+        command = ["cargo", "fetch", *source_flags()]
+        return subprocess.run(command, cwd=folder / "examples/language_server", capture_output=True).returncode == 0
+
+
+def build(folder, flags):
     """The archive, from a commit of a copy in the folder; None where that fails."""
     top = folder / "pauskern"
     shutil.copytree(ROOT, top, ignore=LEFT_OUT)
     for words in [["init", "-q", "."], ["add", "-A"], COMMIT]:
         subprocess.run(["git", *words], cwd=top, env=dict(os.environ, **WHEN), check=True)
     (folder / "gate.txt").write_text(GATE_OUTPUT, encoding="utf-8")
-    done = subprocess.run([top / "scripts/release", folder / "gate.txt"], stdout=subprocess.PIPE, text=True)
+    done = subprocess.run([top / "scripts/release", *flags, folder / "gate.txt"], stdout=subprocess.PIPE, text=True)
     if not tally.result(done.returncode == 0, "scripts/release"):
         return None
     return pathlib.Path(done.stdout.splitlines()[-1])
@@ -85,7 +98,7 @@ def try_moved(top, folder, path):
     try_lines(tally, top.name, blocks(top / "README.md"), top, folder, path)
 
 
-def use(archive, folder):
+def use(archive, folder, has_server):
     """The archive, unpacked into the folder, and the folder moved."""
     path = path_without_rattle()
     tally.result(shutil.which("rt", path=path) is None, "Rattle's command is not to be found")
@@ -95,7 +108,11 @@ def use(archive, folder):
     try_contents(top)
     shutil.copytree(top, folder / "moved", symlinks=True)
     try_moved(top, folder / "first", path)
-    try_server(top, path)
+    if has_server:
+        try_server(top, path)
+    else:
+        missing = "Cargo does not get the crate serde_json (Debian's package librust-serde-json-dev)"
+        tally.leave_out(1, f"the language server, as {missing}")
     shutil.rmtree(top)
     try_moved(folder / "moved", folder / "second", path)
 
@@ -105,13 +122,15 @@ def main():
         folder = pathlib.Path(folder)
         for name in ["one", "another", "empty"]:
             (folder / name).mkdir()
-        archive = build(folder / "one")
+        has_server = has_crates_of_server()
+        flags = [] if has_server else ["--without-server"]
+        archive = build(folder / "one", flags)
         if archive and "--twice" in sys.argv:
-            other = build(folder / "another")
+            other = build(folder / "another", flags)
             same = other is not None and other.read_bytes() == archive.read_bytes()
             tally.result(same, "two builds in two folders give the same bytes")
         if archive:
-            use(archive, folder / "empty")
+            use(archive, folder / "empty", has_server)
     return tally.end()
 
 
