@@ -2,10 +2,10 @@
 
 An edit has lines of a word and a text. 'refuses:' names a function and what must be open in it: a clause of
 its contract, or 'returns' for one without a name; 'invariant' for that of a type whose value it leaves; what a call in it
-asks, as 'CALL asks CLAUSE'; or 'proof', where a file Proof.antt proves it step by step, which names no clause. 'file:'
-names a file of the crate, and each 'old:' text, which stands once in it, becomes the 'new:' text of the next line. A file
-CRATE.edits has many: each begins with its name in brackets, and what begins with '#' is for the reader. A file NAME.edit,
-as the toolchain's gate reads it, has one.
+asks, as 'CALL asks CLAUSE'; what a loop with that label keeps, as 'LABEL keeps'; or 'proof', where a file Proof.antt proves
+it step by step, which names no clause. 'file:' names a file of the crate, and each 'old:' text, which stands once in it,
+becomes the 'new:' text of the next line. A file CRATE.edits has many: each begins with its name in brackets, and what begins
+with '#' is for the reader. A file NAME.edit, as the toolchain's gate reads it, has one.
 
 Each crate is copied with all below it, and proved as it stands, before and after. What a script puts into one group is
 tried in one check of a copy, each edit by the function that it names and no other. What was refused where it should be, in
@@ -15,6 +15,7 @@ import concurrent.futures
 import os
 import pathlib
 import re
+import shutil
 import subprocess
 import tempfile
 import time
@@ -77,6 +78,8 @@ class Edit:
         if asks:
             unnamed, end = ("", f"-clause-{re.escape(clause.strip())}") if clause else ("(?!.*-clause-)", "")
             return re.compile(rf"{unnamed}{re.escape(call)}(-\w+)*-requires(-.*)?{end}$")
+        if self.goal.endswith(" keeps"):
+            return re.compile(rf"{re.escape(self.goal.removesuffix(' keeps'))}-preserved(-.*)?$")
         if self.goal == "returns":
             return re.compile(r"returns(?!.*-clause-)")
         if self.goal == "invariant":
@@ -264,7 +267,8 @@ class Copy(NamedTuple):
 
 
 def try_copy(first: pathlib.Path, name: str, groups: List[List[Edit]], folder: pathlib.Path, nothing_else: bool) -> Copy:
-    """Tries the groups in a copy of the crate, which must be proved as it stands after that."""
+    """Tries the groups in a copy of the crate, which must be proved as it stands after that. The copy has some 2 GB, and
+    goes at once."""
     crate = copy_crate(name, folder, root=first)
     copied = crate_sum(folder, name)
     tried = []
@@ -274,6 +278,7 @@ def try_copy(first: pathlib.Path, name: str, groups: List[List[Edit]], folder: p
         print(f"{name}: {len(group)} tried in {time.monotonic() - began:.0f} s", flush=True)
     status, output = check(crate, [edit.function for group in groups for edit in group])
     is_as_before = copied == crate_sum(folder, name)
+    shutil.rmtree(folder, ignore_errors=True)
     return Copy(copied, tried, "" if status == 0 and is_as_before else output or "the copy is not as it was")
 
 
