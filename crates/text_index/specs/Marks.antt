@@ -1,0 +1,63 @@
+-- A text with marks: byte indices between characters, none of them between CR and LF, each with the counts of what is
+-- before it. So the counts of two parts of the text add up where a mark parts them.
+--     stretch_size             how many bytes a stretch has, give or take four
+--     stretches_of text        how many stretches a text has
+--     count_at mark s          what a mark says of a scheme
+--     IsMark text mark         what a mark says of the text before it is so
+--     IsMarkAt text i mark     it is mark i, at most four bytes before the place that this has
+--     AreMarks text first marks whole   the mark at a text's beginning, those from mark 1 on, and the one at its end
+--     MarksState               what contracts see of `Marks`
+use Rattle.std.specs.Prelude.{ℕ, ◌≡◌, ◌+◌, ◌*◌, ◌/◌, ◌^◌, ◌<◌, ◌≤◌, false, List, ◌++◌, length, slice_index_or}
+use Rattle.str_indices.specs.Text.{Text, size}
+use Rattle.str_indices.specs.Schemes.{count}
+use Rattle.str_indices.specs.Joins.{joins_crlf}
+use Rattle.str_indices.specs.declared.Scheme.{Scheme}
+use Rattle.str_indices.specs.declared.Scheme.TheVariants.{Chars, Utf16, Lf, Crlf, Lines}
+use Rattle.text_index.specs.declared.mark.Mark.{Mark}
+
+-- how many bytes a stretch has, give or take four
+abbrev pub stretch_size : ℕ
+stretch_size = 1024
+
+-- how many stretches a text has: those that are full, and one more
+abbrev pub stretches_of : Text → ℕ
+stretches_of text = size text / stretch_size + 1
+
+-- what a mark says of a scheme
+abbrev pub count_at : Mark → Scheme → ℕ
+count_at mark Chars = mark.chars
+count_at mark Utf16 = mark.utf16
+count_at mark Lf = mark.lf
+count_at mark Crlf = mark.crlf
+count_at mark Lines = mark.lines
+
+-- the text before the mark and the text after it, where the mark is, what it counts, and that it parts no CR from its LF
+pub record IsMark (text : Text) (mark : Mark) : Type 0 where
+  pub front : Text
+  pub back : Text
+  pub split : text ≡ front ++ back
+  pub byte : mark.byte ≡ size front
+  pub counts : (s : Scheme) → count_at mark s ≡ count s front
+  pub whole : joins_crlf front back ≡ false
+
+-- it is at most four bytes before the place of mark i
+pub record IsMarkAt (text : Text) (i : ℕ) (mark : Mark) : Type 0 where
+  pub is : IsMark text mark
+  pub before : mark.byte ≤ i * stretch_size
+  pub near : i * stretch_size ≤ mark.byte + 4
+
+-- the mark at the text's beginning, those from mark 1 on, and the one at its end
+pub record AreMarks (text : Text) (first : Mark) (marks : List Mark) (whole : Mark) : Type 0 where
+  pub start : IsMark text first
+  pub at_start : first.byte ≡ 0
+  pub each : (i : ℕ) (d : Mark) → i < length marks → IsMarkAt text (i + 1) (slice_index_or marks i d)
+  pub many : length marks ≡ size text / stretch_size
+  pub end : IsMark text whole
+  pub at_end : whole.byte ≡ size text
+  pub short : size text < 2 ^ 64
+
+-- the text, how many marks were looked at, and of how many stretches the text was read
+pub record MarksState : Type 0 where
+  pub text : Text
+  pub looks : ℕ
+  pub reads : ℕ

@@ -1,0 +1,13 @@
+-- Places of a text where it may be parted.
+--     IsWholeAt text at    the place is between characters, and not between CR and LF
+use Rattle.std.specs.Prelude.{ℕ, ◌≡◌, false, ◌++◌}
+use Rattle.str_indices.specs.Text.{Text, size}
+use Rattle.str_indices.specs.Joins.{joins_crlf}
+
+-- what is before the place and what is after it lose nothing to each other
+pub record IsWholeAt (text : Text) (at : ℕ) : Type 0 where
+  pub front : Text
+  pub back : Text
+  pub split : text ≡ front ++ back
+  pub place : size front ≡ at
+  pub whole : joins_crlf front back ≡ false

@@ -1,0 +1,111 @@
+//! A text with an index beside it.
+ghost use Rattle.std.specs.Prelude.{◌≡◌, ◌+◌, ◌<◌, ◌≤◌, ◌^◌, ◌/◌, ◌↔◌, IfOk, IsTrue, chars, length, slice_index_or};
+ghost use Rattle.str_indices.specs.Relations.{IsBoundary};
+ghost use Rattle.str_indices.specs.Schemes.{count, from_byte_idx, to_byte_idx};
+ghost use Rattle.str_indices.specs.Text.{size};
+ghost use Rattle.text_index.specs.Marks.{AreMarks, IsMark, IsMarkAt, MarksState, stretch_size};
+
+use crate::mark::Mark;
+use crate::places::whole_place;
+use crate::queries::STRETCH;
+use crate::{Marks, Scheme, count_in, from_in, to_in};
+use std::alloc::{AllocError, Global};
+use std::marker::Model;
+
+/// A text with an index beside it, that answers for each byte and each index, past the end too. A contract sees the text.
+///
+/// It takes at most a sixteenth of the memory that the text takes, and none for a text of less than a kilobyte.
+#[derive(Drop)]
+pub struct TextIndex<'a> {
+    text: &'a str,
+    first: Mark,
+    marks: Vec<Mark>,
+    whole: Mark,
+}
+
+impl<'a> Model for TextIndex<'a> {
+    ghost use Rattle.std.specs.Prelude.{chars};
+    ghost use Rattle.str_indices.specs.Text.{Text};
+    ghost use Rattle.text_index.specs.Marks.{AreMarks};
+
+    ghost Value = { Text };
+
+    ghost view = { λ t. chars t.text.now };
+
+    ghost invariant = { λ t. AreMarks (chars t.text.now) t.first t.marks.items t.whole };
+}
+
+impl<'a> TextIndex<'a> {
+    /// The index of a text, which is gone over once. It fails where memory is refused.
+    pub fn of(alloc: Global, text: &'a str) -> Result<TextIndex<'a>, AllocError>
+        ensures { IfOk result (λ index. index ≡ chars text.now) }
+    {
+        let many = text.len() / STRETCH;
+        let mut marks = Vec::with_capacity(alloc, many)?;
+        let first = Mark::none();
+        let mut last = first;
+        'marks: for i in 0..many {
+            last = last.moved(text, whole_place(text, (i + 1) * STRETCH));
+            marks.push(last)?;
+        }
+        let whole = last.moved(text, text.len());
+        Ok(TextIndex {
+            text,
+            first,
+            marks,
+            whole,
+        })
+    }
+
+    /// The text.
+    pub fn text(&self) -> &'a str
+        ensures { chars result.now ≡ self.now }
+    {
+        self.text
+    }
+
+    /// How many bytes the text has.
+    pub fn len(&self) -> usize
+        ensures len { result ≡ size self.now }
+        ensures short { size self.now < 2 ^ 64 }
+    {
+        self.whole.byte
+    }
+
+    /// The marks as a question sees them, with no look and no read counted.
+    pub fn view(&self) -> Marks<'_>
+        ensures { result ≡ record { text = self.now; looks = 0; reads = 0 } }
+    {
+        Marks::of(self.text, &self.first, self.marks.as_slice(), &self.whole)
+    }
+
+    /// How many characters, UTF-16 code units or line breaks the text has, in one step.
+    pub fn count(&self, s: Scheme) -> usize
+        ensures { result ≡ count s self.now }
+    {
+        count_in(&mut self.view(), s)
+    }
+
+    /// How many of them end at or before a byte index; past the end, all. It reads a kilobyte of the text at most.
+    pub fn from_byte_idx(&self, s: Scheme, b: usize) -> usize
+        ensures { result ≡ from_byte_idx s self.now b }
+    {
+        from_in(&mut self.view(), s, b)
+    }
+
+    /// The byte index after the first `k` of them, where the character, the unit's character or the line of that index
+    /// begins; the text's length where it has fewer. It halves the marks, and reads a kilobyte of the text at most.
+    pub fn to_byte_idx(&self, s: Scheme, k: usize) -> usize
+        ensures { result ≡ to_byte_idx s self.now k }
+    {
+        to_in(&mut self.view(), s, k)
+    }
+
+    /// Whether a byte index is between characters, or at the text's beginning or end, in one step.
+    pub fn is_char_boundary(&self, b: usize) -> bool
+        ensures { IsTrue result ↔ IsBoundary self.now b }
+    {
+        let text = self.text();
+        text.is_char_boundary(b)
+    }
+}

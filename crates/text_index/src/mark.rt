@@ -1,0 +1,69 @@
+//! What is counted of a text before a place in it.
+ghost use Rattle.std.specs.Prelude.{◌≡◌, ◌≤◌, chars, false};
+ghost use Rattle.str_indices.specs.Relations.{IsBoundary};
+ghost use Rattle.str_indices.specs.Text.{Text, size};
+ghost use Rattle.text_index.specs.Marks.{IsMark, count_at};
+ghost use Rattle.text_index.specs.Places.{IsWholeAt};
+
+use crate::places::part_of;
+use str_indices::{Scheme, counts};
+
+/// A byte index, and how many characters, UTF-16 code units and line breaks are before it.
+#[derive(Clone, Copy)]
+pub(crate) struct Mark {
+    pub(crate) byte: usize,
+    pub(crate) chars: usize,
+    pub(crate) utf16: usize,
+    pub(crate) lf: usize,
+    pub(crate) crlf: usize,
+    pub(crate) lines: usize,
+}
+
+impl Mark {
+    /// The mark at the beginning of a text.
+    pub(crate) fn none() -> Mark
+        ensures mark { (text : Text) → IsMark text result }
+        ensures byte { result.byte ≡ 0 }
+    {
+        Mark {
+            byte: 0,
+            chars: 0,
+            utf16: 0,
+            lf: 0,
+            crlf: 0,
+            lines: 0,
+        }
+    }
+
+    /// What it says of a scheme.
+    pub(crate) fn count(&self, s: Scheme) -> usize
+        ensures { result ≡ count_at self.now s }
+    {
+        match s {
+            Scheme::Chars => self.chars,
+            Scheme::Utf16 => self.utf16,
+            Scheme::Lf => self.lf,
+            Scheme::Crlf => self.crlf,
+            Scheme::Lines => self.lines,
+        }
+    }
+
+    /// The mark at a later place of the text, for which the text between both is gone over.
+    pub(crate) fn moved(self, text: &str, to: usize) -> Mark
+        requires mark { IsMark (chars text.now) self }
+        requires order { self.byte ≤ to }
+        requires place { IsWholeAt (chars text.now) to }
+        ensures mark { IsMark (chars text.now) result }
+        ensures byte { result.byte ≡ to }
+    {
+        let own = counts(part_of(text, self.byte, to));
+        Mark {
+            byte: to,
+            chars: self.chars + own.chars,
+            utf16: self.utf16 + own.utf16,
+            lf: self.lf + own.lf,
+            crlf: self.crlf + own.crlf,
+            lines: self.lines + own.lines,
+        }
+    }
+}

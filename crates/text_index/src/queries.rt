@@ -1,0 +1,112 @@
+//! The answers for a text, from its marks and the text of one stretch at most.
+ghost use Rattle.std.specs.Prelude.{◌≡◌, ◌+◌, ◌-◌, ◌*◌, ◌^◌, ◌<◌, ◌≤◌};
+ghost use Rattle.str_indices.specs.Schemes.{count, from_byte_idx, to_byte_idx};
+ghost use Rattle.str_indices.specs.Text.{size};
+ghost use Rattle.text_index.specs.Marks.{MarksState, stretches_of};
+ghost use Rattle.text_index.specs.Stretches.{Answers, StandsRound};
+
+use crate::stretch::Stretch;
+use crate::{Marks, Scheme};
+
+/// How many bytes a stretch has, give or take four.
+pub(crate) const STRETCH: usize = 1024;
+
+/// How many characters, UTF-16 code units or line breaks the text has. Looks at no mark.
+pub fn count_in(m: &mut Marks, s: Scheme) -> usize
+    ensures answer { result ≡ count s m.old.text }
+    ensures state { m.new ≡ m.old }
+{
+    m.whole().count(s)
+}
+
+/// How many of them the text has up to a byte index. Looks at two marks at most, and reads one stretch at most.
+pub fn from_in(m: &mut Marks, s: Scheme, b: usize) -> usize
+    ensures answer { result ≡ from_byte_idx s m.old.text b }
+    ensures text { m.new.text ≡ m.old.text }
+    ensures looks { m.new.looks ≤ m.old.looks + 2 }
+    ensures looks_kept { m.old.looks ≤ m.new.looks }
+    ensures reads { m.new.reads ≤ m.old.reads + 1 }
+    ensures reads_kept { m.old.reads ≤ m.new.reads }
+{
+    let whole = m.whole();
+    if whole.byte <= b {
+        return whole.count(s);
+    }
+    let stretch = stretch_round(m, b);
+    let start = stretch.start;
+    let text = m.read(&stretch);
+    start.count(s) + stretch.from_byte_idx(s, text, b - start.byte)
+}
+
+/// The byte index in the text after the first `k` of them; its length where it has fewer. It looks at so few marks that
+/// two to their number is at most twice the number of stretches, and reads one stretch at most.
+pub fn to_in(m: &mut Marks, s: Scheme, k: usize) -> usize
+    ensures answer { result ≡ to_byte_idx s m.old.text k }
+    ensures text { m.new.text ≡ m.old.text }
+    ensures looks { 2 ^ (m.new.looks - m.old.looks) ≤ 2 * stretches_of m.old.text }
+    ensures looks_kept { m.old.looks ≤ m.new.looks }
+    ensures reads { m.new.reads ≤ m.old.reads + 1 }
+    ensures reads_kept { m.old.reads ≤ m.new.reads }
+{
+    if k == 0 {
+        return 0;
+    }
+    let stretch = stretch_for(m, s, k);
+    let start = stretch.start;
+    let text = m.read(&stretch);
+    start.byte + stretch.to_byte_idx(s, text, k - start.count(s))
+}
+
+/// The stretch that a byte is in. A mark may stand a little before the byte that is at its place.
+fn stretch_round<'a>(m: &mut Marks<'a>, b: usize) -> Stretch<'a>
+    requires { b < size m.old.text }
+    ensures round { StandsRound m.old.text b result }
+    ensures text { m.new.text ≡ m.old.text }
+    ensures looks { m.new.looks ≤ m.old.looks + 2 }
+    ensures looks_kept { m.old.looks ≤ m.new.looks }
+    ensures reads { m.new.reads ≡ m.old.reads }
+{
+    let i = b / STRETCH;
+    let next = m.end_by(i + 1);
+    if b < next.byte {
+        Stretch {
+            start: m.start_of(i),
+            end: next,
+        }
+    } else {
+        Stretch {
+            start: next,
+            end: m.end_by(i + 2),
+        }
+    }
+}
+
+/// The stretch that answers for a count: the last one before which it is not reached.
+fn stretch_for<'a>(m: &mut Marks<'a>, s: Scheme, k: usize) -> Stretch<'a>
+    requires { 0 < k }
+    ensures answers { Answers s m.old.text k result }
+    ensures short { size m.old.text < 2 ^ 64 }
+    ensures text { m.new.text ≡ m.old.text }
+    ensures looks { 2 ^ (m.new.looks - m.old.looks) ≤ 2 * stretches_of m.old.text }
+    ensures looks_kept { m.old.looks ≤ m.new.looks }
+    ensures reads { m.new.reads ≡ m.old.reads }
+{
+    let mut low = 0;
+    let mut high = m.stretches();
+    let mut found = Stretch {
+        start: m.first(),
+        end: m.whole(),
+    };
+    'halves: while high - low > 1 {
+        let middle = low + (high - low) / 2;
+        let mark = m.mark(middle);
+        if mark.count(s) < k {
+            low = middle;
+            found.start = mark;
+        } else {
+            high = middle;
+            found.end = mark;
+        }
+    }
+    found
+}

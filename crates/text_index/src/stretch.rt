@@ -1,0 +1,52 @@
+//! The text between two marks, asked beside what they say of it.
+ghost use Rattle.std.specs.Prelude.{◌≡◌, chars};
+ghost use Rattle.str_indices.specs.Schemes.{from_byte_idx, to_byte_idx};
+ghost use Rattle.text_summary.specs.Summaries.{summary_of};
+ghost use Rattle.text_index.specs.Stretches.{AddsUp};
+
+use crate::mark::Mark;
+use str_indices::Scheme;
+use text_summary::{Summary, ends_cr, starts_lf};
+
+/// Two marks, between which a stretch of the text stands.
+#[derive(Clone, Copy)]
+pub(crate) struct Stretch<'a> {
+    pub(crate) start: &'a Mark,
+    pub(crate) end: &'a Mark,
+}
+
+impl Stretch<'_> {
+    /// How many are in its text up to a byte index in it.
+    pub(crate) fn from_byte_idx(&self, s: Scheme, text: &str, byte_idx: usize) -> usize
+        requires { AddsUp self.now (chars text.now) }
+        ensures { result ≡ from_byte_idx s (chars text.now) byte_idx }
+    {
+        self.summary(text).from_byte_idx(s, text, byte_idx)
+    }
+
+    /// The byte index in its text after the first so many.
+    pub(crate) fn to_byte_idx(&self, s: Scheme, text: &str, idx: usize) -> usize
+        requires { AddsUp self.now (chars text.now) }
+        ensures { result ≡ to_byte_idx s (chars text.now) idx }
+    {
+        self.summary(text).to_byte_idx(s, text, idx)
+    }
+
+    /// The summary of its text, which its marks tell.
+    fn summary(&self, text: &str) -> Summary
+        requires { AddsUp self.now (chars text.now) }
+        ensures { result ≡ summary_of (chars text.now) }
+    {
+        let Stretch { start, end } = *self;
+        Summary {
+            len: end.byte - start.byte,
+            chars: end.chars - start.chars,
+            utf16: end.utf16 - start.utf16,
+            lf: end.lf - start.lf,
+            crlf: end.crlf - start.crlf,
+            lines: end.lines - start.lines,
+            starts_lf: starts_lf(text),
+            ends_cr: ends_cr(text),
+        }
+    }
+}
