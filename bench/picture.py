@@ -1,6 +1,7 @@
-"""Draws the tables of ratios to the original that the benchmark printed, from a file or from standard input, as an SVG on
-standard output: for each function a bar for the mean of our time over the original's, by each half of the library that
-was measured, and a line at 1.
+"""Draws tables of ratios as an SVG: for each call a bar of each table, and a line at 1.
+
+As a program it draws the ratios to the original that the benchmark printed, from a file or from standard input, on standard
+output: for each function the mean of our time over the original's, by each half of the library that was measured.
 """
 
 import fileinput
@@ -10,8 +11,8 @@ import sys
 WIDTH, BAR, GAP, TOP, LEFT, RIGHT = 800, 13, 8, 84, 220, 70
 PLOT = WIDTH - LEFT - RIGHT
 TITLE = "Our time / that of the original, "
-# of the half that was measured first, and of the last: in the row of a function, and in that of the mean
-COLOURS = [("#8fb8a8", "#9a9cab"), ("#2a7f62", "#44475a")]
+# of the table that was measured first up to the last: in the row of a call, and in that of the mean
+COLOURS = [("#c4dcd3", "#c9cad2"), ("#8fb8a8", "#9a9cab"), ("#2a7f62", "#44475a")]
 
 
 def cells(line):
@@ -48,14 +49,14 @@ def text(x, y, words, **attributes):
     return f'<text x="{x:.1f}" y="{y:.1f}"{extra}>{html.escape(words)}</text>'
 
 
-def bars(place, name, means, halves, end):
-    """The name of a function, its bars, and a number after each."""
+def bars(place, name, means, colours, end):
+    """The name of a call, its bars, and a number after each."""
     y = TOP + place * (BAR * len(means) + GAP)
     weight = "bold" if name == "mean" else "normal"
     parts = [text(LEFT - 10, y + BAR * len(means) / 2 + 5, name, text_anchor="end", font_weight=weight)]
-    for mean, half in zip(means, halves):
+    for mean, colour in zip(means, colours):
         length = PLOT * mean / end
-        fill = half[name == "mean"]
+        fill = colour[name == "mean"]
         parts += [
             f'<rect x="{LEFT}" y="{y}" width="{length:.1f}" height="{BAR - 1}" fill="{fill}"/>',
             text(LEFT + length + 6, y + BAR - 3, f"{mean:.2f}", font_size=11, font_weight=weight),
@@ -64,40 +65,40 @@ def bars(place, name, means, halves, end):
     return parts
 
 
-def key(tables, halves):
-    """Which colour is which half."""
+def key(tables, colours):
+    """Which colour is which table."""
     parts, x = [], LEFT
-    for (how, _), half in zip(tables, halves):
+    for (how, _), colour in zip(tables, colours):
         parts += [
-            f'<rect x="{x}" y="{TOP - 24}" width="{BAR}" height="{BAR - 1}" fill="{half[0]}"/>',
+            f'<rect x="{x}" y="{TOP - 24}" width="{BAR}" height="{BAR - 1}" fill="{colour[0]}"/>',
             text(x + BAR + 6, TOP - 14, how, font_size=11),
         ]
         x += 150
     return parts
 
 
-def draw(heading, tables):
-    """The whole picture."""
+def draw(title, heading, tables, at_one):
+    """The whole picture: a title and a line below it, the tables, each with its name, and what 1 stands for."""
     end = scale(tables)
-    halves = COLOURS[-len(tables):]
+    colours = COLOURS[-len(tables):]
     rows = list(zip(*(means for _, means in tables)))
     bottom = TOP + len(rows) * (BAR * len(tables) + GAP)
     one = LEFT + PLOT / end
     parts = [
         f'<svg xmlns="http://www.w3.org/2000/svg" role="img" viewBox="0 0 {WIDTH} {bottom + 34}" '
         'font-family="sans-serif" font-size="13" fill="#222222">',
-        "<title>Our time over the original's, by function</title>",
+        f"<title>{html.escape(title)}</title>",
         f'<rect width="{WIDTH}" height="{bottom + 34}" fill="#fafafa"/>',
-        text(16, 26, "Our time / the original's, geometric means", font_size=16, font_weight="bold"),
+        text(16, 26, title, font_size=16, font_weight="bold"),
         text(16, 46, heading, font_size=11, fill="#555555"),
-        *key(tables, halves),
+        *key(tables, colours),
     ]
     for place, row in enumerate(rows):
-        parts += bars(place, row[0][0], [mean for _, mean in row], halves, end)
+        parts += bars(place, row[0][0], [mean for _, mean in row], colours, end)
     parts += [
         f'<line x1="{one:.1f}" x2="{one:.1f}" y1="{TOP - 4}" y2="{bottom + 6}" stroke="#222222" '
         'stroke-dasharray="4 3"/>',
-        text(one, bottom + 22, "1.0: as fast as the original", text_anchor="middle", font_size=11),
+        text(one, bottom + 22, f"1.0: {at_one}", text_anchor="middle", font_size=11),
         "</svg>",
     ]
     return "\n".join(parts)
@@ -107,7 +108,7 @@ def main():
     heading, tables = read(fileinput.input(encoding="utf-8"))
     if not tables:
         sys.exit("picture.py: no table of ratios to the original")
-    print(draw(heading, tables))
+    print(draw("Our time / the original's, geometric means", heading, tables, "as fast as the original"))
 
 
 if __name__ == "__main__":

@@ -1,31 +1,60 @@
-//! A text that changes, kept in one of two ways.
+//! A text that changes, kept in one of three ways.
 
-use crate::questions::Questions;
-use std::ops::Range;
-use std::str;
-use str_rope::Rope;
+use crate::btree::BTree;
+use crate::questions::{byte_of, index_of};
+use str_rope::{Rope, Scheme};
 
 /// What is timed of a text.
 pub trait Kept: Sized {
     fn of(source: &str) -> Self;
 
-    /// The same of bytes that are tested for UTF-8.
-    fn tested(source: &str) -> Self;
+    fn len(&self) -> usize;
 
-    fn insert(&mut self, at: usize, letters: &str);
+    fn byte_of(&self, scheme: Scheme, index: usize) -> usize;
 
-    fn remove(&mut self, part: Range<usize>);
+    fn index_of(&self, scheme: Scheme, byte: usize) -> usize;
 
-    /// The sum of its bytes.
-    fn read(&self) -> u64;
+    /// Where the character begins that the byte is in.
+    fn floor(&self, byte: usize) -> usize {
+        self.byte_of(Scheme::Chars, self.index_of(Scheme::Chars, byte))
+    }
 
-    fn questions(&self) -> Questions<'_>;
+    fn insert(&mut self, at: usize, more: &str);
 
-    fn whole(self) -> String;
+    fn remove(&mut self, from: usize, to: usize);
+
+    /// Hands out the text between two bytes, in order.
+    fn read(&self, from: usize, to: usize, each: impl FnMut(&[u8]));
 }
 
-fn bytes_added(text: &str) -> u64 {
-    text.bytes().fold(0, |sum, byte| sum.wrapping_add(u64::from(byte)))
+impl Kept for BTree {
+    fn of(source: &str) -> BTree {
+        BTree::of(source)
+    }
+
+    fn len(&self) -> usize {
+        BTree::len(self)
+    }
+
+    fn byte_of(&self, scheme: Scheme, index: usize) -> usize {
+        BTree::byte_of(self, scheme, index)
+    }
+
+    fn index_of(&self, scheme: Scheme, byte: usize) -> usize {
+        BTree::index_of(self, scheme, byte)
+    }
+
+    fn insert(&mut self, at: usize, more: &str) {
+        BTree::insert(self, at, more);
+    }
+
+    fn remove(&mut self, from: usize, to: usize) {
+        BTree::remove(self, from, to);
+    }
+
+    fn read(&self, from: usize, to: usize, mut each: impl FnMut(&[u8])) {
+        BTree::read(self, from, to, &mut each);
+    }
 }
 
 impl Kept for String {
@@ -33,28 +62,36 @@ impl Kept for String {
         source.to_string()
     }
 
-    fn tested(source: &str) -> String {
-        str::from_utf8(source.as_bytes()).expect("it is UTF-8").to_string()
+    fn len(&self) -> usize {
+        String::len(self)
     }
 
-    fn insert(&mut self, at: usize, letters: &str) {
-        self.insert_str(at, letters);
+    fn byte_of(&self, scheme: Scheme, index: usize) -> usize {
+        byte_of(scheme, self, index)
     }
 
-    fn remove(&mut self, part: Range<usize>) {
-        self.replace_range(part, "");
+    fn index_of(&self, scheme: Scheme, byte: usize) -> usize {
+        index_of(scheme, self, byte)
     }
 
-    fn read(&self) -> u64 {
-        bytes_added(self)
+    fn floor(&self, byte: usize) -> usize {
+        let mut at = byte.min(self.len());
+        while !self.is_char_boundary(at) {
+            at -= 1;
+        }
+        at
     }
 
-    fn questions(&self) -> Questions<'_> {
-        Questions::of_text(self)
+    fn insert(&mut self, at: usize, more: &str) {
+        self.insert_str(at, more);
     }
 
-    fn whole(self) -> String {
-        self
+    fn remove(&mut self, from: usize, to: usize) {
+        self.replace_range(from..to, "");
+    }
+
+    fn read(&self, from: usize, to: usize, mut each: impl FnMut(&[u8])) {
+        each(&self.as_bytes()[from..to]);
     }
 }
 
@@ -63,29 +100,28 @@ impl Kept for Rope {
         source.parse().expect("there is memory")
     }
 
-    fn tested(source: &str) -> Rope {
-        // The library tests all that it loads.
-        Self::of(source)
+    fn len(&self) -> usize {
+        self.len_bytes()
     }
 
-    fn insert(&mut self, at: usize, letters: &str) {
-        Rope::insert(self, at, letters).expect("the place is a boundary");
+    fn byte_of(&self, scheme: Scheme, index: usize) -> usize {
+        Rope::to_byte_idx(self, scheme, index)
     }
 
-    fn remove(&mut self, part: Range<usize>) {
-        Rope::remove(self, part).expect("both places are boundaries");
+    fn index_of(&self, scheme: Scheme, byte: usize) -> usize {
+        Rope::from_byte_idx(self, scheme, byte)
     }
 
-    fn read(&self) -> u64 {
-        self.chunks()
-            .fold(0, |sum, chunk| sum.wrapping_add(bytes_added(&chunk)))
+    fn insert(&mut self, at: usize, more: &str) {
+        Rope::insert(self, at, more).expect("the place is a boundary");
     }
 
-    fn questions(&self) -> Questions<'_> {
-        Questions::of_rope(self)
+    fn remove(&mut self, from: usize, to: usize) {
+        Rope::remove(self, from..to).expect("both places are boundaries");
     }
 
-    fn whole(self) -> String {
-        self.to_string()
+    fn read(&self, from: usize, to: usize, mut each: impl FnMut(&[u8])) {
+        let chunks = self.chunks_in(from..to).expect("both places are boundaries");
+        chunks.for_each(|chunk| each(chunk.as_bytes()));
     }
 }

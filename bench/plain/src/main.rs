@@ -1,117 +1,176 @@
-//! Times changes of and questions about a text in Rust: a `String`, which moves its bytes at each change, or the rope of the
-//! Cargo crate `str_rope`, which calls the library for C.
+//! Times a text that changes in Rust: in a plain B-tree, in a `String`, which moves its bytes at each change, or in the rope of
+//! the Cargo crate `str_rope`, which calls the library for C.
 //!
-//! Its words and lines are those of `../rope.rt.txt`, without the schemes, where the first word is `string` or `rust`. The
-//! questions about a `String` are asked of the original crate `str_indices`, where it is at hand, else of loops over the
-//! standard library; the first line says which.
+//! Its words and lines are those of `../rope.rt.txt`, where the first word is `btree`, `string` or `rust`.
 
-mod changes;
+mod btree;
+mod calls;
 mod kept;
+mod leaf;
 mod questions;
 
-use changes::tell_changes;
+use btree::BTree;
+use calls::{changes, hashed, made, questions, read, Call, Change};
 use kept::Kept;
-use questions::tell_questions;
-use std::env;
 use std::hint::black_box;
 use std::time::Instant;
-use str_rope::Rope;
+use std::{env, fs};
+use str_rope::{Rope, Scheme};
 
-/// One line of the text: words of several scripts, ended by CR LF.
-const LINE: &str = "Zeile – über 🐸 und せかい, und so weiter\r\n";
+/// How many calls are timed together.
+const BATCH: usize = 100;
 
 /// How often a timing is taken where the best counts.
 const TIMINGS: usize = 3;
 
+/// How many bytes are read together.
+const ROOM: usize = 4096;
+
+/// How many bytes a page of memory has.
+const PAGE: usize = 4096;
+
 /// How much is done.
 #[derive(Clone, Copy)]
-pub struct Scale {
-    pub bytes: usize,
-    pub asked: usize,
-    pub checked: usize,
-    pub rounds: usize,
-    pub changes: usize,
+struct Scale {
+    questions: usize,
+    rounds: usize,
+    changes: usize,
 }
 
-/// Pseudo-random numbers, the same in each program.
-pub fn next(seed: u64) -> u64 {
-    seed.wrapping_mul(6364136223846793005).wrapping_add(1442695040888963407)
+fn tell(name: &str, figure: u128, sum: u64) {
+    println!("{name} {figure} {sum}");
 }
 
-/// The number as one of the first `n`.
-pub fn below(seed: u64, n: usize) -> usize {
-    ((seed >> 33) as usize).checked_rem(n).unwrap_or(0)
+/// Makes the calls, and takes the nanoseconds of one of each batch; answers a check sum of the first batch.
+fn timed<K: Kept>(text: &mut K, calls: &[Call], times: &mut Vec<u128>) -> u64 {
+    let mut room = [0; ROOM];
+    let mut sum = 0_u64;
+    let mut first = None;
+    for batch in calls.chunks(BATCH) {
+        let start = Instant::now();
+        for call in batch {
+            sum = sum.wrapping_add(made(text, *call, sum, &mut room));
+        }
+        times.push(start.elapsed().as_nanos() / batch.len() as u128);
+        first.get_or_insert(sum);
+    }
+    first.unwrap_or(0)
 }
 
-/// Takes a text's bytes and their order into a check sum.
-pub fn hashed(text: &str) -> u64 {
-    let add = |sum: u64, byte| sum.wrapping_mul(31).wrapping_add(u64::from(byte));
-    text.bytes().fold(0, add)
+fn median(mut times: Vec<u128>) -> u128 {
+    times.sort_unstable();
+    times.get(times.len() / 2).copied().unwrap_or(0)
 }
 
-/// The least time of a few, in nanoseconds. What is made last is dropped after the clock stops.
-pub fn best<T>(mut timed: impl FnMut() -> T) -> u128 {
+/// Megabytes a second, of the best of a few timings. What is made last is dropped after the clock stops.
+fn rate<T>(bytes: usize, mut once: impl FnMut() -> T) -> u128 {
+    let repeats = 1_000_000 / bytes.clamp(1, 1_000_000);
     let times = (0..TIMINGS).map(|_| {
         let start = Instant::now();
-        let made = timed();
+        let made = (0..repeats).fold(None, |_, _| Some(black_box(once())));
         let taken = start.elapsed().as_nanos();
         drop(made);
         taken
     });
-    times.min().unwrap_or(0)
+    (bytes * repeats) as u128 * 1000 / times.min().unwrap_or(1).max(1)
 }
 
-fn tell_load(name: &str, source: &str, repeats: usize, taken: u128) {
-    println!("{name} {} {}", rate(source.len() * repeats, taken), hashed(source));
+fn tell_questions<K: Kept>(text: &mut K, calls: usize) {
+    let bytes = text.len();
+    let [chars, units, lines] = [Scheme::Chars, Scheme::Utf16, Scheme::Crlf].map(|s| text.index_of(s, bytes));
+    let rows = [
+        ("line", Call::To(Scheme::Crlf, 0), lines),
+        ("line-of", Call::From(Scheme::Crlf, 0), bytes),
+        ("char", Call::To(Scheme::Chars, 0), chars),
+        ("utf16", Call::To(Scheme::Utf16, 0), units),
+        ("lines", Call::Lines(0), lines),
+    ];
+    for (name, kind, n) in rows {
+        let mut times = Vec::new();
+        let sum = timed(text, &questions(kind, n, calls), &mut times);
+        tell(name, median(times), sum);
+    }
 }
 
-fn time_load<K>(source: &str, repeats: usize, load: fn(&str) -> K) -> u128 {
-    best(|| (0..repeats).fold(None, |_, _| Some(black_box(load(black_box(source))))))
+/// The rounds of changes, each of a fresh text: as many bytes are put in as are taken out, or almost.
+fn tell_changes<K: Kept>(source: &str, scale: Scale) {
+    let rows = [
+        ("remove", Change::Remove),
+        ("backspace", Change::Backspace),
+        ("insert", Change::Insert),
+        ("typing", Change::Type),
+    ];
+    let mut times = rows.map(|_| Vec::new());
+    let mut sum = 0_u64;
+    for round in 0..scale.rounds {
+        let (mut twin, mut text) = (K::of(source), K::of(source));
+        for ((_, change), times) in rows.iter().zip(&mut times) {
+            let calls = changes(&mut twin, *change, round as u64, scale.changes);
+            timed(&mut text, &calls, times);
+        }
+        sum = sum.wrapping_add(hashed(&text));
+    }
+    for ((name, _), times) in rows.iter().zip(times) {
+        tell(name, median(times), sum);
+    }
 }
 
-fn tell_reading<K: Kept>(text: &K, bytes: usize, repeats: usize) {
-    let reading = best(|| (0..repeats).for_each(|_| _ = black_box(black_box(text).read())));
-    println!("read {} {}", rate(bytes * repeats, reading), text.read());
-}
-
-/// Megabytes a second.
-fn rate(bytes: usize, taken: u128) -> u128 {
-    bytes as u128 * 1000 / taken.max(1)
-}
-
-fn tell_all<K: Kept>(source: &str, scale: Scale) {
-    let repeats = 1_000_000 / scale.bytes.clamp(1, 1_000_000);
-    tell_load("load", source, repeats, time_load(source, repeats, K::of));
-    tell_load("tested", source, repeats, time_load(source, repeats, K::tested));
-    // The text that is read and asked is loaded after those that are timed, as in the program in Rattle: so both lie in
-    // memory alike.
-    let text = K::of(source);
-    tell_reading(&text, source.len(), repeats);
-    let questions = text.questions();
-    println!("questions {} 0", questions.of);
-    tell_questions(&questions, source, scale);
+fn tell_times<K: Kept>(source: &str, scale: Scale) {
+    let mut text = K::of(source);
+    tell("load", rate(source.len(), || K::of(black_box(source))), hashed(&text));
+    let mut room = [0; ROOM];
+    let reading = rate(source.len(), || {
+        read(black_box(&text), 0, source.len(), black_box(&mut room))
+    });
+    tell("read", reading, source.len() as u64);
+    tell_questions(&mut text, scale.questions);
+    drop(text);
     tell_changes::<K>(source, scale);
 }
 
-fn scale_of(numbers: &[usize]) -> Option<Scale> {
-    let &[bytes, asked, checked, rounds, changes] = numbers else {
-        return None;
-    };
-    Some(Scale {
-        bytes,
-        asked,
-        checked,
-        rounds,
-        changes,
-    })
+/// How many bytes of memory the process has.
+fn memory() -> usize {
+    let pages = fs::read_to_string("/proc/self/statm").expect("the system tells");
+    let pages = pages.split(' ').nth(1).and_then(|pages| pages.parse().ok());
+    pages.map_or(0, |pages: usize| pages * PAGE)
+}
+
+/// Tells the memory that a text takes after a load and after inserts, each with the text's bytes.
+fn tell_memory<K: Kept>(source: &str, inserts: usize) {
+    let before = memory();
+    let mut text = K::of(source);
+    tell("loaded", memory().saturating_sub(before) as u128, text.len() as u64);
+    for round in 0..inserts / BATCH {
+        changes(&mut text, Change::Insert, round as u64, BATCH);
+    }
+    tell("inserted", memory().saturating_sub(before) as u128, text.len() as u64);
+}
+
+fn tell_all<K: Kept>(source: &str, job: &str, numbers: &[usize]) {
+    match (job, numbers) {
+        ("times", &[questions, rounds, changes]) => tell_times::<K>(
+            source,
+            Scale {
+                questions,
+                rounds,
+                changes,
+            },
+        ),
+        ("memory", &[inserts]) => tell_memory::<K>(source, inserts),
+        _ => panic!("the jobs are times, with three numbers, and memory, with one"),
+    }
 }
 
 fn main() {
-    let numbers: Vec<usize> = env::args().skip(2).filter_map(|word| word.parse().ok()).collect();
-    let scale = scale_of(&numbers).expect("five numbers after the kind");
-    let source = LINE.repeat(scale.bytes.div_ceil(LINE.len()));
-    match env::args().nth(1).as_deref() {
-        Some("rust") => tell_all::<Rope>(&source, scale),
-        _ => tell_all::<String>(&source, scale),
+    let words: Vec<String> = env::args().collect();
+    let [_, way, file, job, numbers @ ..] = words.as_slice() else {
+        panic!("a way, a file and a job");
+    };
+    let source = fs::read_to_string(file).expect("there is a text");
+    let numbers: Vec<usize> = numbers.iter().filter_map(|word| word.parse().ok()).collect();
+    match way.as_str() {
+        "btree" => tell_all::<BTree>(&source, job, &numbers),
+        "rust" => tell_all::<Rope>(&source, job, &numbers),
+        _ => tell_all::<String>(&source, job, &numbers),
     }
 }

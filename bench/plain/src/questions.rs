@@ -1,54 +1,38 @@
-//! The questions about a text.
+//! The questions about a `String`: the original crate answers, where it is at hand, else loops over the standard library.
 
-use crate::{below, best, next, Scale};
 use original::Function;
-use std::hint::black_box;
-use str_rope::{Rope, Scheme};
+use std::sync::LazyLock;
+use str_rope::Scheme;
 
 type Convert = fn(&str, usize) -> usize;
 
-/// A question, from an index to another.
-type Question<'a> = Box<dyn Fn(usize) -> usize + 'a>;
-
-/// What is asked of a text, and who answers.
-pub struct Questions<'a> {
-    pub of: &'static str,
-    line: Question<'a>,
-    utf16: Question<'a>,
-    char: Question<'a>,
+/// Those of characters, of UTF-16 code units and of lines.
+struct Questions {
+    to: [Convert; 3],
+    from: [Convert; 3],
 }
 
-impl<'a> Questions<'a> {
-    /// Those of the original, else of loops over the standard library.
-    pub fn of_text(text: &'a str) -> Self {
-        let named = |name: &str| original::functions()?.iter().find_map(|f| converting(f, name));
-        let original = (
-            named("lines_crlf::to_byte_idx"),
-            named("utf16::to_byte_idx"),
-            named("chars::from_byte_idx"),
-        );
-        let (of, [line, utf16, char]): (_, [Convert; 3]) = match original {
-            (Some(line), Some(utf16), Some(char)) => ("original", [line, utf16, char]),
-            _ => ("std", [line_to_byte, utf16_to_byte, byte_to_char]),
-        };
-        Self {
-            of,
-            line: Box::new(move |index| line(text, index)),
-            utf16: Box::new(move |index| utf16(text, index)),
-            char: Box::new(move |index| char(text, index)),
-        }
+static QUESTIONS: LazyLock<Questions> = LazyLock::new(|| {
+    let original = original::functions();
+    let named = |name| {
+        original
+            .iter()
+            .flatten()
+            .find_map(|function| converting(function, name))
+    };
+    Questions {
+        to: [
+            named("chars::to_byte_idx").unwrap_or(char_to_byte),
+            named("utf16::to_byte_idx").unwrap_or(utf16_to_byte),
+            named("lines_crlf::to_byte_idx").unwrap_or(line_to_byte),
+        ],
+        from: [
+            named("chars::from_byte_idx").unwrap_or(byte_to_char),
+            named("utf16::from_byte_idx").unwrap_or(byte_to_utf16),
+            named("lines_crlf::from_byte_idx").unwrap_or(byte_to_line),
+        ],
     }
-
-    /// Those of the rope itself.
-    pub fn of_rope(rope: &'a Rope) -> Self {
-        Self {
-            of: "rope",
-            line: Box::new(|index| rope.to_byte_idx(Scheme::Crlf, index)),
-            utf16: Box::new(|index| rope.to_byte_idx(Scheme::Utf16, index)),
-            char: Box::new(|index| rope.from_byte_idx(Scheme::Chars, index)),
-        }
-    }
-}
+});
 
 /// The function, where it is the conversion of that name.
 fn converting(function: &Function, name: &str) -> Option<Convert> {
@@ -58,16 +42,10 @@ fn converting(function: &Function, name: &str) -> Option<Convert> {
     }
 }
 
-/// Where a line begins. In this text each line feed ends a line.
-fn line_to_byte(text: &str, index: usize) -> usize {
-    let ends = text.bytes().enumerate().filter(|(_, byte)| *byte == b'\n');
-    match index.checked_sub(1) {
-        None => 0,
-        Some(before) => ends.map(|(at, _)| at + 1).nth(before).unwrap_or(text.len()),
-    }
+fn char_to_byte(text: &str, index: usize) -> usize {
+    text.char_indices().nth(index).map_or(text.len(), |(at, _)| at)
 }
 
-/// Where the character is that a UTF-16 unit belongs to.
 fn utf16_to_byte(text: &str, index: usize) -> usize {
     let mut units = 0;
     for (at, char) in text.char_indices() {
@@ -79,37 +57,47 @@ fn utf16_to_byte(text: &str, index: usize) -> usize {
     text.len()
 }
 
-/// The number of the character that a byte is in.
-fn byte_to_char(text: &str, byte_idx: usize) -> usize {
-    let starts = |byte: &&u8| **byte & 0xc0 != 0x80;
-    if byte_idx >= text.len() {
-        return text.chars().count();
+/// In the texts that are timed each line feed ends a line, and nothing else does.
+fn line_to_byte(text: &str, index: usize) -> usize {
+    let mut starts = text.match_indices('\n').map(|(at, _)| at + 1);
+    match index.checked_sub(1) {
+        None => 0,
+        Some(before) => starts.nth(before).unwrap_or(text.len()),
     }
-    text.as_bytes()[..=byte_idx].iter().filter(starts).count() - 1
 }
 
-/// Asks so many times at pseudo-random places. Each call waits for the one before it.
-fn ask(question: &Question, places: usize, calls: usize) -> u64 {
-    let (mut seed, mut sum) = (1, 0_u64);
-    for _ in 0..calls {
-        seed = next(seed);
-        let index = below(seed ^ (sum & 1) << 33, places);
-        sum = sum.wrapping_add(question(index) as u64);
-    }
-    sum
+fn byte_to_char(text: &str, byte: usize) -> usize {
+    let chars = text
+        .char_indices()
+        .take_while(|(at, char)| at + char.len_utf8() <= byte);
+    chars.count()
 }
 
-pub fn tell_questions(questions: &Questions, text: &str, scale: Scale) {
-    let breaks = text.bytes().filter(|byte| *byte == b'\n').count();
-    let units = text.chars().map(char::len_utf16).sum();
-    let named = [
-        ("line", &questions.line, breaks),
-        ("utf16", &questions.utf16, units),
-        ("char", &questions.char, text.len()),
-    ];
-    for (name, question, places) in named {
-        let taken = best(|| black_box(ask(question, places, scale.asked)));
-        let each = taken / scale.asked.max(1) as u128;
-        println!("{name} {each} {}", ask(question, places, scale.checked));
+fn byte_to_utf16(text: &str, byte: usize) -> usize {
+    let chars = text
+        .char_indices()
+        .take_while(|(at, char)| at + char.len_utf8() <= byte);
+    chars.map(|(_, char)| char.len_utf16()).sum()
+}
+
+fn byte_to_line(text: &str, byte: usize) -> usize {
+    let before = &text.as_bytes()[..byte.min(text.len())];
+    before.iter().filter(|byte| **byte == b'\n').count()
+}
+
+fn row_of(scheme: Scheme) -> usize {
+    match scheme {
+        Scheme::Chars => 0,
+        Scheme::Utf16 => 1,
+        Scheme::Crlf => 2,
+        _ => unreachable!("no such question is timed"),
     }
+}
+
+pub fn byte_of(scheme: Scheme, text: &str, index: usize) -> usize {
+    QUESTIONS.to[row_of(scheme)](text, index)
+}
+
+pub fn index_of(scheme: Scheme, text: &str, byte: usize) -> usize {
+    QUESTIONS.from[row_of(scheme)](text, byte)
 }

@@ -1,7 +1,8 @@
 // A rope that frees its text by itself: a small class over str_rope.h, for C++11 and later.
 //
 // Where a call is refused it throws: std::bad_alloc where memory was, and else std::invalid_argument. The text is then as it
-// was. A rope moves and does not copy. It stays on one thread, and no call may be made beside another, also to ask.
+// was. A rope moves and does not copy; snapshot() makes a second one. It stays on one thread, and no call may be made beside
+// another, also to ask.
 #ifndef STR_ROPE_HPP
 #define STR_ROPE_HPP
 
@@ -23,6 +24,14 @@ public:
         return *this;
     }
     ~Rope() { str_rope_free(&handle); }
+
+    // A second rope with this text, in one step: a change of either leaves the other.
+    Rope snapshot()
+    {
+        Rope copy;
+        check(str_rope_snapshot(&handle, &copy.handle));
+        return copy;
+    }
 
     size_t len() { return str_rope_len(&handle); }
     size_t count(str_rope_scheme scheme) { return str_rope_count(&handle, scheme); }

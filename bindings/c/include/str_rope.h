@@ -24,9 +24,9 @@
  * What the caller owes, and what nothing checks:
  *
  *   - A handle is zeroed before its first use, and after that written to by
- *     these functions alone. A copy of one is not used beside the other: they
- *     would be one text. It may be moved, if only one of the two is used
- *     afterwards.
+ *     these functions alone. A copy of its bytes is not used beside it: both
+ *     would be one text. str_rope_snapshot makes a second text. A handle may be
+ *     moved, if only one of the two is used afterwards.
  *   - A handle that is no longer used is freed by str_rope_free, also where
  *     its text is empty by then: it may still have memory, which would be lost.
  *     To free one that is zeroed, or that was freed, does nothing.
@@ -54,7 +54,8 @@
  * base 2 of n + 1, and reads the text of one; one about positions asks up to 16
  * such questions. A read goes down to its first piece, and from there over those
  * that it writes out. A change takes a number of steps of that order too. It
- * copies the text that is put in, and the pieces beside it.
+ * copies the text that is put in, and the piece or two that it changes. Where a
+ * text shares its pieces with a snapshot, it makes the way to them anew as well.
  */
 #ifndef STR_ROPE_H
 #define STR_ROPE_H
@@ -131,6 +132,12 @@ void str_rope_free(str_rope *rope);
  * answer STR_ROPE_NOT_UTF8 and, where `len` is not 0, STR_ROPE_NO_MEMORY. */
 str_rope_status str_rope_assign(str_rope *rope, const char *text, size_t len);
 
+/* Makes the text of `copy` the same as that of `rope`, in one step, whatever its
+ * length. They share their pieces from then on, and a change of either leaves
+ * the other. The former text of `copy` is freed. May answer STR_ROPE_NO_MEMORY
+ * where the text is not empty, and then `copy` is as before. */
+str_rope_status str_rope_snapshot(str_rope *rope, str_rope *copy);
+
 /*
  * Questions. Each leaves the text as it is.
  */
@@ -166,20 +173,21 @@ bool str_rope_is_char_boundary(str_rope *rope, size_t byte_idx);
 str_rope_status str_rope_insert(str_rope *rope, size_t at, const char *text,
                                 size_t len);
 
-/* Takes out what is between two boundaries, from `from` up to `to`. Takes no
- * memory. May answer STR_ROPE_NOT_ORDERED and STR_ROPE_NOT_BOUNDARY. */
+/* Takes out what is between two boundaries, from `from` up to `to`. May answer
+ * STR_ROPE_NOT_ORDERED, STR_ROPE_NOT_BOUNDARY and, where the two differ,
+ * STR_ROPE_NO_MEMORY. */
 str_rope_status str_rope_remove(str_rope *rope, size_t from, size_t to);
 
 /* Exchanges what is between two boundaries, from `from` up to `to`, for a
  * text. May answer STR_ROPE_NOT_ORDERED, STR_ROPE_NOT_BOUNDARY,
- * STR_ROPE_TOO_LONG, STR_ROPE_NOT_UTF8 and, where `len` is not 0,
+ * STR_ROPE_TOO_LONG, STR_ROPE_NOT_UTF8 and, where something goes or comes,
  * STR_ROPE_NO_MEMORY. */
 str_rope_status str_rope_replace(str_rope *rope, size_t from, size_t to,
                                  const char *text, size_t len);
 
 /* Moves all of `other` to the end of the text; `other` is then the empty text.
- * Takes no memory. May answer STR_ROPE_TOO_LONG, and then `other` is as before
- * too. */
+ * May answer STR_ROPE_TOO_LONG and, where neither is empty, STR_ROPE_NO_MEMORY;
+ * then `other` is as before too. */
 str_rope_status str_rope_append(str_rope *rope, str_rope *other);
 
 /* Cuts the text in two at a boundary. The second part is then the text of
@@ -252,8 +260,8 @@ str_indices_bytes str_rope_byte_range(str_rope *rope,
 /* Exchanges the bytes of a range, as str_rope_byte_range answers them, for a
  * text: one change as a client sends it. For a change that has no range, which
  * exchanges the whole text, call str_rope_assign. May answer
- * STR_ROPE_NOT_ORDERED, STR_ROPE_TOO_LONG, STR_ROPE_NOT_UTF8 and, where `len`
- * is not 0, STR_ROPE_NO_MEMORY. */
+ * STR_ROPE_NOT_ORDERED, STR_ROPE_TOO_LONG, STR_ROPE_NOT_UTF8 and, where
+ * something goes or comes, STR_ROPE_NO_MEMORY. */
 str_rope_status str_rope_change(str_rope *rope, str_rope_encoding encoding,
                                 str_indices_range range, const char *text,
                                 size_t len);
@@ -262,8 +270,8 @@ str_rope_status str_rope_change(str_rope *rope, str_rope_encoding encoding,
  * str_rope_exact_byte_of has it: where one names none, the answer is
  * STR_ROPE_NOT_BOUNDARY, and str_rope_change would cut it. So a server notices a
  * client that is out of step. May answer STR_ROPE_NOT_ORDERED,
- * STR_ROPE_NOT_BOUNDARY, STR_ROPE_TOO_LONG, STR_ROPE_NOT_UTF8 and, where `len`
- * is not 0, STR_ROPE_NO_MEMORY. */
+ * STR_ROPE_NOT_BOUNDARY, STR_ROPE_TOO_LONG, STR_ROPE_NOT_UTF8 and, where
+ * something goes or comes, STR_ROPE_NO_MEMORY. */
 str_rope_status str_rope_change_exact(str_rope *rope,
                                       str_rope_encoding encoding,
                                       str_indices_range range, const char *text,

@@ -1,8 +1,9 @@
 """Tries the rope for C: worked answers, random changes beside a plain model, and memory that is refused.
 
 All as C, and what does not wrap the allocator as C++ too; all once more with sanitizers and under valgrind, where these are
-there, which must report nothing. A program in C++ builds a long text by a small class. Each function is exchanged for each
-other one of its shape. `test_c.py --large` takes texts of 100 MB.
+there, which must report nothing. A program in C++ builds a long text by a small class, and one in C makes one of 100 MB by
+small changes, and takes it out again, on a small stack. Each function is exchanged for each other one of its shape.
+`test_c.py --large` takes texts of 100 MB in all programs.
 """
 import shutil
 import subprocess
@@ -14,6 +15,7 @@ from tally import least, sums_of
 TESTS = ROOT / "bindings/c/tests"
 ROPES, CHANGES, FAILING = TESTS / "ropes.c", TESTS / "rope_changes.c", TESTS / "failing_ropes.c"
 LONG_TEXT = ROOT / "bindings/c/examples/long_text.cpp"
+SMALL_STACK = TESTS / "small_stack.c"
 STRICT = ["-Wall", "-Wextra", "-Werror", "-pedantic", "-O2", f"-I{ROOT}/bindings/c/include"]
 LANGUAGES = {"C": ["cc", "-std=c99"], "C++": ["c++", "-std=c++11"]}
 SANITIZERS = ["-fsanitize=address,undefined", "-fno-sanitize-recover", "-g"]
@@ -25,6 +27,8 @@ WRAP = [f"-Wl,--wrap={name}" for name in WRAPPED]
 # the bytes of a text, the changes of it, and the lines of the C++ program's: of each run, of one under valgrind, and large
 SIZES = {"usual": (["200000", "10000"], 50000), "large": (["100000000", "100000"], 5000000)}
 FEW = ["20000", "300"]
+# on a stack of so many KiB a program makes a text of so many bytes
+STACK, BYTES = 128, "100000000"
 
 
 class Program:
@@ -109,6 +113,13 @@ def try_long_text(tally, archive, folder, lines):
         print(done.returncode, done.stdout + done.stderr)
 
 
+def try_small_stack(tally, archive, folder):
+    """A long text is made and taken out, where the stack is small."""
+    program = Program(SMALL_STACK, "C", archive, folder, [BYTES])
+    if program.compile(tally):
+        program.run(tally, f"on {STACK} KiB", ["sh", "-c", f'ulimit -s {STACK} && exec "$@"', "sh"])
+
+
 def try_rope_exchanges(tally, archive, folder):
     copy = exchanging_library(archive, folder, STR_ROPE)
     program = Program(ROPES, "C", copy, folder)
@@ -124,4 +135,5 @@ def try_ropes(tally, archive, folder, size):
         program.run(tally, f"as {program.language}")
     try_memory(tally, archive, folder, built)
     try_long_text(tally, archive, folder, SIZES[size][1])
+    try_small_stack(tally, archive, folder)
     try_rope_exchanges(tally, archive, folder)

@@ -1,9 +1,10 @@
 /*
  * A rope whose memory is refused. For each call that takes memory, and each k,
  * the k-th allocation of the call is refused: the call says so, the text is as
- * it was, and the same call does what it should when it is made again. Where
- * all memory is refused, the calls that take none succeed. In the end nothing
- * that was allocated is left.
+ * it was, and the same call does what it should when it is made again. So it is
+ * with a snapshot of the text held too, which keeps its text. Where all memory
+ * is refused, the calls that take none succeed. In the end nothing that was
+ * allocated is left.
  *
  * It is linked with -Wl,--wrap= of each function of the C library below. The
  * last line printed is 'N passed, M failed'.
@@ -130,7 +131,7 @@ static int has_whole(str_rope *rope)
  * The calls.
  */
 
-typedef enum kind { ASSIGN, INSERT, REPLACE, CHANGE, CHANGE_EXACT, SPLIT_OFF } kind;
+typedef enum kind { ASSIGN, SNAPSHOT, INSERT, REMOVE, REPLACE, CHANGE, CHANGE_EXACT, APPEND, SPLIT_OFF } kind;
 
 typedef struct call {
     const char *name;
@@ -141,16 +142,21 @@ typedef struct call {
 static const call calls[] = {
     {"assign", ASSIGN, WHOLE, 0, WHOLE, MOST_PUT},
     {"assign to no text", ASSIGN, 0, 0, 0, MOST_PUT},
+    {"snapshot", SNAPSHOT, WHOLE, WHOLE, WHOLE, 0},
     {"insert into no text", INSERT, 0, 0, 0, 3},
     {"insert into a piece", INSERT, WHOLE, 20000, 20000, 3},
     {"insert of half a piece", INSERT, WHOLE, 20000, 20000, 600},
     {"insert of many pieces", INSERT, WHOLE, 20000, 20000, MOST_PUT},
     {"insert at the end", INSERT, WHOLE, WHOLE, WHOLE, 3000},
+    {"remove in a piece", REMOVE, WHOLE, 20000, 20004, 0},
+    {"remove of many pieces", REMOVE, WHOLE, 777, 39001, 0},
+    {"remove of all", REMOVE, WHOLE, 0, WHOLE, 0},
     {"replace", REPLACE, WHOLE, 10000, 13000, MOST_PUT},
     {"replace in a piece", REPLACE, WHOLE, 10000, 10001, 900},
     {"change", CHANGE, WHOLE, 20 * LINE, 200 * LINE, MOST_PUT},
     {"change of nothing", CHANGE, WHOLE, 20 * LINE, 20 * LINE, 900},
     {"exact change", CHANGE_EXACT, WHOLE, 20 * LINE, 200 * LINE, MOST_PUT},
+    {"append", APPEND, WHOLE, WHOLE, WHOLE, 4},
     {"split_off", SPLIT_OFF, WHOLE, 20001, WHOLE, 0},
 };
 
@@ -159,11 +165,25 @@ static str_rope_status make(const call *one, str_rope *rope, str_rope *rest)
     str_indices_range range = {{one->from / LINE, 0}, {one->to / LINE, 0}};
     switch (one->is) {
     case ASSIGN: return str_rope_assign(rope, put, one->len);
+    case SNAPSHOT: return str_rope_snapshot(rope, rest);
     case INSERT: return str_rope_insert(rope, one->from, put, one->len);
+    case REMOVE: return str_rope_remove(rope, one->from, one->to);
     case REPLACE: return str_rope_replace(rope, one->from, one->to, put, one->len);
     case CHANGE: return str_rope_change(rope, STR_ROPE_ENCODING_UTF8, range, put, one->len);
     case CHANGE_EXACT: return str_rope_change_exact(rope, STR_ROPE_ENCODING_UTF8, range, put, one->len);
+    case APPEND: return str_rope_append(rope, rest);
     default: return str_rope_split_off(rope, one->from, rest);
+    }
+}
+
+/* Whether the other handle has what the call should leave there. */
+static int is_rest_made(const call *one, str_rope *rest)
+{
+    switch (one->is) {
+    case SNAPSHOT: return has_whole(rest);
+    case APPEND: return has(rest, "", 0);
+    case SPLIT_OFF: return has(rest, whole + one->from, one->to - one->from);
+    default: return has(rest, "rest", 4);
     }
 }
 
@@ -172,10 +192,9 @@ static int is_made(const call *one, str_rope *rope, str_rope *rest)
 {
     size_t back = one->before - one->to;
     memcpy(after, whole, one->from);
-    memcpy(after + one->from, put, one->len);
+    memcpy(after + one->from, one->is == APPEND ? "rest" : put, one->len);
     memcpy(after + one->from + one->len, whole + one->to, back);
-    return has(rope, after, one->from + one->len + back) &&
-           (one->is != SPLIT_OFF || has(rest, whole + one->from, one->to - one->from));
+    return has(rope, after, one->from + one->len + back) && is_rest_made(one, rest);
 }
 
 static void prepare(const call *one, str_rope *rope, str_rope *rest)
@@ -184,16 +203,26 @@ static void prepare(const call *one, str_rope *rope, str_rope *rest)
     same(str_rope_assign(rest, "rest", 4) == STR_ROPE_OK, "assign before", 0);
 }
 
-static int is_as_before(const call *one, str_rope *rope, str_rope *rest)
+static int has_before(const call *one, str_rope *rope)
 {
-    return (one->before == 0 ? has(rope, "", 0) : has_whole(rope)) && has(rest, "rest", 4);
+    return one->before == 0 ? has(rope, "", 0) : has_whole(rope);
 }
 
-/* The call with its k-th allocation refused, and again; whether it came as far as that allocation. */
-static int try_refused(const call *one, long k)
+static int is_as_before(const call *one, str_rope *rope, str_rope *rest)
 {
-    str_rope rope = STR_ROPE_EMPTY, rest = STR_ROPE_EMPTY;
+    return has_before(one, rope) && has(rest, "rest", 4);
+}
+
+/*
+ * The call with its k-th allocation refused, and again; whether it came as far
+ * as that allocation. A snapshot of the text may be held meanwhile.
+ */
+static int try_refused(const call *one, int is_held, long k)
+{
+    str_rope rope = STR_ROPE_EMPTY, rest = STR_ROPE_EMPTY, held = STR_ROPE_EMPTY;
     prepare(one, &rope, &rest);
+    if (is_held)
+        same(str_rope_snapshot(&rope, &held) == STR_ROPE_OK, "snapshot before", 0);
     allocations = 0;
     refused = k;
     str_rope_status status = make(one, &rope, &rest);
@@ -205,30 +234,32 @@ static int try_refused(const call *one, long k)
         status = make(one, &rope, &rest);
     }
     same(status == STR_ROPE_OK && is_made(one, &rope, &rest), one->name, k);
+    same(!is_held || has_before(one, &held), "the snapshot that is held", k);
     str_rope_free(&rope);
     str_rope_free(&rest);
+    str_rope_free(&held);
     return came;
 }
 
-static void try_each(const call *one)
+static void try_each(const call *one, int is_held)
 {
-    long k = 1;
-    while (k < MOST_ALLOCATIONS && failed == 0 && try_refused(one, k))
+    long k = 1, before = living;
+    while (k < MOST_ALLOCATIONS && failed == 0 && try_refused(one, is_held, k))
         k++;
     same(k < MOST_ALLOCATIONS, "how many allocations there are", k - 1);
-    printf("%s: %ld allocations\n", one->name, k - 1);
+    same(living == before, "what is left over", living - before);
+    printf("%s%s: %ld allocations\n", one->name, is_held ? " beside a snapshot" : "", k - 1);
 }
 
-/* What takes no memory, where there is none. */
+/* What takes no memory, where there is none: questions, and a few bytes less or more in one piece of a text that shares none. */
 static void without_memory(void)
 {
     str_rope rope = STR_ROPE_EMPTY, rest = STR_ROPE_EMPTY;
     prepare(&calls[0], &rope, &rest);
     refused = ALWAYS;
     same(has_whole(&rope), "questions", 0);
-    same(str_rope_append(&rope, &rest) == STR_ROPE_OK && str_rope_len(&rest) == 0, "append", 0);
-    same(str_rope_remove(&rope, WHOLE, WHOLE + 4) == STR_ROPE_OK && has_whole(&rope), "remove", 0);
-    same(str_rope_remove(&rope, 777, 39001) == STR_ROPE_OK && str_rope_len(&rope) == WHOLE - 39001 + 777, "remove", 0);
+    same(str_rope_remove(&rope, 20001, 20005) == STR_ROPE_OK && str_rope_len(&rope) == WHOLE - 4, "remove", 0);
+    same(str_rope_insert(&rope, 20001, whole + 20001, 4) == STR_ROPE_OK && has_whole(&rope), "insert", 0);
     str_rope_free(&rope);
     str_rope_free(&rest);
     refused = NEVER;
@@ -240,9 +271,8 @@ int main(void)
     /* standard output takes its memory now */
     printf("\n");
     for (size_t i = 0; i < sizeof calls / sizeof calls[0]; i++) {
-        long before = living;
-        try_each(&calls[i]);
-        same(living == before, "what is left over", living - before);
+        try_each(&calls[i], 0);
+        try_each(&calls[i], 1);
     }
     long before = living;
     without_memory();

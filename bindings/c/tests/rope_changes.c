@@ -2,7 +2,8 @@
  * Random changes of a rope beside a plain model, a text in blocks of bytes.
  * After each change the rope has the model's length and, from the place of the
  * change on, its bytes. At checkpoints it has all of its bytes, and answers as a
- * plain walk over them does, at random bytes.
+ * plain walk over them does, at random bytes. Snapshots that are taken between
+ * the changes keep their texts.
  *
  * rope_changes BYTES CHANGES says how long the text is at first, and how many
  * changes there are. It is compiled as C and as C++. The last line printed is
@@ -16,6 +17,8 @@
 #include <str_rope.h>
 
 enum { BLOCK = 1 << 16, CHECKPOINTS = 5, SAMPLES = 400, SCHEMES = 5, ENCODINGS = 3, LONGEST = 3000, PEEKED = 64 };
+/* how many snapshots are kept, and one of how many changes has one taken before it */
+enum { KEPT = 4, SNAPSHOTS = 30 };
 
 static long passed, failed;
 
@@ -420,6 +423,59 @@ static void change(str_rope *rope, model *text)
     free(exact);
 }
 
+/*
+ * Snapshots.
+ */
+
+typedef struct snapshot {
+    str_rope rope;
+    size_t len;
+    uint64_t sum; /* of the bytes that it should have */
+} snapshot;
+
+/* A number that depends on each byte, and on their order. */
+static uint64_t sum_of(uint64_t sum, const char *bytes, size_t len)
+{
+    for (size_t at = 0; at < len; at++)
+        sum = (sum ^ (unsigned char)bytes[at]) * 1099511628211u;
+    return sum;
+}
+
+static uint64_t sum_of_model(const model *text)
+{
+    uint64_t sum = 0;
+    for (size_t place = 0; place < text->number; place++)
+        sum = sum_of(sum, text->blocks[place]->bytes, text->blocks[place]->len);
+    return sum;
+}
+
+static uint64_t sum_of_rope(str_rope *rope)
+{
+    static char out[BLOCK];
+    uint64_t sum = 0;
+    for (size_t at = 0, read; (read = str_rope_read(rope, at, out, sizeof out)) != 0; at += read)
+        sum = sum_of(sum, out, read);
+    return sum;
+}
+
+/* It has the text that it was taken of. Then it is changed, which leaves the texts that it shares its pieces with. */
+static void look_back(snapshot *one)
+{
+    size_t half = str_rope_to_byte_idx(&one->rope, STR_ROPE_CHARS, str_rope_count(&one->rope, STR_ROPE_CHARS) / 2);
+    same(str_rope_len(&one->rope) == one->len && sum_of_rope(&one->rope) == one->sum, "a snapshot", one->len);
+    same(str_rope_insert(&one->rope, half, "\r\nput in", 8) == STR_ROPE_OK, "insert into a snapshot", half);
+    same(str_rope_remove(&one->rope, 0, half) == STR_ROPE_OK, "remove from a snapshot", half);
+}
+
+/* A snapshot in the place of another, which is looked at for the last time. */
+static void keep(str_rope *rope, const model *text, snapshot *one)
+{
+    look_back(one);
+    same(str_rope_snapshot(rope, &one->rope) == STR_ROPE_OK, "snapshot", text->len);
+    one->len = text->len;
+    one->sum = sum_of_model(text);
+}
+
 static void fill(str_rope *rope, model *text, size_t size)
 {
     char *bytes = room_for(size);
@@ -443,15 +499,23 @@ int main(int number, char **words)
     size_t changes = number > 2 ? (size_t)atoll(words[2]) : 10000;
     str_rope rope = STR_ROPE_EMPTY;
     model text = {NULL, 0, 0};
+    snapshot kept[KEPT];
+    memset(kept, 0, sizeof kept);
     fill(&rope, &text, bytes);
     for (size_t at = 0; at < changes && failed == 0; at++) {
         if (at % (changes / CHECKPOINTS + 1) == 0)
             checkpoint(&rope, &text);
+        if (pick(SNAPSHOTS) == 0)
+            keep(&rope, &text, &kept[pick(KEPT)]);
         change(&rope, &text);
     }
     checkpoint(&rope, &text);
     str_rope_free(&rope);
     same(str_rope_len(&rope) == 0, "len after free", 0);
+    for (size_t i = 0; i < KEPT; i++) {
+        look_back(&kept[i]);
+        str_rope_free(&kept[i].rope);
+    }
     while (text.number > 0)
         free(text.blocks[--text.number]);
     free(text.blocks);

@@ -161,6 +161,7 @@ static void the_empty_text(void)
     same(str_rope_append(&rope, &other) == STR_ROPE_OK, "no text, append", 0, 0);
     same(str_rope_split_off(&rope, 0, &other) == STR_ROPE_OK, "no text, split_off", 0, 0);
     same(str_rope_split_off(&rope, 1, &other) == STR_ROPE_NOT_BOUNDARY, "no text, split_off", 1, 0);
+    same(str_rope_snapshot(&rope, &other) == STR_ROPE_OK, "no text, snapshot", 0, 0);
     same(rope.hidden == NULL && other.hidden == NULL, "no text takes no memory", 0, 0);
     str_rope_free(&rope);
     str_rope_free(&rope);
@@ -194,6 +195,24 @@ static void changes(void)
     HAS(&rope, "new", "assign");
     str_rope_free(&rope);
     str_rope_free(&rest);
+}
+
+/* A second text, and what a change of either leaves of the other. */
+static void snapshots(void)
+{
+    str_rope rope = WITH(lines), copy = WITH("former"), none = STR_ROPE_EMPTY;
+    same(str_rope_snapshot(&rope, &copy) == STR_ROPE_OK, "snapshot", 15, 6);
+    HAS(&rope, lines, "snapshot");
+    HAS(&copy, lines, "snapshot's copy");
+    same(str_rope_insert(&rope, 1, "b", 1) == STR_ROPE_OK, "insert beside a snapshot", 1, 1);
+    same(str_rope_remove(&copy, 3, 15) == STR_ROPE_OK, "remove beside a snapshot", 3, 15);
+    HAS(&rope, "ab\r\n" FROG "b\r\343\201\233\n\nx", "a text beside its snapshot");
+    HAS(&copy, "a\r\n", "a snapshot beside its text");
+    same(str_rope_snapshot(&copy, &none) == STR_ROPE_OK, "snapshot of a snapshot", 3, 0);
+    str_rope_free(&copy);
+    HAS(&none, "a\r\n", "a snapshot whose text is freed");
+    same(str_rope_snapshot(&copy, &none) == STR_ROPE_OK && none.hidden == NULL, "snapshot of no text", 0, 3);
+    str_rope_free(&rope);
 }
 
 /* Each refusal where what would be refused later is wrong too, and what it leaves. */
@@ -435,6 +454,7 @@ int main(void)
     boundaries();
     the_empty_text();
     changes();
+    snapshots();
     refusals_of_changes();
     reading();
     a_break_over_two_pieces();

@@ -23,6 +23,7 @@ impl Handle {
 extern "C" {
     pub fn str_rope_free(rope: *mut Handle);
     pub fn str_rope_assign(rope: *mut Handle, text: *const u8, len: usize) -> u32;
+    pub fn str_rope_snapshot(rope: *mut Handle, copy: *mut Handle) -> u32;
     pub fn str_rope_len(rope: *mut Handle) -> usize;
     pub fn str_rope_count(rope: *mut Handle, scheme: u32) -> usize;
     pub fn str_rope_from_byte_idx(rope: *mut Handle, scheme: u32, byte_idx: usize) -> usize;

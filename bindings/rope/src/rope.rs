@@ -22,7 +22,7 @@ pub enum Scheme {
 }
 
 /// A text in a balanced tree of pieces. A question looks at a number of places that is logarithmic in the number of pieces.
-/// A change goes down the tree too, copies what it puts in, and frees what it takes out.
+/// A change goes down the tree too, and copies what it puts in. A clone shares the pieces, and takes one step.
 ///
 /// It may go to another thread, but two threads cannot ask one rope at once:
 ///
@@ -39,8 +39,9 @@ pub struct Rope {
     handle: UnsafeCell<Handle>,
 }
 
-// SAFETY: all that a rope owns is memory of the C library's heap, which threads share, and the library keeps nothing of a
-// rope elsewhere. The header for C does not promise so much: it is read, as README.md says, and not proved.
+// SAFETY: all that a rope has is memory of the C library's heap, which threads share. What it shares with its clones is not
+// written to but for the number of its owners, which is counted atomically. The library keeps nothing of a rope elsewhere.
+// The header for C does not promise so much: it is read, as README.md says, and not proved.
 unsafe impl Send for Rope {}
 
 impl Drop for Rope {
@@ -83,9 +84,23 @@ impl Rope {
         result_of(unsafe { str_rope_assign(self.handle(), text.as_ptr(), text.len()) })
     }
 
-    /// A rope with the same text, or [`Error::NoMemory`]. For a moment the text stands in memory once more, in one block.
+    /// A rope with the same text, in one step, whatever its length, or [`Error::NoMemory`]. Both share their pieces from then
+    /// on, and a change of either leaves the other.
+    ///
+    /// ```
+    /// # fn main() -> Result<(), str_rope::Error> {
+    /// let mut rope: str_rope::Rope = "one".parse()?;
+    /// let before = rope.try_clone()?;
+    /// rope.insert(3, " two")?;
+    /// assert_eq!((rope, before), ("one two".parse()?, "one".parse()?));
+    /// # Ok(())
+    /// # }
+    /// ```
     pub fn try_clone(&self) -> Result<Rope, Error> {
-        self.text_in(..)?.parse()
+        let copy = Rope::new();
+        // SAFETY: as `library` says; the new rope is another one.
+        result_of(unsafe { str_rope_snapshot(self.handle(), copy.handle()) })?;
+        Ok(copy)
     }
 
     /// Whether the text has no byte.
@@ -179,7 +194,7 @@ impl Rope {
         result_of(unsafe { str_rope_insert(self.handle(), at, text.as_ptr(), text.len()) })
     }
 
-    /// Takes out what stands between two byte indices. It takes no memory, and is never [`Error::NoMemory`].
+    /// Takes out what stands between two byte indices.
     ///
     /// ```
     /// # fn main() -> Result<(), str_rope::Error> {
@@ -211,7 +226,8 @@ impl Rope {
         result_of(unsafe { str_rope_replace(self.handle(), bytes.start, bytes.end, text.as_ptr(), text.len()) })
     }
 
-    /// Puts the text of another rope at the end of this one, and leaves the other empty. It takes no memory.
+    /// Puts the text of another rope at the end of this one, and leaves the other empty. Where it is refused, both are as
+    /// they were.
     ///
     /// ```
     /// # fn main() -> Result<(), str_rope::Error> {

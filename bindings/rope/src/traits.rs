@@ -11,8 +11,8 @@ impl Default for Rope {
     }
 }
 
-/// A rope with the same text. Where memory is refused, it ends the program as a `String` does; [`Rope::try_clone`] answers
-/// the error.
+/// A rope with the same text, in one step. Where memory is refused, it ends the program as a `String` does;
+/// [`Rope::try_clone`] answers the error.
 impl Clone for Rope {
     fn clone(&self) -> Rope {
         self.try_clone()

@@ -17,6 +17,14 @@ impl Pair {
         }
     }
 
+    /// The same text once more.
+    fn copy(&self) -> Pair {
+        Pair {
+            rope: self.rope.clone(),
+            text: self.text.clone(),
+        }
+    }
+
     /// Makes a random change of both.
     fn change(&mut self, numbers: &mut Numbers) {
         match numbers.below(8) {
@@ -192,7 +200,9 @@ fn every_answer_is_that_of_the_plain_text() {
     let mut numbers = Numbers(1);
     for _ in 0..6 {
         let mut pair = Pair::of(numbers.text(3000));
+        let mut kept = Vec::new();
         for _ in 0..40 {
+            look_back(&mut kept, &pair, &mut numbers);
             pair.change(&mut numbers);
             pair.assert_text();
             for _ in 0..5 {
@@ -204,6 +214,22 @@ fn every_answer_is_that_of_the_plain_text() {
             pair.assert_names(byte);
             pair.assert_part(&mut numbers);
         }
+        kept.iter().for_each(Pair::assert_text);
+    }
+}
+
+/// Keeps a clone, and changes an older one or lets it go: each keeps its own text.
+fn look_back(kept: &mut Vec<Pair>, pair: &Pair, numbers: &mut Numbers) {
+    if numbers.below(3) == 0 {
+        kept.push(pair.copy());
+    }
+    if kept.len() > 5 {
+        let at = numbers.below(kept.len());
+        kept.swap_remove(at).assert_text();
+    }
+    if let Some(one) = kept.last_mut().filter(|_| numbers.below(3) == 0) {
+        one.change(numbers);
+        one.assert_text();
     }
 }
 

@@ -173,6 +173,31 @@ fn a_rope_goes_to_other_threads() {
         .unwrap();
 }
 
+/// Each thread changes and clones its own clone, while all of them share pieces.
+#[test]
+fn clones_of_a_rope_are_changed_by_other_threads() {
+    let text = TEXT.repeat(2000);
+    let rope: Rope = text.parse().unwrap();
+    let change = |mut own: Rope, at: usize| {
+        move || {
+            for _ in 0..500 {
+                let before = own.clone();
+                own.insert(at, "b").unwrap();
+                assert_eq!(own.len_bytes(), before.len_bytes() + 1);
+            }
+            own
+        }
+    };
+    let threads: Vec<_> = (0..4)
+        .map(|i| thread::spawn(change(rope.clone(), i * 4 * TEXT.len())))
+        .collect();
+    for (i, thread) in threads.into_iter().enumerate() {
+        let (front, back) = text.split_at(i * 4 * TEXT.len());
+        assert_eq!(thread.join().unwrap(), front.to_owned() + &"b".repeat(500) + back);
+    }
+    assert_eq!(rope, text);
+}
+
 /// The crate for whole texts links another library beside the rope's.
 #[test]
 fn positions_are_those_of_the_whole_text() {

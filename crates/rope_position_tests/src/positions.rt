@@ -1,6 +1,6 @@
 //! Positions and changes by positions, of a rope and of a plain text beside it.
 ghost use Rattle.std.specs.Prelude.{chars, IfOk, IfSome};
-ghost use Rattle.text_rope.specs.Edits.{IsReplaced};
+ghost use Rattle.text_summary.specs.Changes.{IsReplaced};
 ghost use Rattle.rope_positions.specs.Changes.{part_at};
 
 use position_mapper::{Encoding, Position, Range};

@@ -2,8 +2,8 @@
 ghost use Rattle.std.specs.Prelude.{◌≡◌, ◌+◌, ◌<◌, ◌≤◌, ◌↔◌, IsTrue, chars};
 ghost use Rattle.str_indices.specs.Relations.{IsCrlfMiddle};
 ghost use Rattle.str_indices.specs.Text.{Text, size};
-ghost use Rattle.piece_text.specs.Pieces.{joined};
-ghost use Rattle.text_rope.specs.Edits.{IsChunkAt};
+ghost use Rattle.text_summary.specs.Pieces.{joined};
+ghost use Rattle.text_rope.specs.Chunks.{IsChunkAt};
 ghost use Rattle.rope_positions.specs.Characters.{IsCharacterAt};
 ghost use Rattle.rope_positions.specs.Costs.{Asks};
 

@@ -1,8 +1,8 @@
 // Changes of a text, as the protocol tells them.
-ghost use Rattle.std.specs.Prelude.{◌≡◌, ◌≢◌, ◌+◌, ◌-◌, ◌^◌, ◌≤◌, ◌↔◌, [], chars, length, IfSome, IsNone, IfNone, IsSomeAnd, IsErrOf, OnOk, OnErr};
+ghost use Rattle.std.specs.Prelude.{◌≡◌, ◌≢◌, ◌+◌, ◌-◌, ◌^◌, ◌<◌, ◌≤◌, ◌↔◌, ◌⊎◌, [], chars, length, IfSome, IsNone, IfNone, IsSomeAnd, IsErrOf, OnOk, OnErr};
 ghost use Rattle.str_indices.specs.Relations.{IsBoundary};
 ghost use Rattle.str_indices.specs.Text.{size};
-ghost use Rattle.text_rope.specs.Edits.{IsReplaced};
+ghost use Rattle.text_summary.specs.Changes.{IsReplaced};
 ghost use Rattle.text_rope.specs.declared.refusals.Refusal.TheVariants.{NotOrdered, NotBoundary, TooLong, NoMemory};
 ghost use Rattle.rope_positions.specs.Changes.{part_at};
 
@@ -33,7 +33,8 @@ pub fn apply(rope: &mut Rope, encoding: Encoding, change: Change<'_>) -> Result<
     ensures not_ordered { IsErrOf result NotOrdered ↔ IsNone (part_at encoding rope.old change.entry.range) }
     ensures too_long { IsErrOf result TooLong ↔ IsSomeAnd (part_at encoding rope.old change.entry.range) (λ part.
         2 ^ 63 + (part.end - part.start) ≤ size rope.old + length change.entry.text.now) }
-    ensures no_memory { IsErrOf result NoMemory → chars change.entry.text.now ≢ [] }
+    ensures no_memory { IsErrOf result NoMemory → IsSomeAnd (part_at encoding rope.old change.entry.range) (λ part.
+        (part.start < part.end) ⊎ (chars change.entry.text.now ≢ [])) }
     ensures not_boundary { ¬ (IsErrOf result NotBoundary) }
 {
     let Some(part) = part_of(rope, encoding, change.range) else {

@@ -1,8 +1,8 @@
 // Changes of a text whose range has to name a place.
-ghost use Rattle.std.specs.Prelude.{◌≡◌, ◌≢◌, ◌+◌, ◌-◌, ◌^◌, ◌≤◌, ◌↔◌, [], chars, length, IfSome, IsSome, IsNone, IfNone, IsSomeAnd, IsErrOf, IsTrue, OnOk, OnErr};
+ghost use Rattle.std.specs.Prelude.{◌≡◌, ◌≢◌, ◌+◌, ◌-◌, ◌^◌, ◌<◌, ◌≤◌, ◌↔◌, ◌⊎◌, [], chars, length, IfSome, IsSome, IsNone, IfNone, IsSomeAnd, IsErrOf, IsTrue, OnOk, OnErr};
 ghost use Rattle.str_indices.specs.Relations.{IsBoundary};
 ghost use Rattle.str_indices.specs.Text.{size};
-ghost use Rattle.text_rope.specs.Edits.{IsReplaced};
+ghost use Rattle.text_summary.specs.Changes.{IsReplaced};
 ghost use Rattle.text_rope.specs.declared.refusals.Refusal.TheVariants.{NotOrdered, NotBoundary, TooLong, NoMemory};
 ghost use Rattle.rope_positions.specs.Changes.{exact_part_at, is_ordered, part_at};
 
@@ -27,7 +27,8 @@ pub fn apply_exact(rope: &mut Rope, encoding: Encoding, change: Change<'_>) -> R
         × IsNone (exact_part_at encoding rope.old change.entry.range)) }
     ensures too_long { IsErrOf result TooLong ↔ IsSomeAnd (exact_part_at encoding rope.old change.entry.range) (λ part.
         2 ^ 63 + (part.end - part.start) ≤ size rope.old + length change.entry.text.now) }
-    ensures no_memory { IsErrOf result NoMemory → chars change.entry.text.now ≢ [] }
+    ensures no_memory { IsErrOf result NoMemory → IsSomeAnd (exact_part_at encoding rope.old change.entry.range) (λ part.
+        (part.start < part.end) ⊎ (chars change.entry.text.now ≢ [])) }
 {
     if !is_ordered(change.range) {
         return Err(Refusal::NotOrdered);

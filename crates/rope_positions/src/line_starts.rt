@@ -4,8 +4,9 @@ ghost use Rattle.str_indices.specs.Relations.{IsBoundary};
 ghost use Rattle.str_indices.specs.Schemes.{to_byte_idx};
 ghost use Rattle.str_indices.specs.Text.{size};
 ghost use Rattle.str_indices.specs.declared.Scheme.TheVariants.{Crlf};
-ghost use Rattle.piece_text.specs.Pieces.{joined, joined_size};
-ghost use Rattle.text_rope.specs.Edits.{IsBackOf, IsChunkAt};
+ghost use Rattle.text_summary.specs.Pieces.{joined, joined_size};
+ghost use Rattle.text_rope.specs.Chunks.{IsChunkAt};
+ghost use Rattle.rope_positions.specs.Characters.{IsBackOf};
 ghost use Rattle.rope_positions.specs.Costs.{Asks};
 
 use text_rope::{Found, Scheme, View, chunk_in, found_in, to_in};

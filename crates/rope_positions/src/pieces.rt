@@ -5,7 +5,7 @@ ghost use Rattle.str_indices.specs.Relations.{IsBoundary};
 ghost use Rattle.str_indices.specs.Schemes.{weighed};
 ghost use Rattle.str_indices.specs.Text.{Text, size, carriage_return};
 ghost use Rattle.str_indices.specs.declared.Scheme.TheVariants.{Crlf};
-ghost use Rattle.piece_text.specs.Summaries.{summary_of};
+ghost use Rattle.text_summary.specs.Summaries.{summary_of};
 ghost use Rattle.text_summary.specs.Fronts.{IsFront};
 ghost use Rattle.position_mapper.specs.Encodings.{units_of};
 ghost use Rattle.position_mapper.specs.Positions.{position_at};

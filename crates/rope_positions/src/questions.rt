@@ -4,11 +4,12 @@ ghost use Rattle.str_indices.specs.Relations.{IsBoundary};
 ghost use Rattle.str_indices.specs.Schemes.{count, from_byte_idx, to_byte_idx, weighed};
 ghost use Rattle.str_indices.specs.Text.{size};
 ghost use Rattle.str_indices.specs.declared.Scheme.TheVariants.{Crlf};
-ghost use Rattle.piece_text.specs.Pieces.{PiecesState, joined, joined_size};
+ghost use Rattle.text_summary.specs.Pieces.{joined, joined_size};
 ghost use Rattle.position_mapper.specs.Encodings.{units_of};
 ghost use Rattle.position_mapper.specs.Lines.{line_end};
 ghost use Rattle.position_mapper.specs.Positions.{byte_at, byte_range_at, exact_byte_at, position_at};
-ghost use Rattle.text_rope.specs.Edits.{IsChunkAt};
+ghost use Rattle.text_rope.specs.Chunks.{IsChunkAt};
+ghost use Rattle.text_rope.specs.States.{RowsState};
 ghost use Rattle.rope_positions.specs.Costs.{Asks};
 
 use crate::boundaries::units_before_boundary_in;

@@ -2,7 +2,7 @@
 ghost use Rattle.std.specs.Prelude.{◌≡◌};
 ghost use Rattle.str_indices.specs.Schemes.{boundary_weighed, weighed};
 ghost use Rattle.str_indices.specs.Starts.{IsGreatestBoundary};
-ghost use Rattle.piece_text.specs.Pieces.{joined};
+ghost use Rattle.text_summary.specs.Pieces.{joined};
 ghost use Rattle.position_mapper.specs.Encodings.{units_of};
 ghost use Rattle.rope_positions.specs.Costs.{Asks};
 

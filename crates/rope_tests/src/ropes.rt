@@ -1,14 +1,18 @@
 mod caller;
 mod calls;
+mod counted_changes;
+mod line_rows;
 mod long_text;
+mod number_of_pieces;
 mod random_changes;
+mod snapshots;
 mod two_ropes;
 
 use std::alloc::{AllocError, Global};
 use std::process::Abort;
 use std::test::Fail;
 use test_support::SCHEMES;
-use text_rope::{Refusal, Rope, Scheme};
+use text_rope::{Line, MAX_PIECE, Refusal, Rope, Scheme};
 
 /// A line with characters of every length.
 const LINE: &str = "Zeile – über 🐸 und せかい, und so weiter\r\n";
@@ -69,6 +73,17 @@ impl Both {
         })
     }
 
+    /// A snapshot, and the text once more.
+    fn snapshot(&self) -> Result<Both, Fail> {
+        let text = String::from_str(self.alloc, &self.text)?;
+        let rope = self.rope.snapshot()?;
+        Ok(Both {
+            rope,
+            text,
+            alloc: self.alloc,
+        })
+    }
+
     /// Makes a change of both.
     fn make(&mut self, change: Change<'_>) -> Result<(), Fail> {
         self.text = changed(self.alloc, &self.text, change)?;
@@ -92,12 +107,47 @@ impl Both {
     }
 }
 
-/// Compares the answers of one scheme at a byte, and where what it counts there begins.
+/// Whether a break of a scheme begins with a character.
+fn begins_break(s: Scheme, c: char) -> bool {
+    match s {
+        Scheme::Chars | Scheme::Utf16 => false,
+        Scheme::Lf => c == '\n',
+        Scheme::Crlf => matches!(c, '\n' | '\r'),
+        Scheme::Lines => matches!(c, '\n'..='\r' | '\u{85}' | '\u{2028}' | '\u{2029}'),
+    }
+}
+
+/// Where the first break of a text begins; its length where it has none.
+fn first_break(s: Scheme, text: &str) -> usize {
+    for (at, c) in text.char_indices() {
+        if begins_break(s, c) {
+            return at;
+        }
+    }
+    text.len()
+}
+
+/// Compares a line by a scheme, which begins at a byte.
+fn assert_same_line(rt: &impl Abort, rope: &Rope, text: &str, s: Scheme, k: usize, from: usize) {
+    let Line { start, end, next } = rope.line(s, k);
+    let to = s.to_byte_idx(text, k.saturating_add(1));
+    let content = first_break(s, text.get(from..to).unwrap_or(""));
+    let wanted = (from, from.saturating_add(content), to);
+    assert!(rt;
+        (start, end, next) == wanted,
+        "{s:?} {k}: {start} {end} {next}"
+    );
+}
+
+/// Compares the answers of one scheme at a byte, where what it counts there begins, and the line that begins there.
 fn assert_same_by(rt: &impl Abort, rope: &Rope, text: &str, s: Scheme, byte_idx: usize) {
     let k = s.from_byte_idx(text, byte_idx);
     let found = (rope.from_byte_idx(s, byte_idx), rope.to_byte_idx(s, k));
     let wanted = (k, s.to_byte_idx(text, k));
     assert!(rt; found == wanted, "{s:?} {byte_idx}: {found:?}");
+    if wanted.1 == byte_idx {
+        assert_same_line(rt, rope, text, s, k, byte_idx);
+    }
 }
 
 /// Compares the answers at a byte.
@@ -112,6 +162,7 @@ fn assert_same_at(rt: &impl Abort, rope: &Rope, text: &str, byte_idx: usize) {
 fn assert_same_count(rt: &impl Abort, rope: &Rope, text: &str, s: Scheme) {
     let found = rope.count(s);
     assert!(rt; found == s.count(text), "{s:?} {found}");
+    assert_same_line(rt, rope, text, s, found.saturating_add(1), text.len());
 }
 
 /// Compares what is answered of the whole text.
@@ -123,8 +174,8 @@ fn assert_same_counts(rt: &impl Abort, rope: &Rope, text: &str) {
     }
 }
 
-/// Compares the pieces, one after the other, with the text, and answers how many there are: so few that on average each
-/// has 256 bytes.
+/// Compares the pieces, one after the other, with the text, and answers how many there are: at most twice as many as the
+/// text has to have, and one.
 fn assert_same_pieces(
     rt: &impl Abort,
     alloc: Global,
@@ -137,9 +188,21 @@ fn assert_same_pieces(
         whole.push_str(piece)?;
         pieces = pieces.saturating_add(1);
     }
-    let are_few = pieces.saturating_mul(256) <= text.len().saturating_add(1_024);
-    assert!(rt; whole.as_str() == text && are_few, "{pieces}");
+    let are_few = pieces
+        <= fewest_pieces(text.len())
+            .saturating_mul(2)
+            .saturating_add(1);
+    assert!(rt;
+        whole.as_str() == text && are_few,
+        "{pieces} of {}",
+        text.len()
+    );
     Ok(pieces)
+}
+
+/// As few pieces as a text of so many bytes can have.
+fn fewest_pieces(bytes: usize) -> usize {
+    bytes.div_ceil(MAX_PIECE)
 }
 
 /// Compares every answer with the one for the plain text, up to past its end.

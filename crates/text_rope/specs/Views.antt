@@ -1,31 +1,34 @@
--- What a tree's root is seen as, and what holds of it.
-use Rattle.std.specs.Prelude.{ℕ, ◌≡◌, ◌≢◌, ◌+◌, ◌^◌, ◌<◌, ◌≤◌, max, [], ◌∷◌, ◌++◌, length}
-use Rattle.str_indices.specs.Text.{Text, size}
-use Rattle.piece_text.specs.Pieces.{joined, joined_size}
-use Rattle.piece_text.specs.Summaries.{summary_of}
+-- What a node is seen as, and what holds of it.
+--     seen node               the texts of its rows in order, and its height
+--     IsSound node summary    what holds of a node beside the summary of its text
+use Rattle.std.specs.Prelude.{ℕ, ◌≡◌, ◌+◌, ◌^◌, ◌<◌, ◌≤◌, max, ◌++◌, length}
+use Rattle.text_summary.specs.Pieces.{joined, joined_size}
+use Rattle.text_summary.specs.Summaries.{summary_of}
 use Rattle.text_summary.specs.declared.summaries.Summary.{Summary}
 use Rattle.text_rope.specs.Shapes.{Seen, DifferByAtMost, fewest}
-use Rattle.text_rope.specs.declared.tree.Root.{Root}
-use Rattle.text_rope.specs.declared.tree.Root.TheVariants.{Leaf, Fork}
+use Rattle.text_rope.specs.declared.tree.Node.{Node}
+use Rattle.text_rope.specs.declared.tree.Node.TheVariants.{Block, Fork}
 
--- what is known of a fork over two trees: their summaries, its height, and how few pieces it can have
-pub record IsFork (left : Seen) (piece : Text) (right : Seen) (before after : Summary) (height : ℕ) : Type 0 where
-  pub some : piece ≢ []
-  pub before_is : before ≡ summary_of (joined left.texts)
-  pub after_is : after ≡ summary_of (joined right.texts)
-  pub short : joined_size left.texts + size piece + joined_size right.texts < 2 ^ 63
+-- what is known of each tree: the summary of its text, that this is neither empty nor too long, and how low it is
+pub record IsSide (whole : Seen) (summary : Summary) : Type 0 where
+  pub summary_is : summary ≡ summary_of (joined whole.texts)
+  pub some : 0 < length whole.texts
+  pub short : joined_size whole.texts < 2 ^ 63
+  pub few : length whole.texts ≤ joined_size whole.texts
+  pub low : whole.height < length whole.texts
+  pub many : fewest whole.height ≤ length whole.texts
+
+-- what is known of a fork over two trees
+pub record IsFork (left right : Seen) (height : ℕ) : Type 0 where
   pub height_is : height ≡ max left.height right.height + 1
-  pub low : height ≤ length (left.texts ++ piece ∷ right.texts)
-  pub many : fewest height ≤ length (left.texts ++ piece ∷ right.texts) + 1
-  pub few : length (left.texts ++ piece ∷ right.texts) ≤ joined_size (left.texts ++ piece ∷ right.texts)
   pub balanced : DifferByAtMost 1 left.height right.height
+  pub some_left : 0 < length left.texts
+  pub some_right : 0 < length right.texts
 
-abbrev pub seen : Root → Seen
-seen Leaf = record { texts = []; height = 0 }
-seen (Fork f) =
-    record { texts = f.value.left.texts ++ f.value.piece ∷ f.value.right.texts; height = f.value.height }
+abbrev pub seen : Node → Seen
+seen (Block b) = record { texts = b.value; height = 0 }
+seen (Fork f) = record { texts = f.value.left.texts ++ f.value.right.texts; height = f.value.height }
 
-abbrev pub IsSound : Root → Type 0
-IsSound Leaf = Unit {0}
-IsSound (Fork f) =
-    IsFork f.value.left f.value.piece f.value.right f.value.before f.value.after f.value.height
+abbrev pub IsSound : Node → Summary → Type 0
+IsSound (Block b) summary = IsSide (seen (Block b)) summary
+IsSound (Fork f) summary = IsSide (seen (Fork f)) summary × IsFork f.value.left f.value.right f.value.height

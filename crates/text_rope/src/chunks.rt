@@ -1,140 +1,159 @@
-//! The pieces of a text, lent in order.
-ghost use Rattle.std.specs.Prelude.{◌≡◌, ◌+◌, ◌-◌, ◌^◌, ◌<◌, ◌≤◌, chars, length};
+//! The row that a byte or a count is in, lent with what is known of the text before it.
+ghost use Rattle.std.specs.Prelude.{◌≡◌, ◌+◌, ◌-◌, ◌*◌, ◌^◌, ◌<◌, ◌≤◌, ◌↔◌, ◌⊎◌, [], IsSome, IfSome, chars, length};
+ghost use Rattle.str_indices.specs.SchemeGroups.{IsLineScheme};
+ghost use Rattle.str_indices.specs.Schemes.{count, to_byte_idx};
 ghost use Rattle.str_indices.specs.Text.{size};
-ghost use Rattle.piece_text.specs.Pieces.{joined, joined_size};
-ghost use Rattle.text_rope.specs.Edits.{IsChunkAt};
-ghost use Rattle.std.specs.Prelude.{IfSome, IsNone, IfNone, ◌↔◌};
-ghost use Rattle.str_indices.specs.Relations.{IsBoundary};
-ghost use Rattle.text_rope.specs.Chunks.{ChunksState, IsWithin, IsPartAt};
-ghost use Rattle.text_rope.specs.Pieces.{max_piece};
+ghost use Rattle.text_summary.specs.Pieces.{joined, joined_size};
+ghost use Rattle.text_summary.specs.Summaries.{summary_of};
+ghost use Rattle.text_rope.specs.Chunks.{IsChunkAt, IsLocated, IsRound};
+ghost use Rattle.text_rope.specs.Rows.{max_piece};
+ghost use Rattle.text_rope.specs.States.{RowsState};
 
-use crate::tree::Tree;
-use byte_chunk::Counter;
-use std::marker::Model;
+use crate::queries::{place_at, place_of};
+use crate::row::Row;
+use crate::tree::View;
+use text_summary::{Front, Scheme, Summary};
 
-/// A piece's text, and where it starts.
+/// A row's text, and the byte index where it starts.
 #[derive(Clone, Copy)]
 pub struct Chunk<'a> {
-    /// The text.
     pub text: &'a str,
-    /// The byte index where it starts.
     pub start: usize,
 }
 
-impl Tree {
-    /// The piece that a byte is in.
-    pub(crate) fn chunk_at(&self, looks: &mut Counter, at: usize) -> Chunk<'_>
-        requires inside { at < joined_size self.now.texts }
-        ensures chunk { IsChunkAt (joined self.now.texts) (chars result.text.now) result.start at }
-        ensures piece { size (chars result.text.now) ≤ max_piece }
-        ensures len { length result.text.now ≡ size (chars result.text.now) }
-        ensures looks { looks.new ≤ looks.old + self.now.height }
-        ensures looks_kept { looks.old ≤ looks.new }
-        ensures short { joined_size self.now.texts < 2 ^ 63 }
-    {
-        let _len = self.len();
-        self.chunk_behind(looks, 0, at)
-    }
-
-    /// The piece that a byte is in, where so many bytes are before the tree: by these its start is counted.
-    fn chunk_behind(&self, looks: &mut Counter, before: usize, at: usize) -> Chunk<'_>
-        requires inside { at < joined_size self.now.texts }
-        requires short { before + joined_size self.now.texts < 2 ^ 63 }
-        ensures behind { before ≤ result.start }
-        ensures chunk { IsChunkAt (joined self.now.texts) (chars result.text.now) (result.start - before) at }
-        ensures piece { size (chars result.text.now) ≤ max_piece }
-        ensures len { length result.text.now ≡ size (chars result.text.now) }
-        ensures looks { looks.new ≤ looks.old + self.now.height }
-        ensures looks_kept { looks.old ≤ looks.new }
-    {
-        let Some(look) = self.look(looks) else {
-            unreachable!()
-        };
-        let start = look.before.len;
-        if at < start {
-            return look.left.chunk_behind(looks, before, at);
-        }
-        let end = start + look.own.len;
-        if at < end {
-            return Chunk {
-                text: look.piece.text(),
-                start: before + start,
-            };
-        }
-        look.right.chunk_behind(looks, before + end, at - end)
-    }
+/// A row's text with its summary, where it starts, and what is known of the text before it.
+#[derive(Clone, Copy)]
+pub struct Located<'a> {
+    /// The row's text, and the byte index where it starts.
+    pub chunk: Chunk<'a>,
+    /// The summary of the row's text.
+    pub own: Summary,
+    /// The bytes of the text before it, its count in the scheme, and whether it ends in CR.
+    pub before: Front,
 }
 
-/// The pieces of a text or of a part of it, in order. A contract sees the text, how far it was given, and the end.
-#[derive(Drop)]
-pub struct Chunks<'a> {
-    tree: &'a Tree,
-    at: usize,
-    end: usize,
+/// A byte index, and a row that it is in or at the end of.
+#[derive(Clone, Copy)]
+pub struct Found<'a> {
+    /// The byte index in the whole text.
+    pub byte: usize,
+    /// The row's text, and where it starts; an empty text only at the beginning of the text, for none of them, and at its
+    /// end, for more than it has.
+    pub chunk: Chunk<'a>,
 }
 
-impl<'a> Model for Chunks<'a> {
-    ghost use Rattle.piece_text.specs.Pieces.{joined};
-    ghost use Rattle.text_rope.specs.Chunks.{ChunksState, IsWithin};
-
-    ghost Value = { ChunksState };
-
-    ghost view = { λ c. record { text = joined c.tree.now.texts; at = c.at; end = c.end } };
-
-    ghost invariant = { λ c. IsWithin (joined c.tree.now.texts) c.at c.end };
-}
-
-impl<'a> Chunks<'a> {
-    /// The pieces between two boundaries.
-    pub(crate) fn of(tree: &'a Tree, at: usize, end: usize) -> Chunks<'a>
-        requires { IsWithin (joined tree.now.texts) at end }
-        ensures { result ≡ record { text = joined tree.now.texts; at = at; end = end } }
-    {
-        Chunks { tree, at, end }
-    }
-
-    /// The next piece, or as much of it as is asked for; none at the end.
-    pub fn next_chunk(&mut self) -> Option<&'a str>
-        ensures none { IsNone result ↔ (self.old.at ≡ self.old.end) }
-        ensures part { IfSome result (λ chunk. IsPartAt self.old.text (chars chunk.now) self.old.at self.new.at) }
-        ensures on { IfSome result (λ _. self.old.at < self.new.at) }
-        ensures within { self.new.at ≤ self.new.end }
-        ensures last { IfNone result (self.new.at ≡ self.old.at) }
-        ensures text { self.new.text ≡ self.old.text }
-        ensures end { self.new.end ≡ self.old.end }
-    {
-        if self.at == self.end {
-            return None;
-        }
-        let chunk = self.tree.chunk_at(&mut Counter::zero(), self.at);
-        let to = (self.end - chunk.start).min(chunk.text.len());
-        let part = between(chunk.text, self.at - chunk.start, to);
-        self.at = chunk.start + to;
-        Some(part)
-    }
-}
-
-impl<'a> Iterator for Chunks<'a> {
-    type Item = &'a str;
-
-    ghost use Rattle.std.specs.Iterator.{at_most};
-    ghost use Rattle.text_rope.specs.Chunks.{IsNext};
-
-    ghost remaining = { λ s. at_most (s.end - s.at) };
-
-    ghost next_gives = { λ s r t. IsNext s t r };
-
-    fn next(&mut self) -> Option<&'a str> {
-        self.next_chunk()
-    }
-}
-
-/// The part of a text between two boundaries.
-fn between(text: &str, from: usize, to: usize) -> &str
-    requires order { from ≤ to }
-    requires start { IsBoundary (chars text.now) from }
-    requires end { IsBoundary (chars text.now) to }
-    ensures { IsPartAt (chars text.now) (chars result.now) from to }
+/// The row that a byte is in, and where it starts, none from the end of the text on; as many looks and reads at most as a
+/// question.
+pub fn chunk_in<'a>(v: &mut View<'a>, at: usize) -> Option<Chunk<'a>>
+    ensures chunk { IfSome result (λ chunk. IsChunkAt (joined v.old.texts) (chars chunk.text.now) chunk.start at) }
+    ensures piece { IfSome result (λ chunk. size (chars chunk.text.now) ≤ max_piece) }
+    ensures some { IsSome result ↔ (at < joined_size v.old.texts) }
+    ensures texts { v.new.texts ≡ v.old.texts }
+    ensures looks { 2 ^ (v.new.looks - v.old.looks) ≤ (length v.old.texts + 1) * (length v.old.texts + 1) }
+    ensures looks_kept { v.old.looks ≤ v.new.looks }
+    ensures reads { v.new.reads ≤ v.old.reads + 1 }
+    ensures reads_kept { v.old.reads ≤ v.new.reads }
 {
-    &text[from..to]
+    match located_in(v, Scheme::Lf, at) {
+        Some(located) => Some(located.chunk),
+        None => None,
+    }
+}
+
+/// The row that a byte is in, where it starts, and what is counted in a scheme before it, none from the end of the text
+/// on; as many looks and reads at most.
+pub fn located_in<'a>(v: &mut View<'a>, s: Scheme, at: usize) -> Option<Located<'a>>
+    ensures located { IfSome result (λ l.
+        IsLocated s (joined v.old.texts) (chars l.chunk.text.now) l.chunk.start l.before at) }
+    ensures own { IfSome result (λ l. l.own ≡ summary_of (chars l.chunk.text.now)) }
+    ensures piece { IfSome result (λ l. size (chars l.chunk.text.now) ≤ max_piece) }
+    ensures some { IsSome result ↔ (at < joined_size v.old.texts) }
+    ensures texts { v.new.texts ≡ v.old.texts }
+    ensures looks { 2 ^ (v.new.looks - v.old.looks) ≤ (length v.old.texts + 1) * (length v.old.texts + 1) }
+    ensures looks_kept { v.old.looks ≤ v.new.looks }
+    ensures reads { v.new.reads ≤ v.old.reads + 1 }
+    ensures reads_kept { v.old.reads ≤ v.new.reads }
+{
+    let Some(side) = v.root() else {
+        return None;
+    };
+    let whole = side.summary();
+    if whole.len <= at {
+        return None;
+    }
+    let place = place_at(v, side, s, at);
+    v.read();
+    Some(lent(place.row, place.before))
+}
+
+/// A row, lent with its text and its summary.
+fn lent(row: &Row, before: Front) -> Located<'_>
+    ensures text { chars result.chunk.text.now ≡ row.now }
+    ensures start { result.chunk.start ≡ before.len }
+    ensures own { result.own ≡ summary_of (chars result.chunk.text.now) }
+    ensures piece { size (chars result.chunk.text.now) ≤ max_piece }
+    ensures before { result.before ≡ before }
+{
+    Located {
+        chunk: Chunk {
+            text: row.text(),
+            start: before.len,
+        },
+        own: row.summary(),
+        before,
+    }
+}
+
+/// The byte index in the text after the first `k` of them, its length where it has fewer, with the row round it: so what
+/// stands there is read without another way down. A break that ends there has its last byte in the row. As many looks and
+/// reads at most.
+pub fn found_in<'a>(v: &mut View<'a>, s: Scheme, k: usize) -> Found<'a>
+    ensures byte { result.byte ≡ to_byte_idx s (joined v.old.texts) k }
+    ensures chunk { IsRound (joined v.old.texts) (chars result.chunk.text.now) result.chunk.start result.byte }
+    ensures empty { chars result.chunk.text.now ≡ [] ↔ ((k ≡ 0) ⊎ (count s (joined v.old.texts) < k)) }
+    ensures inside { IsLineScheme s → 0 < k → k ≤ count s (joined v.old.texts) → result.chunk.start < result.byte }
+    ensures piece { size (chars result.chunk.text.now) ≤ max_piece }
+    ensures texts { v.new.texts ≡ v.old.texts }
+    ensures looks { 2 ^ (v.new.looks - v.old.looks) ≤ (length v.old.texts + 1) * (length v.old.texts + 1) }
+    ensures looks_kept { v.old.looks ≤ v.new.looks }
+    ensures reads { v.new.reads ≤ v.old.reads + 1 }
+    ensures reads_kept { v.old.reads ≤ v.new.reads }
+{
+    let Some(side) = v.root() else {
+        return found_empty(0);
+    };
+    let whole = side.summary();
+    if k == 0 {
+        return found_empty(0);
+    }
+    if whole.count(s) < k {
+        return found_empty(whole.len);
+    }
+    let place = place_of(v, side, s, k);
+    v.read();
+    let row = place.row;
+    let text = row.text();
+    let look = place.before.look(s, row.summary());
+    Found {
+        byte: place.before.len + row.to_byte_idx(s, k - look.reached),
+        chunk: Chunk {
+            text,
+            start: place.before.len,
+        },
+    }
+}
+
+/// A byte index with an empty text there.
+fn found_empty<'a>(byte: usize) -> Found<'a>
+    ensures byte { result.byte ≡ byte }
+    ensures start { result.chunk.start ≡ byte }
+    ensures text { chars result.chunk.text.now ≡ [] }
+{
+    Found {
+        byte,
+        chunk: Chunk {
+            text: "",
+            start: byte,
+        },
+    }
 }

@@ -1,58 +1,42 @@
-//! The bytes of a part of a text, written out.
-ghost use Rattle.std.specs.Prelude.{◌≡◌, ◌+◌, ◌-◌, ◌≤◌, ◌++◌, length, take, drop, encode_utf8_all};
-ghost use Rattle.piece_text.specs.Pieces.{joined, joined_size};
-ghost use Rattle.text_rope.specs.Chunks.{ChunksState, IsWithin, IsCopied, IsRead};
+//! The bytes of a text, written out.
+ghost use Rattle.std.specs.Prelude.{◌≡◌, ◌<◌, ◌≤◌, length, encode_utf8_all};
+ghost use Rattle.text_summary.specs.Pieces.{joined};
+ghost use Rattle.text_rope.specs.Chunks.{ChunksState, IsWithin, IsRead, IsPartRead};
 
-use crate::Chunks;
+use crate::iter::Chunks;
 use crate::tree::Tree;
-use byte_chunk::Counter;
 
-/// Writes the pieces that are left to the beginning of a room, and answers how many bytes they have.
-pub(crate) fn copy_chunks(chunks: &mut Chunks<'_>, room: &mut [u8]) -> usize
-    requires within { IsWithin chunks.old.text chunks.old.at chunks.old.end }
-    requires room { chunks.old.end - chunks.old.at ≤ length room.old }
-    ensures { IsCopied chunks.old.text chunks.old.at chunks.old.end result room.old room.new }
+/// Writes the bytes of a tree's text from an index on to the beginning of a room, as far as there is room, and answers how
+/// many.
+pub(crate) fn read_at(tree: &Tree, at: usize, room: &mut [u8]) -> usize
+    ensures { IsRead (encode_utf8_all (joined tree.now)) at result room.old room.new }
 {
+    if tree.len() <= at {
+        return 0;
+    }
+    let (mut chunks, skip) = Chunks::from_row(tree, at);
+    read_chunks(&mut chunks, skip, room)
+}
+
+/// Writes the bytes of the chunks that are left, but for so many, to the beginning of a room, as far as there is room, and
+/// answers how many.
+pub(crate) fn read_chunks(chunks: &mut Chunks<'_>, skip: usize, room: &mut [u8]) -> usize
+    requires { IsWithin chunks.old.text chunks.old.at chunks.old.end }
+    ensures read { IsPartRead chunks.old.text chunks.old.at chunks.new.at skip result room.old room.new }
+    ensures within { chunks.new.at ≤ chunks.old.end }
+    ensures full { chunks.new.at < chunks.old.end → result ≡ length room.old }
+{
+    let mut skip = skip;
     let mut written = 0;
-    'chunks: while let Some(chunk) = chunks.next_chunk() {
+    while written < room.len() {
+        let Some(chunk) = chunks.next_chunk() else {
+            return written;
+        };
         let bytes = chunk.as_bytes();
-        write(room, written, bytes);
-        written += bytes.len();
+        written += read(bytes, skip, &mut room[written..]);
+        skip = skip.saturating_sub(bytes.len());
     }
     written
-}
-
-/// Writes bytes over those of a room from an index on.
-fn write(room: &mut [u8], at: usize, bytes: &[u8])
-    requires room { at + length bytes.now ≤ length room.old }
-    ensures { room.new ≡ take at room.old ++ (bytes.now ++ drop (at + length bytes.now) room.old) }
-{
-    room[at..at + bytes.len()].copy_from_slice(bytes);
-}
-
-impl Tree {
-    /// Writes the bytes from an index on to the beginning of a room, as far as there is room, and answers how many.
-    pub(crate) fn read_at(&self, len: usize, at: usize, room: &mut [u8]) -> usize
-        requires len { len ≡ joined_size self.now.texts }
-        ensures { IsRead (encode_utf8_all (joined self.now.texts)) at result room.old room.new }
-    {
-        if len <= at || room.is_empty() {
-            return 0;
-        }
-        let Some(look) = self.look(&mut Counter::zero()) else {
-            unreachable!()
-        };
-        let start = look.before.len;
-        let before = look.left.read_at(start, at, room);
-        let bytes = look.piece.text().as_bytes();
-        let own = read(bytes, at.saturating_sub(start), &mut room[before..]);
-        let end = start + look.own.len;
-        let both = before + own;
-        let after = look
-            .right
-            .read_at(look.after.len, at.saturating_sub(end), &mut room[both..]);
-        both + after
-    }
 }
 
 /// Writes the bytes from an index on to the beginning of a room, as far as there is room, and answers how many.

@@ -1,140 +1,148 @@
-//! Two trees and a fork between them in one balanced tree. Nothing here takes memory.
-ghost use Rattle.std.specs.Prelude.{◌≡◌, ◌+◌, ◌-◌, ◌*◌, ◌^◌, ◌<◌, ◌≤◌, ◌∷◌, ◌++◌};
-ghost use Rattle.str_indices.specs.Text.{size};
-ghost use Rattle.piece_text.specs.Pieces.{joined, joined_size};
-ghost use Rattle.piece_text.specs.Summaries.{summary_of};
-ghost use Rattle.text_rope.specs.Shapes.{DifferByAtMost, IsJoinedHeight};
+//! Two trees in one balanced tree. The nodes of both may have other owners: none is changed.
+ghost use Rattle.std.specs.Prelude.{◌≡◌, ◌+◌, ◌-◌, ◌*◌, ◌^◌, ◌<◌, ◌≤◌, ◌++◌, min, length, IfOk, IfSome};
+ghost use Rattle.text_summary.specs.Pieces.{joined_size};
+ghost use Rattle.text_rope.specs.Blocks.{max_rows};
+ghost use Rattle.text_rope.specs.Shapes.{DifferByAtMost, IsForkOf, IsJoined, IsJoinedHeight};
 ghost use Rattle.text_rope.specs.Work.{WorkState, Costs};
 
-use crate::tree::{Fork, Tree, over, over_known};
+use crate::block::{MAX_ROWS, push_shared};
+use crate::row::Row;
+use crate::tree::{Look, Side, block_of, fork_of};
 use crate::work::Work;
+use std::alloc::{AllocError, Global};
 
-/// One tree of all pieces of two with the fork's piece between them.
-pub(crate) fn join(work: &mut Work, left: Tree, mut fork: Box<Fork>, right: Tree) -> Tree
-    requires short { joined_size left.texts + size fork.value.piece + joined_size right.texts < 2 ^ 63 }
-    ensures texts { result.texts ≡ left.texts ++ fork.value.piece ∷ right.texts }
-    ensures size { joined_size result.texts ≡ joined_size left.texts + size fork.value.piece + joined_size right.texts }
-    ensures height { IsJoinedHeight left.height right.height result.height }
-    ensures work { Costs work.old work.new (3 * ((left.height - right.height) + (right.height - left.height))) 0 }
-{
-    fork.before = left.whole();
-    fork.after = right.whole();
-    join_known(work, left, fork, right)
-}
+/// Two blocks with no more rows than this are put into one.
+const FEW_ROWS: usize = MAX_ROWS / 2;
 
-/// The same where the fork has the summaries of both trees. Of a tree that is opened, the side that stays is not read.
-pub(crate) fn join_known(work: &mut Work, left: Tree, mut fork: Box<Fork>, right: Tree) -> Tree
-    requires short { joined_size left.texts + size fork.value.piece + joined_size right.texts < 2 ^ 63 }
-    requires before { fork.value.before ≡ summary_of (joined left.texts) }
-    requires after { fork.value.after ≡ summary_of (joined right.texts) }
-    ensures texts { result.texts ≡ left.texts ++ fork.value.piece ∷ right.texts }
-    ensures size { joined_size result.texts ≡ joined_size left.texts + size fork.value.piece + joined_size right.texts }
-    ensures height { IsJoinedHeight left.height right.height result.height }
-    ensures work { Costs work.old work.new (3 * ((left.height - right.height) + (right.height - left.height))) 0 }
+/// One tree of all rows of two.
+#[tactic(auto, using(crate::proofs::lemmas::Forks::fork_size))]
+pub(crate) fn join(
+    work: &mut Work,
+    alloc: Global,
+    left: Side,
+    right: Side,
+) -> Result<Side, AllocError>
+    requires short { joined_size left.texts + joined_size right.texts < 2 ^ 63 }
+    ensures joined { IfOk result (λ side. IsJoined side left right) }
+    ensures work { Costs work.old work.new (6 * ((left.height - right.height) + (right.height - left.height)) + 3)
+        (16 * (1 - min left.height right.height)) }
 {
     let (l, r) = (left.height(), right.height());
     if l > r + 1 {
-        let Some(mut top) = left.open(work) else {
-            unreachable!()
-        };
-        fork.before = top.fork.after;
-        let right = join_known(work, top.right, fork, right);
-        top.fork.after = right.whole();
-        balanced(work, top.left, top.fork, right)
+        let (front, back) = open(work, left)?;
+        let back = join(work, alloc, back, right)?;
+        balanced(work, alloc, front, back)
     } else if r > l + 1 {
-        let Some(mut top) = right.open(work) else {
-            unreachable!()
-        };
-        fork.after = top.fork.before;
-        let left = join_known(work, left, fork, top.left);
-        top.fork.before = left.whole();
-        balanced(work, left, top.fork, top.right)
+        let (front, back) = open(work, right)?;
+        let front = join(work, alloc, left, front)?;
+        balanced(work, alloc, front, back)
     } else {
-        over_known(left, fork, right)
+        beside(work, alloc, left, right)
     }
 }
 
-/// The same of two trees that differ by two at most: with no rotation, one, or two.
-fn balanced(work: &mut Work, left: Tree, fork: Box<Fork>, right: Tree) -> Tree
+/// Both sides of a fork.
+fn open(work: &mut Work, side: Side) -> Result<(Side, Side), AllocError>
+    requires { 0 < side.height }
+    ensures fork { IfOk result (λ sides. IsForkOf side sides.0 sides.1) }
+    ensures work { Costs work.old work.new 1 0 }
+{
+    let Look::Sides(left, right) = work.look(&side) else {
+        unreachable!()
+    };
+    Ok((left.share()?, right.share()?))
+}
+
+/// One tree of two that differ in height by two at most: with no rotation, one, or two.
+fn balanced(work: &mut Work, alloc: Global, left: Side, right: Side) -> Result<Side, AllocError>
     requires near { DifferByAtMost 2 left.height right.height }
-    requires short { joined_size left.texts + size fork.value.piece + joined_size right.texts < 2 ^ 63 }
-    requires before { fork.value.before ≡ summary_of (joined left.texts) }
-    requires after { fork.value.after ≡ summary_of (joined right.texts) }
-    ensures texts { result.texts ≡ left.texts ++ fork.value.piece ∷ right.texts }
-    ensures size { joined_size result.texts ≡ joined_size left.texts + size fork.value.piece + joined_size right.texts }
-    ensures height { IsJoinedHeight left.height right.height result.height }
-    ensures work { Costs work.old work.new 2 0 }
+    requires short { joined_size left.texts + joined_size right.texts < 2 ^ 63 }
+    ensures joined { IfOk result (λ side. IsJoined side left right) }
+    ensures even { DifferByAtMost 1 left.height right.height → IfOk result (λ side. IsForkOf side left right) }
+    ensures work { Costs work.old work.new 5 0 }
 {
     let (l, r) = (left.height(), right.height());
     if l > r + 1 {
-        lean_right(work, left, fork, right)
+        lean_right(work, alloc, left, right)
     } else if r > l + 1 {
-        lean_left(work, left, fork, right)
+        lean_left(work, alloc, left, right)
     } else {
-        over_known(left, fork, right)
+        fork_of(work, alloc, left, right)
     }
 }
 
 /// The left tree is higher by two.
-fn lean_right(work: &mut Work, left: Tree, mut fork: Box<Fork>, right: Tree) -> Tree
+fn lean_right(work: &mut Work, alloc: Global, left: Side, right: Side) -> Result<Side, AllocError>
     requires near { left.height ≡ right.height + 2 }
-    requires short { joined_size left.texts + size fork.value.piece + joined_size right.texts < 2 ^ 63 }
-    requires after { fork.value.after ≡ summary_of (joined right.texts) }
-    ensures texts { result.texts ≡ left.texts ++ fork.value.piece ∷ right.texts }
-    ensures size { joined_size result.texts ≡ joined_size left.texts + size fork.value.piece + joined_size right.texts }
-    ensures not_lower { left.height ≤ result.height }
-    ensures at_most_one_higher { result.height ≤ left.height + 1 }
-    ensures work { Costs work.old work.new 2 0 }
+    requires short { joined_size left.texts + joined_size right.texts < 2 ^ 63 }
+    ensures joined { IfOk result (λ side. IsJoined side left right) }
+    ensures work { Costs work.old work.new 5 0 }
 {
-    let Some(mut top) = left.open(work) else {
-        unreachable!()
-    };
-    if top.left.height() >= top.right.height() {
-        fork.before = top.fork.after;
-        let right = over_known(top.right, fork, right);
-        top.fork.after = right.whole();
-        return over_known(top.left, top.fork, right);
+    let (front, back) = open(work, left)?;
+    if front.height() >= back.height() {
+        let back = fork_of(work, alloc, back, right)?;
+        return fork_of(work, alloc, front, back);
     }
-    let Some(inner) = top.right.open(work) else {
-        unreachable!()
-    };
-    top.fork.after = inner.fork.before;
-    fork.before = inner.fork.after;
-    over(
-        over_known(top.left, top.fork, inner.left),
-        inner.fork,
-        over_known(inner.right, fork, right),
-    )
+    let (inner, rest) = open(work, back)?;
+    let front = fork_of(work, alloc, front, inner)?;
+    let back = fork_of(work, alloc, rest, right)?;
+    fork_of(work, alloc, front, back)
 }
 
 /// The right tree is higher by two.
-fn lean_left(work: &mut Work, left: Tree, mut fork: Box<Fork>, right: Tree) -> Tree
+fn lean_left(work: &mut Work, alloc: Global, left: Side, right: Side) -> Result<Side, AllocError>
     requires near { right.height ≡ left.height + 2 }
-    requires short { joined_size left.texts + size fork.value.piece + joined_size right.texts < 2 ^ 63 }
-    requires before { fork.value.before ≡ summary_of (joined left.texts) }
-    ensures texts { result.texts ≡ left.texts ++ fork.value.piece ∷ right.texts }
-    ensures size { joined_size result.texts ≡ joined_size left.texts + size fork.value.piece + joined_size right.texts }
-    ensures not_lower { right.height ≤ result.height }
-    ensures at_most_one_higher { result.height ≤ right.height + 1 }
-    ensures work { Costs work.old work.new 2 0 }
+    requires short { joined_size left.texts + joined_size right.texts < 2 ^ 63 }
+    ensures joined { IfOk result (λ side. IsJoined side left right) }
+    ensures work { Costs work.old work.new 5 0 }
 {
-    let Some(mut top) = right.open(work) else {
-        unreachable!()
-    };
-    if top.right.height() >= top.left.height() {
-        fork.after = top.fork.before;
-        let left = over_known(left, fork, top.left);
-        top.fork.before = left.whole();
-        return over_known(left, top.fork, top.right);
+    let (front, back) = open(work, right)?;
+    if back.height() >= front.height() {
+        let front = fork_of(work, alloc, left, front)?;
+        return fork_of(work, alloc, front, back);
     }
-    let Some(inner) = top.left.open(work) else {
-        unreachable!()
+    let (first, inner) = open(work, front)?;
+    let front = fork_of(work, alloc, left, first)?;
+    let back = fork_of(work, alloc, inner, back)?;
+    fork_of(work, alloc, front, back)
+}
+
+/// One tree of two that differ in height by one at most: of two small blocks, one block.
+#[tactic(auto, using(crate::proofs::lemmas::Forks::fork_size))]
+fn beside(work: &mut Work, alloc: Global, left: Side, right: Side) -> Result<Side, AllocError>
+    requires near { DifferByAtMost 1 left.height right.height }
+    requires short { joined_size left.texts + joined_size right.texts < 2 ^ 63 }
+    ensures joined { IfOk result (λ side. IsJoined side left right) }
+    ensures work { Costs work.old work.new 3 (16 * (1 - min left.height right.height)) }
+{
+    match merged(work, alloc, &left, &right)? {
+        Some(rows) => block_of(work, alloc, rows),
+        None => fork_of(work, alloc, left, right),
+    }
+}
+
+/// The rows of two small blocks.
+fn merged(
+    work: &mut Work,
+    alloc: Global,
+    left: &Side,
+    right: &Side,
+) -> Result<Option<Vec<Row>>, AllocError>
+    ensures rows { IfOk result (λ o. IfSome o (λ rows. rows.items ≡ left.now.texts ++ right.now.texts)) }
+    ensures some { IfOk result (λ o. IfSome o (λ rows. 0 < length rows.items)) }
+    ensures few { IfOk result (λ o. IfSome o (λ rows. length rows.items ≤ max_rows)) }
+    ensures low { IfOk result (λ o. IfSome o (λ _. IsJoinedHeight left.now.height right.now.height 0)) }
+    ensures work { Costs work.old work.new 2 (16 * (1 - min left.now.height right.now.height)) }
+{
+    let (Look::Rows(front), Look::Rows(back)) = (work.look(left), work.look(right)) else {
+        return Ok(None);
     };
-    fork.after = inner.fork.before;
-    top.fork.before = inner.fork.after;
-    over(
-        over_known(left, fork, inner.left),
-        inner.fork,
-        over_known(inner.right, top.fork, top.right),
-    )
+    let all = front.len() + back.len();
+    if FEW_ROWS < all {
+        return Ok(None);
+    }
+    let mut rows = Vec::with_capacity(alloc, all)?;
+    push_shared(work, &mut rows, front)?;
+    push_shared(work, &mut rows, back)?;
+    Ok(Some(rows))
 }

@@ -1,24 +1,29 @@
-//! A text that is kept in a balanced tree of its pieces.
-ghost use Rattle.std.specs.Prelude.{◌≡◌, ◌≢◌, ◌+◌, ◌-◌, ◌^◌, ◌<◌, ◌≤◌, ◌↔◌, ◌++◌, [], length, chars, encode_utf8_all, Err, IsTrue, IsErr, IsErrOf, IsOkUnless, IsSome, IfSome, IfOk, OnOk, OnErr};
+//! A text that is kept in a balanced tree of its rows.
+ghost use Rattle.std.specs.Prelude.{◌≡◌, ◌≢◌, ◌+◌, ◌-◌, ◌^◌, ◌<◌, ◌≤◌, ◌↔◌, ◌⊎◌, [], ◌++◌, chars, length, encode_utf8_all, Err, IsOk, IsErr, IsErrOf, IsTrue, IsOkUnless, IsSome, IfSome, IfOk, OnOk, OnErr};
+ghost use Rattle.str_indices.specs.Relations.{IsBoundary};
 ghost use Rattle.str_indices.specs.Schemes.{count, from_byte_idx, to_byte_idx};
 ghost use Rattle.str_indices.specs.Text.{size};
-ghost use Rattle.str_indices.specs.Relations.{IsBoundary};
-ghost use Rattle.piece_text.specs.Pieces.{PiecesState, joined};
-ghost use Rattle.text_rope.specs.Edits.{IsInserted, IsRemoved, IsReplaced, IsCutAt, IsChunkAt};
-ghost use Rattle.text_rope.specs.Chunks.{ChunksState, IsCopied, IsRead};
-ghost use Rattle.text_rope.specs.Pieces.{max_piece};
-ghost use Rattle.text_rope.specs.Work.{WorkState, OpensFor};
+ghost use Rattle.text_summary.specs.Changes.{IsReplaced};
+ghost use Rattle.text_summary.specs.Pieces.{joined};
+ghost use Rattle.text_rope.specs.Chunks.{IsChunkAt, ChunksState, IsCopied, IsRead};
+ghost use Rattle.text_rope.specs.Edits.{IsInserted, IsRemoved, IsCutAt};
+ghost use Rattle.text_rope.specs.Lines.{line_end};
+ghost use Rattle.text_rope.specs.Rows.{max_piece};
+ghost use Rattle.text_rope.specs.States.{RowsState};
+ghost use Rattle.text_rope.specs.Work.{WorkState, GrowsFor};
 ghost use Rattle.text_rope.specs.declared.refusals.Refusal.TheVariants.{NotOrdered, NotBoundary, TooLong, NoMemory};
 
-use crate::copies::copy_chunks;
-use crate::inserts::put;
-use crate::loads::tree_of;
-use crate::parts::concat;
-use crate::removals::{cut, without, without_apart};
+use crate::changes::appended;
+use crate::copies::{read_at, read_chunks};
+use crate::edits::exchanged_in;
+use crate::loads::tree_from;
+use crate::row::{MAX_PIECE, Unplaced};
 use crate::tree::Tree;
 use crate::work::Work;
-use crate::{Chunk, Chunks, Refusal, Scheme, View, count_in, from_in, is_boundary_in, to_in};
-use byte_chunk::Counter;
+use crate::{
+    Chunk, Chunks, Line, Refusal, Scheme, View, chunk_in, count_in, from_in, is_boundary_in,
+    line_in, to_in,
+};
 use std::alloc::{AllocError, Global};
 use std::marker::Model;
 use std::mem;
@@ -27,10 +32,9 @@ use std::ops::Range;
 /// The greatest length of a text in bytes.
 const MAX_LEN: usize = isize::MAX as usize;
 
-/// A text that is kept in a balanced tree of its pieces. A contract sees the text, the list of its characters.
+/// A text that is kept in a balanced tree of its rows. A contract sees the text, the list of its characters.
 ///
-/// A question looks at a number of places that is logarithmic in the number of pieces, and reads one piece. A change goes
-/// down the tree too, copies what it puts in, and frees what it takes out.
+/// A question looks at a number of nodes that is logarithmic in the number of rows, and reads one row.
 #[derive(Drop)]
 pub struct Rope {
     tree: Tree,
@@ -39,34 +43,57 @@ pub struct Rope {
 
 impl Model for Rope {
     ghost use Rattle.str_indices.specs.Text.{Text};
-    ghost use Rattle.piece_text.specs.Pieces.{joined};
+    ghost use Rattle.text_summary.specs.Pieces.{joined};
 
     ghost Value = { Text };
 
-    ghost view = { λ r. joined r.tree.texts };
+    ghost view = { λ r. joined r.tree };
 }
 
 impl Rope {
-    /// An empty text. Takes no memory, and keeps the allocator for the pieces to come.
+    /// An empty text. Takes no memory, and keeps the allocator for the rows to come.
     pub fn new(alloc: Global) -> Rope
         ensures { result ≡ [] }
     {
         Rope {
-            tree: Tree::new(),
+            tree: Tree::of(None),
             alloc,
         }
     }
 
-    /// A text, in pieces of at most `MAX_PIECE` bytes. It is `NoMemory` where memory was refused.
+    /// A text, in rows of at most `MAX_PIECE` bytes. It is `NoMemory` where memory was refused.
     pub fn from_str(alloc: Global, text: &str) -> Result<Rope, Refusal>
         ensures ok { IfOk result (λ rope. rope ≡ chars text.now) }
+        ensures empty { chars text.now ≡ [] → IsOk result }
         ensures no_other { IsOkUnless result NoMemory }
     {
+        if text.is_empty() {
+            return Ok(Rope::new(alloc));
+        }
         if MAX_LEN < text.len() {
             return Err(Refusal::NoMemory);
         }
-        match tree_of(alloc, text) {
-            Ok(tree) => Ok(Rope { tree, alloc }),
+        match tree_from(&mut Work::none(), alloc, text) {
+            Ok(root) => Ok(Rope {
+                tree: Tree::of(root),
+                alloc,
+            }),
+            Err(_) => Err(Refusal::NoMemory),
+        }
+    }
+
+    /// A second rope with this text, in one step, whatever its length: a change of either leaves the other. It is
+    /// `NoMemory` where as many ropes as can be counted share a node.
+    pub fn snapshot(&self) -> Result<Rope, Refusal>
+        ensures ok { IfOk result (λ rope. rope ≡ self.now) }
+        ensures empty { self.now ≡ [] → IsOk result }
+        ensures no_other { IsOkUnless result NoMemory }
+    {
+        match self.tree.share() {
+            Ok(tree) => Ok(Rope {
+                tree,
+                alloc: self.alloc,
+            }),
             Err(_) => Err(Refusal::NoMemory),
         }
     }
@@ -86,13 +113,13 @@ impl Rope {
         self.len() == 0
     }
 
-    /// The text as a question with counted looks and reads sees it: `count_in`, `from_in`, `to_in`, `is_boundary_in`.
+    /// The text as a question with counted looks and reads sees it: `count_in`, `from_in`, `to_in`, `line_in`, `is_boundary_in`.
     pub fn view(&self) -> View<'_>
         ensures text { joined result.texts ≡ self.now }
         ensures looks { result.looks ≡ 0 }
         ensures reads { result.reads ≡ 0 }
     {
-        View::of(&self.tree)
+        self.tree.view()
     }
 
     /// How many characters, UTF-16 code units or line breaks the text has.
@@ -116,6 +143,19 @@ impl Rope {
         to_in(&mut self.view(), s, idx)
     }
 
+    /// The `k`-th line by the scheme's breaks, counted from 0: the byte indices where it begins, where its content ends,
+    /// and where its break does. The last line has no break, and ends where the text does; past it all three are the text's
+    /// length.
+    ///
+    /// `Chars` and `Utf16` know no breaks: there `start`, and `end` with `next`, are the byte indices of `k` and `k + 1`.
+    pub fn line(&self, s: Scheme, k: usize) -> Line
+        ensures start { result.start ≡ to_byte_idx s self.now k }
+        ensures end { result.end ≡ line_end s self.now k }
+        ensures next { result.next ≡ to_byte_idx s self.now (k + 1) }
+    {
+        line_in(&mut self.view(), s, k)
+    }
+
     /// Whether a byte index is between characters, or at the beginning or end of the text; past the end it is not.
     pub fn is_char_boundary(&self, byte_idx: usize) -> bool
         ensures { IsTrue result ↔ IsBoundary self.now byte_idx }
@@ -123,27 +163,23 @@ impl Rope {
         is_boundary_in(&mut self.view(), byte_idx)
     }
 
-    /// The piece that a byte is in, and where it starts; none from the end of the text on.
+    /// The row that a byte is in, and where it starts; none from the end of the text on.
     pub fn chunk_at(&self, byte_idx: usize) -> Option<Chunk<'_>>
         ensures chunk { IfSome result (λ chunk. IsChunkAt self.now (chars chunk.text.now) chunk.start byte_idx) }
         ensures piece { IfSome result (λ chunk. size (chars chunk.text.now) ≤ max_piece) }
         ensures some { IsSome result ↔ (byte_idx < size self.now) }
     {
-        if byte_idx < self.len() {
-            Some(self.tree.chunk_at(&mut Counter::zero(), byte_idx))
-        } else {
-            None
-        }
+        chunk_in(&mut self.view(), byte_idx)
     }
 
-    /// The pieces in order; their join is the text.
+    /// The text in order, in parts of at most `MAX_PIECE` bytes; their join is the text.
     pub fn chunks(&self) -> Chunks<'_>
         ensures { result ≡ record { text = self.now; at = 0; end = size self.now } }
     {
         Chunks::of(&self.tree, 0, self.len())
     }
 
-    /// The pieces between two byte indices, each between characters, in order; their join is that part of the text.
+    /// The text between two byte indices, each between characters, in the same way.
     ///
     /// It is `NotOrdered` where the first index is above the second, and else `NotBoundary` where one is inside a
     /// character or past the end.
@@ -191,7 +227,7 @@ impl Rope {
             return Err(Refusal::TooLong);
         }
         let mut chunks = Chunks::of(&self.tree, range.start, range.end);
-        Ok(copy_chunks(&mut chunks, room))
+        Ok(read_chunks(&mut chunks, 0, room))
     }
 
     /// Writes the bytes from a byte index on to the beginning of a room, as far as there is room, and answers how many.
@@ -201,59 +237,7 @@ impl Rope {
     pub fn read_at(&self, byte_idx: usize, room: &mut [u8]) -> usize
         ensures { IsRead (encode_utf8_all self.now) byte_idx result room.old room.new }
     {
-        self.tree.read_at(self.len(), byte_idx, room)
-    }
-
-    /// Puts a text in at a byte index between characters.
-    ///
-    /// After a refusal every answer is as before. It is `NotBoundary` where the byte index is inside a character or past
-    /// the end, or else `TooLong` where the text would have more than `isize::MAX` bytes, and else `NoMemory` where
-    /// memory was refused.
-    pub fn insert(&mut self, at: usize, text: &str) -> Result<(), Refusal>
-        ensures ok { OnOk result (IsInserted self.old self.new at (chars text.now)) }
-        ensures err { OnErr result (self.new ≡ self.old) }
-        ensures not_boundary { IsErrOf result NotBoundary ↔ (¬ (IsBoundary self.old at)) }
-        ensures too_long { IsErrOf result TooLong
-            ↔ (IsBoundary self.old at × (2 ^ 63 ≤ size self.old + length text.now)) }
-        ensures no_memory { IsErrOf result NoMemory → chars text.now ≢ [] }
-        ensures not_ordered { result ≢ Err NotOrdered }
-    {
-        if !self.is_char_boundary(at) {
-            return Err(Refusal::NotBoundary);
-        }
-        if MAX_LEN - self.len() < text.len() {
-            return Err(Refusal::TooLong);
-        }
-        if text.is_empty() {
-            return Ok(());
-        }
-        match self.put(&mut Work::none(), at, text) {
-            Ok(()) => Ok(()),
-            Err(_) => Err(Refusal::NoMemory),
-        }
-    }
-
-    /// Takes out what is between two byte indices, each between characters. Takes no memory.
-    ///
-    /// After a refusal every answer is as before. It is `NotOrdered` where the first index is above the second, and else
-    /// `NotBoundary` where one is inside a character or past the end.
-    pub fn remove(&mut self, range: Range<usize>) -> Result<(), Refusal>
-        ensures ok { OnOk result (IsRemoved self.old self.new range.start range.end) }
-        ensures err { OnErr result (self.new ≡ self.old) }
-        ensures not_ordered { IsErrOf result NotOrdered ↔ (range.end < range.start) }
-        ensures not_boundary { IsErrOf result NotBoundary
-            ↔ ((range.start ≤ range.end) × ¬ (IsBoundary self.old range.start × IsBoundary self.old range.end)) }
-        ensures too_long { result ≢ Err TooLong }
-        ensures no_memory { result ≢ Err NoMemory }
-    {
-        if range.end < range.start {
-            return Err(Refusal::NotOrdered);
-        }
-        if !(self.is_char_boundary(range.start) && self.is_char_boundary(range.end)) {
-            return Err(Refusal::NotBoundary);
-        }
-        self.take_out(&mut Work::none(), range.start, range.end);
-        Ok(())
+        read_at(&self.tree, byte_idx, room)
     }
 
     /// Exchanges what is between two byte indices, each between characters, for a text.
@@ -270,126 +254,231 @@ impl Rope {
         ensures too_long { IsErrOf result TooLong
             ↔ ((range.start ≤ range.end) × (IsBoundary self.old range.start × IsBoundary self.old range.end)
             × (2 ^ 63 + (range.end - range.start) ≤ size self.old + length text.now)) }
-        ensures no_memory { IsErrOf result NoMemory → chars text.now ≢ [] }
+        ensures no_memory { IsErrOf result NoMemory → (range.start < range.end) ⊎ (chars text.now ≢ []) }
     {
         if range.end < range.start {
             return Err(Refusal::NotOrdered);
         }
-        if !(self.is_char_boundary(range.start) && self.is_char_boundary(range.end)) {
-            return Err(Refusal::NotBoundary);
-        }
-        let kept = self.len() - (range.end - range.start);
-        if MAX_LEN - kept < text.len() {
-            return Err(Refusal::TooLong);
-        }
-        match self.exchange(&mut Work::none(), range.start, range.end, text) {
-            Ok(()) => Ok(()),
-            Err(_) => Err(Refusal::NoMemory),
-        }
+        self.exchange(&mut Work::none(), range.start, range.end, text)
     }
 
-    /// Moves all of another text to the end of this one. Takes no memory.
+    /// Puts a text in at a byte index between characters.
     ///
-    /// It is `TooLong`, and both are as before, where the text would have more than `isize::MAX` bytes.
+    /// After a refusal every answer is as before. It is `NotBoundary` where the byte index is inside a character or past
+    /// the end, or else `TooLong` where the text would have more than `isize::MAX` bytes, and else `NoMemory` where
+    /// memory was refused.
+    pub fn insert(&mut self, at: usize, text: &str) -> Result<(), Refusal>
+        ensures ok { OnOk result (IsInserted self.old self.new at (chars text.now)) }
+        ensures err { OnErr result (self.new ≡ self.old) }
+        ensures not_boundary { IsErrOf result NotBoundary ↔ (¬ (IsBoundary self.old at)) }
+        ensures too_long { IsErrOf result TooLong
+            ↔ (IsBoundary self.old at × (2 ^ 63 ≤ size self.old + length text.now)) }
+        ensures no_memory { IsErrOf result NoMemory → chars text.now ≢ [] }
+        ensures not_ordered { result ≢ Err NotOrdered }
+    {
+        self.exchange(&mut Work::none(), at, at, text)?;
+        Ok(())
+    }
+
+    /// Takes out what is between two byte indices, each between characters.
+    ///
+    /// After a refusal every answer is as before. It is `NotOrdered` where the first index is above the second, or else
+    /// `NotBoundary` where one is inside a character or past the end, and else `NoMemory` where memory was refused.
+    pub fn remove(&mut self, range: Range<usize>) -> Result<(), Refusal>
+        ensures ok { OnOk result (IsRemoved self.old self.new range.start range.end) }
+        ensures err { OnErr result (self.new ≡ self.old) }
+        ensures not_ordered { IsErrOf result NotOrdered ↔ (range.end < range.start) }
+        ensures not_boundary { IsErrOf result NotBoundary
+            ↔ ((range.start ≤ range.end) × ¬ (IsBoundary self.old range.start × IsBoundary self.old range.end)) }
+        ensures no_memory { IsErrOf result NoMemory → range.start < range.end }
+        ensures too_long { result ≢ Err TooLong }
+    {
+        if range.end < range.start {
+            return Err(Refusal::NotOrdered);
+        }
+        let _len = self.len();
+        self.exchange(&mut Work::none(), range.start, range.end, "")?;
+        Ok(())
+    }
+
+    /// Moves all of another text to the end of this one.
+    ///
+    /// After a refusal both are as before. It is `TooLong` where the text would have more than `isize::MAX` bytes, and
+    /// else `NoMemory` where memory was refused, of which it takes none where either text is empty.
     pub fn append(&mut self, other: &mut Rope) -> Result<(), Refusal>
         ensures ok { OnOk result (self.new ≡ self.old ++ other.old) }
         ensures moved { OnOk result (other.new ≡ []) }
         ensures err { OnErr result ((self.new ≡ self.old) × (other.new ≡ other.old)) }
         ensures too_long { IsErrOf result TooLong ↔ (2 ^ 63 ≤ size self.old + size other.old) }
-        ensures no_other { IsOkUnless result TooLong }
+        ensures no_memory { IsErrOf result NoMemory → (self.old ≢ []) × (other.old ≢ []) }
+        ensures not_ordered { result ≢ Err NotOrdered }
+        ensures not_boundary { result ≢ Err NotBoundary }
     {
         if MAX_LEN - self.len() < other.len() {
             return Err(Refusal::TooLong);
         }
-        let front = mem::replace(&mut self.tree, Tree::new());
-        let after = mem::replace(&mut other.tree, Tree::new());
-        self.tree = concat(&mut Work::none(), front, after);
-        Ok(())
+        if other.is_empty() {
+            return Ok(());
+        }
+        if self.is_empty() {
+            self.tree = mem::replace(&mut other.tree, Tree::of(None));
+            return Ok(());
+        }
+        match appended(&mut Work::none(), self.alloc, &self.tree, &other.tree) {
+            Ok(tree) => {
+                self.tree = tree;
+                other.tree = Tree::of(None);
+                Ok(())
+            }
+            Err(_) => Err(Refusal::NoMemory),
+        }
     }
 
-    /// Cuts the text in two at a byte index between characters, and answers the second part.
+    /// Takes what is from a byte index on out of the text, into a rope of its own.
     ///
     /// After a refusal every answer is as before. It is `NotBoundary` where the byte index is inside a character or past
-    /// the end, and else `NoMemory` where memory was refused.
+    /// the end, and else `NoMemory` where memory was refused, of which it takes none at the beginning and the end.
     pub fn split_off(&mut self, at: usize) -> Result<Rope, Refusal>
-        ensures ok { IfOk result (λ rest. IsCutAt self.old self.new rest at) }
+        ensures ok { IfOk result (λ back. IsCutAt self.old self.new back at) }
         ensures err { OnErr result (self.new ≡ self.old) }
         ensures not_boundary { IsErrOf result NotBoundary ↔ (¬ (IsBoundary self.old at)) }
-        ensures too_long { ¬ (IsErrOf result TooLong) }
-        ensures not_ordered { ¬ (IsErrOf result NotOrdered) }
+        ensures no_memory { IsErrOf result NoMemory → (0 < at) × (at < size self.old) }
+        ensures not_ordered { result ≢ Err NotOrdered }
+        ensures too_long { result ≢ Err TooLong }
     {
         if !self.is_char_boundary(at) {
             return Err(Refusal::NotBoundary);
         }
-        let tree = mem::replace(&mut self.tree, Tree::new());
-        match cut(&mut Work::none(), self.alloc, tree, at) {
-            Ok(two) => {
-                self.tree = two.front;
-                Ok(Rope {
-                    tree: two.back,
-                    alloc: self.alloc,
-                })
-            }
-            Err(same) => {
-                self.tree = same;
-                Err(Refusal::NoMemory)
-            }
+        match self.cut(&mut Work::none(), at) {
+            Ok(back) => Ok(back),
+            Err(_) => Err(Refusal::NoMemory),
         }
     }
 
-    /// Puts a text in at a boundary: into a piece that has room, or else in pieces of their own.
-    fn put(&mut self, work: &mut Work, at: usize, text: &str) -> Result<(), AllocError>
-        requires boundary { IsBoundary self.old at }
-        requires short { size self.old + length text.now < 2 ^ 63 }
-        ensures ok { OnOk result (IsInserted self.old self.new at (chars text.now)) }
+    /// Cuts the text at a boundary: what is from there on is the result.
+    fn cut(&mut self, work: &mut Work, at: usize) -> Result<Rope, AllocError>
+        requires { IsBoundary self.old at }
+        ensures ok { IfOk result (λ back. IsCutAt self.old self.new back at) }
         ensures err { OnErr result (self.new ≡ self.old) }
-        ensures opened { OpensFor 75 (size self.old + length text.now) work.old work.new }
-        ensures copied { work.new.copied ≤ work.old.copied + 4 }
+        ensures inside { IsErr result → (0 < at) × (at < size self.old) }
+        ensures nodes { GrowsFor 112 (size self.old) 0 work.old.nodes work.new.nodes }
+        ensures copied { work.new.rows ≤ work.old.rows + 480 }
+        ensures nodes_kept { work.old.nodes ≤ work.new.nodes }
+        ensures copied_kept { work.old.rows ≤ work.new.rows }
     {
-        let tree = mem::replace(&mut self.tree, Tree::new());
-        match put(work, self.alloc, tree, at, text) {
-            Ok(tree) => {
-                self.tree = tree;
-                Ok(())
-            }
-            Err(tree) => {
-                self.tree = tree;
-                Err(AllocError)
-            }
+        let len = self.len();
+        if at == len {
+            return Ok(Rope::new(self.alloc));
         }
+        if at == 0 {
+            return Ok(Rope {
+                tree: mem::replace(&mut self.tree, Tree::of(None)),
+                alloc: self.alloc,
+            });
+        }
+        let mut back = Rope {
+            tree: self.tree.share()?,
+            alloc: self.alloc,
+        };
+        back.take_out(work, 0, at)?;
+        self.take_out(work, at, len)?;
+        Ok(back)
     }
 
     /// Takes out what is between two boundaries.
-    fn take_out(&mut self, work: &mut Work, from: usize, to: usize)
+    fn take_out(&mut self, work: &mut Work, from: usize, to: usize) -> Result<(), AllocError>
         requires order { from ≤ to }
         requires start { IsBoundary self.old from }
         requires end { IsBoundary self.old to }
-        ensures text { IsRemoved self.old self.new from to }
-        ensures opened { OpensFor 100 (size self.old) work.old work.new }
-        ensures copied { work.new.copied ≤ work.old.copied + 6 }
+        requires short { size self.old < 2 ^ 63 }
+        ensures ok { OnOk result (IsRemoved self.old self.new from to) }
+        ensures err { OnErr result (self.new ≡ self.old) }
+        ensures nodes { GrowsFor 56 (size self.old) 0 work.old.nodes work.new.nodes }
+        ensures copied { work.new.rows ≤ work.old.rows + 240 }
+        ensures nodes_kept { work.old.nodes ≤ work.new.nodes }
+        ensures copied_kept { work.old.rows ≤ work.new.rows }
     {
-        let tree = mem::replace(&mut self.tree, Tree::new());
-        let _height = tree.height();
-        self.tree = without(work, tree, from, to);
+        self.rewrite(work, from, to, "")?;
+        Ok(())
     }
 
-    /// The same by a tree that is taken apart.
-    fn take_out_apart(&mut self, work: &mut Work, from: usize, to: usize)
-        requires order { from ≤ to }
-        requires start { IsBoundary self.old from }
-        requires end { IsBoundary self.old to }
-        ensures text { IsRemoved self.old self.new from to }
-        ensures opened { OpensFor 97 (size self.old) work.old work.new }
-        ensures copied { work.new.copied ≤ work.old.copied + 6 }
-    {
-        let tree = mem::replace(&mut self.tree, Tree::new());
-        let _height = tree.height();
-        self.tree = without_apart(work, tree, from, to);
-    }
-
-    /// Exchanges what is between two boundaries for a text: in place, or else it puts the text in after what is taken out,
-    /// and only then takes that out, since what can be refused comes first. It opens and writes no more than both of these.
+    /// Exchanges what is between two byte indices, each between characters, for a text: in place where nothing is shared
+    /// and one row has room for it.
     fn exchange(
+        &mut self,
+        work: &mut Work,
+        from: usize,
+        to: usize,
+        text: &str,
+    ) -> Result<(), Refusal>
+        requires order { from ≤ to }
+        ensures ok { OnOk result (IsReplaced self.old self.new from to (chars text.now)) }
+        ensures err { OnErr result (self.new ≡ self.old) }
+        ensures not_boundary { IsErrOf result NotBoundary ↔ (¬ (IsBoundary self.old from × IsBoundary self.old to)) }
+        ensures too_long { IsErrOf result TooLong
+            ↔ ((IsBoundary self.old from × IsBoundary self.old to)
+            × (2 ^ 63 + (to - from) ≤ size self.old + length text.now)) }
+        ensures no_memory { IsErrOf result NoMemory → (from < to) ⊎ (chars text.now ≢ []) }
+        ensures not_ordered { result ≢ Err NotOrdered }
+        ensures nodes { GrowsFor 57 (size self.old) (length text.now) work.old.nodes work.new.nodes }
+        ensures copied { work.new.rows ≤ work.old.rows + length text.now + 241 }
+        ensures nodes_kept { work.old.nodes ≤ work.new.nodes }
+        ensures copied_kept { work.old.rows ≤ work.new.rows }
+    {
+        let len = self.len();
+        if len < to {
+            return Err(Refusal::NotBoundary);
+        }
+        if MAX_PIECE < text.len() || MAX_LEN - (len - (to - from)) < text.len() {
+            return self.exchange_beside(work, from, to, text);
+        }
+        match self.tree.replace_in_place(work, from, to, text) {
+            Ok(()) => Ok(()),
+            Err(Unplaced::NotBoundary) => Err(Refusal::NotBoundary),
+            Err(Unplaced::NoRoom) => self.exchange_beside(work, from, to, text),
+        }
+    }
+
+    /// The same where it is not done in place.
+    fn exchange_beside(
+        &mut self,
+        work: &mut Work,
+        from: usize,
+        to: usize,
+        text: &str,
+    ) -> Result<(), Refusal>
+        requires order { from ≤ to }
+        ensures ok { OnOk result (IsReplaced self.old self.new from to (chars text.now)) }
+        ensures err { OnErr result (self.new ≡ self.old) }
+        ensures not_boundary { IsErrOf result NotBoundary ↔ (¬ (IsBoundary self.old from × IsBoundary self.old to)) }
+        ensures too_long { IsErrOf result TooLong
+            ↔ ((IsBoundary self.old from × IsBoundary self.old to)
+            × (2 ^ 63 + (to - from) ≤ size self.old + length text.now)) }
+        ensures no_memory { IsErrOf result NoMemory → (from < to) ⊎ (chars text.now ≢ []) }
+        ensures not_ordered { result ≢ Err NotOrdered }
+        ensures nodes { GrowsFor 56 (size self.old) (length text.now) work.old.nodes work.new.nodes }
+        ensures copied { work.new.rows ≤ work.old.rows + length text.now + 240 }
+        ensures nodes_kept { work.old.nodes ≤ work.new.nodes }
+        ensures copied_kept { work.old.rows ≤ work.new.rows }
+    {
+        if !(self.is_char_boundary(from) && self.is_char_boundary(to)) {
+            return Err(Refusal::NotBoundary);
+        }
+        let kept = self.len() - (to - from);
+        if MAX_LEN - kept < text.len() {
+            return Err(Refusal::TooLong);
+        }
+        if from == to && text.is_empty() {
+            return Ok(());
+        }
+        match self.rewrite(work, from, to, text) {
+            Ok(()) => Ok(()),
+            Err(_) => Err(Refusal::NoMemory),
+        }
+    }
+
+    /// Exchanges what is between two boundaries for a text: all is made beside the tree, and the root is exchanged last.
+    fn rewrite(
         &mut self,
         work: &mut Work,
         from: usize,
@@ -399,26 +488,16 @@ impl Rope {
         requires order { from ≤ to }
         requires start { IsBoundary self.old from }
         requires end { IsBoundary self.old to }
+        requires short { size self.old + length text.now < 2 ^ 63 + (to - from) }
         ensures ok { OnOk result (IsReplaced self.old self.new from to (chars text.now)) }
         ensures err { OnErr result (self.new ≡ self.old) }
-        ensures some { IsErr result → chars text.now ≢ [] }
-        ensures opened { OpensFor 175 (size self.old + length text.now) work.old work.new }
-        ensures copied { work.new.copied ≤ work.old.copied + 10 }
+        ensures nodes { GrowsFor 56 (size self.old) (length text.now) work.old.nodes work.new.nodes }
+        ensures copied { work.new.rows ≤ work.old.rows + length text.now + 240 }
+        ensures nodes_kept { work.old.nodes ≤ work.new.nodes }
+        ensures copied_kept { work.old.rows ≤ work.new.rows }
     {
-        if text.is_empty() {
-            self.take_out(work, from, to);
-            return Ok(());
-        }
-        let _height = self.tree.height();
-        // more bytes than can be addressed at once are no memory
-        if MAX_LEN - self.len() < text.len() {
-            return Err(AllocError);
-        }
-        if self.tree.exchange_in_place(work, from, to, text) {
-            return Ok(());
-        }
-        self.put(work, to, text)?;
-        self.take_out_apart(work, from, to);
+        let root = exchanged_in(&mut self.tree.view(), work, self.alloc, from, to, text)?;
+        self.tree = Tree::of(root);
         Ok(())
     }
 }

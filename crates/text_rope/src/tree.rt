@@ -1,50 +1,54 @@
-//! A balanced tree of pieces.
-ghost use Rattle.std.specs.Prelude.{◌≡◌, ◌≢◌, ◌+◌, ◌*◌, ◌^◌, ◌<◌, ◌≤◌, ◌↔◌, max, [], ◌∷◌, ◌++◌, true, false, chars, length, IsTrue, IsSome, IfSome, IsNone, IfNone, IfOk};
-ghost use Rattle.str_indices.specs.Text.{size};
+//! A balanced tree of rows, whose nodes may have several owners.
+ghost use Rattle.std.specs.Prelude.{◌≡◌, ◌≢◌, ◌+◌, ◌-◌, ◌^◌, ◌<◌, ◌≤◌, [], ◌++◌, chars, length, Err, IsOk, IfOk, OnOk, OnErr};
 ghost use Rattle.str_indices.specs.Relations.{IsBoundary};
-ghost use Rattle.piece_text.specs.Pieces.{joined, joined_size};
-ghost use Rattle.piece_text.specs.Summaries.{summary_of};
-ghost use Rattle.text_rope.specs.Edits.{IsReplaced};
-ghost use Rattle.text_rope.specs.Work.{WorkState, Costs};
-ghost use Rattle.text_rope.specs.Shapes.{Seen, DifferByAtMost, IsForkOf, AreAlike, AreSummed, fewest};
+ghost use Rattle.str_indices.specs.Text.{size};
+ghost use Rattle.text_summary.specs.Changes.{IsReplaced};
+ghost use Rattle.text_summary.specs.Pieces.{joined, joined_size};
+ghost use Rattle.text_summary.specs.Summaries.{summary_of};
+ghost use Rattle.text_rope.specs.Blocks.{max_rows};
+ghost use Rattle.text_rope.specs.Shapes.{DifferByAtMost, IsBlockOf, IsForkOf, fewest};
+ghost use Rattle.text_rope.specs.Looks.{IsLookAt};
+ghost use Rattle.text_rope.specs.Shifts.{IsOneChanged};
+ghost use Rattle.text_rope.specs.States.{RowsState, texts_of, texts_under};
+ghost use Rattle.text_rope.specs.Views.{IsFork};
+ghost use Rattle.text_rope.specs.Work.{WorkState, Costs, GrowsFor};
+ghost use Rattle.text_rope.specs.declared.row.Unplaced.TheVariants.{NotBoundary};
 
-use crate::piece::Piece;
-use crate::summaries::{joined, summary_of_none};
+use crate::block::{Block, summary_of_rows};
+use crate::row::{Row, Unplaced};
+use crate::shifts::{Shift, shifted};
 use crate::work::Work;
 use byte_chunk::Counter;
-use piece_text::Summary;
 use std::alloc::{AllocError, Global};
 use std::marker::Model;
-use std::mem;
+use std::sync::Arc;
+use text_summary::{Summary, joined};
 
-/// A balanced tree of pieces. A contract sees their texts in order, and its height.
+/// A tree and the summary of its text, which is not empty. A contract sees the texts of its rows in order, and its height.
 #[cycle(tree)]
 #[derive(Drop)]
-pub(crate) struct Tree {
-    root: Root,
+pub(crate) struct Side {
+    node: Node,
+    summary: Summary,
 }
 
 #[cycle(tree)]
 #[derive(Drop)]
-enum Root {
-    Leaf,
-    Fork(Box<Fork>),
+enum Node {
+    Block(Arc<Block>),
+    Fork(Arc<Fork>),
 }
 
-/// A piece between two trees, with the summaries of both beside it: a question reads the forks on its way down the tree, and
-/// no other.
+/// Two trees, one after the other. A way down reads the summary of the left one here.
 #[cycle(tree)]
 #[derive(Drop)]
-pub(crate) struct Fork {
-    left: Tree,
-    pub(crate) piece: Piece,
-    pub(crate) before: Summary,
-    pub(crate) after: Summary,
+struct Fork {
+    left: Side,
+    right: Side,
     height: usize,
-    right: Tree,
 }
 
-impl Model for Tree {
+impl Model for Side {
     ghost use Rattle.text_rope.specs.Shapes.{Seen};
 
     ghost Value = { Seen };
@@ -52,9 +56,9 @@ impl Model for Tree {
     ghost use Rattle.std.specs.Prelude.{length};
     ghost use Rattle.text_rope.specs.Views.{seen, IsSound};
 
-    ghost view = { λ a. seen a.root };
+    ghost view = { λ a. seen a.node };
 
-    ghost invariant = { λ a. IsSound a.root };
+    ghost invariant = { λ a. IsSound a.node a.summary };
 
     ghost size = { λ d. length d.texts };
 
@@ -63,382 +67,346 @@ impl Model for Tree {
     ghost size_decreases = { λ a h. Prim.grind (arith, length-append) };
 }
 
-impl Fork {
-    ghost use Rattle.text_rope.specs.Views.{IsFork};
-
-    /// The summary of its whole text.
-    fn whole(&self) -> Summary
-        requires { IsFork self.now.left self.now.piece self.now.right self.now.before self.now.after self.now.height }
-        ensures { result ≡ summary_of (joined (self.now.left.texts ++ self.now.piece ∷ self.now.right.texts)) }
-    {
-        joined(joined(self.before, *self.piece.summary()), self.after)
-    }
-
-    /// How many bytes its whole text has.
-    #[tactic(auto, using(crate::proofs::lemmas::Forks::fork_size))]
-    fn len(&self) -> usize
-        requires { IsFork self.now.left self.now.piece self.now.right self.now.before self.now.after self.now.height }
-        ensures { result ≡ joined_size (self.now.left.texts ++ self.now.piece ∷ self.now.right.texts) }
-    {
-        self.before.len + self.piece.len() + self.after.len
-    }
-
-    /// Takes over the summary of the left tree, in which a piece has changed.
-    fn renew_before(&mut self)
-        ensures { self.new ≡ record self.old { before = summary_of (joined self.old.left.texts) } }
-    {
-        self.before = self.left.whole();
-    }
-
-    /// Takes over the summary of the right tree, in which a piece has changed.
-    fn renew_after(&mut self)
-        ensures { self.new ≡ record self.old { after = summary_of (joined self.old.right.texts) } }
-    {
-        self.after = self.right.whole();
-    }
-
-    /// Exchanges what is between two boundaries for a text, in the one piece below it that both are in.
-    #[cycle(replace_in_place)]
-    fn replace_in_place(&mut self, work: &mut Work, from: usize, to: usize, more: &str) -> bool
-        requires sound { IsFork self.old.left self.old.piece self.old.right self.old.before self.old.after self.old.height }
-        requires order { from ≤ to }
-        requires start { IsBoundary (joined (self.old.left.texts ++ self.old.piece ∷ self.old.right.texts)) from }
-        requires end { IsBoundary (joined (self.old.left.texts ++ self.old.piece ∷ self.old.right.texts)) to }
-        requires short { joined_size self.old.left.texts + size self.old.piece + joined_size self.old.right.texts
-            + size (chars more.now) < 2 ^ 63 }
-        ensures sound { IsFork self.new.left self.new.piece self.new.right self.new.before self.new.after self.new.height }
-        ensures replaced { result ≡ true → IsReplaced (joined (self.old.left.texts ++ self.old.piece ∷ self.old.right.texts))
-            (joined (self.new.left.texts ++ self.new.piece ∷ self.new.right.texts)) from to (chars more.now) }
-        ensures alike { AreAlike
-            (record { texts = self.old.left.texts ++ self.old.piece ∷ self.old.right.texts; height = self.old.height })
-            (record { texts = self.new.left.texts ++ self.new.piece ∷ self.new.right.texts; height = self.new.height }) }
-        ensures kept { result ≡ false → self.new.left.texts ++ self.new.piece ∷ self.new.right.texts
-            ≡ self.old.left.texts ++ self.old.piece ∷ self.old.right.texts }
-        ensures work { Costs work.old work.new self.old.height 1 }
-        ensures unwritten { result ≡ false → work.new.copied ≡ work.old.copied }
-    {
-        work.open();
-        let start = self.before.len;
-        let end = start + self.piece.len();
-        let _left = self.left.height();
-        let _right = self.right.height();
-        if ends_before(to, start, more) {
-            let done = self.left.replace_in_place(work, from, to, more);
-            self.renew_before();
-            let _few = self.left.height();
-            done
-        } else if start <= from && to <= end {
-            self.piece
-                .replace_in_place(work, from - start, to - start, more)
-        } else if end <= from {
-            let done = self
-                .right
-                .replace_in_place(work, from - end, to - end, more);
-            self.renew_after();
-            let _few = self.right.height();
-            done
-        } else {
-            false
-        }
-    }
+/// What a tree consists of.
+#[derive(Clone, Copy)]
+pub(crate) enum Look<'a> {
+    Rows(&'a [Row]),
+    Sides(&'a Side, &'a Side),
 }
 
-/// Whether a change up to a byte is made before the piece that starts at another one: a text that comes in where it starts
-/// is put into it.
-fn ends_before(to: usize, start: usize, more: &str) -> bool
-    ensures within { result ≡ true → to ≤ start }
-    ensures before { to < start → result ≡ true }
-    ensures at_start { to ≡ start → (IsTrue result ↔ (length more.now ≡ 0)) }
-{
-    to < start || (to == start && more.is_empty())
-}
-
-impl Tree {
-    ghost use Rattle.text_rope.specs.Views.{IsFork};
-
-    /// A tree without pieces.
-    pub(crate) fn new() -> Tree
-        ensures { result ≡ record { texts = []; height = 0 } }
-    {
-        Tree { root: Root::Leaf }
-    }
-
-    /// The summary of the whole text.
-    #[tactic(auto, using(crate::proofs::lemmas::Forks::fork_size))]
-    pub(crate) fn whole(&self) -> Summary
-        ensures whole { result ≡ summary_of (joined self.now.texts) }
+impl Side {
+    /// The summary of its text.
+    pub(crate) fn summary(&self) -> &Summary
+        ensures summary { result.now ≡ summary_of (joined self.now.texts) }
+        ensures some { 0 < length self.now.texts }
         ensures short { joined_size self.now.texts < 2 ^ 63 }
-    {
-        match &self.root {
-            Root::Leaf => summary_of_none(),
-            Root::Fork(fork) => fork.whole(),
-        }
-    }
-
-    /// How many bytes the text has.
-    #[tactic(auto, using(crate::proofs::lemmas::Forks::fork_size))]
-    pub(crate) fn len(&self) -> usize
-        ensures len { result ≡ joined_size self.now.texts }
-        ensures short { joined_size self.now.texts < 2 ^ 63 }
-    {
-        match &self.root {
-            Root::Leaf => 0,
-            Root::Fork(fork) => fork.len(),
-        }
-    }
-
-    /// How many levels it has.
-    #[tactic(auto, using(crate::proofs::lemmas::Forks::fork_size))]
-    pub(crate) fn height(&self) -> usize
-        ensures height { result ≡ self.now.height }
-        ensures low { self.now.height ≤ length self.now.texts }
-        ensures short { joined_size self.now.texts < 2 ^ 63 }
-        ensures many { fewest self.now.height ≤ length self.now.texts + 1 }
         ensures few { length self.now.texts ≤ joined_size self.now.texts }
     {
-        match &self.root {
-            Root::Leaf => 0,
-            Root::Fork(fork) => fork.height,
+        let _node = &self.node;
+        &self.summary
+    }
+
+    /// How many levels of forks it has.
+    pub(crate) fn height(&self) -> usize
+        ensures height { result ≡ self.now.height }
+        ensures low { self.now.height < length self.now.texts }
+        ensures many { fewest self.now.height ≤ length self.now.texts }
+        ensures short { self.now.height < 2 ^ 63 }
+    {
+        match &self.node {
+            Node::Block(_) => 0,
+            Node::Fork(fork) => fork.height,
         }
     }
 
-    /// Whether the tree that `part` takes apart at a byte, and `join` puts together again, is as it is now.
-    pub(crate) fn stays(&self, work: &mut Work, at: usize) -> bool
-        ensures { Costs work.old work.new (2 * self.now.height) 0 }
-    {
-        self.edge(work, at, End::Front).is_some() || self.edge(work, at, End::Back).is_some()
-    }
-
-    /// The same where the piece of the byte is on the way from the root to an end: how high its two sides are.
+    /// What it consists of.
     #[tactic(auto, using(crate::proofs::lemmas::Forks::fork_size))]
-    fn edge(&self, work: &mut Work, at: usize, end: End) -> Option<Edge>
-        ensures rest { IfSome result (λ e. e.rest ≤ self.now.height) }
-        ensures beyond { IfSome result (λ e. e.beyond ≤ self.now.height) }
-        ensures work { Costs work.old work.new self.now.height 0 }
+    pub(crate) fn look(&self) -> Look<'_>
+        ensures { IsLookAt self.now result }
     {
-        let Root::Fork(fork) = &self.root else {
-            return None;
-        };
-        work.open();
-        let start = fork.before.len;
-        let behind = start + fork.piece.len();
-        let (left, right) = (fork.left.height(), fork.right.height());
-        match end {
-            End::Front if at < start => fork.left.edge(work, at, end)?.beside(right),
-            End::Back if behind <= at => fork.right.edge(work, at - behind, end)?.beside(left),
-            End::Front if at < behind => Some(Edge {
-                rest: right,
-                beyond: left,
-            }),
-            End::Back if start <= at => Some(Edge {
-                rest: left,
-                beyond: right,
-            }),
-            _ => None,
-        }
-    }
-
-    /// Its root, for one look.
-    #[tactic(auto, using(crate::proofs::lemmas::Forks::fork_size))]
-    pub(crate) fn look(&self, looks: &mut Counter) -> Option<Look<'_>>
-        ensures empty { IsNone result ↔ (self.now.height ≡ 0) }
-        ensures none { IfNone result (self.now.texts ≡ []) }
-        ensures parts { IfSome result (λ l. IsForkOf self.now l.left.now l.piece.now l.right.now) }
-        ensures summaries { IfSome result
-            (λ l. AreSummed l.left.now l.piece.now l.right.now l.before.now l.own.now l.after.now) }
-        ensures short { joined_size self.now.texts < 2 ^ 63 }
-        ensures one { IfSome result (λ _. looks.new ≡ looks.old + 1) }
-        ensures free { IfNone result (looks.new ≡ looks.old) }
-    {
-        match &self.root {
-            Root::Leaf => None,
-            Root::Fork(fork) => {
-                looks.tick();
+        match &self.node {
+            Node::Block(block) => Look::Rows(block.rows()),
+            Node::Fork(fork) => {
                 let fork: &Fork = fork;
-                Some(Look {
-                    left: &fork.left,
-                    piece: &fork.piece,
-                    right: &fork.right,
-                    before: &fork.before,
-                    own: fork.piece.summary(),
-                    after: &fork.after,
-                })
+                Look::Sides(&fork.left, &fork.right)
             }
         }
     }
 
-    /// Its root with no trees below it, and the two trees.
-    #[tactic(auto, using(crate::proofs::lemmas::Forks::fork_size))]
-    pub(crate) fn open(self, work: &mut Work) -> Option<Opened>
-        ensures empty { IsNone result ↔ (self.height ≡ 0) }
-        ensures none { IfNone result (self.texts ≡ []) }
-        ensures parts { IfSome result (λ o. IsForkOf self o.left o.fork.value.piece o.right) }
-        ensures sound { IfSome result (λ o. IsFork o.left o.fork.value.piece o.right
-            o.fork.value.before o.fork.value.after o.fork.value.height) }
-        ensures height { IfSome result (λ o. o.fork.value.height ≡ self.height) }
-        ensures short { joined_size self.texts < 2 ^ 63 }
-        ensures one { IfSome result (λ _. work.new.opened ≡ work.old.opened + 1) }
-        ensures free { IfNone result (work.new.opened ≡ work.old.opened) }
-        ensures copied { work.new.copied ≡ work.old.copied }
+    /// The same tree once more. Copies no node.
+    pub(crate) fn share(&self) -> Result<Side, AllocError>
+        ensures { IfOk result (λ side. side ≡ self.now) }
     {
-        match self.root {
-            Root::Leaf => None,
-            Root::Fork(mut fork) => {
-                work.open();
-                let left = mem::replace(&mut fork.left, Tree::new());
-                let right = mem::replace(&mut fork.right, Tree::new());
-                Some(Opened { left, fork, right })
-            }
-        }
+        let node = match &self.node {
+            Node::Block(block) => Node::Block(Arc::try_clone(block)?),
+            Node::Fork(fork) => Node::Fork(Arc::try_clone(fork)?),
+        };
+        Ok(Side {
+            node,
+            summary: self.summary,
+        })
     }
 
-    /// Exchanges what is between two boundaries for a text in the memory of the piece that both are in, where the pieces
-    /// and the tree are those that a change by `put` and `without_apart` leaves. Answers whether it did; where not, no piece
-    /// is written.
-    pub(crate) fn exchange_in_place(
+    /// Exchanges what is between two byte indices for a text, in the memory of the one row that both are in, where no node
+    /// on the way has another owner and the row has room for it; else nothing changes. Copies no node.
+    #[cycle(replace_in_place)]
+    #[tactic(auto, using(crate::proofs::lemmas::Forks::fork_size))]
+    fn replace_in_place(
         &mut self,
         work: &mut Work,
         from: usize,
         to: usize,
         more: &str,
-    ) -> bool
+        own: &Summary,
+        shift: &mut Shift,
+    ) -> Result<(), Unplaced>
         requires order { from ≤ to }
-        requires start { IsBoundary (joined self.old.texts) from }
-        requires end { IsBoundary (joined self.old.texts) to }
-        requires short { joined_size self.old.texts + length more.now < 2 ^ 63 }
-        ensures replaced { result ≡ true → IsReplaced (joined self.old.texts) (joined self.new.texts) from to (chars more.now) }
-        ensures kept { result ≡ false → self.new ≡ self.old }
-        ensures work { Costs work.old work.new (3 * self.old.height) 1 }
-        ensures unwritten { result ≡ false → work.new.copied ≡ work.old.copied }
+        requires within { to ≤ joined_size self.old.texts }
+        requires own { own.now ≡ summary_of (chars more.now) }
+        requires short { joined_size self.old.texts + size (chars more.now) < 2 ^ 63 + (to - from) }
+        ensures changed { OnOk result (
+            IsOneChanged self.old.texts self.new.texts from to (chars more.now) shift.new) }
+        ensures height { self.new.height ≡ self.old.height }
+        ensures few { length self.new.texts ≤ joined_size self.new.texts }
+        ensures not_boundary { result ≡ Err NotBoundary
+            → ¬ (IsBoundary (joined self.old.texts) from × IsBoundary (joined self.old.texts) to) }
+        ensures err { OnErr result (self.new.texts ≡ self.old.texts) }
+        ensures work { Costs work.old work.new (self.old.height + 1) 1 }
     {
-        self.stays(work, from) && self.replace_in_place(work, from, to, more)
+        let _few = self.summary();
+        work.make();
+        match &mut self.node {
+            Node::Block(block) => match Arc::get_mut(block) {
+                Some(block) => block.replace_in_place(work, from, to, more, own, shift)?,
+                None => return Err(Unplaced::NoRoom),
+            },
+            Node::Fork(fork) => match Arc::get_mut(fork) {
+                Some(fork) => fork.replace_in_place(work, from, to, more, own, shift)?,
+                None => return Err(Unplaced::NoRoom),
+            },
+        }
+        self.summary = shifted(&self.summary, shift);
+        Ok(())
+    }
+}
+
+impl Fork {
+    /// The same below it.
+    #[cycle(replace_in_place)]
+    fn replace_in_place(
+        &mut self,
+        work: &mut Work,
+        from: usize,
+        to: usize,
+        more: &str,
+        own: &Summary,
+        shift: &mut Shift,
+    ) -> Result<(), Unplaced>
+        requires sound { IsFork self.old.left self.old.right self.old.height }
+        requires order { from ≤ to }
+        requires within { to ≤ joined_size (self.old.left.texts ++ self.old.right.texts) }
+        requires own { own.now ≡ summary_of (chars more.now) }
+        requires short { joined_size (self.old.left.texts ++ self.old.right.texts) + size (chars more.now)
+            < 2 ^ 63 + (to - from) }
+        ensures sound { IsFork self.new.left self.new.right self.new.height }
+        ensures height { self.new.height ≡ self.old.height }
+        ensures changed { OnOk result (IsOneChanged (self.old.left.texts ++ self.old.right.texts)
+            (self.new.left.texts ++ self.new.right.texts) from to (chars more.now) shift.new) }
+        ensures few { length (self.new.left.texts ++ self.new.right.texts)
+            ≤ joined_size (self.new.left.texts ++ self.new.right.texts) }
+        ensures not_boundary { result ≡ Err NotBoundary
+            → ¬ (IsBoundary (joined (self.old.left.texts ++ self.old.right.texts)) from
+            × IsBoundary (joined (self.old.left.texts ++ self.old.right.texts)) to) }
+        ensures err { OnErr result (self.new.left.texts ++ self.new.right.texts
+            ≡ self.old.left.texts ++ self.old.right.texts) }
+        ensures work { Costs work.old work.new self.old.height 1 }
+    {
+        let middle = self.left.summary().len;
+        let _right = self.right.summary();
+        if to <= middle {
+            self.left.replace_in_place(work, from, to, more, own, shift)
+        } else if middle <= from {
+            self.right
+                .replace_in_place(work, from - middle, to - middle, more, own, shift)
+        } else {
+            Err(Unplaced::NoRoom)
+        }
+    }
+}
+
+/// A tree of one block.
+pub(crate) fn block_of(work: &mut Work, alloc: Global, rows: Vec<Row>) -> Result<Side, AllocError>
+    requires some { 0 < length rows.items }
+    requires few { length rows.items ≤ max_rows }
+    requires short { joined_size rows.items < 2 ^ 63 }
+    ensures block { IfOk result (λ side. IsBlockOf side rows.items) }
+    ensures work { Costs work.old work.new 1 0 }
+{
+    work.make();
+    let summary = summary_of_rows(rows.as_slice());
+    let block = Arc::new(alloc, Block::of(rows))?;
+    Ok(Side {
+        node: Node::Block(block),
+        summary,
+    })
+}
+
+/// A fork over two trees.
+#[tactic(auto, using(crate::proofs::lemmas::Forks::fork_size))]
+pub(crate) fn fork_of(
+    work: &mut Work,
+    alloc: Global,
+    left: Side,
+    right: Side,
+) -> Result<Side, AllocError>
+    requires balanced { DifferByAtMost 1 left.height right.height }
+    requires short { joined_size left.texts + joined_size right.texts < 2 ^ 63 }
+    ensures fork { IfOk result (λ side. IsForkOf side left right) }
+    ensures work { Costs work.old work.new 1 0 }
+{
+    work.make();
+    let height = left.height().max(right.height()) + 1;
+    let summary = joined(*left.summary(), *right.summary());
+    let fork = Fork {
+        left,
+        right,
+        height,
+    };
+    Ok(Side {
+        node: Node::Fork(Arc::new(alloc, fork)?),
+        summary,
+    })
+}
+
+/// A tree that may have no rows. A contract sees their texts in order.
+#[derive(Drop)]
+pub(crate) struct Tree {
+    root: Option<Side>,
+}
+
+impl Model for Tree {
+    ghost use Rattle.std.specs.Prelude.{List};
+    ghost use Rattle.str_indices.specs.Text.{Text};
+
+    ghost Value = { List Text };
+
+    ghost use Rattle.text_rope.specs.States.{texts_of};
+
+    ghost view = { λ t. texts_of t.root };
+}
+
+impl Tree {
+    /// A tree, or none where there are no rows.
+    pub(crate) fn of(root: Option<Side>) -> Tree
+        ensures { result ≡ texts_of root }
+    {
+        Tree { root }
     }
 
-    /// Exchanges what is between two boundaries for a text, where both are in one piece that has the memory for it and is
-    /// not made small: the tree keeps its shape. Answers whether it did; where not, all is as before. Takes no memory.
-    #[cycle(replace_in_place)]
-    #[tactic(auto, using(crate::proofs::lemmas::Forks::fork_size))]
+    /// The tree; none where there are no rows.
+    pub(crate) fn into_root(self) -> Option<Side>
+        ensures { texts_of result ≡ self }
+    {
+        self.root
+    }
+
+    /// How many bytes its text has.
+    pub(crate) fn len(&self) -> usize
+        ensures len { result ≡ joined_size self.now }
+        ensures short { joined_size self.now < 2 ^ 63 }
+    {
+        self.view().len()
+    }
+
+    /// The same tree once more. Copies no node.
+    pub(crate) fn share(&self) -> Result<Tree, AllocError>
+        ensures ok { IfOk result (λ tree. tree ≡ self.now) }
+        ensures empty { joined self.now ≡ [] → IsOk result }
+    {
+        match &self.root {
+            None => Ok(Tree { root: None }),
+            Some(side) => {
+                let _some = side.summary();
+                Ok(Tree {
+                    root: Some(side.share()?),
+                })
+            }
+        }
+    }
+
+    /// Exchanges what is between two byte indices for a text, in the memory of the one row that both are in, where no node
+    /// on the way has another owner and the row has room for it; else nothing changes. Takes no memory.
     pub(crate) fn replace_in_place(
         &mut self,
         work: &mut Work,
         from: usize,
         to: usize,
         more: &str,
-    ) -> bool
+    ) -> Result<(), Unplaced>
         requires order { from ≤ to }
-        requires start { IsBoundary (joined self.old.texts) from }
-        requires end { IsBoundary (joined self.old.texts) to }
-        requires short { joined_size self.old.texts + size (chars more.now) < 2 ^ 63 }
-        ensures replaced { result ≡ true → IsReplaced (joined self.old.texts) (joined self.new.texts) from to (chars more.now) }
-        ensures alike { AreAlike self.old self.new }
-        ensures kept { result ≡ false → self.new ≡ self.old }
-        ensures work { Costs work.old work.new self.old.height 1 }
-        ensures unwritten { result ≡ false → work.new.copied ≡ work.old.copied }
+        requires within { to ≤ joined_size self.old }
+        requires short { joined_size self.old + length more.now < 2 ^ 63 + (to - from) }
+        ensures ok { OnOk result (IsReplaced (joined self.old) (joined self.new) from to (chars more.now)) }
+        ensures not_boundary { result ≡ Err NotBoundary
+            → ¬ (IsBoundary (joined self.old) from × IsBoundary (joined self.old) to) }
+        ensures err { OnErr result (self.new ≡ self.old) }
+        ensures nodes { GrowsFor 1 (joined_size self.old) 0 work.old.nodes work.new.nodes }
+        ensures copied { work.new.rows ≤ work.old.rows + 1 }
+        ensures nodes_kept { work.old.nodes ≤ work.new.nodes }
+        ensures copied_kept { work.old.rows ≤ work.new.rows }
     {
-        match &mut self.root {
-            Root::Leaf => false,
-            Root::Fork(fork) => fork.replace_in_place(work, from, to, more),
+        let Some(side) = &mut self.root else {
+            return Err(Unplaced::NoRoom);
+        };
+        let _height = side.height();
+        let _short = side.summary();
+        let own = Summary::of(more);
+        side.replace_in_place(work, from, to, more, &own, &mut Shift::none())
+    }
+
+    /// It as a question sees it, with nothing counted.
+    pub(crate) fn view(&self) -> View<'_>
+        ensures { result ≡ record { texts = self.now; looks = 0; reads = 0 } }
+    {
+        View {
+            root: self.root.as_ref(),
+            looks: Counter::zero(),
+            reads: Counter::zero(),
         }
     }
 }
 
-/// A fork as a question sees it, with the summaries of its parts. It lends all of them: a question reads few of their
-/// numbers, and fewer cache lines.
+/// A tree as a question sees it: contracts see its rows, how many nodes were looked at, and how often a row was read.
+///
+/// It has the size of a reference: only contracts see its counters. It is neither `Copy` nor `Clone`, and a `Tree` alone
+/// lends it.
 #[derive(Drop)]
-pub(crate) struct Look<'a> {
-    pub(crate) left: &'a Tree,
-    pub(crate) piece: &'a Piece,
-    pub(crate) right: &'a Tree,
-    pub(crate) before: &'a Summary,
-    pub(crate) own: &'a Summary,
-    pub(crate) after: &'a Summary,
+pub struct View<'a> {
+    root: Option<&'a Side>,
+    looks: Counter,
+    reads: Counter,
 }
 
-/// A fork with no trees below it, and the two trees that it had.
-#[derive(Drop)]
-pub(crate) struct Opened {
-    pub(crate) left: Tree,
-    pub(crate) fork: Box<Fork>,
-    pub(crate) right: Tree,
+impl<'a> Model for View<'a> {
+    ghost use Rattle.text_rope.specs.States.{RowsState, texts_under};
+
+    ghost Value = { RowsState };
+
+    ghost view = { λ v. record { texts = texts_under v.root; looks = v.looks; reads = v.reads } };
 }
 
-/// An end of a tree.
-#[derive(Clone, Copy)]
-enum End {
-    Front,
-    Back,
-}
-
-/// A tree taken apart at a piece on the way to an end: how high what is beyond the piece is, and the rest.
-#[derive(Clone, Copy)]
-struct Edge {
-    rest: usize,
-    beyond: usize,
-}
-
-impl Edge {
-    /// The same of the fork above, over a tree of a height beside: none where `join` would turn it.
-    fn beside(self, height: usize) -> Option<Edge>
-        requires low { self.rest < 2 ^ 63 }
-        requires beside { height < 2 ^ 63 }
-        requires beyond { self.beyond < 2 ^ 63 }
-        ensures rest { IfSome result (λ e. e.rest ≡ max height self.rest + 1) }
-        ensures beyond { IfSome result (λ e. e.beyond ≡ self.beyond) }
-        ensures some { IsSome result
-            ↔ (DifferByAtMost 1 height self.rest × (self.beyond + 1 < max height self.rest + 1)) }
+impl<'a> View<'a> {
+    /// Its root; none where there are no rows. Counts nothing.
+    pub(crate) fn root(&self) -> Option<&'a Side>
+        ensures { texts_under result ≡ self.now.texts }
     {
-        let rest = height.max(self.rest) + 1;
-        if height <= self.rest + 1 && self.rest <= height + 1 && self.beyond + 1 < rest {
-            Some(Edge { rest, ..self })
-        } else {
-            None
+        self.root
+    }
+
+    /// How many bytes the text has. Counts nothing.
+    pub fn len(&self) -> usize
+        ensures len { result ≡ joined_size self.now.texts }
+        ensures short { joined_size self.now.texts < 2 ^ 63 }
+    {
+        match self.root {
+            None => 0,
+            Some(side) => side.summary().len,
         }
     }
-}
 
-/// A fork over two trees.
-pub(crate) fn over(left: Tree, mut fork: Box<Fork>, right: Tree) -> Tree
-    requires balanced { DifferByAtMost 1 left.height right.height }
-    requires short { joined_size left.texts + size fork.value.piece + joined_size right.texts < 2 ^ 63 }
-    ensures { IsForkOf result left fork.value.piece right }
-{
-    fork.before = left.whole();
-    fork.after = right.whole();
-    over_known(left, fork, right)
-}
-
-/// The same where the fork has the summaries of both trees: it reads neither of them.
-#[tactic(auto, using(crate::proofs::lemmas::Forks::fork_size))]
-pub(crate) fn over_known(left: Tree, mut fork: Box<Fork>, right: Tree) -> Tree
-    requires balanced { DifferByAtMost 1 left.height right.height }
-    requires short { joined_size left.texts + size fork.value.piece + joined_size right.texts < 2 ^ 63 }
-    requires before { fork.value.before ≡ summary_of (joined left.texts) }
-    requires after { fork.value.after ≡ summary_of (joined right.texts) }
-    ensures { IsForkOf result left fork.value.piece right }
-{
-    let _own = fork.piece.summary();
-    fork.height = left.height().max(right.height()) + 1;
-    fork.left = left;
-    fork.right = right;
-    Tree {
-        root: Root::Fork(fork),
+    /// What a tree consists of, for one look.
+    pub(crate) fn look<'b>(&mut self, side: &'b Side) -> Look<'b>
+        ensures look { IsLookAt side.now result }
+        ensures state { self.new ≡ record self.old { looks = self.old.looks + 1 } }
+    {
+        self.looks.tick();
+        side.look()
     }
-}
 
-/// A fork of a piece, with no trees below it.
-pub(crate) fn fork_of(alloc: Global, piece: Piece) -> Result<Box<Fork>, AllocError>
-    ensures { IfOk result (λ fork. fork.value.piece ≡ piece) }
-{
-    let none = summary_of_none();
-    Ok(Box::new(
-        alloc,
-        Fork {
-            left: Tree::new(),
-            piece,
-            before: none,
-            after: none,
-            height: 1,
-            right: Tree::new(),
-        },
-    )?)
+    /// A row is read.
+    pub(crate) fn read(&mut self)
+        ensures { self.new ≡ record self.old { reads = self.old.reads + 1 } }
+    {
+        self.reads.tick();
+    }
 }

@@ -5,7 +5,8 @@ The programs refused_growths.rt.txt, refused_runs.rt.txt and refused_rope_growth
 step by step; the second does so at several numbers of pieces. `rt try` builds each once, beside a copy of its library, and
 refuses the same allocation in each of its runs. In each run the program has taken less memory before its first step, so
 that a later growth is refused. It must answer `NoMemory` then, with every other answer as before, and succeed at the
-second try. The last runs come to an end with no growth refused. The last line printed is 'N passed, M failed'.
+second try. The last runs come to an end with no growth refused. The rope is changed once more with a snapshot held before
+each step, which must keep its text. The last line printed is 'N passed, M failed'.
 """
 import pathlib
 import re
@@ -33,7 +34,11 @@ class Program(NamedTuple):
     least: int
     passed_over: int = 0
     numbers: Tuple[Tuple[str, int], ...] = ()
+    runs: int = 40
 
+
+# what the rope has at the end
+ROPE_MADE = "3204 bytes, 480 breaks, the number 8730228837852749474\n"
 
 PROGRAMS = (
     # each of the six pieces that are put in takes its copy and its place, each of the three splits two of both, and the list
@@ -49,10 +54,11 @@ PROGRAMS = (
         "refused_runs", "piece_text", "389 pieces, 393 bytes, 2 breaks\n", 25, passed_over=766,
         numbers=(("PIECES", 321), ("FRONT", 64)),
     ),
-    # each new piece takes its text and its fork, and a text that is put into a full piece is put together first
-    Program("refused_rope_growths", "text_rope", "5004 bytes, 750 breaks, the number 15501513337787822859\n", 25),
+    # each piece that is written takes its text and its place, each block its list and its place, and what comes in between two
+    # parts of pieces is put together first
+    Program("refused_rope_growths", "text_rope", ROPE_MADE, 50, runs=160),
+    Program("refused_rope_growths", "text_rope", ROPE_MADE, 50, numbers=(("HELD", 1),), runs=160),
 )
-RUNS = 40
 
 REFUSED = "no memory, and all as before\n"
 
@@ -69,10 +75,10 @@ def source_of(program):
 def run_all(program, crate, cases):
     """Runs the program so often that in run N its growth N is refused, of those not passed over, where it has as many."""
     cases.mkdir()
-    for number in range(1, RUNS + 1):
-        (cases / str(number)).write_bytes(bytes(RUNS - number))
+    for number in range(1, program.runs + 1):
+        (cases / str(number)).write_bytes(bytes(program.runs - number))
     # one step of the interpreter, which makes of these runs twice the time: only the built program runs
-    command = ["rt", "try", "--steps", "1", "--fail-alloc", str(RUNS + program.passed_over), "--cases", cases]
+    command = ["rt", "try", "--steps", "1", "--fail-alloc", str(program.runs + program.passed_over), "--cases", cases]
     return subprocess.run(command, cwd=crate, capture_output=True, text=True)
 
 
@@ -88,16 +94,16 @@ def try_program(program, tally):
         folder = pathlib.Path(folder)
         crate = copy_program(program.name, [program.library], source_of(program), folder, left_out=("must-fail", "out"))
         done = run_all(program, crate, folder / "cases")
-    if not tally.result(done.returncode == 0, f"{program.name} is built once, and comes to an end in {RUNS} runs"):
+    if not tally.result(done.returncode == 0, f"{program.name} is built once, and comes to an end in {program.runs} runs"):
         print(done.stdout + done.stderr)
     outputs = outputs_of(done)
-    refused = [number for number in range(1, RUNS + 1) if outputs.get(number) != program.made]
+    refused = [number for number in range(1, program.runs + 1) if outputs.get(number) != program.made]
     for number in refused:
         output = outputs.get(number, "")
         tally.result(output == REFUSED + program.made, f"{program.name}, growth {number} is refused: {output!r}")
     growths = len(refused)
     told = f"{growths} growths were refused, one after the other, and then none"
-    tally.result(program.least < growths == max(refused) < RUNS, told)
+    tally.result(program.least < growths == max(refused) < program.runs, told)
 
 
 def main():

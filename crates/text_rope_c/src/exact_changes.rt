@@ -1,9 +1,9 @@
 // Changes of a text whose range has to name a place.
-ghost use Rattle.std.specs.Prelude.{◌≡◌, ◌≢◌, ◌+◌, ◌-◌, ◌^◌, ◌≤◌, ◌↔◌, [], length, chars, Some, IfSome, IsSome, IsNone, IsSomeAnd, IsErrOf, IsUtf8, OnOk, OnErr};
+ghost use Rattle.std.specs.Prelude.{◌≡◌, ◌≢◌, ◌+◌, ◌-◌, ◌^◌, ◌<◌, ◌≤◌, ◌↔◌, ◌⊎◌, [], length, chars, Some, IfSome, IsSome, IsNone, IsSomeAnd, IsErrOf, IsUtf8, OnOk, OnErr};
 ghost use Rattle.str_indices.specs.Text.{size};
 ghost use Rattle.position_mapper.specs.Positions.{byte_range_at};
 ghost use Rattle.rope_positions.specs.Changes.{exact_part_at};
-ghost use Rattle.text_rope.specs.Edits.{IsReplaced};
+ghost use Rattle.text_summary.specs.Changes.{IsReplaced};
 ghost use Rattle.text_rope.specs.declared.refusals.Refusal.TheVariants.{NotOrdered, NotBoundary, TooLong, NoMemory};
 ghost use Rattle.text_rope_c.specs.Numbers.{done, encoding_of, no_memory, not_boundary, not_ordered, not_utf8, too_long};
 
@@ -40,7 +40,8 @@ pub extern "C" fn str_rope_change_exact(
     ensures too_long { (result ≡ too_long) ↔ (IsUtf8 text.now
         × IsSomeAnd (exact_part_at (encoding_of encoding) rope.old.text (Some range)) (λ part.
         2 ^ 63 + (part.end - part.start) ≤ size rope.old.text + length text.now)) }
-    ensures no_memory { result ≡ no_memory → chars text.now ≢ [] }
+    ensures no_memory { result ≡ no_memory → IsSomeAnd (exact_part_at (encoding_of encoding) rope.old.text (Some range)) (λ part.
+        (part.start < part.end) ⊎ (chars text.now ≢ [])) }
     ensures known { result ≤ not_utf8 }
 {
     match str::from_utf8(text) {
@@ -64,7 +65,8 @@ fn changed(
         × IsNone (exact_part_at encoding rope.old.text (Some range))) }
     ensures too_long { IsErrOf result TooLong ↔ IsSomeAnd (exact_part_at encoding rope.old.text (Some range)) (λ part.
         2 ^ 63 + (part.end - part.start) ≤ size rope.old.text + length text.now) }
-    ensures no_memory { IsErrOf result NoMemory → chars text.now ≢ [] }
+    ensures no_memory { IsErrOf result NoMemory → IsSomeAnd (exact_part_at encoding rope.old.text (Some range)) (λ part.
+        (part.start < part.end) ⊎ (chars text.now ≢ [])) }
 {
     let change = Change {
         range: Some(range),

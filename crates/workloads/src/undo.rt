@@ -24,7 +24,7 @@ pub(crate) fn run(
     let mut rope = Rope::from_str(alloc, source.as_str())?;
     let mut states = Vec::new(alloc);
     for i in 0..rounds {
-        keep(&mut states, i, copy_of(alloc, &rope)?)?;
+        keep(&mut states, i, rope.snapshot()?)?;
         change(&mut rope, source.as_str(), i, random, digest)?;
         look_back(&states, random, digest)?;
         if i % 4 == 3 {
@@ -33,15 +33,6 @@ pub(crate) fn run(
     }
     read_all(&rope, digest);
     Ok(())
-}
-
-/// A second rope with the same text.
-fn copy_of(alloc: Global, rope: &Rope) -> Result<Rope, Fault> {
-    let mut text = String::new(alloc);
-    for chunk in rope.chunks() {
-        text.push_str(chunk)?;
-    }
-    Ok(Rope::from_str(alloc, text.as_str())?)
 }
 
 /// Keeps a state, in the place of the oldest one where there is no room.
@@ -91,7 +82,7 @@ fn look_back(states: &Vec<Rope>, random: &mut Random, digest: &mut Digest) -> Re
 /// An old state, to go on from.
 fn come_back(alloc: Global, states: &Vec<Rope>, random: &mut Random) -> Result<Rope, Fault> {
     match states.get(random.below(states.len())) {
-        Some(state) => copy_of(alloc, state),
+        Some(state) => Ok(state.snapshot()?),
         None => Ok(Rope::new(alloc)),
     }
 }

@@ -1,6 +1,6 @@
 -- What questions cost together.
 use Rattle.std.proofs.Math.Nat.{one-mul, pow-zero, pow-suc, pow-le-pow_right}
-use Rattle.rope_positions.proofs.lemmas.Common.{◌≡◌, ℕ, ◌+◌, ◌-◌, ◌*◌, ◌^◌, ◌<◌, ◌≤◌, length, refl, sym, ◌∙◌, ap, arith, pow-add, mul-le-mul, PiecesState, Asks}
+use Rattle.rope_positions.proofs.lemmas.Common.{◌≡◌, ℕ, ◌+◌, ◌-◌, ◌*◌, ◌^◌, ◌<◌, ◌≤◌, length, refl, sym, ◌∙◌, ap, arith, pow-add, mul-le-mul, RowsState, Asks}
 
 -- none and one of equal factors
 power_none : (m : ℕ) → m ^ 0 ≡ 1
@@ -13,7 +13,7 @@ sub_same : (n : ℕ) → n - n ≡ 0
 sub_same n = omega arith
 
 -- one question
-pub one_asked : (old new : PiecesState) → new.texts ≡ old.texts
+pub one_asked : (old new : RowsState) → new.texts ≡ old.texts
     → 2 ^ (new.looks - old.looks) ≤ (length old.texts + 1) * (length old.texts + 1) → old.looks ≤ new.looks
     → new.reads ≤ old.reads + 1 → old.reads ≤ new.reads → Asks 1 old new
 one_asked old new texts looks looks_kept reads reads_kept = let m = (length old.texts + 1) * (length old.texts + 1) in record {
@@ -25,7 +25,7 @@ one_asked old new texts looks looks_kept reads reads_kept = let m = (length old.
 }
 
 -- none
-pub none_asked : (state : PiecesState) → Asks 0 state state
+pub none_asked : (state : RowsState) → Asks 0 state state
 none_asked state = let still : 2 ^ (state.looks - state.looks) ≡ 1 = ap (λ n. 2 ^ n) (sub_same state.looks) in record {
   texts = refl;
   looks = omega (arith, power_none ((length state.texts + 1) * (length state.texts + 1)), still);
@@ -35,7 +35,7 @@ none_asked state = let still : 2 ^ (state.looks - state.looks) ≡ 1 = ap (λ n.
 }
 
 -- some questions, and then others
-pub asked_after : {j k : ℕ} {a b c : PiecesState} → Asks j a b → Asks k b c → Asks (j + k) a c
+pub asked_after : {j k : ℕ} {a b c : RowsState} → Asks j a b → Asks k b c → Asks (j + k) a c
 asked_after {j} {k} {a} {b} {c} first next =
     let n = length a.texts in
     let m = (n + 1) * (n + 1) in
@@ -53,7 +53,7 @@ asked_after {j} {k} {a} {b} {c} first next =
     }
 
 -- fewer than so many
-pub asked_within : {j k : ℕ} {a b : PiecesState} → j ≤ k → Asks j a b → Asks k a b
+pub asked_within : {j k : ℕ} {a b : RowsState} → j ≤ k → Asks j a b → Asks k a b
 asked_within {j} {k} {a} {b} le asks =
     let n = length a.texts in
     let some : 0 < (n + 1) * (n + 1) = omega arith in

@@ -6,7 +6,7 @@ use Rattle.rope_positions.proofs.lemmas.Common.{Some, None, ◌≡◌, ◌≤◌
 use Rattle.std.proofs.lemmas.Bool.{cases_Bool}
 use Rattle.position_mapper.specs.declared.Range.{Range}
 use Rattle.position_mapper.specs.Positions.{is_at_or_before, is_exact}
-use Rattle.text_rope.specs.Edits.{IsReplaced}
+use Rattle.text_summary.specs.Changes.{IsReplaced}
 use Rattle.rope_positions.specs.Changes.{exact_part_at, part_at}
 
 -- a text of no byte is empty

@@ -2,8 +2,8 @@
 use Rattle.str_indices.proofs.lemmas.Callers.{IsBoundary-either, cut_is_longest, characters_weighed, count-le-size, from_byte_idx-le-count}
 use Rattle.str_indices.specs.declared.Scheme.TheVariants as scheme
 use Rattle.position_mapper.specs.declared.encodings.Encoding.TheVariants.{Utf8, Utf16, Utf32}
-use Rattle.text_rope.specs.Edits.{IsBackOf, IsChunkAt}
-use Rattle.text_rope.specs.Found.{IsRound}
+use Rattle.text_rope.specs.Chunks.{IsChunkAt, IsRound}
+use Rattle.rope_positions.specs.Characters.{IsBackOf}
 use Rattle.rope_positions.proofs.lemmas.Common.{◌≡◌, ℕ, ◌+◌, ◌-◌, ◌<◌, ◌≤◌, List, [], ◌++◌, take, drop, IsUtf8, chars, sym, refl, ap, ◌∙◌, inl, inr, arith, append_assoc, append-nil, take-append-drop, length-take-le, IsUtf8-take, chars-append, size-append, size-chars, Text, size, weighed, IsBoundary, units_of, Encoding, cut}
 use Rattle.str_indices.proofs.lemmas.Callers.{IsCharBoundary-from_boundary}
 

@@ -7,7 +7,7 @@ use Rattle.str_indices.proofs.lemmas.Callers.{IsBoundary-to_byte_idx, count-le-s
 use Rattle.str_indices.specs.Joins.{seam_loss}
 use Rattle.text_summary.specs.declared.fronts.Front.{Front}
 use Rattle.position_mapper.specs.Lines.{is_break, line_content}
-use Rattle.text_rope.specs.Located.{IsLocated}
+use Rattle.text_rope.specs.Chunks.{IsLocated}
 use Rattle.rope_positions.proofs.lemmas.Common.{◌≡◌, ◌≢◌, ℕ, ◌+◌, ◌-◌, ◌<◌, ◌≤◌, min, Bool, [], ◌∷◌, ◌++◌, sym, refl, ap, ap₂, ◌∙◌, inl, inr, arith, append_assoc, append-nil, len_utf8_bounds, size-append, size-cons, Text, size, count, weighed, from_byte_idx, to_byte_idx, Crlf, IsBoundary, units_of, line_end, line_end_past, crlf_is_not_utf16, cases_lt, position_at, units_of_position, Position, Encoding}
 use Rattle.rope_positions.proofs.lemmas.Beginnings.{weighed_before, weighed_behind, first_of, content_from, first_content}
 use Rattle.rope_positions.proofs.lemmas.Changing.{none_of}

@@ -5,7 +5,7 @@ use std::process::Abort;
 use std::test::Fail;
 use text_rope::Refusal::{NotBoundary, NotOrdered, TooLong};
 use text_rope::Scheme::{self, Chars, Crlf, Lf, Lines, Utf16};
-use text_rope::{Chunk, Refusal, Rope, count_in, from_in, is_boundary_in, to_in};
+use text_rope::{Chunk, Chunks, Refusal, Rope, count_in, from_in, is_boundary_in, to_in};
 
 /// A text with its five counts, and for each scheme a byte index with its answer, and an index with its byte.
 type Row = (
@@ -317,3 +317,11 @@ fn parts_written_out(rt: HostRuntime) -> Result<(), Fail> {
     assert_all_written(&rt, &rope);
     Ok(())
 }
+
+/// A rope may go to another thread, and several may ask it at once; so may an iterator over its chunks.
+pub fn may_cross(rope: &Rope, chunks: &Chunks<'_>) {
+    crosses(rope);
+    crosses(chunks);
+}
+
+fn crosses<T: Send + Sync>(_value: &T) {}

@@ -29,7 +29,7 @@ const TEXTS: [&str; 12] = [
 ];
 
 /// All of them so many times: a text longer than a piece, of which many cuts are between CR and LF.
-fn long(alloc: Global) -> Result<String, AllocError> {
+pub(super) fn long(alloc: Global) -> Result<String, AllocError> {
     TEXTS.concat(alloc)?.repeat(alloc, 64)
 }
 
@@ -109,6 +109,19 @@ fn assert_same_near(rt: &impl Abort, random: &mut Random, both: &Both, at: usize
     both.assert_same_at(rt, random.below(both.text.len().saturating_add(3)));
 }
 
+/// Makes a random change of both, and compares them there.
+pub(super) fn change_at_random(
+    rt: &impl Abort,
+    random: &mut Random,
+    both: &mut Both,
+    long: &str,
+) -> Result<(), Fail> {
+    let change = next_change(random, both, long);
+    both.make(change)?;
+    assert_same_near(rt, random, both, change.from);
+    Ok(())
+}
+
 /// How many line breaks of two characters have one in a piece and one in the next.
 fn shared_breaks(rope: &Rope) -> usize {
     let mut shared: usize = 0;
@@ -130,9 +143,7 @@ fn answers_stay_those_of_the_text(rt: HostRuntime) -> Result<(), Fail> {
     let mut most_pieces: usize = 0;
     let mut shared: usize = 0;
     for i in 0..CHANGES {
-        let change = next_change(&mut random, &both, &long);
-        both.make(change)?;
-        assert_same_near(&rt, &mut random, &both, change.from);
+        change_at_random(&rt, &mut random, &mut both, &long)?;
         if i % 50 == 0 {
             most_pieces = both.assert_same_pieces(&rt)?.max(most_pieces);
             shared = shared.saturating_add(shared_breaks(&both.rope));

@@ -1,25 +1,28 @@
--- The fewest pieces of a tree of a height.
-use Rattle.text_rope.proofs.lemmas.Common.{◌≡◌, ℕ, zero, suc, ◌+◌, ◌*◌, ◌^◌, ◌≤◌, inl, inr, arith, max, cases_lt, mul-le-mul, length, Seen, DifferByAtMost, fewest, joined_size, WorkState, OpensFor}
+-- The fewest rows of a tree of a height.
+use Rattle.std.proofs.Math.Pow.{pow_mono}
+use Rattle.text_rope.specs.Work.{IsHeightOf, GrowsFor}
+use Rattle.text_rope.proofs.lemmas.Common.{◌≡◌, ℕ, zero, suc, ◌+◌, ◌*◌, ◌^◌, ◌<◌, ◌≤◌, inl, inr, arith, max, cases_lt, mul-le-mul, DifferByAtMost, fewest}
 
 -- more for a greater height
-pub fewest-suc : (h : ℕ) → fewest h ≤ fewest (suc h)
+pub fewest-suc : (h : ℕ) → fewest h + 1 ≤ fewest (suc h)
 fewest-suc zero = omega arith
-fewest-suc (suc h) = omega arith
+fewest-suc (suc zero) = omega arith
+fewest-suc (suc (suc h)) = omega (arith, fewest-suc h, fewest-suc (suc h))
 
 -- and at most twice as many
 pub fewest-twice : (h : ℕ) → fewest (suc h) ≤ 2 * fewest h
 fewest-twice zero = omega arith
 fewest-twice (suc h) = omega (arith, fewest-suc h)
 
-same_height : (l nl nr : ℕ) → fewest l ≤ nl + 1 → fewest l ≤ nr + 1 → fewest (suc l) ≤ nl + nr + 2
+same_height : (l nl nr : ℕ) → fewest l ≤ nl → fewest l ≤ nr → fewest (suc l) ≤ nl + nr
 same_height l nl nr left right = omega (arith, fewest-twice l)
 
-one_higher : (r nl nr : ℕ) → fewest (suc r) ≤ nl + 1 → fewest r ≤ nr + 1 → fewest (suc (suc r)) ≤ nl + nr + 2
+one_higher : (r nl nr : ℕ) → fewest (suc r) ≤ nl → fewest r ≤ nr → fewest (suc (suc r)) ≤ nl + nr
 one_higher r nl nr left right = omega arith
 
--- a fork has enough pieces where both trees have
-pub fewest-fork : (l r nl nr h : ℕ) → h ≡ max l r + 1 → fewest l ≤ nl + 1 → fewest r ≤ nr + 1 → DifferByAtMost 1 l r
-    → fewest h ≤ nl + nr + 2
+-- a fork has enough rows where both trees have
+pub fewest-fork : (l r nl nr h : ℕ) → h ≡ max l r + 1 → fewest l ≤ nl → fewest r ≤ nr → DifferByAtMost 1 l r
+    → fewest h ≤ nl + nr
 fewest-fork l r nl nr h is left right near =
     elim (cases_lt l r) [
       | inl less ↦
@@ -38,8 +41,22 @@ fewest-fork l r nl nr h is left right near =
       ]
     ]
 
+-- half of a number, squared
+square-le : (a b : ℕ) → 2 * b ≤ a → 4 * (b * b) ≤ a * a
+square-le a b le = omega (arith, mul-le-mul le le)
+
+-- the square of one more doubles with each level, so the height is at most twice the logarithm
+pub fewest-square : (h : ℕ) → 2 * 2 ^ h ≤ (fewest h + 1) * (fewest h + 1)
+fewest-square zero = omega arith
+fewest-square (suc zero) = omega arith
+fewest-square (suc (suc h)) = omega (
+  arith,
+  fewest-square h,
+  square-le (fewest (suc h) + fewest h + 1) (fewest h + 1) (omega (arith, fewest-suc h)),
+)
+
 -- more for each greater height
-pub fewest-le : (a b : ℕ) → a ≤ b → fewest a ≤ fewest b
+fewest-le : (a b : ℕ) → a ≤ b → fewest a ≤ fewest b
 fewest-le a zero le = let same : a ≡ 0 = omega arith in rw same (omega arith)
 fewest-le a (suc b) le =
     elim (cases_lt a (suc b)) [
@@ -47,59 +64,65 @@ fewest-le a (suc b) le =
       | inr same ↦ let is : a ≡ suc b = omega arith in rw is (omega arith)
     ]
 
--- so no more levels than these are looked at
-pub fewest-looks : (looks height n : ℕ) → looks ≤ height → fewest height ≤ n + 1 → fewest looks ≤ n + 1
-fewest-looks looks height n le many = omega (arith, fewest-le looks height le)
+-- the number of looks is at most twice the logarithm
+pub few_looks : (looks height n : ℕ) → looks ≤ height + 1 → fewest height ≤ n → 2 ^ looks ≤ (n + 1) * (n + 1)
+few_looks zero height n le many =
+    let one : 1 ≤ n + 1 = omega arith in
+    let square : 1 * 1 ≤ (n + 1) * (n + 1) = mul-le-mul one one in
+    omega (arith, square)
+few_looks (suc l) height n le many =
+    let few : fewest l + 1 ≤ n + 1 = omega (arith, fewest-le l height (omega arith)) in
+    omega (arith, fewest-square l, mul-le-mul few few)
 
--- half of a number, squared
-square-le : (a b : ℕ) → 2 * b ≤ a → 4 * (b * b) ≤ a * a
-square-le a b le = omega (arith, mul-le-mul le le)
-
--- the square of that number doubles with each level, so the height is at most twice the logarithm
-pub fewest-square : (h : ℕ) → 2 ^ h ≤ fewest h * fewest h
-fewest-square zero = omega arith
-fewest-square (suc zero) = omega arith
-fewest-square (suc (suc h)) =
-    omega (arith, fewest-square h, square-le (fewest (suc h) + fewest h) (fewest h) (omega (arith, fewest-suc h)))
-
--- and the number of looks is at most twice the logarithm
-pub fewest_looks : (looks height n : ℕ) → looks ≤ height → fewest height ≤ n + 1
-    → (fewest looks ≤ n + 1) × (2 ^ looks ≤ (n + 1) * (n + 1))
-fewest_looks looks height n le many =
-    let few = fewest-looks looks height n le many in
-    (few, omega (arith, fewest-square looks, mul-le-mul few few))
+-- no text is long enough for a higher tree
+pub height-most : (h n : ℕ) → fewest h ≤ n → n < 2 ^ 63 → h ≤ 126
+height-most h n many short =
+    elim (cases_lt h 127) [
+      | inl less ↦ omega arith
+      | inr more ↦
+          let high : 2 ^ 127 ≤ 2 ^ h = pow_mono more in
+          let few : fewest h + 1 ≤ 2 ^ 63 = omega arith in
+          absurd (omega (arith, fewest-square h, high, mul-le-mul few few))
+    ]
 
 -- a tree of a height has as many bytes
-pub height_of_bytes : (h p b n : ℕ) → fewest h ≤ p + 1 → p ≤ b → b ≤ n → 2 ^ h ≤ (n + 1) * (n + 1)
-height_of_bytes h p b n many few within =
-    let le : fewest h ≤ n + 1 = omega arith in
-    omega (arith, fewest-square h, mul-le-mul le le)
+pub height_of_bytes : (h n bytes : ℕ) → fewest h ≤ n → n ≤ bytes → IsHeightOf h bytes
+height_of_bytes h n bytes many few =
+    let le : fewest h + 1 ≤ bytes + 1 = omega arith in
+    record { low = omega (arith, fewest-square h, mul-le-mul le le) }
 
--- forks that are opened along two trees
-pub opens : (h m n times : ℕ) (old new : WorkState) → 2 ^ h ≤ (n + 1) * (n + 1) → 2 ^ m ≤ (n + 1) * (n + 1)
-    → new.opened ≤ old.opened + times * (max h m + 3) → OpensFor times n old new
-opens h m n times old new few_h few_m within = elim (cases_lt h m) [
-  | inl less ↦ let is : max h m ≡ m = omega arith in
-      record { height = m; few = few_m; opened = rw is at within }
-  | inr more ↦ let is : max h m ≡ h = omega arith in
-      record { height = h; few = few_h; opened = rw is at within }
+-- so has one beside more bytes
+height_wider : (h n bytes : ℕ) → IsHeightOf h n → n ≤ bytes → IsHeightOf h bytes
+height_wider h n bytes is le =
+    let wide : n + 1 ≤ bytes + 1 = omega arith in
+    record { low = omega (arith, is.low, mul-le-mul wide wide) }
+
+-- a counter that grows with the height of a tree, or with those of two
+pub grows : (h n bytes times more old new : ℕ) → fewest h ≤ n → n ≤ bytes → new ≤ old + times * (h + 3) + more
+    → GrowsFor times bytes more old new
+grows h n bytes times more old new many few within = record { height = h; is = height_of_bytes h n bytes many few; at_most = within }
+
+pub grows_both : (a b n m times more old new : ℕ) → IsHeightOf a n → IsHeightOf b m → new ≤ old + times * (max a b + 3) + more
+    → GrowsFor times (n + m) more old new
+grows_both a b n m times more old new of_a of_b within =
+    elim (cases_lt a b) [
+      | inl less ↦ let is : max a b ≡ b = omega arith in
+          record { height = b; is = height_wider b m (n + m) of_b (omega arith); at_most = rw is at within }
+      | inr not_less ↦ let is : max a b ≡ a = omega arith in
+          record { height = a; is = height_wider a n (n + m) of_a (omega arith); at_most = rw is at within }
+    ]
+
+-- one counter that grows twice with the height of one tree
+pub grows_further : (bytes more old middle new : ℕ) → GrowsFor 1 bytes 0 old middle → GrowsFor 56 bytes more middle new
+    → GrowsFor 57 bytes more old new
+grows_further bytes more old middle new a b = elim (cases_lt a.height b.height) [
+  | inl less ↦ record { height = b.height; is = b.is; at_most = omega (arith, a.at_most, b.at_most, less) }
+  | inr not_less ↦ record { height = a.height; is = a.is; at_most = omega (arith, a.at_most, b.at_most, not_less) }
 ]
 
--- forks that are opened along a tree
-pub opens_along : (tree : Seen) (n times : ℕ) (old new : WorkState) → fewest tree.height ≤ length tree.texts + 1
-    → length tree.texts ≤ joined_size tree.texts → joined_size tree.texts ≤ n → new.opened ≤ old.opened + times * (tree.height + 3)
-    → OpensFor times n old new
-opens_along tree n times old new many few within opened = record {
-  height = tree.height;
-  few = height_of_bytes tree.height (length tree.texts) (joined_size tree.texts) n many few within;
-  opened = opened;
-}
-
--- forks that are opened one after another
-pub opens_also : (n a b : ℕ) (old mid new : WorkState) → OpensFor a n old mid → OpensFor b n mid new → OpensFor (a + b) n old new
-opens_also n a b old mid new first after =
-    let most = max first.height after.height in
-    let of_first : a * (first.height + 3) ≤ a * (most + 3) = mul-le-mul (omega arith) (omega arith) in
-    let of_after : b * (after.height + 3) ≤ b * (most + 3) = mul-le-mul (omega arith) (omega arith) in
-    opens first.height after.height n (a + b) old new first.few after.few
-    (omega (arith, first.opened, after.opened, of_first, of_after))
+pub grows_twice : (bytes old middle new : ℕ) → GrowsFor 56 bytes 0 old middle → GrowsFor 56 bytes 0 middle new
+    → GrowsFor 112 bytes 0 old new
+grows_twice bytes old middle new a b = elim (cases_lt a.height b.height) [
+  | inl less ↦ record { height = b.height; is = b.is; at_most = omega (arith, a.at_most, b.at_most, less) }
+  | inr not_less ↦ record { height = a.height; is = a.is; at_most = omega (arith, a.at_most, b.at_most, not_less) }
+]

@@ -1,9 +1,50 @@
-use Rattle.text_rope.proofs.lemmas.{◌-◌, arith, ap, length, fewest_looks}
+use Rattle.text_rope.proofs.lemmas.{arith, joined, count-le-size, from_byte_idx-all, from_byte_idx-le-count, short_of, answer_at, count_of-summary, ap, ◌∙◌, sym, count_of, from_nil}
 use Rattle.text_rope.proofs.queries.from_in.Goals as goal
 
-pub returns-clause-looks : goal.returns-clause-looks
-returns-clause-looks c =
-    let looks = ap (λ s. s.looks) c.v.view_is in
-    let pieces = ap (λ s. length s.texts) c.v.view_is in
-    (fewest_looks (c.from_byte_idx.new.looks - c.args.v.now.looks) c.v.inside.tree.now.height (length c.args.v.now.texts)
-    (omega (arith, looks, c.from_byte_idx.ensures.looks)) (omega (arith, pieces, c.height-height.ensures.many))).1
+pub returns-in_default-clause-answer : goal.returns-in_default-clause-answer
+returns-in_default-clause-answer c = rw (← c.in_default.ensures) (sym (from_nil c.args.s c.args.b))
+
+pub returns-then-whole-b-clause-answer : goal.returns-then-whole-b-clause-answer
+returns-then-whole-b-clause-answer c =
+    let cs = joined c.in-Some.side.now.texts in
+    let whole = c.summary-whole.ensures.summary in
+    let past = from_byte_idx-all c.args.s cs c.args.b (omega (arith, c.if-whole-b.true, ap (λ w. w.len) whole)) in
+    rw (← c.in-Some.ensures) (c.count.ensures ∙ ap (λ w. count_of w c.args.s) whole ∙ count_of-summary c.args.s cs ∙ sym past)
+
+pub look-look-requires : goal.look-look-requires
+look-look-requires c =
+    let place = c.place_at-place.ensures.place in
+    let row = c.place_at-place.result.row.now in
+    record {
+      a = joined place.front;
+      b = row;
+      front_is = place.before_is;
+      piece_is = c.summary-own.ensures.summary;
+      some = c.summary-own.ensures.some;
+      short = short_of c.in-Some.side.now.texts place.front row place.back place.parts c.summary-whole.ensures.short;
+    }
+
+pub overflow_add-result : goal.overflow_add-result
+overflow_add-result c =
+    let s = c.args.s in
+    let place = c.place_at-place.ensures.place in
+    let row = c.place_at-place.result.row.now in
+    let told = c.look-look.ensures (joined place.front) row place.before_is c.summary-own.ensures.summary c.summary-own.ensures.some in
+    let here = answer_at c.look-look.result place c.summary-own.ensures.some told in
+    let cs = joined c.in-Some.side.now.texts in
+    omega (
+      arith,
+      here,
+      c.from_byte_idx.ensures,
+      from_byte_idx-le-count s cs c.args.b,
+      count-le-size s cs,
+      c.summary-whole.ensures.short,
+    )
+
+pub returns-clause-answer : goal.returns-clause-answer
+returns-clause-answer c =
+    let place = c.place_at-place.ensures.place in
+    let row = c.place_at-place.result.row.now in
+    let told = c.look-look.ensures (joined place.front) row place.before_is c.summary-own.ensures.summary c.summary-own.ensures.some in
+    let here = answer_at c.look-look.result place c.summary-own.ensures.some told in
+    rw (← c.in-Some.ensures) (omega (arith, here, c.from_byte_idx.ensures))

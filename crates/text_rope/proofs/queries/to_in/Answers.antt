@@ -1,9 +1,49 @@
-use Rattle.text_rope.proofs.lemmas.{◌-◌, arith, ap, length, fewest_looks}
+use Rattle.text_rope.proofs.lemmas.{◌≡◌, ◌+◌, ◌-◌, sym, arith, to_byte_idx, seam_loss, joined, to_byte_idx-le-size, to_byte_idx-zero, short_of, to_nil}
 use Rattle.text_rope.proofs.queries.to_in.Goals as goal
 
-pub returns-clause-looks : goal.returns-clause-looks
-returns-clause-looks c =
-    let looks = ap (λ s. s.looks) c.v.view_is in
-    let pieces = ap (λ s. length s.texts) c.v.view_is in
-    (fewest_looks (c.to_byte_idx.new.looks - c.args.v.now.looks) c.v.inside.tree.now.height (length c.args.v.now.texts)
-    (omega (arith, looks, c.to_byte_idx.ensures.looks)) (omega (arith, pieces, c.height-height.ensures.many))).1
+pub returns-in_default-clause-answer : goal.returns-in_default-clause-answer
+returns-in_default-clause-answer c = rw (← c.in_default.ensures) (sym (to_nil c.args.s c.args.k))
+
+pub returns-then-k-eq0-clause-answer : goal.returns-then-k-eq0-clause-answer
+returns-then-k-eq0-clause-answer c =
+    rw c.if-k-eq0.true (sym (to_byte_idx-zero c.args.s (joined c.args.v.now.texts)))
+
+pub look-look-requires : goal.look-look-requires
+look-look-requires c =
+    let place = c.place_of-place.ensures.place in
+    let row = c.place_of-place.result.row.now in
+    record {
+      a = joined place.front;
+      b = row;
+      front_is = place.before_is;
+      piece_is = c.summary-own.ensures.summary;
+      some = c.summary-own.ensures.some;
+      short = short_of c.in-Some.side.now.texts place.front row place.back place.parts c.summary-whole.ensures.short;
+    }
+
+pub overflow_add-result : goal.overflow_add-result
+overflow_add-result c =
+    let s = c.args.s in
+    let place = c.place_of-place.ensures.place in
+    let row = c.place_of-place.result.row.now in
+    let before = c.place_of-place.result.before in
+    let told = c.look-look.ensures (joined place.front) row place.before_is c.summary-own.ensures.summary c.summary-own.ensures.some in
+    let reached : before.total - seam_loss s (joined place.front) row ≡ c.look-look.result.reached =
+    omega (arith, place.before_is.total, told.reached) in
+    let cs = joined c.in-Some.side.now.texts in
+    let here : to_byte_idx s cs c.args.k ≡ before.len + to_byte_idx s row (c.args.k - c.look-look.result.reached) =
+    rw reached at place.answer in
+    omega (arith, here, c.to_byte_idx.ensures, to_byte_idx-le-size s cs c.args.k, c.summary-whole.ensures.short)
+
+pub returns-clause-answer : goal.returns-clause-answer
+returns-clause-answer c =
+    let s = c.args.s in
+    let place = c.place_of-place.ensures.place in
+    let row = c.place_of-place.result.row.now in
+    let before = c.place_of-place.result.before in
+    let told = c.look-look.ensures (joined place.front) row place.before_is c.summary-own.ensures.summary c.summary-own.ensures.some in
+    let reached : before.total - seam_loss s (joined place.front) row ≡ c.look-look.result.reached =
+    omega (arith, place.before_is.total, told.reached) in
+    let here : to_byte_idx s (joined c.in-Some.side.now.texts) c.args.k ≡ before.len + to_byte_idx s row (c.args.k - c.look-look.result.reached) =
+    rw reached at place.answer in
+    rw (← c.in-Some.ensures) (omega (arith, here, c.to_byte_idx.ensures))

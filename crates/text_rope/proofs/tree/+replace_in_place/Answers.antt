@@ -1,125 +1,136 @@
-use Rattle.text_rope.proofs.lemmas.{◌+◌, ◌-◌, ◌≤◌, ap, refl, arith, chars, length, length-append, Text, Seen, joined, joined_size, summary_of, boundary-le, boundary_of_left, boundary_in_right, boundary_of_piece, alike_self, fork_changed, fits, replaced_left, replaced_own, replaced_right}
+use Rattle.text_rope.proofs.lemmas.{Seen, ◌≡◌, ◌++◌, refl, ◌∙◌, sym, ap, arith, chars, length-append, Text, joined_size, joined_size-append, right_if, boundaries_left, boundaries_right, fits_shift, side_changed}
+use Rattle.text_rope.specs.Shifts.{IsOneChanged}
+use Rattle.text_rope.specs.Views.{IsSide, IsFork, seen}
 use Rattle.text_rope.proofs.tree.+replace_in_place.Goals as goal
+use Rattle.text_rope.proofs.tree.+replace_in_place.Goals.{Side::replace_in_place-in-Block+in-Some+in_ok-replace_in_place-in-Some, Side::replace_in_place-in-Fork+in-Some-get_mut+in_ok-replace_in_place-in-Some-get_mut}
 
-pub Fork::replace_in_place-replace_in_place-done-requires : goal.Fork::replace_in_place-replace_in_place-done-requires
-Fork::replace_in_place-replace_in_place-done-requires t c =
-    let f = c.args.self.now in
-    let (sound, (order, (start, (end, short)))) = c.requires.1.1 in
-    let before = ap (λ m. m.len) sound.before_is in
-    let within = c.if-ends_before.ensures.within refl in (
+pub Fork::replace_in_place-replace_in_place-requires : goal.Fork::replace_in_place-replace_in_place-requires
+Fork::replace_in_place-replace_in_place-requires t c =
+    let left = c.args.self.now.left.texts in
+    let right = c.args.self.now.right.texts in
+    let sizes = joined_size-append left right in
+    let len = ap (λ s. s.len) c.summary.ensures.summary in
+    let r = c.requires.1.1.1 in (
+      grind (arith, length-append {A = Text}),
+      (r.0, (omega (arith, len, c.if-to-middle.true), (r.1.1.0, omega (arith, sizes, r.1.1.1)))),
+    )
+
+pub Fork::replace_in_place-replace_in_place-requires-then-middle-from : goal.Fork::replace_in_place-replace_in_place-requires-then-middle-from
+Fork::replace_in_place-replace_in_place-requires-then-middle-from t c =
+    let left = c.args.self.now.left.texts in
+    let right = c.args.self.now.right.texts in
+    let sizes = joined_size-append left right in
+    let len = ap (λ s. s.len) c.summary.ensures.summary in
+    let r = c.requires.1.1.1 in (
       grind (arith, length-append {A = Text}),
       (
-        order,
-        (
-          boundary_of_left f.left.texts f.piece f.right.texts c.args.from (omega (arith, before, within, order)) start,
-          (boundary_of_left f.left.texts f.piece f.right.texts c.args.to (omega (arith, before, within)) end, omega (arith, short)),
-        ),
+        omega (arith, r.0, c.if-middle-from.true),
+        (omega (arith, len, sizes, r.1.0, r.0, c.if-middle-from.true), (r.1.1.0, omega (arith, sizes, r.1.1.1, c.if-middle-from.true))),
       ),
     )
 
-pub Fork::replace_in_place-replace_in_place-requires-clause-start : goal.Fork::replace_in_place-replace_in_place-requires-clause-start
-Fork::replace_in_place-replace_in_place-requires-clause-start t c =
-    let f = c.args.self.now in
-    let (sound, (order, (start, (end, short)))) = c.requires.1.1 in
-    let before = ap (λ m. m.len) sound.before_is in
-    boundary_of_piece f.left.texts f.piece f.right.texts c.args.from (c.args.from - f.before.len)
-    (omega (arith, before, c.if-start-from.true)) (omega (arith, c.len.ensures.len, order, c.if-to-end.true)) start
+pub Fork::replace_in_place-returns-then-to-middle-clause-not_boundary : goal.Fork::replace_in_place-returns-then-to-middle-clause-not_boundary
+Fork::replace_in_place-returns-then-to-middle-clause-not_boundary t c refused both =
+    let left = c.args.self.now.left.texts in
+    let right = c.args.self.now.right.texts in
+    let len = ap (λ s. s.len) c.summary.ensures.summary in
+    c.replace_in_place.ensures.not_boundary refused
+    (boundaries_left left right c.args.from c.args.to (omega (arith, len, c.if-to-middle.true)) c.requires.1.1.1.0 both)
 
-pub Fork::replace_in_place-replace_in_place-requires-clause-end : goal.Fork::replace_in_place-replace_in_place-requires-clause-end
-Fork::replace_in_place-replace_in_place-requires-clause-end t c =
-    let f = c.args.self.now in
-    let (sound, (order, (start, (end, short)))) = c.requires.1.1 in
-    let before = ap (λ m. m.len) sound.before_is in
-    boundary_of_piece f.left.texts f.piece f.right.texts c.args.to (c.args.to - f.before.len)
-    (omega (arith, before, order, c.if-start-from.true)) (omega (arith, c.len.ensures.len, c.if-to-end.true)) end
+pub Fork::replace_in_place-returns-then-to-middle-clause-few : goal.Fork::replace_in_place-returns-then-to-middle-clause-few
+Fork::replace_in_place-returns-then-to-middle-clause-few t c =
+    let left = c.replace_in_place.new.self.texts in
+    let right = c.args.self.now.right.texts in
+    omega (arith, joined_size-append left right, length-append left right, c.replace_in_place.ensures.few, c.summary-right.ensures.few)
 
-pub Fork::replace_in_place-replace_in_place-done-requires-then-end-from : goal.Fork::replace_in_place-replace_in_place-done-requires-then-end-from
-Fork::replace_in_place-replace_in_place-done-requires-then-end-from t c =
-    let f = c.args.self.now in
-    let (sound, (order, (start, (end, short)))) = c.requires.1.1 in
-    let before = ap (λ m. m.len) sound.before_is in
-    let behind = f.before.len + c.len.result in (
-      grind (arith, length-append {A = Text}),
-      (
-        omega (arith, order),
-        (
-          (boundary_in_right f.left.texts f.piece f.right.texts c.args.from (c.args.from - behind)
-              (omega (arith, before, c.len.ensures.len, c.if-end-from.true))).0 start,
-          (
-            (boundary_in_right f.left.texts f.piece f.right.texts c.args.to (c.args.to - behind)
-                (omega (arith, before, c.len.ensures.len, order, c.if-end-from.true))).0 end,
-            omega (arith, short),
-          ),
-        ),
-      ),
-    )
+pub Fork::replace_in_place-returns-then-middle-from-clause-few : goal.Fork::replace_in_place-returns-then-middle-from-clause-few
+Fork::replace_in_place-returns-then-middle-from-clause-few t c =
+    let left = c.args.self.now.left.texts in
+    let right = c.replace_in_place-then-middle-from.new.self.texts in
+    omega (arith, joined_size-append left right, length-append left right, c.replace_in_place-then-middle-from.ensures.few, c.summary.ensures.few)
 
-pub Fork::replace_in_place-returns-then-ends_before-clause-sound : goal.Fork::replace_in_place-returns-then-ends_before-clause-sound
-Fork::replace_in_place-returns-then-ends_before-clause-sound t c =
-    let f = c.args.self.now in
-    let new = c.replace_in_place-done.new.self in
-    let (sound, (order, (start, (end, short)))) = c.requires.1.1 in
-    let before = ap (λ m. m.len) sound.before_is in
-    let within = c.if-ends_before.ensures.within refl in
-    let more = fits (joined f.left.texts) (joined new.texts) c.args.from c.args.to (chars c.args.more.now) c.replace_in_place-done.result order
-    (omega (arith, before, within)) c.replace_in_place-done.ensures.replaced
-    (λ e. ap (λ (d : Seen). joined d.texts) (c.replace_in_place-done.ensures.kept e)) in
-    let few : length new.texts ≤ joined_size new.texts = rw c.renew_before.ensures at c.height-few.ensures.few in
-    rw c.renew_before.ensures (fork_changed f.left new f.piece f.piece f.right f.right f.before f.after (summary_of (joined new.texts)) f.after f.height sound
-    c.replace_in_place-done.ensures.alike (alike_self f.right) sound.some few c.height-right.ensures.few
-    refl sound.after_is (omega (arith, more, short)))
+pub Fork::replace_in_place-returns-else-middle-from-clause-few : goal.Fork::replace_in_place-returns-else-middle-from-clause-few
+Fork::replace_in_place-returns-else-middle-from-clause-few t c =
+    let left = c.args.self.now.left.texts in
+    let right = c.args.self.now.right.texts in
+    omega (arith, joined_size-append left right, length-append left right, c.summary.ensures.few, c.summary-right.ensures.few)
 
-pub Fork::replace_in_place-returns-then-ends_before-clause-replaced : goal.Fork::replace_in_place-returns-then-ends_before-clause-replaced
-Fork::replace_in_place-returns-then-ends_before-clause-replaced t c =
-    let f = c.args.self.now in
-    λ done. rw c.renew_before.ensures (replaced_left f.left.texts c.replace_in_place-done.new.self.texts f.piece f.right.texts c.args.from c.args.to (chars c.args.more.now)
-    (c.replace_in_place-done.ensures.replaced done))
+pub Fork::replace_in_place-returns-then-middle-from-clause-changed : goal.Fork::replace_in_place-returns-then-middle-from-clause-changed
+Fork::replace_in_place-returns-then-middle-from-clause-changed t c =
+    let left = c.args.self.now.left.texts in
+    let right = c.args.self.now.right.texts in
+    let new = c.replace_in_place-then-middle-from.new.self.texts in
+    let len = ap (λ s. s.len) c.summary.ensures.summary in
+    right_if left right new c.summary.result.now.len c.args.from c.args.to (chars c.args.more.now)
+    c.replace_in_place-then-middle-from.new.shift c.replace_in_place-then-middle-from.result len c.if-middle-from.true c.replace_in_place-then-middle-from.ensures.changed
 
-pub Fork::replace_in_place-returns-then-to-end-clause-sound : goal.Fork::replace_in_place-returns-then-to-end-clause-sound
-Fork::replace_in_place-returns-then-to-end-clause-sound t c =
-    let f = c.args.self.now in
-    let new = c.replace_in_place.new.self in
-    let (sound, (order, (start, (end, short)))) = c.requires.1.1 in
-    let more = fits f.piece new (c.args.from - f.before.len) (c.args.to - f.before.len) (chars c.args.more.now) c.replace_in_place.result
-    (omega (arith, order)) (omega (arith, c.len.ensures.len, c.if-to-end.true)) c.replace_in_place.ensures.replaced
-    c.replace_in_place.ensures.kept in
-    fork_changed f.left f.left f.piece new f.right f.right f.before f.after f.before f.after f.height sound
-    (alike_self f.left) (alike_self f.right) c.replace_in_place.ensures.some c.height-left.ensures.few c.height-right.ensures.few
-    sound.before_is sound.after_is (omega (arith, more, short))
+pub Fork::replace_in_place-returns-then-middle-from-clause-not_boundary : goal.Fork::replace_in_place-returns-then-middle-from-clause-not_boundary
+Fork::replace_in_place-returns-then-middle-from-clause-not_boundary t c refused both =
+    let left = c.args.self.now.left.texts in
+    let right = c.args.self.now.right.texts in
+    let len = ap (λ s. s.len) c.summary.ensures.summary in
+    c.replace_in_place-then-middle-from.ensures.not_boundary refused
+    (boundaries_right left right c.summary.result.now.len c.args.from c.args.to len c.if-middle-from.true c.requires.1.1.1.0 both)
 
-pub Fork::replace_in_place-returns-then-to-end-clause-replaced : goal.Fork::replace_in_place-returns-then-to-end-clause-replaced
-Fork::replace_in_place-returns-then-to-end-clause-replaced t c =
-    let f = c.args.self.now in
-    let (sound, (order, (start, (end, short)))) = c.requires.1.1 in
-    let before = ap (λ m. m.len) sound.before_is in
-    λ done. replaced_own f.left.texts f.piece c.replace_in_place.new.self f.right.texts (c.args.from - f.before.len)
-    (c.args.to - f.before.len) c.args.from c.args.to (chars c.args.more.now) (omega (arith, before, c.if-start-from.true))
-    (omega (arith, before, order, c.if-start-from.true)) (c.replace_in_place.ensures.replaced done)
+pub Side::replace_in_place-shifted-self-inside-requires : goal.Side::replace_in_place-shifted-self-inside-requires
+Side::replace_in_place-shifted-self-inside-requires t c =
+    let r = c.requires.1.1 in
+    elim c.match-self.branch [
+      | Side::replace_in_place-in-Block+in-Some+in_ok-replace_in_place-in-Some w ↦
+          let old = w.in-Block.block.value in
+          let new = w.replace_in_place.new.self in
+          let side : IsSide (record { texts = old; height = 0 }) c.self.inside.summary = rw w.in-Block.is at c.self.invariant in
+          let is : old ≡ c.args.self.now.texts = ap (λ n. (seen n).texts) (sym w.in-Block.is) ∙ ap (λ d. d.texts) c.self.view_is in
+          let changed : IsOneChanged old new c.args.from c.args.to (chars c.args.more.now) w.replace_in_place.new.shift =
+          rw w.in-Some.ensures.value at w.in_ok-replace_in_place-in-Some.ensures.changed in
+          rw (w.self-inside-is, w.shift-is) (fits_shift old new c.args.from c.args.to (chars c.args.more.now) w.replace_in_place.new.shift
+          c.self.inside.summary changed r.0 side.summary_is side.short (omega (arith, ap joined_size is, r.1.1.1)))
+      | Side::replace_in_place-in-Fork+in-Some-get_mut+in_ok-replace_in_place-in-Some-get_mut w ↦
+          let fork = w.in-Fork.fork.value in
+          let after = w.replace_in_place-in-Some-get_mut.new.self in
+          let old = fork.left.texts ++ fork.right.texts in
+          let new = after.left.texts ++ after.right.texts in
+          let shift = w.replace_in_place-in-Some-get_mut.new.shift in
+          let sound : IsSide (record { texts = old; height = fork.height }) c.self.inside.summary
+          × IsFork fork.left fork.right fork.height = rw w.in-Fork.is at c.self.invariant in
+          let is : old ≡ c.args.self.now.texts = ap (λ n. (seen n).texts) (sym w.in-Fork.is) ∙ ap (λ d. d.texts) c.self.view_is in
+          let changed : IsOneChanged old new c.args.from c.args.to (chars c.args.more.now) shift =
+          rw w.in-Some-get_mut.ensures.value at w.in_ok-replace_in_place-in-Some-get_mut.ensures.changed in
+          rw (w.self-inside-is, w.shift-is) (fits_shift old new c.args.from c.args.to (chars c.args.more.now) shift
+          c.self.inside.summary changed r.0 sound.0.summary_is sound.0.short (omega (arith, ap joined_size is, r.1.1.1)))
+    ]
 
-pub Fork::replace_in_place-returns-then-end-from-clause-sound : goal.Fork::replace_in_place-returns-then-end-from-clause-sound
-Fork::replace_in_place-returns-then-end-from-clause-sound t c =
-    let f = c.args.self.now in
-    let new = c.replace_in_place-done-then-end-from.new.self in
-    let (sound, (order, (start, (end, short)))) = c.requires.1.1 in
-    let before = ap (λ m. m.len) sound.before_is in
-    let behind = f.before.len + c.len.result in
-    let own = (boundary_in_right f.left.texts f.piece f.right.texts c.args.to (c.args.to - behind)
-    (omega (arith, before, c.len.ensures.len, order, c.if-end-from.true))).0 end in
-    let more = fits (joined f.right.texts) (joined new.texts) (c.args.from - behind) (c.args.to - behind) (chars c.args.more.now)
-    c.replace_in_place-done-then-end-from.result (omega (arith, order)) (boundary-le (joined f.right.texts) (c.args.to - behind) own)
-    c.replace_in_place-done-then-end-from.ensures.replaced
-    (λ e. ap (λ (d : Seen). joined d.texts) (c.replace_in_place-done-then-end-from.ensures.kept e)) in
-    let few : length new.texts ≤ joined_size new.texts = rw c.renew_after.ensures at c.height-few-then-end-from.ensures.few in
-    rw c.renew_after.ensures (fork_changed f.left f.left f.piece f.piece f.right new f.before f.after f.before (summary_of (joined new.texts)) f.height sound
-    (alike_self f.left) c.replace_in_place-done-then-end-from.ensures.alike sound.some c.height-left.ensures.few
-    few sound.before_is refl (omega (arith, more, short)))
-
-pub Fork::replace_in_place-returns-then-end-from-clause-replaced : goal.Fork::replace_in_place-returns-then-end-from-clause-replaced
-Fork::replace_in_place-returns-then-end-from-clause-replaced t c =
-    let f = c.args.self.now in
-    let (sound, (order, (start, (end, short)))) = c.requires.1.1 in
-    let before = ap (λ m. m.len) sound.before_is in
-    let behind = f.before.len + c.len.result in
-    λ done. rw c.renew_after.ensures (replaced_right f.left.texts f.piece f.right.texts c.replace_in_place-done-then-end-from.new.self.texts (c.args.from - behind)
-    (c.args.to - behind) c.args.from c.args.to (chars c.args.more.now) (omega (arith, before, c.len.ensures.len, c.if-end-from.true))
-    (omega (arith, before, c.len.ensures.len, order, c.if-end-from.true)) (c.replace_in_place-done-then-end-from.ensures.replaced done))
+pub Side::replace_in_place-invariant_of-self-2 : goal.Side::replace_in_place-invariant_of-self-2
+Side::replace_in_place-invariant_of-self-2 t c =
+    let r = c.requires.1.1 in
+    let told = c.shifted-self-inside.ensures in
+    elim c.match-self.branch [
+      | Side::replace_in_place-in-Block+in-Some+in_ok-replace_in_place-in-Some w ↦
+          let old : Seen = record { texts = w.in-Block.block.value; height = 0 } in
+          let new : Seen = record { texts = w.replace_in_place.new.self; height = 0 } in
+          let side : IsSide old c.self.inside.summary = rw w.in-Block.is at c.self.invariant in
+          let is : old.texts ≡ c.args.self.now.texts =
+          ap (λ n. (seen n).texts) (sym w.in-Block.is) ∙ ap (λ d. d.texts) c.self.view_is in
+          let changed : IsOneChanged old.texts new.texts c.args.from c.args.to (chars c.args.more.now) w.replace_in_place.new.shift =
+          rw w.in-Some.ensures.value at w.in_ok-replace_in_place-in-Some.ensures.changed in
+          rw w.self-inside-is (side_changed old new c.args.from c.args.to (chars c.args.more.now) w.replace_in_place.new.shift
+          c.self.inside.summary c.shifted-self-inside.result side changed r.0 refl (λ x row own y whole is. told x row own y (rw w.self-inside-is whole) (rw w.shift-is is)) (omega (arith, ap joined_size is, r.1.1.1))
+          w.in_ok-replace_in_place-in-Some.ensures.few)
+      | Side::replace_in_place-in-Fork+in-Some-get_mut+in_ok-replace_in_place-in-Some-get_mut w ↦
+          let fork = w.in-Fork.fork.value in
+          let after = w.replace_in_place-in-Some-get_mut.new.self in
+          let shift = w.replace_in_place-in-Some-get_mut.new.shift in
+          let ensured = w.in_ok-replace_in_place-in-Some-get_mut.ensures in
+          let here = w.in-Some-get_mut.ensures.value in
+          let old : Seen = record { texts = fork.left.texts ++ fork.right.texts; height = fork.height } in
+          let new : Seen = record { texts = after.left.texts ++ after.right.texts; height = after.height } in
+          let sound : IsSide old c.self.inside.summary × IsFork fork.left fork.right fork.height = rw w.in-Fork.is at c.self.invariant in
+          let is : old.texts ≡ c.args.self.now.texts =
+          ap (λ n. (seen n).texts) (sym w.in-Fork.is) ∙ ap (λ d. d.texts) c.self.view_is in
+          let changed : IsOneChanged old.texts new.texts c.args.from c.args.to (chars c.args.more.now) shift = rw here at ensured.changed in
+          rw w.self-inside-is (
+            side_changed old new c.args.from c.args.to (chars c.args.more.now) shift c.self.inside.summary c.shifted-self-inside.result
+                sound.0 changed r.0 (rw here at ensured.height) (λ x row own y whole is. told x row own y (rw w.self-inside-is whole) (rw w.shift-is is)) (omega (arith, ap joined_size is, r.1.1.1)) ensured.few,
+            ensured.sound,
+          )
+    ]

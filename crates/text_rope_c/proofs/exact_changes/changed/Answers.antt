@@ -1,10 +1,10 @@
 use Rattle.std.specs.Prelude.{Some, IfSome, IsErrOf, IsNone, IsSome, IsSomeAnd, OnOk}
-use Rattle.std.proofs.Common.{◌+◌, ◌-◌, ◌^◌, ◌≤◌, ◌↔◌, ◌∙◌, sym, subst, chars, length}
+use Rattle.std.proofs.Common.{◌≢◌, ◌+◌, ◌-◌, ◌^◌, ◌<◌, ◌≤◌, ◌↔◌, ◌⊎◌, ◌∙◌, [], sym, subst, chars, length}
 use Rattle.str_indices.specs.Text.{Text, size}
 use Rattle.position_mapper.specs.Positions.{byte_range_at}
 use Rattle.rope_positions.specs.Changes.{exact_part_at}
-use Rattle.text_rope.specs.Edits.{IsReplaced}
-use Rattle.text_rope.specs.declared.refusals.Refusal.TheVariants.{NotBoundary, TooLong}
+use Rattle.text_summary.specs.Changes.{IsReplaced}
+use Rattle.text_rope.specs.declared.refusals.Refusal.TheVariants.{NoMemory, NotBoundary, TooLong}
 use Rattle.text_rope_c.proofs.Refused.{never_too_long, refused_by}
 use Rattle.text_rope_c.proofs.exact_changes.changed.Goals as goal
 
@@ -50,3 +50,10 @@ returns-in-Some-clause-too_long c =
     subst (λ whole. IsErrOf c.apply_exact-answer.result TooLong ↔ IsSomeAnd (exact_part_at c.args.encoding whole (Some c.args.range))
     (λ part. 2 ^ 63 + (part.end - part.start) ≤ size whole + len)) (c.deref_mut.ensures.value ∙ c.in-Some.ensures.some)
     c.apply_exact-answer.ensures.too_long
+
+pub returns-in-Some-clause-no_memory : goal.returns-in-Some-clause-no_memory
+returns-in-Some-clause-no_memory c =
+    let text = chars c.args.text.now in
+    subst (λ whole. IsErrOf c.apply_exact-answer.result NoMemory → IsSomeAnd (exact_part_at c.args.encoding whole (Some c.args.range))
+    (λ part. (part.start < part.end) ⊎ (text ≢ []))) (c.deref_mut.ensures.value ∙ c.in-Some.ensures.some)
+    c.apply_exact-answer.ensures.no_memory

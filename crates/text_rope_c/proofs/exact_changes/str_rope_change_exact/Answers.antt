@@ -1,13 +1,13 @@
 use Rattle.std.specs.Prelude.{Some, IfSome, IsErrOf, IsNone, IsSome, IsSomeAnd}
-use Rattle.std.proofs.Common.{◌≡◌, ◌+◌, ◌-◌, ◌^◌, ◌≤◌, ◌↔◌, ◌∙◌, List, ℕ, IsUtf8, ap, chars, length, rules, subst, sym}
+use Rattle.std.proofs.Common.{◌≡◌, ◌≢◌, ◌+◌, ◌-◌, ◌^◌, ◌<◌, ◌≤◌, ◌↔◌, ◌⊎◌, ◌∙◌, List, [], ℕ, IsUtf8, ap, chars, length, rules, subst, sym}
 use Rattle.str_indices.specs.Text.{size}
 use Rattle.position_mapper.specs.Positions.{byte_range_at}
 use Rattle.rope_positions.specs.Changes.{exact_part_at}
 use Rattle.position_mapper.specs.declared.encodings.Encoding.{Encoding}
-use Rattle.text_rope.specs.Edits.{IsReplaced}
-use Rattle.text_rope.specs.declared.refusals.Refusal.TheVariants.{NotBoundary, TooLong}
+use Rattle.text_summary.specs.Changes.{IsReplaced}
+use Rattle.text_rope.specs.declared.refusals.Refusal.TheVariants.{NoMemory, NotBoundary, TooLong}
 use Rattle.text_rope_c.specs.Numbers.{status_of}
-use Rattle.text_rope_c.proofs.Refused.{is_no_place, is_too_long, on_done}
+use Rattle.text_rope_c.proofs.Refused.{is_no_memory, is_no_place, is_too_long, on_done}
 use Rattle.text_rope_c.proofs.exact_changes.str_rope_change_exact.Goals as goal
 
 pub returns-in-Ok-clause-done : goal.returns-in-Ok-clause-done
@@ -41,3 +41,14 @@ returns-in-Ok-clause-too_long c =
     let iff = subst (λ e. refused e (length c.args.text.now)) c.encoding_at.ensures
     (subst (λ bytes. refused c.encoding_at.result (length bytes)) same c.changed.ensures.too_long) in
     (λ is. (utf8, iff.0 (is_too_long r (sym c.status_at.ensures ∙ is))), λ both. c.status_at.ensures ∙ ap status_of (iff.1 both.1))
+
+pub returns-in-Ok-clause-no_memory : goal.returns-in-Ok-clause-no_memory
+returns-in-Ok-clause-no_memory c = λ is.
+    let old = c.args.rope.now.text in
+    let r = c.changed.result in
+    let same : c.in-Ok.text.now ≡ c.args.text.now = search rules in
+    let refused = λ (e : Encoding) (bytes : List ℕ). IsErrOf r NoMemory → IsSomeAnd (exact_part_at e old (Some c.args.range))
+    (λ part. (part.start < part.end) ⊎ (chars bytes ≢ [])) in
+    subst (λ e. refused e c.args.text.now) c.encoding_at.ensures
+    (subst (λ bytes. refused c.encoding_at.result bytes) same c.changed.ensures.no_memory)
+    (is_no_memory r (sym c.status_at.ensures ∙ is))

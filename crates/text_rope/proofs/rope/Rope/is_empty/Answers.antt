@@ -1,4 +1,5 @@
-use Rattle.text_rope.proofs.lemmas.{ap, arith, ◌≡◌, nat_tests, size, none_of}
+use Rattle.text_rope.proofs.lemmas.{ap, arith, ◌≡◌, size, none_of}
+use Rattle.std.proofs.lemmas.Bool.Decides.{nat_tests}
 use Rattle.text_rope.proofs.rope.Rope.is_empty.Goals as goal
 
 pub returns : goal.returns

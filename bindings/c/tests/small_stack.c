@@ -1,0 +1,89 @@
+/*
+ * A long text that is made by small inserts and taken out again until nothing
+ * is left, at random places: what a call needs of the stack does not grow with
+ * the text. small_stack BYTES says how long the text becomes; c_ropes.py runs it
+ * with a stack of 128 KiB. The last line printed is 'N passed, M failed'.
+ */
+#include <stdint.h>
+#include <stdio.h>
+#include <stdlib.h>
+
+#include <str_rope.h>
+
+enum { WORD = 14, LONGEST = 60, CHECKPOINTS = 10 };
+
+/* Each byte of it is a char, so that each byte index is a boundary. */
+static const char word[WORD + 1] = "word of text\r\n";
+
+static int passed, failed;
+
+static int same(int right, const char *what, size_t at)
+{
+    passed += right;
+    failed += !right;
+    if (!right)
+        printf("%s at %zu\n", what, at);
+    return right;
+}
+
+static uint64_t state = 20261127;
+
+/* A number below `below`, by xorshift. */
+static size_t pick(size_t below)
+{
+    state ^= state << 13;
+    state ^= state >> 7;
+    state ^= state << 17;
+    return below == 0 ? 0 : (size_t)(state >> 11) % below;
+}
+
+/* Every byte is a char and a unit, and each word has one LF. */
+static void checkpoint(str_rope *rope, size_t len)
+{
+    same(str_rope_len(rope) == len && str_rope_count(rope, STR_ROPE_CHARS) == len, "len", len);
+    same(str_rope_to_byte_idx(rope, STR_ROPE_UTF16, len / 2) == len / 2, "to_byte_idx", len / 2);
+}
+
+/* Words at random places, and at times many one after the other. */
+static void make(str_rope *rope, size_t bytes)
+{
+    size_t number = bytes / WORD, at = 0;
+    for (size_t i = 0; i < number && failed == 0; i++) {
+        at = pick(4) == 0 ? pick(i * WORD + 1) : at;
+        if (str_rope_insert(rope, at, word, WORD) != STR_ROPE_OK)
+            same(0, "insert", at);
+        at += WORD;
+        if (i % (number / CHECKPOINTS + 1) == 0)
+            checkpoint(rope, (i + 1) * WORD);
+    }
+    same(str_rope_count(rope, STR_ROPE_LF) == number, "count", number);
+}
+
+/* A few bytes at random places, until there are none. */
+static void take(str_rope *rope, size_t bytes)
+{
+    size_t len = str_rope_len(rope), step = bytes / CHECKPOINTS + 1, next = len / step;
+    while (len > 0 && failed == 0) {
+        size_t from = pick(len), out = 1 + pick(LONGEST);
+        if (out > len - from)
+            out = len - from;
+        if (str_rope_remove(rope, from, from + out) != STR_ROPE_OK)
+            same(0, "remove", from);
+        len -= out;
+        if (len / step != next)
+            checkpoint(rope, len);
+        next = len / step;
+    }
+    checkpoint(rope, 0);
+}
+
+int main(int number, char **words)
+{
+    size_t bytes = number > 1 ? (size_t)atoll(words[1]) : 1000000;
+    str_rope rope = STR_ROPE_EMPTY;
+    make(&rope, bytes);
+    take(&rope, bytes);
+    str_rope_free(&rope);
+    printf("%d passed, %d failed\n", passed, failed);
+    return failed != 0;
+}

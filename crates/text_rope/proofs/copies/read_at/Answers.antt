@@ -1,0 +1,15 @@
+use Rattle.text_rope.proofs.lemmas.{◌∙◌, ap, sym, arith, refl, size, joined, length-encodes, read_of_part}
+use Rattle.text_rope.proofs.copies.read_at.Goals as goal
+
+pub returns-then-len-at : goal.returns-then-len-at
+returns-then-len-at c = record {
+  len = omega (arith, c.if-len-at.true, length-encodes (joined c.args.tree.now), c.len.ensures.len);
+  is = refl;
+}
+
+pub returns : goal.returns
+returns c =
+    let chunks = c.from_row-chunks.result.0 in
+    let is = c.from_row-chunks.ensures in
+    let text = is.text in
+    rw (← is.text, ← is.place) (read_of_part c.read_chunks.ensures.read (is.end ∙ ap size (sym is.text)) c.read_chunks.ensures.full)

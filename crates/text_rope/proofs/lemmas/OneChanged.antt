@@ -1,0 +1,242 @@
+-- Some rows of which one has changed.
+use Rattle.text_rope.proofs.lemmas.Common.{◌≡◌, ◌≢◌, ℕ, suc, inl, inr, cases_lt, take-append-drop, ◌+◌, ◌-◌, ◌^◌, ◌<◌, ◌≤◌, List, [], ◌∷◌, ◌++◌, length, take, drop, sym, ap, ◌∙◌, arith, append_assoc, length-append, Text, size, size-append, size-some, IsBoundary, boundary_upto, boundary_right, joined, joined_size, joined-append, piece_at, IsReplaced, size-replaced, summary_of, Summary, IsShift, FitsShift, Seen}
+use Rattle.std.proofs.lemmas.Grind.{get_or-set_at}
+use Rattle.std.proofs.lemmas.List.{take-set, drop-set, length-set, get_or-set_other}
+use Rattle.std.specs.Prelude.{slice_set, Result, Ok, Err, OnOk, OnErr}
+use Rattle.text_summary.proofs.lemmas.Callers.{drop-piece}
+use Rattle.text_rope.specs.Blocks.{AreSome}
+use Rattle.text_rope.specs.Shifts.{IsOneChanged}
+use Rattle.text_rope.specs.Views.{IsSide}
+use Rattle.text_rope.specs.declared.row.Unplaced.{Unplaced}
+use Rattle.text_rope.specs.declared.shifts.Shift.{Shift}
+use Rattle.text_rope.proofs.lemmas.Forks.{joined_size-append}
+
+-- rows that are not empty have as many bytes
+pub few_some : (rows : List Text) → AreSome rows → length rows ≤ joined_size rows
+few_some [] each = omega arith
+few_some (row ∷ rows) each =
+    let rest = few_some rows (λ i before. each (suc i) (omega (arith, before))) in
+    omega (arith, size-append row (joined rows), size-some row (each 0 (omega arith)), rest)
+
+-- a row in the place of another
+set-round : (rows : List Text) (i : ℕ) (own : Text) → i < length rows
+    → slice_set rows i own ≡ take i rows ++ own ∷ drop (suc i) rows
+set-round rows i own inside =
+    let next : i + 1 ≡ suc i = omega arith in
+    sym (take-append-drop i (slice_set rows i own)) ∙ ap (λ t. t ++ drop i (slice_set rows i own)) (take-set rows i own)
+    ∙ ap (λ d. take i rows ++ d) (drop-set rows i own inside) ∙ ap (λ n. take i rows ++ own ∷ drop n rows) next
+
+-- none of them is empty then
+pub set_some : (rows : List Text) (i : ℕ) (own : Text) → own ≢ [] → AreSome rows → AreSome (slice_set rows i own)
+set_some rows i own some each j inside =
+    let before : j < length rows = omega (arith, inside, length-set rows i own) in
+    elim (cases_lt j i) [
+      | inl earlier ↦ λ none. each j before (sym (get_or-set_other rows i j own [] (λ same. omega (arith, same, earlier))) ∙ none)
+      | inr from ↦
+          elim (cases_lt i j) [
+            | inl later ↦ λ none. each j before (sym (get_or-set_other rows i j own [] (λ same. omega (arith, same, later))) ∙ none)
+            | inr upto ↦
+                let same : j ≡ i = omega (arith, from, upto) in
+                λ none. some (sym (get_or-set_at rows i j own [] same (omega (arith, same, before))) ∙ none)
+          ]
+    ]
+
+-- one more that is not empty
+pub each_more : (rows : List Text) (i : ℕ) (row : Text) → row ≡ piece_at rows i → row ≢ []
+    → ((j : ℕ) → j < i → piece_at rows j ≢ []) → (j : ℕ) → j < i + 1 → piece_at rows j ≢ []
+each_more rows i row own some each j before = elim (cases_lt j i) [
+  | inl earlier ↦ each j earlier
+  | inr last ↦
+      let same : j ≡ i = omega (arith, last, before) in
+      λ none. some (own ∙ ap (piece_at rows) (sym same) ∙ none)
+]
+
+-- one row, by its place
+pub changed_at : (rows : List Text) (i start from to : ℕ) (own text : Text) (shift : Shift) → i < length rows
+    → start ≡ joined_size (take i rows) → start ≤ from
+    → IsReplaced (piece_at rows i) own (from - start) (to - start) text → IsShift (piece_at rows i) own shift
+    → IsOneChanged rows (slice_set rows i own) from to text shift
+changed_at rows i start from to own text shift inside start_is after replaced is = record {
+  front = take i rows;
+  row = piece_at rows i;
+  own = own;
+  back = drop (suc i) rows;
+  was = sym (take-append-drop i rows) ∙ ap (λ r. take i rows ++ r) (drop-piece rows i inside);
+  is = set-round rows i own inside;
+  after = omega (arith, start_is, after);
+  replaced = rw start_is at replaced;
+  shift_is = is;
+}
+
+-- the same of an answer that may be a refusal
+pub changed_if : {A : Type 0} (rows : List Text) (i start from to : ℕ) (own text : Text) (shift : Shift)
+    (result : Result A Unplaced) → i < length rows → start ≡ joined_size (take i rows) → start ≤ from
+    → OnOk result (IsReplaced (piece_at rows i) own (from - start) (to - start) text)
+    → OnOk result (IsShift (piece_at rows i) own shift)
+    → OnOk result (IsOneChanged rows (slice_set rows i own) from to text shift)
+changed_if rows i start from to own text shift (Ok done) inside start_is after replaced is =
+    changed_at rows i start from to own text shift inside start_is after replaced is
+changed_if rows i start from to own text shift (Err e) inside start_is after replaced is = replaced
+
+-- and a row is not empty after it
+pub some_after : {A : Type 0} (old new : Text) (shift : Shift) (result : Result A Unplaced) → OnOk result (IsShift old new shift)
+    → OnErr result (new ≡ old) → old ≢ [] → new ≢ []
+some_after old new shift (Ok done) is same some = is.some_new
+some_after old new shift (Err e) is same some = λ none. some (sym same ∙ none)
+
+-- with rows behind it
+pub changed_left : (left new right : List Text) (from to : ℕ) (text : Text) (shift : Shift)
+    → IsOneChanged left new from to text shift → IsOneChanged (left ++ right) (new ++ right) from to text shift
+changed_left left new right from to text shift c = record {
+  front = c.front;
+  row = c.row;
+  own = c.own;
+  back = c.back ++ right;
+  was = ap (λ l. l ++ right) c.was ∙ append_assoc c.front (c.row ∷ c.back) right;
+  is = ap (λ l. l ++ right) c.is ∙ append_assoc c.front (c.own ∷ c.back) right;
+  after = c.after;
+  replaced = c.replaced;
+  shift_is = c.shift_is;
+}
+
+-- with rows before it
+pub changed_right : (left right new : List Text) (n from to : ℕ) (text : Text) (shift : Shift) → n ≡ joined_size left → n ≤ from
+    → IsOneChanged right new (from - n) (to - n) text shift → IsOneChanged (left ++ right) (left ++ new) from to text shift
+changed_right left right new n from to text shift n_is behind c =
+    let sizes = joined_size-append left c.front in
+    let start : (from - n) - joined_size c.front ≡ from - joined_size (left ++ c.front) = omega (arith, sizes, n_is) in
+    let end : (to - n) - joined_size c.front ≡ to - joined_size (left ++ c.front) = omega (arith, sizes, n_is) in
+    record {
+      front = left ++ c.front;
+      row = c.row;
+      own = c.own;
+      back = c.back;
+      was = ap (λ r. left ++ r) c.was ∙ sym (append_assoc left c.front (c.row ∷ c.back));
+      is = ap (λ r. left ++ r) c.is ∙ sym (append_assoc left c.front (c.own ∷ c.back));
+      after = omega (arith, sizes, n_is, c.after, behind);
+      replaced = rw (start, end) at c.replaced;
+      shift_is = c.shift_is;
+    }
+
+pub right_if : {A : Type 0} (left right new : List Text) (n from to : ℕ) (text : Text) (shift : Shift) (result : Result A Unplaced)
+    → n ≡ joined_size left → n ≤ from → OnOk result (IsOneChanged right new (from - n) (to - n) text shift)
+    → OnOk result (IsOneChanged (left ++ right) (left ++ new) from to text shift)
+right_if left right new n from to text shift (Ok done) n_is behind is =
+    changed_right left right new n from to text shift n_is behind is
+right_if left right new n from to text shift (Err e) n_is behind is = is
+
+-- the joined text of rows round one
+joined-round : (rows front back : List Text) (row : Text) → rows ≡ front ++ row ∷ back
+    → joined rows ≡ joined front ++ (row ++ joined back)
+joined-round rows front back row is = ap joined is ∙ joined-append front (row ∷ back)
+
+-- the joined text is exchanged as the row's is
+replaced_whole : (old new : List Text) (from to : ℕ) (text : Text) (shift : Shift) → IsOneChanged old new from to text shift
+    → from ≤ to → IsReplaced (joined old) (joined new) from to text
+replaced_whole old new from to text shift c order =
+    let r = c.replaced in
+    let x = joined c.front in
+    let y = joined c.back in
+    let was : x ++ ((r.front ++ (r.middle ++ r.back)) ++ y) ≡ (x ++ r.front) ++ (r.middle ++ (r.back ++ y)) = simp append_assoc in
+    let is : x ++ ((r.front ++ (text ++ r.back)) ++ y) ≡ (x ++ r.front) ++ (text ++ (r.back ++ y)) = simp append_assoc in
+    record {
+      front = x ++ r.front;
+      middle = r.middle;
+      back = r.back ++ y;
+      was = joined-round old c.front c.back c.row c.was ∙ ap (λ t. x ++ (t ++ y)) r.was ∙ was;
+      start = omega (arith, size-append x r.front, r.start, c.after);
+      end = omega (arith, size-append x r.front, r.end, r.start, c.after, order);
+      is = joined-round new c.front c.back c.own c.is ∙ ap (λ t. x ++ (t ++ y)) r.is ∙ is;
+    }
+
+pub replaced_if : {A : Type 0} (old new : List Text) (from to : ℕ) (text : Text) (shift : Shift) (result : Result A Unplaced)
+    → OnOk result (IsOneChanged old new from to text shift) → from ≤ to
+    → OnOk result (IsReplaced (joined old) (joined new) from to text)
+replaced_if old new from to text shift (Ok done) c order = replaced_whole old new from to text shift c order
+replaced_if old new from to text shift (Err e) c order = c
+
+-- the row stands in the text of a summary
+pub fits_shift : (old new : List Text) (from to : ℕ) (text : Text) (shift : Shift) (whole : Summary)
+    → IsOneChanged old new from to text shift → from ≤ to → whole ≡ summary_of (joined old) → joined_size old < 2 ^ 63
+    → joined_size old + size text < 2 ^ 63 + (to - from) → FitsShift whole shift
+fits_shift old new from to text shift whole c order whole_is short room =
+    let was = joined-round old c.front c.back c.row c.was in
+    let is = joined-round new c.front c.back c.own c.is in
+    let sizes = size-replaced (joined old) (joined new) from to text (replaced_whole old new from to text shift c order) in
+    record {
+      x = joined c.front;
+      old = c.row;
+      new = c.own;
+      y = joined c.back;
+      whole_is = rw was at whole_is;
+      shift_is = c.shift_is;
+      short_old = omega (arith, ap size was, short);
+      short_new = omega (arith, ap size is, sizes, room);
+    }
+
+-- what is known of a tree holds after that
+pub side_changed : (old new : Seen) (from to : ℕ) (text : Text) (shift : Shift) (whole after : Summary)
+    → IsSide old whole → IsOneChanged old.texts new.texts from to text shift → from ≤ to → new.height ≡ old.height
+    → ((x row own y : Text) → whole ≡ summary_of (x ++ (row ++ y)) → IsShift row own shift → after ≡ summary_of (x ++ (own ++ y)))
+    → joined_size old.texts + size text < 2 ^ 63 + (to - from) → length new.texts ≤ joined_size new.texts
+    → IsSide new after
+side_changed old new from to text shift whole after side c order height told room few =
+    let was = joined-round old.texts c.front c.back c.row c.was in
+    let is = joined-round new.texts c.front c.back c.own c.is in
+    let sizes = size-replaced (joined old.texts) (joined new.texts) from to text
+    (replaced_whole old.texts new.texts from to text shift c order) in
+    let many : length new.texts ≡ length old.texts = omega (
+      arith,
+      ap length c.was,
+      ap length c.is,
+      length-append c.front (c.row ∷ c.back),
+      length-append c.front (c.own ∷ c.back),
+    ) in
+    record {
+      summary_is = told (joined c.front) c.row c.own (joined c.back) (rw was at side.summary_is) c.shift_is
+          ∙ ap summary_of (sym is);
+      some = omega (arith, many, side.some);
+      short = omega (arith, sizes, room);
+      few = few;
+      low = omega (arith, many, height, side.low);
+      many = rw (many, height) side.many;
+    }
+
+-- boundaries of the text of a left side, and of a right one
+pub boundaries_left : (left right : List Text) (from to : ℕ) → to ≤ joined_size left → from ≤ to
+    → IsBoundary (joined (left ++ right)) from × IsBoundary (joined (left ++ right)) to
+    → IsBoundary (joined left) from × IsBoundary (joined left) to
+boundaries_left left right from to within order both =
+    let parts = joined-append left right in
+    let start : IsBoundary (joined left ++ joined right) from = rw parts at both.0 in
+    let end : IsBoundary (joined left ++ joined right) to = rw parts at both.1 in
+    (boundary_upto (joined left) (joined right) from (omega (arith, within, order)) start, boundary_upto (joined left) (joined right) to within end)
+
+pub boundaries_right : (left right : List Text) (n from to : ℕ) → n ≡ joined_size left → n ≤ from → from ≤ to
+    → IsBoundary (joined (left ++ right)) from × IsBoundary (joined (left ++ right)) to
+    → IsBoundary (joined right) (from - n) × IsBoundary (joined right) (to - n)
+boundaries_right left right n from to n_is behind order both =
+    let parts = joined-append left right in
+    let start : IsBoundary (joined left ++ joined right) from = rw parts at both.0 in
+    let end : IsBoundary (joined left ++ joined right) to = rw parts at both.1 in (
+      (boundary_right (joined left) (joined right) from (from - n) (omega (arith, n_is, behind))).0 start,
+      (boundary_right (joined left) (joined right) to (to - n) (omega (arith, n_is, behind, order))).0 end,
+    )
+
+-- and of one row
+pub boundaries_at : (rows : List Text) (i start from to : ℕ) → i < length rows → start ≡ joined_size (take i rows) → start ≤ from
+    → from ≤ to → to ≤ start + size (piece_at rows i) → IsBoundary (joined rows) from × IsBoundary (joined rows) to
+    → IsBoundary (piece_at rows i) (from - start) × IsBoundary (piece_at rows i) (to - start)
+boundaries_at rows i start from to inside start_is after order within both =
+    let row = piece_at rows i in
+    let front = take i rows in
+    let back = drop (suc i) rows in
+    let was = sym (take-append-drop i rows) ∙ ap (λ r. front ++ r) (drop-piece rows i inside) in
+    let whole = joined-round rows front back row was in
+    let from_is : IsBoundary (joined front ++ (row ++ joined back)) from = rw whole at both.0 in
+    let to_is : IsBoundary (joined front ++ (row ++ joined back)) to = rw whole at both.1 in
+    let from_inner = (boundary_right (joined front) (row ++ joined back) from (from - start) (omega (arith, start_is, after))).0 from_is in
+    let to_inner = (boundary_right (joined front) (row ++ joined back) to (to - start) (omega (arith, start_is, after, order))).0 to_is in (
+      boundary_upto row (joined back) (from - start) (omega (arith, within, order)) from_inner,
+      boundary_upto row (joined back) (to - start) (omega (arith, within)) to_inner,
+    )

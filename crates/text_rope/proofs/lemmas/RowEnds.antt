@@ -1,0 +1,206 @@
+-- The ends of the rows of two trees, one after the other, and a part that is exchanged in one of them.
+use Rattle.text_rope.proofs.lemmas.Common.{◌≡◌, ℕ, zero, suc, ◌+◌, ◌-◌, ◌<◌, ◌≤◌, List, [], ◌∷◌, ◌++◌, length, take, drop, refl, sym, ap, ◌∙◌, arith, append_assoc, append-nil, add-one, Text, size, size-append, joined, joined_size, joined-append, take-append-drop, parts_of, same_cut, IsReplaced}
+use Rattle.text_rope.proofs.lemmas.Forks.{joined_size-append}
+use Rattle.text_rope.specs.RowEnds.{AreFirst, AreLast, IsRowEnd}
+
+-- the bytes of a row and of those after it
+size-row : (x : Text) (xs : List Text) → joined_size (x ∷ xs) ≡ size x + joined_size xs
+size-row x xs = size-append x (joined xs)
+
+-- one row more before
+row_end_cons : (x : Text) (xs : List Text) (p : ℕ) → IsRowEnd xs p → IsRowEnd (x ∷ xs) (size x + p)
+row_end_cons x xs p at = record {
+  front = x ∷ at.front;
+  back = at.back;
+  split = ap (λ r. x ∷ r) at.split;
+  place = size-row x at.front ∙ ap (λ n. size x + n) at.place;
+}
+
+-- the beginning and the end
+pub row_end_none : (xs : List Text) → IsRowEnd xs 0
+row_end_none xs = record { front = []; back = xs; split = refl; place = refl }
+
+pub row_end_all : (xs : List Text) → IsRowEnd xs (joined_size xs)
+row_end_all xs = record { front = xs; back = []; split = sym (append-nil xs); place = refl }
+
+-- up to the end of the first of two lists
+left_end : (ls rs xs ys : List Text) → ls ++ rs ≡ xs ++ ys → joined_size xs ≤ joined_size ls → IsRowEnd ls (joined_size xs)
+left_end ls rs [] ys whole within = row_end_none ls
+left_end [] rs (x ∷ xs) ys whole within =
+    let none : joined_size (x ∷ xs) ≡ 0 = omega arith in
+    rw none (row_end_none [])
+left_end (l ∷ ls) rs (x ∷ xs) ys whole within =
+    let head : l ≡ x = cc in
+    let tails : ls ++ rs ≡ xs ++ ys = cc in
+    let inner = left_end ls rs xs ys tails (omega (arith, within, size-row l ls, size-row x xs, ap size head)) in
+    let is : size l + joined_size xs ≡ joined_size (x ∷ xs) = omega (arith, size-row x xs, ap size head) in
+    rw (← is) (row_end_cons l ls (joined_size xs) inner)
+
+pub row_end_left : (ls rs : List Text) (p : ℕ) → IsRowEnd (ls ++ rs) p → p ≤ joined_size ls → IsRowEnd ls p
+row_end_left ls rs p at within =
+    rw at.place at (left_end ls rs at.front at.back at.split (omega (arith, at.place, within)))
+
+-- from there on those of the second
+right_end : (ls rs xs ys : List Text) (j : ℕ) → ls ++ rs ≡ xs ++ ys → joined_size ls + j ≡ joined_size xs → IsRowEnd rs j
+right_end [] rs xs ys j whole is = record { front = xs; back = ys; split = whole; place = omega (arith, is) }
+right_end (l ∷ ls) rs [] ys j whole is =
+    let none : j ≡ 0 = omega (arith, is) in
+    rw none (row_end_none rs)
+right_end (l ∷ ls) rs (x ∷ xs) ys j whole is =
+    let head : l ≡ x = cc in
+    let tails : ls ++ rs ≡ xs ++ ys = cc in
+    right_end ls rs xs ys j tails (omega (arith, is, size-row l ls, size-row x xs, ap size head))
+
+pub row_end_right : (ls rs : List Text) (p j : ℕ) → IsRowEnd (ls ++ rs) p → joined_size ls + j ≡ p → IsRowEnd rs j
+row_end_right ls rs p j at is = right_end ls rs at.front at.back j at.split (omega (arith, at.place, is))
+
+-- before a place there is a whole row more, and it does not pass it
+next_end : (xs fs bs : List Text) (i p : ℕ) → xs ≡ fs ++ bs → joined_size fs ≡ p → joined_size (take i xs) < p
+    → (i < length xs) × (joined_size (take (suc i) xs) ≤ p)
+next_end xs [] bs i p split place before = absurd (omega (arith, place))
+next_end [] (f ∷ fs) bs i p split place before = cc
+next_end (x ∷ xs) (f ∷ fs) bs zero p split place before =
+    let head : x ≡ f = cc in (
+      omega arith,
+      omega (arith, size-row x [], size-row f fs, ap size head, place),
+    )
+next_end (x ∷ xs) (f ∷ fs) bs (suc i) p split place before =
+    let head : x ≡ f = cc in
+    let tails : xs ≡ fs ++ bs = cc in
+    let inner = next_end xs fs bs i (p - size x) tails (omega (arith, size-row f fs, ap size head, place))
+    (omega (arith, size-row x (take i xs), before)) in (
+      omega (arith, inner.0),
+      omega (arith, inner.1, size-row x (take (suc i) xs), size-row x (take i xs), before),
+    )
+
+pub next_row : (xs : List Text) (i p : ℕ) → IsRowEnd xs p → joined_size (take i xs) < p → joined_size (take (i + 1) xs) ≤ p
+next_row xs i p at before = rw add-one ((next_end xs at.front at.back i p at.split at.place before).1)
+
+-- no row ends past the last
+pub row_end_le : (xs : List Text) (p : ℕ) → IsRowEnd xs p → p ≤ joined_size xs
+row_end_le xs p at = omega (arith, ap joined_size at.split, joined_size-append at.front at.back, at.place)
+
+-- a part exchanged in the second of two texts
+pub replaced_behind : (x old new : Text) (from to first last : ℕ) (text : Text) → IsReplaced old new from to text
+    → size x + from ≡ first → size x + to ≡ last → IsReplaced (x ++ old) (x ++ new) first last text
+replaced_behind x old new from to first last text r first_is last_is = record {
+  front = x ++ r.front;
+  middle = r.middle;
+  back = r.back;
+  was = ap (λ t. x ++ t) r.was ∙ sym (append_assoc x r.front (r.middle ++ r.back));
+  start = omega (arith, size-append x r.front, r.start, first_is);
+  end = omega (arith, size-append x r.front, r.end, last_is);
+  is = ap (λ t. x ++ t) r.is ∙ sym (append_assoc x r.front (text ++ r.back));
+}
+
+-- the first rows of a list, and the last
+pub first_take : (own : List Text) (i at : ℕ) → joined_size (take i own) ≡ at → AreFirst own (take i own) at
+first_take own i at place = record { back = drop i own; split = sym (take-append-drop i own); place = place }
+
+pub last_drop : (own : List Text) (i at : ℕ) → joined_size (take i own) ≡ at → AreLast own (drop i own) at
+last_drop own i at place = record { front = take i own; split = sym (take-append-drop i own); place = place }
+
+-- none, or all
+pub first_none : (own : List Text) (at : ℕ) → at ≡ 0 → AreFirst own [] at
+first_none own at is = record { back = own; split = refl; place = sym is }
+
+pub first_all : (own : List Text) (at : ℕ) → at ≡ joined_size own → AreFirst own own at
+first_all own at is = record { back = []; split = sym (append-nil own); place = sym is }
+
+pub last_none : (own : List Text) (at : ℕ) → at ≡ joined_size own → AreLast own [] at
+last_none own at is = record { front = own; split = sym (append-nil own); place = sym is }
+
+pub last_all : (own : List Text) (at : ℕ) → at ≡ 0 → AreLast own own at
+last_all own at is = record { front = []; split = refl; place = sym is }
+
+-- those of two trees, by those of one
+pub first_left : (xs ys front : List Text) (at : ℕ) → AreFirst xs front at → AreFirst (xs ++ ys) front at
+first_left xs ys front at own = record {
+  back = own.back ++ ys;
+  split = ap (λ r. r ++ ys) own.split ∙ append_assoc front own.back ys;
+  place = own.place;
+}
+
+pub first_right : (xs ys front : List Text) (at i : ℕ) → AreFirst ys front i → joined_size xs + i ≡ at
+    → AreFirst (xs ++ ys) (xs ++ front) at
+first_right xs ys front at i own is = record {
+  back = own.back;
+  split = ap (λ r. xs ++ r) own.split ∙ sym (append_assoc xs front own.back);
+  place = omega (arith, joined_size-append xs front, own.place, is);
+}
+
+pub last_left : (xs ys back : List Text) (at : ℕ) → AreLast xs back at → AreLast (xs ++ ys) (back ++ ys) at
+last_left xs ys back at own = record {
+  front = own.front;
+  split = ap (λ r. r ++ ys) own.split ∙ append_assoc own.front back ys;
+  place = own.place;
+}
+
+pub last_right : (xs ys back : List Text) (at i : ℕ) → AreLast ys back i → joined_size xs + i ≡ at → AreLast (xs ++ ys) back at
+last_right xs ys back at i own is = record {
+  front = xs ++ own.front;
+  split = ap (λ r. xs ++ r) own.split ∙ sym (append_assoc xs own.front back);
+  place = omega (arith, joined_size-append xs own.front, own.place, is);
+}
+
+-- the bytes of the last rows
+pub last_size : (texts back : List Text) (at : ℕ) → AreLast texts back at → at + joined_size back ≡ joined_size texts
+last_size texts back at is = omega (arith, ap joined_size is.split, joined_size-append is.front back, is.place)
+
+-- what is between the places where a text is cut
+pub record IsCutTwice (whole front upto back : Text) : Type 0 where
+  pub middle : Text
+  pub parts : whole ≡ front ++ (middle ++ back)
+  pub size_is : size front + size middle ≡ size upto
+
+pub cut_twice : (whole front rest upto back : Text) → whole ≡ front ++ rest → whole ≡ upto ++ back → size front ≤ size upto
+    → IsCutTwice whole front upto back
+cut_twice whole front rest upto back first last order =
+    let p = parts_of whole (size front) (size upto) order (record { front = front; back = rest; split = first; place = refl })
+    (record { front = upto; back = back; split = last; place = refl }) in
+    let before = same_cut p.front (p.middle ++ p.back) front rest (sym p.parts ∙ first) p.start in
+    let behind = same_cut (p.front ++ p.middle) p.back upto back (append_assoc p.front p.middle p.back ∙ sym p.parts ∙ last)
+    (size-append p.front p.middle ∙ p.end) in
+    record {
+      middle = p.middle;
+      parts = p.parts ∙ ap (λ x. x ++ (p.middle ++ p.back)) before.front ∙ ap (λ x. front ++ (p.middle ++ x)) behind.back;
+      size_is = omega (arith, p.start, p.end);
+    }
+
+-- the rows between two places, exchanged for others
+pub replaced_around : (texts front rows back whole : List Text) (from to : ℕ) → AreFirst texts front from → AreLast texts back to
+    → from ≤ to → whole ≡ front ++ (rows ++ back) → IsReplaced (joined texts) (joined whole) from to (joined rows)
+replaced_around texts front rows back whole from to a b order is =
+    let cut = cut_twice (joined texts) (joined front) (joined a.back) (joined b.front) (joined back)
+    (ap joined a.split ∙ joined-append front a.back) (ap joined b.split ∙ joined-append b.front back) (omega (arith, a.place, b.place)) in
+    record {
+      front = joined front;
+      middle = cut.middle;
+      back = joined back;
+      was = cut.parts;
+      start = a.place;
+      end = omega (arith, cut.size_is, b.place);
+      is = ap joined is ∙ joined-append front (rows ++ back) ∙ ap (λ r. joined front ++ r) (joined-append rows back);
+    }
+
+-- a part of the first of two trees exchanged, or of the second
+pub replaced_left : (xs ys new whole : List Text) (from to : ℕ) (text : Text) → IsReplaced (joined xs) (joined new) from to text
+    → whole ≡ new ++ ys → IsReplaced (joined (xs ++ ys)) (joined whole) from to text
+replaced_left xs ys new whole from to text r is = record {
+  front = r.front;
+  middle = r.middle;
+  back = r.back ++ joined ys;
+  was = joined-append xs ys ∙ ap (λ t. t ++ joined ys) r.was ∙ append_assoc r.front (r.middle ++ r.back) (joined ys)
+      ∙ ap (λ t. r.front ++ t) (append_assoc r.middle r.back (joined ys));
+  start = r.start;
+  end = r.end;
+  is = ap joined is ∙ joined-append new ys ∙ ap (λ t. t ++ joined ys) r.is ∙ append_assoc r.front (text ++ r.back) (joined ys)
+      ∙ ap (λ t. r.front ++ t) (append_assoc text r.back (joined ys));
+}
+
+pub replaced_right : (xs ys new whole : List Text) (from to first last : ℕ) (text : Text)
+    → IsReplaced (joined ys) (joined new) from to text → joined_size xs + from ≡ first → joined_size xs + to ≡ last
+    → whole ≡ xs ++ new → IsReplaced (joined (xs ++ ys)) (joined whole) first last text
+replaced_right xs ys new whole from to first last text r first_is last_is is =
+    rw (joined-append xs ys, is, joined-append xs new)
+    (replaced_behind (joined xs) (joined ys) (joined new) from to first last text r first_is last_is)

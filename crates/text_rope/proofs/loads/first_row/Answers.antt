@@ -1,0 +1,57 @@
+use Rattle.std.proofs.lemmas.Nat.{le-div}
+use Rattle.text_rope.proofs.lemmas.{◌<◌, ◌≤◌, ◌/◌, length, goes_far, refl, arith, append-nil, chars, chars-nil, size-chars, chars-some, IsCharBoundary-from_boundary, boundary_start, goes_on, chars-cut, size-part, some-part}
+use Rattle.text_rope.proofs.loads.first_row.Goals as goal
+
+pub returns-then-text-le-MAX_PIECE-clause-parts : goal.returns-then-text-le-MAX_PIECE-clause-parts
+returns-then-text-le-MAX_PIECE-clause-parts c = rw (chars-nil, append-nil) refl
+
+pub returns-then-text-le-MAX_PIECE-clause-some : goal.returns-then-text-le-MAX_PIECE-clause-some
+returns-then-text-le-MAX_PIECE-clause-some c = chars-some c.args.text.now c.utf8.text c.requires.some
+
+pub returns-then-text-le-MAX_PIECE-clause-piece : goal.returns-then-text-le-MAX_PIECE-clause-piece
+returns-then-text-le-MAX_PIECE-clause-piece c =
+    omega (arith, size-chars c.args.text.now c.utf8.text, c.if-text-le-MAX_PIECE.true)
+
+pub returns-clause-parts : goal.returns-clause-parts
+returns-clause-parts c =
+    let end = c.floor_char_boundary-end in
+    rw (c.split_at.ensures.front, c.split_at.ensures.back) (chars-cut c.args.text.now c.utf8.text end.result end.ensures.boundary)
+
+pub returns-clause-some : goal.returns-clause-some
+returns-clause-some c =
+    let bytes = c.args.text.now in
+    let end = c.floor_char_boundary-end in
+    let first = IsCharBoundary-from_boundary bytes c.utf8.text 0 (boundary_start (chars bytes)) in
+    let above : 0 < end.result = goes_on bytes c.utf8.text 0 end.result c.clamp-each.result first c.requires.some
+    (omega (arith, c.clamp-each.ensures)) (λ i past within. end.ensures.nearest i past (omega (arith, within))) in
+    rw c.split_at.ensures.front (some-part bytes c.utf8.text end.result end.ensures.boundary above)
+
+pub returns-clause-piece : goal.returns-clause-piece
+returns-clause-piece c =
+    let end = c.floor_char_boundary-end in
+    rw c.split_at.ensures.front (omega (
+      arith,
+      size-part c.args.text.now c.utf8.text end.result end.ensures.boundary,
+      end.ensures.bound,
+      c.clamp-each.ensures,
+    ))
+
+pub returns-clause-less : goal.returns-clause-less
+returns-clause-less c =
+    let bytes = c.args.text.now in
+    let end = c.floor_char_boundary-end in
+    let first = IsCharBoundary-from_boundary bytes c.utf8.text 0 (boundary_start (chars bytes)) in
+    let above : 0 < end.result = goes_on bytes c.utf8.text 0 end.result c.clamp-each.result first c.requires.some
+    (omega (arith, c.clamp-each.ensures)) (λ i past within. end.ensures.nearest i past (omega (arith, within))) in
+    omega (arith, above, c.split_at.ensures.back_len)
+
+pub returns-clause-enough : goal.returns-clause-enough
+returns-clause-enough c some =
+    let bytes = c.args.text.now in
+    let len = length bytes in
+    let rows = c.div_ceil-rows.result in
+    let end = c.floor_char_boundary-end in
+    let wide : 260 ≤ len / rows = le-div 260 len rows (omega (arith, c.div_ceil-rows.ensures)) (omega (arith, c.div_ceil-rows.ensures)) in
+    let far = goes_far bytes c.utf8.text end.result c.clamp-each.result end.ensures.boundary (omega (arith, c.split_at.ensures.back_len, some))
+    end.ensures.nearest in
+    omega (arith, far, wide, c.clamp-each.ensures, c.split_at.ensures.back_len)

@@ -1,0 +1,71 @@
+use Rattle.text_rope.proofs.lemmas.{◌≢◌, ◌-◌, ◌++◌, [], rules, ap, arith, length, size-append, few_looks, some_of, joined, place_left, place_right}
+use Rattle.text_rope.proofs.queries.place_at_by_scheme.Goals as goal
+
+pub down-init : goal.down-init
+down-init c =
+    let s = c.args.s in
+    let none = c.none-front.ensures s in
+    record {
+      before = record { a = []; is = none; short = omega (arith, none.len, c.summary-short.ensures.short) };
+      after = omega (arith, none.len);
+      inside = omega (arith, none.len, c.requires);
+      place = λ row before own. own [] none;
+      texts = search rules;
+      looks = search rules;
+      looks_kept = search rules;
+      reads = search rules;
+    }
+
+pub returns-in-Rows-clause-low : goal.returns-in-Rows-clause-low
+returns-in-Rows-clause-low c =
+    omega (arith, c.down.invariant.looks, ap (λ v. v.looks) c.in-Rows.ensures.state, c.in-Rows.ensures.look.height)
+
+pub returns-in-Rows-clause-looks : goal.returns-in-Rows-clause-looks
+returns-in-Rows-clause-looks c = few_looks (c.look.new.self.looks - c.args.v.now.looks) c.args.side.now.height
+    (length c.args.side.now.texts)
+    (omega (arith, c.down.invariant.looks, ap (λ v. v.looks) c.in-Rows.ensures.state, c.in-Rows.ensures.look.height))
+    c.height-height.ensures.many
+
+pub down-preserved-then-at-look : goal.down-preserved-then-at-look
+down-preserved-then-at-look c =
+    let down = c.down.invariant in
+    let fork = c.in-Sides.ensures.look in
+    let left = joined c.in-Sides.left.now.texts in
+    let before = down.before in
+    let some : left ≢ [] = some_of left (λ none. omega (arith, none, c.summary.ensures.some, c.summary.ensures.few)) in
+    let told = c.look-look.ensures before.a left before.is c.summary.ensures.summary some in
+    record {
+      before = record { a = before.a; is = before.is; short = omega (arith, before.short, fork.size_is) };
+      after = down.after;
+      inside = omega (arith, told.behind.len, before.is.len, size-append before.a left, c.if-at-look.true);
+      place = λ row front own. down.place row front (λ a is. rw fork.texts (place_left c.in-Sides.right.now.texts (own a is)));
+      texts = search rules;
+      looks = grind (arith, down.looks, ap (λ v. v.looks) c.in-Sides.ensures.state, fork.height);
+      looks_kept = search rules;
+      reads = search rules;
+    }
+
+pub down-preserved : goal.down-preserved
+down-preserved c =
+    let down = c.down.invariant in
+    let fork = c.in-Sides.ensures.look in
+    let left = joined c.in-Sides.left.now.texts in
+    let before = down.before in
+    let some : left ≢ [] = some_of left (λ none. omega (arith, none, c.summary.ensures.some, c.summary.ensures.few)) in
+    let told = c.look-look.ensures before.a left before.is c.summary.ensures.summary some in
+    record {
+      before = record {
+        a = before.a ++ left;
+        is = told.behind;
+        short = omega (arith, before.short, fork.size_is, size-append before.a left);
+      };
+      after = omega (arith, c.if-at-look.false);
+      inside = omega (arith, told.behind.len, before.is.len, size-append before.a left, fork.size_is, down.inside);
+      place = λ row front own. down.place row front (λ a is.
+          let here = c.look-look.ensures a left is c.summary.ensures.summary some in
+          rw fork.texts (place_right c.in-Sides.left.now.texts (own (a ++ left) here.behind)));
+      texts = search rules;
+      looks = grind (arith, down.looks, ap (λ v. v.looks) c.in-Sides.ensures.state, fork.height);
+      looks_kept = search rules;
+      reads = search rules;
+    }

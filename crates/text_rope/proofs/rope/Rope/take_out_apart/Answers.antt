@@ -1,8 +1,0 @@
-use Rattle.text_rope.proofs.lemmas.{arith, ap, ◌∙◌, size, Seen, joined, opens_along}
-use Rattle.text_rope.proofs.rope.Rope.take_out_apart.Goals as goal
-
-pub returns-clause-opened : goal.returns-clause-opened
-returns-clause-opened c =
-    let same = ap (λ (d : Seen). joined d.texts) c.replace-tree.ensures.value ∙ c.self.view_is in
-    opens_along c.replace-tree.result (size c.args.self.now) 97 c.args.work.now c.without_apart.new.work c.height-height.ensures.many
-    c.height-height.ensures.few (omega (arith, ap size same)) (omega (arith, c.without_apart.ensures.work.opened_at_most))

@@ -1,0 +1,288 @@
+//! One piece of a text, with its summary.
+ghost use Rattle.std.specs.Prelude.{◌≡◌, ◌≢◌, ◌+◌, ◌-◌, ◌<◌, ◌≤◌, ◌↔◌, [], chars, length, string_bytes, true, Err, IsTrue, IfOk, OnOk, OnErr};
+ghost use Rattle.std.specs.String.{string_len, string_capacity};
+ghost use Rattle.str_indices.specs.Relations.{IsBoundary};
+ghost use Rattle.str_indices.specs.Schemes.{from_byte_idx, to_byte_idx};
+ghost use Rattle.str_indices.specs.Text.{Text, size};
+ghost use Rattle.text_summary.specs.Changes.{IsReplaced};
+ghost use Rattle.text_summary.specs.Summaries.{summary_of};
+ghost use Rattle.text_rope.specs.Rows.{max_piece};
+ghost use Rattle.text_rope.specs.Shifts.{IsShift};
+ghost use Rattle.text_rope.specs.declared.row.Unplaced.TheVariants.{NotBoundary};
+
+use crate::counts::Counts;
+use crate::shifts::Shift;
+use std::alloc::{AllocError, Global};
+use std::marker::Model;
+use std::sync::Arc;
+use text_summary::{Change, Scheme, Summary, changed};
+
+/// How many bytes a row has at most.
+pub const MAX_PIECE: usize = 1024;
+
+/// A row that a change would make shorter than this is written anew.
+pub(crate) const FEW: usize = MAX_PIECE / 4;
+
+/// A text that is neither empty nor longer than `MAX_PIECE`, in memory for that many bytes, which may have several owners,
+/// and its counts. A contract sees the text's characters.
+#[derive(Drop)]
+pub(crate) struct Row {
+    text: Arc<String>,
+    counts: Counts,
+}
+
+impl Model for Row {
+    ghost use Rattle.std.specs.Prelude.{chars, string_bytes};
+    ghost use Rattle.std.specs.String.{string_capacity};
+    ghost use Rattle.str_indices.specs.Text.{Text};
+
+    ghost Value = { Text };
+
+    ghost use Rattle.text_rope.specs.Counts.{summary_in};
+    ghost use Rattle.text_rope.specs.Rows.{IsKept};
+
+    ghost view = { λ r. chars (string_bytes r.text.value) };
+
+    ghost invariant = { λ r. IsKept (summary_in r.counts) (chars (string_bytes r.text.value)) (string_capacity r.text.value) };
+}
+
+/// Why a change was not made in place.
+#[derive(Clone, Copy)]
+pub(crate) enum Unplaced {
+    /// One of its ends is inside a character.
+    NotBoundary,
+    /// The row has no room for it or another owner, or would be short after it, or begin or end otherwise.
+    NoRoom,
+}
+
+impl Row {
+    /// The row of a text: a copy of it, and its summary.
+    pub(crate) fn of(alloc: Global, text: &str) -> Result<Row, AllocError>
+        requires some { chars text.now ≢ [] }
+        requires short { size (chars text.now) ≤ max_piece }
+        ensures { IfOk result (λ row. row ≡ chars text.now) }
+    {
+        Row::with_summary(alloc, text, Summary::of(text))
+    }
+
+    /// The row of a text whose summary is known: a copy of it.
+    fn with_summary(alloc: Global, text: &str, summary: Summary) -> Result<Row, AllocError>
+        requires some { chars text.now ≢ [] }
+        requires short { size (chars text.now) ≤ max_piece }
+        requires summary { summary ≡ summary_of (chars text.now) }
+        ensures { IfOk result (λ row. row ≡ chars text.now) }
+    {
+        let mut copy = String::with_capacity(alloc, MAX_PIECE)?;
+        copy.push_str(text)?;
+        Ok(Row {
+            text: Arc::new(alloc, copy)?,
+            counts: Counts::of(summary),
+        })
+    }
+
+    /// The same row once more. Copies no text.
+    pub(crate) fn share(&self) -> Result<Row, AllocError>
+        ensures { IfOk result (λ row. row ≡ self.now) }
+    {
+        Ok(Row {
+            text: Arc::try_clone(&self.text)?,
+            counts: self.counts,
+        })
+    }
+
+    /// The summary of its text.
+    pub(crate) fn summary(&self) -> Summary
+        ensures summary { result ≡ summary_of self.now }
+        ensures some { self.now ≢ [] }
+        ensures short { size self.now ≤ max_piece }
+    {
+        self.counts.summary()
+    }
+
+    /// Its text.
+    pub(crate) fn text(&self) -> &str
+        ensures text { chars result.now ≡ self.now }
+        ensures len { length result.now ≡ size self.now }
+        ensures some { self.now ≢ [] }
+        ensures short { size self.now ≤ max_piece }
+    {
+        self.text.as_str()
+    }
+
+    /// How many characters, UTF-16 code units or line breaks it has up to a byte index; past the end, all.
+    pub(crate) fn from_byte_idx(&self, s: Scheme, byte_idx: usize) -> usize
+        ensures { result ≡ from_byte_idx s self.now byte_idx }
+    {
+        let summary = self.summary();
+        summary.from_byte_idx(s, self.text(), byte_idx)
+    }
+
+    /// The byte index after the first `idx` of them; the row's length where it has fewer.
+    pub(crate) fn to_byte_idx(&self, s: Scheme, idx: usize) -> usize
+        ensures { result ≡ to_byte_idx s self.now idx }
+    {
+        let summary = self.summary();
+        summary.to_byte_idx(s, self.text(), idx)
+    }
+
+    /// Whether a byte index is between its characters, or at its beginning or end.
+    pub(crate) fn is_char_boundary(&self, byte_idx: usize) -> bool
+        ensures { IsTrue result ↔ IsBoundary self.now byte_idx }
+    {
+        let summary = self.summary();
+        summary.is_char_boundary(self.text(), byte_idx)
+    }
+
+    /// Exchanges what is between two byte indices for a text, in its own memory, where that has no other owner, the row
+    /// begins and ends as before, and a quarter of that memory is in use then. `shift` becomes the summaries before and after; else nothing changes.
+    pub(crate) fn replace_in_place(
+        &mut self,
+        from: usize,
+        to: usize,
+        more: &str,
+        own: &Summary,
+        shift: &mut Shift,
+    ) -> Result<(), Unplaced>
+        requires order { from ≤ to }
+        requires within { to ≤ size self.old }
+        requires own { own.now ≡ summary_of (chars more.now) }
+        ensures replaced { OnOk result (IsReplaced self.old self.new from to (chars more.now)) }
+        ensures shift { OnOk result (IsShift self.old self.new shift.new) }
+        ensures not_boundary { (result ≡ Err NotBoundary)
+            ↔ (¬ (IsBoundary self.old from × IsBoundary self.old to)) }
+        ensures err { OnErr result (self.new ≡ self.old) }
+    {
+        if !self.are_boundaries(from, to) {
+            return Err(Unplaced::NotBoundary);
+        }
+        if !self.has_room(to - from, more.len()) {
+            return Err(Unplaced::NoRoom);
+        }
+        self.replace_alike(from, to, more, own, shift)
+    }
+
+    /// Whether two byte indices are between its characters, or at its beginning or end.
+    fn are_boundaries(&self, from: usize, to: usize) -> bool
+        ensures { IsTrue result ↔ (IsBoundary self.now from × IsBoundary self.now to) }
+    {
+        self.is_char_boundary(from) && self.is_char_boundary(to)
+    }
+
+    /// Exchanges what is between two boundaries for a text that its memory is enough for, where that has no other owner and
+    /// the row begins and ends as before.
+    fn replace_alike(
+        &mut self,
+        from: usize,
+        to: usize,
+        more: &str,
+        own: &Summary,
+        shift: &mut Shift,
+    ) -> Result<(), Unplaced>
+        requires order { from ≤ to }
+        requires start { IsBoundary self.old from }
+        requires end { IsBoundary self.old to }
+        requires own { own.now ≡ summary_of (chars more.now) }
+        requires room { size self.old + length more.now ≤ max_piece + (to - from) }
+        requires some { to < from + (size self.old + length more.now) }
+        ensures replaced { OnOk result (IsReplaced self.old self.new from to (chars more.now)) }
+        ensures shift { OnOk result (IsShift self.old self.new shift.new) }
+        ensures err { OnErr result (self.new ≡ self.old) }
+        ensures room { result ≢ Err NotBoundary }
+    {
+        let out = self.summary();
+        let changed = self.summary_after(from, to, more, *own);
+        if !are_alike(&out, &changed) {
+            return Err(Unplaced::NoRoom);
+        }
+        let Some(text) = Arc::get_mut(&mut self.text) else {
+            return Err(Unplaced::NoRoom);
+        };
+        let _text = text.as_str();
+        exchange(text, from, to, more);
+        self.counts = Counts::of(changed);
+        *shift = Shift { out, own: changed };
+        Ok(())
+    }
+
+    /// Whether its memory is enough after a change of so many bytes for so many others, and a quarter in use, or no less
+    /// than before.
+    fn has_room(&self, out: usize, more: usize) -> bool
+        requires { out ≤ size self.now }
+        ensures room { result ≡ true → size self.now + more ≤ max_piece + out }
+        ensures some { result ≡ true → out < size self.now + more }
+    {
+        let len = self.summary().len;
+        let kept = len - out;
+        if MAX_PIECE - kept < more {
+            return false;
+        }
+        FEW <= kept + more || out <= more
+    }
+
+    /// The summary that it has after what is between two boundaries is exchanged for a text. Of its own text it reads the
+    /// part that goes out, and the characters beside that.
+    fn summary_after(&self, from: usize, to: usize, more: &str, own: Summary) -> Summary
+        requires order { from ≤ to }
+        requires start { IsBoundary self.now from }
+        requires end { IsBoundary self.now to }
+        requires own { own ≡ summary_of (chars more.now) }
+        requires short { size self.now + length more.now ≤ max_piece + (to - from) }
+        ensures { (new : Text) → IsReplaced self.now new from to (chars more.now) → result ≡ summary_of new }
+    {
+        let change = Change::of(self.text(), from, to, own);
+        changed(self.summary(), change)
+    }
+}
+
+/// Whether two texts begin with LF or not, and end in CR or not, alike.
+fn are_alike(out: &Summary, own: &Summary) -> bool
+    ensures starts { result ≡ true → own.now.starts_lf ≡ out.now.starts_lf }
+    ensures ends { result ≡ true → own.now.ends_cr ≡ out.now.ends_cr }
+{
+    out.starts_lf == own.starts_lf && out.ends_cr == own.ends_cr
+}
+
+/// Exchanges what is between two boundaries of a text for another one, where there is room for it.
+fn exchange(text: &mut String, from: usize, to: usize, more: &str)
+    requires order { from ≤ to }
+    requires start { IsBoundary (chars (string_bytes text.old)) from }
+    requires end { IsBoundary (chars (string_bytes text.old)) to }
+    requires room { string_len text.old + length more.now ≤ string_capacity text.old + (to - from) }
+    ensures text { IsReplaced (chars (string_bytes text.old)) (chars (string_bytes text.new)) from to (chars more.now) }
+    ensures room { string_capacity text.old ≤ string_capacity text.new }
+{
+    if from == to {
+        put(text, from, more);
+        return;
+    }
+    take_out(text, from, to);
+    put(text, from, more);
+}
+
+/// Takes out what is between two boundaries.
+fn take_out(text: &mut String, from: usize, to: usize)
+    requires order { from ≤ to }
+    requires start { IsBoundary (chars (string_bytes text.old)) from }
+    requires end { IsBoundary (chars (string_bytes text.old)) to }
+    ensures text { IsReplaced (chars (string_bytes text.old)) (chars (string_bytes text.new)) from to [] }
+    ensures len { string_len text.new + (to - from) ≡ string_len text.old }
+    ensures room { string_capacity text.old ≤ string_capacity text.new }
+{
+    let _before = text.as_str();
+    let Ok(()) = text.replace_range(from..to, "") else {
+        unreachable!()
+    };
+}
+
+/// Puts a text in where there is room for it.
+fn put(text: &mut String, at: usize, more: &str)
+    requires boundary { IsBoundary (chars (string_bytes text.old)) at }
+    requires room { string_len text.old + length more.now ≤ string_capacity text.old }
+    ensures text { IsReplaced (chars (string_bytes text.old)) (chars (string_bytes text.new)) at at (chars more.now) }
+    ensures room { string_capacity text.old ≤ string_capacity text.new }
+{
+    let _before = text.as_str();
+    let Ok(()) = text.insert_str(at, more) else {
+        unreachable!()
+    };
+}
