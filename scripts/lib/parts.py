@@ -169,8 +169,12 @@ def name_of(root: pathlib.Path, part: Part) -> str:
 
 
 def copy(root: pathlib.Path, part: Part, folder: pathlib.Path) -> None:
-    """Puts what the part reads, and nothing else, into the folder, as a repository of its own."""
+    """Puts what the part reads, and nothing else, into the folder, as a repository of its own. What was proved of its crates
+    comes with them; the toolchain takes nothing of what changed."""
     crates = below(part)
+    for crate in crates:
+        if (root / "crates" / crate / "out").is_dir():
+            shutil.copytree(root / "crates" / crate / "out", folder / "crates" / crate / "out")
     for path in [*files(root, part), *(file for crate in crates for file in files_of_crate(root, crate))]:
         place = folder / path.relative_to(root)
         place.parent.mkdir(parents=True, exist_ok=True)
