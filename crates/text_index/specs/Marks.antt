@@ -5,7 +5,7 @@
 --     count_at mark s          what a mark says of a scheme
 --     IsMark text mark         what a mark says of the text before it is so
 --     IsMarkAt text i mark     it is mark i, at most four bytes before the place that this has
---     AreMarks text first marks whole   the mark at a text's beginning, those from mark 1 on, and the one at its end
+--     AreMarks text marks whole   the marks of a text from mark 1 on, and the one at its end
 --     MarksState               what contracts see of `Marks`
 use Rattle.std.specs.Prelude.{ℕ, ◌≡◌, ◌+◌, ◌*◌, ◌/◌, ◌^◌, ◌<◌, ◌≤◌, false, List, ◌++◌, length, slice_index_or}
 use Rattle.str_indices.specs.Text.{Text, size}
@@ -46,10 +46,8 @@ pub record IsMarkAt (text : Text) (i : ℕ) (mark : Mark) : Type 0 where
   pub before : mark.byte ≤ i * stretch_size
   pub near : i * stretch_size ≤ mark.byte + 4
 
--- the mark at the text's beginning, those from mark 1 on, and the one at its end
-pub record AreMarks (text : Text) (first : Mark) (marks : List Mark) (whole : Mark) : Type 0 where
-  pub start : IsMark text first
-  pub at_start : first.byte ≡ 0
+-- the marks from mark 1 on, and the one at the text's end
+pub record AreMarks (text : Text) (marks : List Mark) (whole : Mark) : Type 0 where
   pub each : (i : ℕ) (d : Mark) → i < length marks → IsMarkAt text (i + 1) (slice_index_or marks i d)
   pub many : length marks ≡ size text / stretch_size
   pub end : IsMark text whole

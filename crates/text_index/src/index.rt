@@ -1,14 +1,13 @@
 //! A text with an index beside it.
-ghost use Rattle.std.specs.Prelude.{◌≡◌, ◌+◌, ◌<◌, ◌≤◌, ◌^◌, ◌/◌, ◌↔◌, IfOk, IsTrue, chars, length, slice_index_or};
+ghost use Rattle.std.specs.Prelude.{◌≡◌, ◌<◌, ◌^◌, ◌↔◌, IfOk, IsTrue, chars};
 ghost use Rattle.str_indices.specs.Relations.{IsBoundary};
 ghost use Rattle.str_indices.specs.Schemes.{count, from_byte_idx, to_byte_idx};
 ghost use Rattle.str_indices.specs.Text.{size};
-ghost use Rattle.text_index.specs.Marks.{AreMarks, IsMark, IsMarkAt, MarksState, stretch_size};
+ghost use Rattle.text_index.specs.Marks.{AreMarks, MarksState};
 
-use crate::mark::Mark;
-use crate::places::whole_place;
-use crate::queries::STRETCH;
-use crate::{Marks, Scheme, count_in, from_in, to_in};
+use crate::mark::{BEGINNING, Mark};
+use crate::marking::{fill, marks_for};
+use crate::{BorrowedIndex, Marks, Scheme, count_in, from_in, to_in};
 use std::alloc::{AllocError, Global};
 use std::marker::Model;
 
@@ -18,7 +17,6 @@ use std::marker::Model;
 #[derive(Drop)]
 pub struct TextIndex<'a> {
     text: &'a str,
-    first: Mark,
     marks: Vec<Mark>,
     whole: Mark,
 }
@@ -32,7 +30,7 @@ impl<'a> Model for TextIndex<'a> {
 
     ghost view = { λ t. chars t.text.now };
 
-    ghost invariant = { λ t. AreMarks (chars t.text.now) t.first t.marks.items t.whole };
+    ghost invariant = { λ t. AreMarks (chars t.text.now) t.marks.items t.whole };
 }
 
 impl<'a> TextIndex<'a> {
@@ -40,21 +38,9 @@ impl<'a> TextIndex<'a> {
     pub fn of(alloc: Global, text: &'a str) -> Result<TextIndex<'a>, AllocError>
         ensures { IfOk result (λ index. index ≡ chars text.now) }
     {
-        let many = text.len() / STRETCH;
-        let mut marks = Vec::with_capacity(alloc, many)?;
-        let first = Mark::none();
-        let mut last = first;
-        'marks: for i in 0..many {
-            last = last.moved(text, whole_place(text, (i + 1) * STRETCH));
-            marks.push(last)?;
-        }
-        let whole = last.moved(text, text.len());
-        Ok(TextIndex {
-            text,
-            first,
-            marks,
-            whole,
-        })
+        let mut marks = Vec::from_elem(alloc, BEGINNING, marks_for(text.len()))?;
+        let whole = fill(text, marks.as_mut_slice());
+        Ok(TextIndex { text, marks, whole })
     }
 
     /// The text.
@@ -72,11 +58,19 @@ impl<'a> TextIndex<'a> {
         self.whole.byte
     }
 
+    /// The same index, borrowed.
+    pub fn borrowed(&self) -> BorrowedIndex<'_>
+        ensures { result ≡ self.now }
+    {
+        BorrowedIndex::of(self.text, self.marks.as_slice(), &self.whole)
+    }
+
     /// The marks as a question sees them, with no look and no read counted.
     pub fn view(&self) -> Marks<'_>
         ensures { result ≡ record { text = self.now; looks = 0; reads = 0 } }
     {
-        Marks::of(self.text, &self.first, self.marks.as_slice(), &self.whole)
+        let index = self.borrowed();
+        index.view()
     }
 
     /// How many characters, UTF-16 code units or line breaks the text has, in one step.
@@ -105,7 +99,6 @@ impl<'a> TextIndex<'a> {
     pub fn is_char_boundary(&self, b: usize) -> bool
         ensures { IsTrue result ↔ IsBoundary self.now b }
     {
-        let text = self.text();
-        text.is_char_boundary(b)
+        self.borrowed().is_char_boundary(b)
     }
 }

@@ -4,15 +4,20 @@
 //! so a question looks at a few marks, and reads the text between two of them at most. Only making the index takes memory.
 #![tactic(auto)]
 
+mod borrowed;
 mod index;
 mod mark;
+mod marking;
 mod places;
 mod positions;
 mod queries;
 mod stretch;
 mod view;
 
+pub use borrowed::BorrowedIndex;
 pub use index::TextIndex;
+pub use mark::Mark;
+pub use marking::{fill, marks_for};
 pub use queries::{count_in, from_in, to_in};
 pub use str_indices::Scheme;
 pub use view::Marks;

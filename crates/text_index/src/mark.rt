@@ -10,7 +10,8 @@ use str_indices::{Scheme, counts};
 
 /// A byte index, and how many characters, UTF-16 code units and line breaks are before it.
 #[derive(Clone, Copy)]
-pub(crate) struct Mark {
+#[repr(C)]
+pub struct Mark {
     pub(crate) byte: usize,
     pub(crate) chars: usize,
     pub(crate) utf16: usize,
@@ -19,22 +20,17 @@ pub(crate) struct Mark {
     pub(crate) lines: usize,
 }
 
-impl Mark {
-    /// The mark at the beginning of a text.
-    pub(crate) fn none() -> Mark
-        ensures mark { (text : Text) → IsMark text result }
-        ensures byte { result.byte ≡ 0 }
-    {
-        Mark {
-            byte: 0,
-            chars: 0,
-            utf16: 0,
-            lf: 0,
-            crlf: 0,
-            lines: 0,
-        }
-    }
+/// The mark at the beginning of a text.
+pub(crate) const BEGINNING: Mark = Mark {
+    byte: 0,
+    chars: 0,
+    utf16: 0,
+    lf: 0,
+    crlf: 0,
+    lines: 0,
+};
 
+impl Mark {
     /// What it says of a scheme.
     pub(crate) fn count(&self, s: Scheme) -> usize
         ensures { result ≡ count_at self.now s }

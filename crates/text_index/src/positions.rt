@@ -5,12 +5,12 @@ ghost use Rattle.position_mapper.specs.Lines.{line_content, line_end};
 ghost use Rattle.position_mapper.specs.Positions.{byte_at, byte_range_at, exact_byte_at, position_at};
 
 use crate::places::{is_middle, part_of};
-use crate::{Scheme, TextIndex};
+use crate::{BorrowedIndex, Scheme, TextIndex, count_in, from_in, to_in};
 use counted_positions::CountedText;
 use position_mapper::{Encoding, Position, Range};
 use std::ops;
 
-impl<'a> CountedText for TextIndex<'a> {
+impl<'a> CountedText for BorrowedIndex<'a> {
     ghost text = { λ text. text };
 
     fn len(&self) -> usize {
@@ -18,15 +18,15 @@ impl<'a> CountedText for TextIndex<'a> {
     }
 
     fn count(&self, s: Scheme) -> usize {
-        self.count(s)
+        count_in(&mut self.view(), s)
     }
 
     fn from_byte_idx(&self, s: Scheme, b: usize) -> usize {
-        self.from_byte_idx(s, b)
+        from_in(&mut self.view(), s, b)
     }
 
     fn to_byte_idx(&self, s: Scheme, k: usize) -> usize {
-        self.to_byte_idx(s, k)
+        to_in(&mut self.view(), s, k)
     }
 
     fn char_start(&self, byte: usize) -> usize {
@@ -46,7 +46,7 @@ impl<'a> TextIndex<'a> {
         ensures answer { result ≡ line_end self.now line }
         ensures boundary { IsBoundary self.now result }
     {
-        counted_positions::line_end(self, line)
+        counted_positions::line_end(&self.borrowed(), line)
     }
 
     /// The content of a line, counted from 0: without its break, and empty past the last one. It asks two conversions.
@@ -66,7 +66,7 @@ impl<'a> TextIndex<'a> {
     pub fn position_of(&self, encoding: Encoding, byte: usize) -> Position
         ensures { result ≡ position_at encoding self.now byte }
     {
-        counted_positions::position_of(self, encoding, byte)
+        counted_positions::position_of(&self.borrowed(), encoding, byte)
     }
 
     /// The byte index where the char at a position begins. It asks four conversions at most.
@@ -77,7 +77,7 @@ impl<'a> TextIndex<'a> {
         ensures answer { result ≡ byte_at encoding self.now position }
         ensures boundary { IsBoundary self.now result }
     {
-        counted_positions::byte_of(self, encoding, position)
+        counted_positions::byte_of(&self.borrowed(), encoding, position)
     }
 
     /// The byte index of a position that names a place, or `None`: where the text has no such line, the offset is past
@@ -86,7 +86,7 @@ impl<'a> TextIndex<'a> {
         ensures answer { result ≡ exact_byte_at encoding self.now position }
         ensures boundary { IfSome result (λ byte. IsBoundary self.now byte) }
     {
-        counted_positions::exact_byte_of(self, encoding, position)
+        counted_positions::exact_byte_of(&self.borrowed(), encoding, position)
     }
 
     /// The byte indices of a range, or `None` where its end is before its start. Each is that of its position, as
@@ -97,6 +97,6 @@ impl<'a> TextIndex<'a> {
         ensures boundaries { IfSome result (λ bytes.
             IsBoundary self.now bytes.start × IsBoundary self.now bytes.end) }
     {
-        counted_positions::byte_range(self, encoding, range)
+        counted_positions::byte_range(&self.borrowed(), encoding, range)
     }
 }

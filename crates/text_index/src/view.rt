@@ -4,7 +4,7 @@ ghost use Rattle.str_indices.specs.Text.{size};
 ghost use Rattle.text_index.specs.Marks.{AreMarks, IsMark, IsMarkAt, MarksState, stretches_of};
 ghost use Rattle.text_index.specs.Stretches.{EndsBy, IsPart, IsStretch};
 
-use crate::mark::Mark;
+use crate::mark::{BEGINNING, Mark};
 use crate::places::part_of;
 use crate::stretch::Stretch;
 use byte_chunk::Counter;
@@ -17,7 +17,6 @@ use std::marker::Model;
 #[derive(Drop)]
 pub struct Marks<'a> {
     text: &'a str,
-    first: &'a Mark,
     marks: &'a [Mark],
     whole: &'a Mark,
     looks: Counter,
@@ -32,23 +31,17 @@ impl<'a> Model for Marks<'a> {
 
     ghost view = { λ m. record { text = chars m.text.now; looks = m.looks; reads = m.reads } };
 
-    ghost invariant = { λ m. AreMarks (chars m.text.now) m.first.now m.marks.now m.whole.now };
+    ghost invariant = { λ m. AreMarks (chars m.text.now) m.marks.now m.whole.now };
 }
 
 impl<'a> Marks<'a> {
     /// A view of the marks, with nothing counted.
-    pub(crate) fn of(
-        text: &'a str,
-        first: &'a Mark,
-        marks: &'a [Mark],
-        whole: &'a Mark,
-    ) -> Marks<'a>
-        requires { AreMarks (chars text.now) first.now marks.now whole.now }
+    pub(crate) fn of(text: &'a str, marks: &'a [Mark], whole: &'a Mark) -> Marks<'a>
+        requires { AreMarks (chars text.now) marks.now whole.now }
         ensures { result ≡ record { text = chars text.now; looks = 0; reads = 0 } }
     {
         Marks {
             text,
-            first,
             marks,
             whole,
             looks: Counter::zero(),
@@ -68,7 +61,7 @@ impl<'a> Marks<'a> {
         ensures mark { IsMarkAt self.now.text 0 result.now }
         ensures start { result.now.byte ≡ 0 }
     {
-        self.first
+        &BEGINNING
     }
 
     /// The mark at the text's end. Counts nothing.

@@ -1,7 +1,5 @@
 -- Marks of a text, and what stands between two of them.
-use Rattle.std.proofs.Math.Seq.{get_or-append_seam}
-use Rattle.std.proofs.lemmas.List.{get_or_append_left, length-append}
-use Rattle.text_index.proofs.lemmas.Common.{◌≡◌, ℕ, ◌+◌, ◌≤◌, false, [], ◌∷◌, ◌++◌, sym, refl, ap, ◌∙◌, append_assoc, append-nil, arith, cases_Bool, inl, inr, Text, size, size-append, Scheme, Chars, Utf16, Lf, Crlf, Lines, count, seam_loss, joins_crlf, ends_in_return, starts_with_feed-append, IsBoundary, same_cut, none_of, is_joined, count-nil, IsMark, IsWholeAt, IsPart, Mark, count_at, length, slice_index_or, cases_lt, IsMarkAt, List, ◌<◌}
+use Rattle.text_index.proofs.lemmas.Common.{◌≡◌, ℕ, ◌+◌, ◌≤◌, false, [], ◌∷◌, ◌++◌, sym, refl, ap, ◌∙◌, append_assoc, append-nil, arith, cases_Bool, inl, inr, Text, size, size-append, Scheme, Chars, Utf16, Lf, Crlf, Lines, count, seam_loss, joins_crlf, ends_in_return, starts_with_feed-append, IsBoundary, same_cut, none_of, is_joined, count-nil, IsMark, IsWholeAt, IsPart, Mark, count_at}
 
 -- a seam that makes no CRLF takes nothing off
 pub no_loss : (s : Scheme) (a b : Text) → joins_crlf a b ≡ false → seam_loss s a b ≡ 0
@@ -99,16 +97,3 @@ pub nothing_before : (text : Text) (mark : Mark) → IsMark text mark → mark.b
 nothing_before text mark is zero s =
     let none = none_of is.front (omega (arith, is.byte)) in
     is.counts s ∙ ap (count s) none ∙ count-nil s
-
--- one mark more
-pub each_more : (text : Text) (marks : List Mark) (mark : Mark) (n : ℕ) → length marks ≡ n
-    → ((i : ℕ) (d : Mark) → i < length marks → IsMarkAt text (i + 1) (slice_index_or marks i d))
-    → IsMarkAt text (n + 1) mark
-    → (i : ℕ) (d : Mark) → i < length (marks ++ mark ∷ [])
-    → IsMarkAt text (i + 1) (slice_index_or (marks ++ mark ∷ []) i d)
-each_more text marks mark n many each is i d inside = elim (cases_lt i (length marks)) [
-  | inl before ↦ rw (get_or_append_left marks (mark ∷ []) d i before) (each i d before)
-  | inr past ↦
-      let last : i ≡ length marks = omega (arith, length-append marks (mark ∷ [])) in
-      rw (last, get_or-append_seam marks mark [] d, many) is
-]

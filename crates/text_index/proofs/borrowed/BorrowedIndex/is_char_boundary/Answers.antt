@@ -1,5 +1,5 @@
 use Rattle.text_index.proofs.lemmas.{sym, IsBoundary-from_char_boundary, IsCharBoundary-from_boundary}
-use Rattle.text_index.proofs.index.TextIndex.is_char_boundary.Goals as goal
+use Rattle.text_index.proofs.borrowed.BorrowedIndex.is_char_boundary.Goals as goal
 
 pub returns : goal.returns
 returns c =

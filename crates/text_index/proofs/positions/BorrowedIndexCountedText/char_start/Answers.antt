@@ -1,5 +1,5 @@
 use Rattle.text_index.proofs.lemmas.{sym, inl, inr, cases_lt, IsBoundary-from_char_boundary, IsCharBoundary-from_boundary}
-use Rattle.text_index.proofs.positions.TextIndexCountedText.char_start.Goals as goal
+use Rattle.text_index.proofs.positions.BorrowedIndexCountedText.char_start.Goals as goal
 
 pub returns : goal.returns
 returns c =

@@ -1,0 +1,70 @@
+//! An index whose marks are another's.
+ghost use Rattle.std.specs.Prelude.{◌≡◌, ◌<◌, ◌^◌, ◌↔◌, IsTrue, chars};
+ghost use Rattle.str_indices.specs.Relations.{IsBoundary};
+ghost use Rattle.str_indices.specs.Text.{size};
+ghost use Rattle.text_index.specs.Marks.{AreMarks, MarksState};
+
+use crate::Marks;
+use crate::mark::Mark;
+use std::marker::Model;
+
+/// An index whose marks lie where the caller has put them: in a [`TextIndex`](crate::TextIndex), or in memory of its own. A
+/// contract sees the text.
+#[derive(Drop)]
+pub struct BorrowedIndex<'a> {
+    text: &'a str,
+    marks: &'a [Mark],
+    whole: &'a Mark,
+}
+
+impl<'a> Model for BorrowedIndex<'a> {
+    ghost use Rattle.std.specs.Prelude.{chars};
+    ghost use Rattle.str_indices.specs.Text.{Text};
+    ghost use Rattle.text_index.specs.Marks.{AreMarks};
+
+    ghost Value = { Text };
+
+    ghost view = { λ t. chars t.text.now };
+
+    ghost invariant = { λ t. AreMarks (chars t.text.now) t.marks.now t.whole.now };
+}
+
+impl<'a> BorrowedIndex<'a> {
+    /// The index of a text, by its marks.
+    pub fn of(text: &'a str, marks: &'a [Mark], whole: &'a Mark) -> BorrowedIndex<'a>
+        requires { AreMarks (chars text.now) marks.now whole.now }
+        ensures { result ≡ chars text.now }
+    {
+        BorrowedIndex { text, marks, whole }
+    }
+
+    /// The text.
+    pub fn text(&self) -> &'a str
+        ensures { chars result.now ≡ self.now }
+    {
+        self.text
+    }
+
+    /// How many bytes the text has.
+    pub fn len(&self) -> usize
+        ensures len { result ≡ size self.now }
+        ensures short { size self.now < 2 ^ 64 }
+    {
+        self.whole.byte
+    }
+
+    /// Whether a byte index is between characters, or at the text's beginning or end.
+    pub fn is_char_boundary(&self, b: usize) -> bool
+        ensures { IsTrue result ↔ IsBoundary self.now b }
+    {
+        let text = self.text();
+        text.is_char_boundary(b)
+    }
+
+    /// The marks as a question sees them, with no look and no read counted.
+    pub fn view(&self) -> Marks<'a>
+        ensures { result ≡ record { text = self.now; looks = 0; reads = 0 } }
+    {
+        Marks::of(self.text, self.marks, self.whole)
+    }
+}

@@ -1,0 +1,30 @@
+-- What the numbers stand for that cross to C and back.
+--     scheme_of n      the scheme of a number: 0 to 4 in the order of `Scheme`, and each greater number `Lines` too
+--     encoding_of n    the encoding of a number: 0 UTF-16, the protocol's default, 1 UTF-8, 2 and each greater one UTF-32
+use Rattle.std.specs.Prelude.{ℕ, zero, suc}
+use Rattle.str_indices.specs.declared.Scheme.{Scheme}
+use Rattle.str_indices.specs.declared.Scheme.TheVariants.{Chars, Utf16, Lf, Crlf, Lines}
+use Rattle.position_mapper.specs.declared.encodings.Encoding.{Encoding}
+use Rattle.position_mapper.specs.declared.encodings.Encoding.TheVariants as encodings
+
+abbrev pub scheme_of : ℕ → Scheme
+scheme_of zero = Chars
+scheme_of (suc zero) = Utf16
+scheme_of (suc (suc zero)) = Lf
+scheme_of (suc (suc (suc zero))) = Crlf
+scheme_of (suc (suc (suc (suc n)))) = Lines
+
+abbrev pub encoding_of : ℕ → Encoding
+encoding_of zero = encodings.Utf16
+encoding_of (suc zero) = encodings.Utf8
+encoding_of (suc (suc n)) = encodings.Utf32
+
+-- the statuses of making an index; 1 is that of memory, which C takes
+abbrev pub done : ℕ
+done = 0
+
+abbrev pub not_utf8 : ℕ
+not_utf8 = 2
+
+abbrev pub no_room : ℕ
+no_room = 3

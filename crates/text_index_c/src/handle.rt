@@ -1,0 +1,23 @@
+//! The index of a text as C holds it.
+ghost use Rattle.std.specs.Prelude.{◌≡◌};
+ghost use Rattle.text_index_c.specs.Handles.{IsIndex, text_of};
+
+use text_index::{BorrowedIndex, Mark};
+
+/// The index of a text as C holds it: the text, which C keeps, its marks, and the one at its end.
+#[derive(Clone, Copy)]
+#[repr(C)]
+pub struct Handle<'a> {
+    pub(crate) text: &'a [u8],
+    pub(crate) marks: &'a [Mark],
+    pub(crate) whole: Mark,
+}
+
+/// The index that a handle stands for.
+pub(crate) fn index_of<'a>(handle: &'a Handle<'_>) -> BorrowedIndex<'a>
+    requires { IsIndex handle.now }
+    ensures { result ≡ text_of handle.now }
+{
+    let text = unsafe { str::from_utf8_unchecked(handle.text) };
+    BorrowedIndex::of(text, handle.marks, &handle.whole)
+}

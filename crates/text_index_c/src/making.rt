@@ -1,0 +1,51 @@
+// An index that is made of a text.
+ghost use Rattle.std.specs.Prelude.{◌≡◌, ◌≢◌, ◌/◌, ◌≤◌, ◌↔◌, ◌⊎◌, IsUtf8, chars, length};
+ghost use Rattle.text_index.specs.Marks.{stretch_size};
+ghost use Rattle.text_index_c.specs.Handles.{IsIndex, text_of};
+ghost use Rattle.text_index_c.specs.Numbers.{done, no_room, not_utf8};
+
+use crate::handle::Handle;
+use crate::numbers::{DONE, NO_ROOM, NOT_UTF8};
+use text_index::{Mark, fill, marks_for};
+
+/// How many marks a text of so many bytes takes.
+#[unsafe(no_mangle)]
+pub extern "C" fn index_marks(len: usize) -> usize
+    ensures { result ≡ len / stretch_size }
+{
+    marks_for(len)
+}
+
+/// Makes the handle that of a text, whose marks are put into a room for that many.
+///
+/// The status is `not_utf8` where the bytes are not UTF-8, and else `no_room` where the room is for another number of marks.
+#[unsafe(no_mangle)]
+pub extern "C" fn index_fill<'a>(
+    text: &'a [u8],
+    room: &'a mut [Mark],
+    handle: &mut Handle<'a>,
+) -> u32
+    ensures index { result ≡ done → IsIndex handle.new }
+    ensures text { result ≡ done → text_of handle.new ≡ chars text.now }
+    ensures refused { result ≢ done → handle.new ≡ handle.old }
+    ensures not_utf8 { (result ≡ not_utf8) ↔ (¬ (IsUtf8 text.now)) }
+    ensures no_room { (result ≡ no_room)
+        ↔ (IsUtf8 text.now × (length room.old ≢ length text.now / stretch_size)) }
+    ensures known { (result ≡ done) ⊎ ((result ≡ not_utf8) ⊎ (result ≡ no_room)) }
+{
+    match str::from_utf8(text) {
+        Ok(text) => {
+            if room.len() != marks_for(text.len()) {
+                return NO_ROOM;
+            }
+            let whole = fill(text, room);
+            *handle = Handle {
+                text: text.as_bytes(),
+                marks: room,
+                whole,
+            };
+            DONE
+        }
+        Err(_) => NOT_UTF8,
+    }
+}
