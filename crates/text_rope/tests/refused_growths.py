@@ -1,12 +1,12 @@
 #!/usr/bin/env python3
-"""Refuses each growth of a text in pieces and of a rope in turn, and wants all as it was.
+"""Refuses each growth of a text in pieces, of a rope and of an index in turn, and wants all as it was.
 
 The programs refused_growths.rt.txt, refused_runs.rt.txt and refused_rope_growths.rt.txt beside this file make a text grow,
-step by step; the second does so at several numbers of pieces. `rt try` builds each once, beside a copy of its library, and
-refuses the same allocation in each of its runs. In each run the program has taken less memory before its first step, so
-that a later growth is refused. It must answer `NoMemory` then, with every other answer as before, and succeed at the
-second try. The last runs come to an end with no growth refused. The rope is changed once more with a snapshot held before
-each step, which must keep its text. The last line printed is 'N passed, M failed'.
+step by step; the second does so at several numbers of pieces. refused_index_growths.rt.txt makes indexes. `rt try` builds
+each once, beside a copy of its library, and refuses the same allocation in each of its runs. In each run the program has
+taken less memory before its first step, so that a later growth is refused. It must answer `NoMemory` then, with every other
+answer as before, and succeed at the second try. The last runs come to an end with no growth refused. The rope is changed
+once more with a snapshot held before each step, which must keep its text. The last line printed is 'N passed, M failed'.
 """
 import pathlib
 import re
@@ -40,6 +40,8 @@ class Program(NamedTuple):
 # what the rope has at the end
 ROPE_MADE = "3204 bytes, 480 breaks, the number 8730228837852749474\n"
 
+INDEXES_MADE = "3500 bytes in the last text, 947 breaks in all\n"
+
 PROGRAMS = (
     # each of the six pieces that are put in takes its copy and its place, each of the three splits two of both, and the list
     # is longer at times
@@ -58,6 +60,8 @@ PROGRAMS = (
     # parts of pieces is put together first
     Program("refused_rope_growths", "text_rope", ROPE_MADE, 50, runs=160),
     Program("refused_rope_growths", "text_rope", ROPE_MADE, 50, numbers=(("HELD", 1),), runs=160),
+    # each index takes its marks, and the text before them its bytes
+    Program("refused_index_growths", "text_index", INDEXES_MADE, 2, passed_over=1, runs=5),
 )
 
 REFUSED = "no memory, and all as before\n"
