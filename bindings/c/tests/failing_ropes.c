@@ -6,10 +6,8 @@
  * is refused, the calls that take none succeed. In the end nothing that was
  * allocated is left.
  *
- * It is linked with -Wl,--wrap= of each function of the C library below. The
- * last line printed is 'N passed, M failed'.
+ * The last line printed is 'N passed, M failed'.
  */
-#include <errno.h>
 #include <stdint.h>
 #include <stdio.h>
 #include <stdlib.h>
@@ -17,72 +15,7 @@
 
 #include <str_rope.h>
 
-/* Which allocation is refused, from 1; NEVER and none is, ALWAYS and each is. */
-enum { NEVER = -1, ALWAYS = 0, MOST_ALLOCATIONS = 1000 };
-
-static long refused = NEVER, allocations, living;
-
-void *__real_malloc(size_t size);
-void *__real_calloc(size_t number, size_t size);
-void *__real_realloc(void *block, size_t size);
-void *__real_aligned_alloc(size_t alignment, size_t size);
-int __real_posix_memalign(void **block, size_t alignment, size_t size);
-void __real_free(void *block);
-
-void *__wrap_malloc(size_t size);
-void *__wrap_calloc(size_t number, size_t size);
-void *__wrap_realloc(void *block, size_t size);
-void *__wrap_aligned_alloc(size_t alignment, size_t size);
-int __wrap_posix_memalign(void **block, size_t alignment, size_t size);
-void __wrap_free(void *block);
-
-static int is_refused(void)
-{
-    allocations++;
-    return refused == ALWAYS || refused == allocations;
-}
-
-/* Counts a block that is new. */
-static void *counted(void *block)
-{
-    living += block != NULL;
-    return block;
-}
-
-void *__wrap_malloc(size_t size)
-{
-    return is_refused() ? NULL : counted(__real_malloc(size));
-}
-
-void *__wrap_calloc(size_t number, size_t size)
-{
-    return is_refused() ? NULL : counted(__real_calloc(number, size));
-}
-
-void *__wrap_realloc(void *block, size_t size)
-{
-    if (is_refused())
-        return NULL;
-    return block == NULL ? counted(__real_realloc(block, size)) : __real_realloc(block, size);
-}
-
-void *__wrap_aligned_alloc(size_t alignment, size_t size)
-{
-    return is_refused() ? NULL : counted(__real_aligned_alloc(alignment, size));
-}
-
-int __wrap_posix_memalign(void **block, size_t alignment, size_t size)
-{
-    int error = is_refused() ? ENOMEM : __real_posix_memalign(block, alignment, size);
-    living += error == 0;
-    return error;
-}
-
-void __wrap_free(void *block)
-{
-    living -= block != NULL;
-    __real_free(block);
-}
+#include "refused_memory.h"
 
 static int passed, failed;
 

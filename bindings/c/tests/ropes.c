@@ -9,23 +9,9 @@
 
 #include <str_rope.h>
 
-/* 17 bytes, 10 chars, 11 UTF-16 code units: CR LF, a surrogate pair, CR, a char
- * of three bytes, LF and LS. */
-static const char breaks[] = "a\r\n\360\237\220\270b\r\343\201\233\n\342\200\250x";
+#include "worked_rows.h"
 
-/* A line that ends in CR LF, one with a surrogate pair that ends in CR, one of
- * a char of three bytes, an empty one, and one that no break ends. */
-static const char lines[] = "a\r\n\360\237\220\270b\r\343\201\233\n\nx";
-
-/* Two UTF-16 code units, four bytes. */
-#define FROG "\360\237\220\270"
-
-/* No index is as great; and the answer where a position names no place. */
-#define MOST SIZE_MAX
-#define NONE SIZE_MAX
-
-enum { SCHEMES = 5, ENCODINGS = 3, ROOM = 8 * STR_ROPE_MAX_PIECE };
-#define NUMBER_OF(rows) (sizeof rows / sizeof rows[0])
+enum { ROOM = 8 * STR_ROPE_MAX_PIECE };
 
 static int passed, failed;
 
@@ -60,10 +46,9 @@ static str_rope with(const char *text, size_t len)
 
 static void counts(void)
 {
-    static const size_t wanted[] = {10, 11, 2, 3, 4, 4};
     str_rope rope = WITH(breaks);
-    for (size_t i = 0; i < NUMBER_OF(wanted); i++)
-        same(str_rope_count(&rope, (str_rope_scheme)i) == wanted[i], "count", i, 0);
+    for (size_t i = 0; i < NUMBER_OF(counted); i++)
+        same(str_rope_count(&rope, (str_rope_scheme)i) == counted[i], "count", i, 0);
     same(str_rope_count(&rope, (str_rope_scheme)7) == 4, "count", 7, 0);
     same(str_rope_len(&rope) == 17, "len", 17, 0);
     str_rope_free(&rope);
@@ -71,44 +56,31 @@ static void counts(void)
 
 static void from_bytes(void)
 {
-    static const struct {
-        size_t byte, by_scheme[SCHEMES + 1];
-    } rows[] = {
-        {0, {0, 0, 0, 0, 0, 0}},   {2, {2, 2, 0, 0, 0, 0}},    {3, {3, 3, 1, 1, 1, 1}},    {5, {3, 3, 1, 1, 1, 1}},
-        {7, {4, 5, 1, 1, 1, 1}},   {9, {6, 7, 1, 2, 2, 2}},    {13, {8, 9, 2, 3, 3, 3}},   {15, {8, 9, 2, 3, 3, 3}},
-        {16, {9, 10, 2, 3, 4, 4}}, {17, {10, 11, 2, 3, 4, 4}}, {18, {10, 11, 2, 3, 4, 4}}, {MOST, {10, 11, 2, 3, 4, 4}},
-    };
     str_rope rope = WITH(breaks);
-    for (size_t i = 0; i < NUMBER_OF(rows); i++)
+    for (size_t i = 0; i < NUMBER_OF(from_byte_rows); i++)
         for (size_t scheme = 0; scheme <= SCHEMES; scheme++)
-            same(str_rope_from_byte_idx(&rope, (str_rope_scheme)scheme, rows[i].byte) == rows[i].by_scheme[scheme],
-                 "from_byte_idx", scheme, rows[i].byte);
+            same(str_rope_from_byte_idx(&rope, (str_rope_scheme)scheme, from_byte_rows[i].byte) ==
+                     from_byte_rows[i].by_scheme[scheme],
+                 "from_byte_idx", scheme, from_byte_rows[i].byte);
     str_rope_free(&rope);
 }
 
 static void to_bytes(void)
 {
-    static const struct {
-        size_t index, by_scheme[SCHEMES + 1];
-    } rows[] = {
-        {0, {0, 0, 0, 0, 0, 0}},       {1, {1, 1, 3, 3, 3, 3}},        {2, {2, 2, 13, 9, 9, 9}},
-        {3, {3, 3, 17, 13, 13, 13}},   {4, {7, 3, 17, 17, 16, 16}},    {5, {8, 7, 17, 17, 17, 17}},
-        {9, {16, 13, 17, 17, 17, 17}}, {10, {17, 16, 17, 17, 17, 17}}, {MOST, {17, 17, 17, 17, 17, 17}},
-    };
     str_rope rope = WITH(breaks);
-    for (size_t i = 0; i < NUMBER_OF(rows); i++)
+    for (size_t i = 0; i < NUMBER_OF(to_byte_rows); i++)
         for (size_t scheme = 0; scheme <= SCHEMES; scheme++)
-            same(str_rope_to_byte_idx(&rope, (str_rope_scheme)scheme, rows[i].index) == rows[i].by_scheme[scheme],
-                 "to_byte_idx", scheme, rows[i].index);
+            same(str_rope_to_byte_idx(&rope, (str_rope_scheme)scheme, to_byte_rows[i].index) ==
+                     to_byte_rows[i].by_scheme[scheme],
+                 "to_byte_idx", scheme, to_byte_rows[i].index);
     str_rope_free(&rope);
 }
 
 static void boundaries(void)
 {
-    static const char marks[] = "1111000111001100110"; /* by byte, with the end and one past it */
     str_rope rope = WITH(breaks);
-    for (size_t at = 0; at < sizeof marks - 1; at++)
-        same(str_rope_is_char_boundary(&rope, at) == (marks[at] == '1'), "is_char_boundary", at, 0);
+    for (size_t at = 0; at < sizeof boundary_marks - 1; at++)
+        same(str_rope_is_char_boundary(&rope, at) == (boundary_marks[at] == '1'), "is_char_boundary", at, 0);
     same(!str_rope_is_char_boundary(&rope, MOST), "is_char_boundary", MOST, 0);
     str_rope_free(&rope);
 }
@@ -303,77 +275,41 @@ static void a_break_over_two_pieces(void)
 
 static void positions_of_bytes(void)
 {
-    static const struct {
-        size_t byte, line, character[ENCODINGS + 1];
-    } rows[] = {
-        {0, 0, {0, 0, 0, 0}},  {2, 0, {1, 1, 1, 1}},  {3, 1, {0, 0, 0, 0}},    {6, 1, {0, 0, 0, 0}},
-        {7, 1, {2, 4, 1, 1}},  {8, 1, {3, 5, 2, 2}},  {11, 2, {0, 0, 0, 0}},   {12, 2, {1, 3, 1, 1}},
-        {13, 3, {0, 0, 0, 0}}, {15, 4, {1, 1, 1, 1}}, {MOST, 4, {1, 1, 1, 1}},
-    };
     str_rope rope = WITH(lines);
-    for (size_t i = 0; i < NUMBER_OF(rows); i++)
+    for (size_t i = 0; i < NUMBER_OF(position_rows); i++)
         for (size_t encoding = 0; encoding <= ENCODINGS; encoding++) {
-            str_indices_position here = str_rope_position_of(&rope, (str_rope_encoding)encoding, rows[i].byte);
-            same(here.line == rows[i].line && here.character == rows[i].character[encoding], "position_of", encoding,
-                 rows[i].byte);
+            str_indices_position here = str_rope_position_of(&rope, (str_rope_encoding)encoding, position_rows[i].byte);
+            same(here.line == position_rows[i].line && here.character == position_rows[i].character[encoding],
+                 "position_of", encoding, position_rows[i].byte);
         }
     str_rope_free(&rope);
 }
 
 static void bytes_of_positions(void)
 {
-    static const struct {
-        str_indices_position position;
-        size_t byte[ENCODINGS + 1], exact[ENCODINGS + 1];
-    } rows[] = {
-        {{0, 1}, {1, 1, 1, 1}, {1, 1, 1, 1}},
-        {{0, 2}, {1, 1, 1, 1}, {NONE, NONE, NONE, NONE}},
-        {{0, MOST}, {1, 1, 1, 1}, {NONE, NONE, NONE, NONE}},
-        {{1, 1}, {3, 3, 7, 7}, {NONE, NONE, 7, 7}},
-        {{1, 2}, {7, 3, 8, 8}, {7, NONE, 8, 8}},
-        {{1, 3}, {8, 3, 8, 8}, {8, NONE, NONE, NONE}},
-        {{1, 4}, {8, 7, 8, 8}, {NONE, 7, NONE, NONE}},
-        {{2, 1}, {12, 9, 12, 12}, {12, NONE, 12, 12}},
-        {{3, 0}, {13, 13, 13, 13}, {13, 13, 13, 13}},
-        {{4, 1}, {15, 15, 15, 15}, {15, 15, 15, 15}},
-        {{5, 0}, {15, 15, 15, 15}, {NONE, NONE, NONE, NONE}},
-        {{MOST, MOST}, {15, 15, 15, 15}, {NONE, NONE, NONE, NONE}},
-    };
     str_rope rope = WITH(lines);
-    for (size_t i = 0; i < NUMBER_OF(rows); i++)
+    for (size_t i = 0; i < NUMBER_OF(byte_rows); i++)
         for (size_t number = 0; number <= ENCODINGS; number++) {
             str_rope_encoding encoding = (str_rope_encoding)number;
-            str_indices_position position = rows[i].position;
-            same(str_rope_byte_of(&rope, encoding, position) == rows[i].byte[number], "byte_of", number, i);
-            same(str_rope_exact_byte_of(&rope, encoding, position) == rows[i].exact[number], "exact_byte_of", number,
-                 i);
+            str_indices_position position = byte_rows[i].position;
+            same(str_rope_byte_of(&rope, encoding, position) == byte_rows[i].byte[number], "byte_of", number, i);
+            same(str_rope_exact_byte_of(&rope, encoding, position) == byte_rows[i].exact[number], "exact_byte_of",
+                 number, i);
         }
     str_rope_free(&rope);
 }
 
 static void ranges_and_lines(void)
 {
-    static const struct {
-        str_indices_range range;
-        str_indices_bytes bytes[ENCODINGS + 1];
-    } rows[] = {
-        {{{0, 0}, {0, 9}}, {{0, 1}, {0, 1}, {0, 1}, {0, 1}}},
-        {{{1, 1}, {2, 2}}, {{3, 12}, {3, 9}, {7, 12}, {7, 12}}},
-        {{{1, 2}, {1, 4}}, {{7, 8}, {3, 7}, {8, 8}, {8, 8}}},
-        {{{9, 9}, {MOST, 0}}, {{15, 15}, {15, 15}, {15, 15}, {15, 15}}},
-        {{{0, 2}, {0, 1}}, {{NONE, NONE}, {NONE, NONE}, {NONE, NONE}, {NONE, NONE}}},
-        {{{1, 0}, {0, 9}}, {{NONE, NONE}, {NONE, NONE}, {NONE, NONE}, {NONE, NONE}}},
-    };
-    static const size_t ends[] = {1, 8, 12, 13, 15, 15};
     str_rope rope = WITH(lines);
-    for (size_t i = 0; i < NUMBER_OF(rows); i++)
+    for (size_t i = 0; i < NUMBER_OF(range_rows); i++)
         for (size_t encoding = 0; encoding <= ENCODINGS; encoding++) {
-            str_indices_bytes bytes = str_rope_byte_range(&rope, (str_rope_encoding)encoding, rows[i].range);
-            str_indices_bytes wanted = rows[i].bytes[encoding];
+            str_indices_bytes bytes = str_rope_byte_range(&rope, (str_rope_encoding)encoding, range_rows[i].range);
+            str_indices_bytes wanted = range_rows[i].bytes[encoding];
             same(bytes.start == wanted.start && bytes.end == wanted.end, "byte_range", encoding, i);
         }
-    for (size_t line = 0; line < NUMBER_OF(ends); line++)
-        same(str_rope_line_end(&rope, line) == ends[line], "line_end", line, ends[line]);
+    for (size_t line = 0; line < NUMBER_OF(line_ends); line++)
+        same(str_rope_line_end(&rope, line) == line_ends[line], "line_end", line, line_ends[line]);
     same(str_rope_line_end(&rope, MOST) == 15, "line_end", MOST, 15);
     str_rope_free(&rope);
 }

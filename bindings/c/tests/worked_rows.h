@@ -1,0 +1,103 @@
+/*
+ * Worked answers of what counts, converts and knows positions, for a rope and
+ * for an index: two texts, and rows of what is asked and answered. The fields
+ * of a row are in the order in which the headers number schemes and encodings,
+ * and the last is for a number above these.
+ */
+#ifndef WORKED_ROWS_H
+#define WORKED_ROWS_H
+
+#include <stddef.h>
+#include <stdint.h>
+
+#include <str_indices_positions.h>
+
+/* Two UTF-16 code units, four bytes. */
+#define FROG "\360\237\220\270"
+
+/* 17 bytes, 10 chars, 11 UTF-16 code units: CR LF, a surrogate pair, CR, a char
+ * of three bytes, LF and LS. */
+static const char breaks[] = "a\r\n" FROG "b\r\343\201\233\n\342\200\250x";
+
+/* A line that ends in CR LF, one with a surrogate pair that ends in CR, one of
+ * a char of three bytes, an empty one, and one that no break ends. */
+static const char lines[] = "a\r\n" FROG "b\r\343\201\233\n\nx";
+
+/* No index is as great; and the answer where a position names no place. */
+#define MOST SIZE_MAX
+#define NONE SIZE_MAX
+
+/* From STR_ROPE_CHARS, STR_ROPE_UTF16, STR_ROPE_LF and STR_ROPE_CRLF to STR_ROPE_LINES, and the encodings. */
+enum { SCHEMES = 5, ENCODINGS = 3 };
+#define NUMBER_OF(rows) (sizeof rows / sizeof rows[0])
+
+/*
+ * Of `breaks`.
+ */
+
+static const size_t counted[SCHEMES + 1] = {10, 11, 2, 3, 4, 4};
+
+static const struct {
+    size_t byte, by_scheme[SCHEMES + 1];
+} from_byte_rows[] = {
+    {0, {0, 0, 0, 0, 0, 0}},   {2, {2, 2, 0, 0, 0, 0}},    {3, {3, 3, 1, 1, 1, 1}},    {5, {3, 3, 1, 1, 1, 1}},
+    {7, {4, 5, 1, 1, 1, 1}},   {9, {6, 7, 1, 2, 2, 2}},    {13, {8, 9, 2, 3, 3, 3}},   {15, {8, 9, 2, 3, 3, 3}},
+    {16, {9, 10, 2, 3, 4, 4}}, {17, {10, 11, 2, 3, 4, 4}}, {18, {10, 11, 2, 3, 4, 4}}, {MOST, {10, 11, 2, 3, 4, 4}},
+};
+
+static const struct {
+    size_t index, by_scheme[SCHEMES + 1];
+} to_byte_rows[] = {
+    {0, {0, 0, 0, 0, 0, 0}},       {1, {1, 1, 3, 3, 3, 3}},        {2, {2, 2, 13, 9, 9, 9}},
+    {3, {3, 3, 17, 13, 13, 13}},   {4, {7, 3, 17, 17, 16, 16}},    {5, {8, 7, 17, 17, 17, 17}},
+    {9, {16, 13, 17, 17, 17, 17}}, {10, {17, 16, 17, 17, 17, 17}}, {MOST, {17, 17, 17, 17, 17, 17}},
+};
+
+/* Whether a byte is a boundary, with the end and one past it. */
+static const char boundary_marks[] = "1111000111001100110";
+
+/*
+ * Of `lines`.
+ */
+
+static const struct {
+    size_t byte, line, character[ENCODINGS + 1];
+} position_rows[] = {
+    {0, 0, {0, 0, 0, 0}},  {2, 0, {1, 1, 1, 1}},  {3, 1, {0, 0, 0, 0}},    {6, 1, {0, 0, 0, 0}},
+    {7, 1, {2, 4, 1, 1}},  {8, 1, {3, 5, 2, 2}},  {11, 2, {0, 0, 0, 0}},   {12, 2, {1, 3, 1, 1}},
+    {13, 3, {0, 0, 0, 0}}, {15, 4, {1, 1, 1, 1}}, {MOST, 4, {1, 1, 1, 1}},
+};
+
+static const struct {
+    str_indices_position position;
+    size_t byte[ENCODINGS + 1], exact[ENCODINGS + 1];
+} byte_rows[] = {
+    {{0, 1}, {1, 1, 1, 1}, {1, 1, 1, 1}},
+    {{0, 2}, {1, 1, 1, 1}, {NONE, NONE, NONE, NONE}},
+    {{0, MOST}, {1, 1, 1, 1}, {NONE, NONE, NONE, NONE}},
+    {{1, 1}, {3, 3, 7, 7}, {NONE, NONE, 7, 7}},
+    {{1, 2}, {7, 3, 8, 8}, {7, NONE, 8, 8}},
+    {{1, 3}, {8, 3, 8, 8}, {8, NONE, NONE, NONE}},
+    {{1, 4}, {8, 7, 8, 8}, {NONE, 7, NONE, NONE}},
+    {{2, 1}, {12, 9, 12, 12}, {12, NONE, 12, 12}},
+    {{3, 0}, {13, 13, 13, 13}, {13, 13, 13, 13}},
+    {{4, 1}, {15, 15, 15, 15}, {15, 15, 15, 15}},
+    {{5, 0}, {15, 15, 15, 15}, {NONE, NONE, NONE, NONE}},
+    {{MOST, MOST}, {15, 15, 15, 15}, {NONE, NONE, NONE, NONE}},
+};
+
+static const struct {
+    str_indices_range range;
+    str_indices_bytes bytes[ENCODINGS + 1];
+} range_rows[] = {
+    {{{0, 0}, {0, 9}}, {{0, 1}, {0, 1}, {0, 1}, {0, 1}}},
+    {{{1, 1}, {2, 2}}, {{3, 12}, {3, 9}, {7, 12}, {7, 12}}},
+    {{{1, 2}, {1, 4}}, {{7, 8}, {3, 7}, {8, 8}, {8, 8}}},
+    {{{9, 9}, {MOST, 0}}, {{15, 15}, {15, 15}, {15, 15}, {15, 15}}},
+    {{{0, 2}, {0, 1}}, {{NONE, NONE}, {NONE, NONE}, {NONE, NONE}, {NONE, NONE}}},
+    {{{1, 0}, {0, 9}}, {{NONE, NONE}, {NONE, NONE}, {NONE, NONE}, {NONE, NONE}}},
+};
+
+static const size_t line_ends[] = {1, 8, 12, 13, 15, 15};
+
+#endif
