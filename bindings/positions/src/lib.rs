@@ -97,16 +97,34 @@ struct Bytes {
 /// What the library answers where it has none: no text is so long.
 const NONE: usize = usize::MAX;
 
-/// How an offset on a line is counted, on which a server and its client agree: the protocol's `PositionEncodingKind`.
+/// What is counted in a text, by the crates of a rope and of an index. The number is that of the headers for C.
+#[derive(Clone, Copy, Debug, PartialEq, Eq, Hash)]
+#[repr(u32)]
+pub enum Scheme {
+    /// Chars: Unicode scalar values.
+    Chars = 0,
+    /// UTF-16 code units.
+    Utf16 = 1,
+    /// Line breaks of LF alone.
+    Lf = 2,
+    /// Line breaks of LF, CR and CR LF, which is one, as a language server has them.
+    Crlf = 3,
+    /// Line breaks of Unicode: LF, VT, FF, CR, CR LF, U+0085, U+2028 and U+2029.
+    Lines = 4,
+}
+
+/// How an offset on a line is counted, on which a server and its client agree: the protocol's `PositionEncodingKind`. The
+/// number is that of the headers for C.
 #[derive(Clone, Copy, Debug, Default, PartialEq, Eq, Hash)]
+#[repr(u32)]
 pub enum Encoding {
     /// In bytes.
-    Utf8,
+    Utf8 = 1,
     /// In UTF-16 code units, the protocol's default.
     #[default]
-    Utf16,
+    Utf16 = 0,
     /// In scalar values: each char is one.
-    Utf32,
+    Utf32 = 2,
 }
 
 impl Encoding {

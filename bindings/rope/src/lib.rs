@@ -53,7 +53,7 @@ mod traits;
 
 pub use chunks::{Chunk, Chunks, MAX_CHUNK};
 pub use errors::Error;
-pub use rope::{Rope, Scheme};
-pub use str_indices_positions::{Encoding, Position, Range};
+pub use rope::Rope;
+pub use str_indices_positions::{Encoding, Position, Range, Scheme};
 
 use positions::Bytes;

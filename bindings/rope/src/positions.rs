@@ -15,15 +15,6 @@ pub struct Bytes {
 /// What the library answers where it has none: no text is so long.
 const NONE: usize = usize::MAX;
 
-/// The number that the library has for an encoding.
-fn number_of(encoding: Encoding) -> u32 {
-    match encoding {
-        Encoding::Utf16 => 0,
-        Encoding::Utf8 => 1,
-        Encoding::Utf32 => 2,
-    }
-}
-
 /// Positions of the Language Server Protocol 3.17, whose lines end in LF, CR or CR LF. The answers are those of the crate
 /// `str_indices_positions` for the whole text.
 ///
@@ -50,7 +41,7 @@ impl Rope {
     /// and a byte past the end that of the text's end.
     pub fn position_of(&self, encoding: Encoding, byte_idx: usize) -> Position {
         // SAFETY: as `library` says.
-        unsafe { str_rope_position_of(self.handle(), number_of(encoding), byte_idx) }
+        unsafe { str_rope_position_of(self.handle(), encoding as u32, byte_idx) }
     }
 
     /// The byte index where the char at a position begins.
@@ -59,7 +50,7 @@ impl Rope {
     /// break, and a line past the last one the length of the text in bytes.
     pub fn byte_of(&self, encoding: Encoding, position: Position) -> usize {
         // SAFETY: as `library` says.
-        unsafe { str_rope_byte_of(self.handle(), number_of(encoding), position) }
+        unsafe { str_rope_byte_of(self.handle(), encoding as u32, position) }
     }
 
     /// The byte index of a position that names a place, or `None`: where the text has no such line, the offset is past
@@ -77,14 +68,14 @@ impl Rope {
     /// ```
     pub fn exact_byte_of(&self, encoding: Encoding, position: Position) -> Option<usize> {
         // SAFETY: as `library` says.
-        let byte = unsafe { str_rope_exact_byte_of(self.handle(), number_of(encoding), position) };
+        let byte = unsafe { str_rope_exact_byte_of(self.handle(), encoding as u32, position) };
         (byte != NONE).then_some(byte)
     }
 
     /// The byte indices of a range, each as `byte_of` answers it, or `None` where its end is before its start.
     pub fn byte_range(&self, encoding: Encoding, range: Range) -> Option<ops::Range<usize>> {
         // SAFETY: as `library` says.
-        let bytes = unsafe { str_rope_byte_range(self.handle(), number_of(encoding), range) };
+        let bytes = unsafe { str_rope_byte_range(self.handle(), encoding as u32, range) };
         (bytes.start != NONE).then_some(bytes.start..bytes.end)
     }
 
@@ -108,7 +99,7 @@ impl Rope {
     ///
     /// Positions are cut as by [`Rope::byte_of`], so it is never [`Error::NotBoundary`].
     pub fn change(&mut self, encoding: Encoding, range: Range, text: &str) -> Result<(), Error> {
-        let number = number_of(encoding);
+        let number = encoding as u32;
         // SAFETY: as `library` says.
         result_of(unsafe { str_rope_change(self.handle(), number, range, text.as_ptr(), text.len()) })
     }
@@ -134,7 +125,7 @@ impl Rope {
     /// # }
     /// ```
     pub fn change_exact(&mut self, encoding: Encoding, range: Range, text: &str) -> Result<(), Error> {
-        let number = number_of(encoding);
+        let number = encoding as u32;
         // SAFETY: as `library` says.
         result_of(unsafe { str_rope_change_exact(self.handle(), number, range, text.as_ptr(), text.len()) })
     }

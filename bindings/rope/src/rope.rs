@@ -4,22 +4,7 @@ use crate::library::*;
 use crate::Error;
 use core::cell::UnsafeCell;
 use core::ops::{self, Bound, RangeBounds};
-
-/// What is counted in a text.
-#[derive(Clone, Copy, Debug, PartialEq, Eq, Hash)]
-#[repr(u32)]
-pub enum Scheme {
-    /// Chars: Unicode scalar values.
-    Chars = 0,
-    /// UTF-16 code units.
-    Utf16 = 1,
-    /// Line breaks of LF alone.
-    Lf = 2,
-    /// Line breaks of LF, CR and CR LF, which is one, as a language server has them.
-    Crlf = 3,
-    /// Line breaks of Unicode: LF, VT, FF, CR, CR LF, U+0085, U+2028 and U+2029.
-    Lines = 4,
-}
+use str_indices_positions::Scheme;
 
 /// A text in a balanced tree of pieces. A question looks at a number of places that is logarithmic in the number of pieces.
 /// A change goes down the tree too, and copies what it puts in. A clone shares the pieces, and takes one step.

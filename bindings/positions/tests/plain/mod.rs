@@ -1,0 +1,134 @@
+//! A plain text beside a rope or an index: what `std` says of a `str`, line breaks by a walk over its chars, and random
+//! numbers. The tests of those crates take it in.
+// Each file of tests takes what it needs.
+#![allow(dead_code)]
+use str_indices_positions::{Encoding, Position, Scheme};
+
+pub const SCHEMES: [Scheme; 5] = [Scheme::Chars, Scheme::Utf16, Scheme::Lf, Scheme::Crlf, Scheme::Lines];
+
+pub const ENCODINGS: [Encoding; 3] = [Encoding::Utf8, Encoding::Utf16, Encoding::Utf32];
+
+/// Every kind of line break, chars of every length, combining chars, and chars whose bytes look like a break's.
+const CHARS: &str =
+    "ab \n\n\r\r\u{B}\u{C}\u{85}\u{2028}\u{2029}é\u{84}e\u{301}\u{C5}\u{1028}\u{2027}せ\u{FFFD}🐸\u{10FFFF}\0";
+
+/// A small generator of numbers (splitmix64), so that each run tries the same texts.
+pub struct Numbers(pub u64);
+
+impl Numbers {
+    /// A number below a limit that is not 0.
+    pub fn below(&mut self, limit: usize) -> usize {
+        self.0 = self.0.wrapping_add(0x9E37_79B9_7F4A_7C15);
+        let mut mixed = self.0;
+        mixed = (mixed ^ (mixed >> 30)).wrapping_mul(0xBF58_476D_1CE4_E5B9);
+        mixed = (mixed ^ (mixed >> 27)).wrapping_mul(0x94D0_49BB_1331_11EB);
+        ((mixed ^ (mixed >> 31)) % limit as u64) as usize
+    }
+
+    /// A text of fewer chars than a limit.
+    pub fn text(&mut self, limit: usize) -> String {
+        let chars: Vec<char> = CHARS.chars().collect();
+        (0..self.below(limit)).map(|_| chars[self.below(chars.len())]).collect()
+    }
+
+    /// A place in a text: a boundary.
+    pub fn boundary(&mut self, text: &str) -> usize {
+        floor(text, self.below(text.len() + 1))
+    }
+
+    /// Two places in a text, in order.
+    pub fn part(&mut self, text: &str) -> (usize, usize) {
+        let (one, other) = (self.boundary(text), self.boundary(text));
+        (one.min(other), one.max(other))
+    }
+}
+
+/// The greatest boundary at or before a byte index.
+pub fn floor(text: &str, byte: usize) -> usize {
+    let last = byte.min(text.len());
+    (0..=last).rev().find(|&at| text.is_char_boundary(at)).unwrap()
+}
+
+/// Where the chars or the line breaks of a text end, in order.
+fn ends(scheme: Scheme, text: &str) -> Vec<usize> {
+    let is_end = |&(at, char): &(usize, char)| match (scheme, char) {
+        (Scheme::Chars, _) | (_, '\n') => true,
+        (Scheme::Crlf | Scheme::Lines, '\r') => !text[at..].starts_with("\r\n"),
+        (Scheme::Lines, char) => "\u{B}\u{C}\u{85}\u{2028}\u{2029}".contains(char),
+        _ => false,
+    };
+    let chars = text.char_indices().filter(is_end);
+    chars.map(|(at, char)| at + char.len_utf8()).collect()
+}
+
+/// How many units a text has.
+fn units(encoding: Encoding, text: &str) -> usize {
+    match encoding {
+        Encoding::Utf8 => text.len(),
+        Encoding::Utf16 => text.encode_utf16().count(),
+        Encoding::Utf32 => text.chars().count(),
+    }
+}
+
+/// The greatest boundary with at most so many units before it.
+fn boundary_within(encoding: Encoding, text: &str, most: usize) -> usize {
+    let mut taken = 0;
+    let fits = |char: &char| {
+        taken += units(encoding, char.encode_utf8(&mut [0; 4]));
+        taken <= most
+    };
+    text.chars().take_while(fits).map(char::len_utf8).sum()
+}
+
+pub fn count(scheme: Scheme, text: &str) -> usize {
+    match scheme {
+        Scheme::Utf16 => units(Encoding::Utf16, text),
+        _ => ends(scheme, text).len(),
+    }
+}
+
+pub fn from_byte_idx(scheme: Scheme, text: &str, byte: usize) -> usize {
+    match scheme {
+        Scheme::Utf16 => units(Encoding::Utf16, &text[..floor(text, byte)]),
+        _ => ends(scheme, text).into_iter().filter(|&end| end <= byte).count(),
+    }
+}
+
+pub fn to_byte_idx(scheme: Scheme, text: &str, index: usize) -> usize {
+    match (scheme, index) {
+        (Scheme::Utf16, _) => boundary_within(Encoding::Utf16, text, index),
+        (_, 0) => 0,
+        _ => ends(scheme, text).get(index - 1).copied().unwrap_or(text.len()),
+    }
+}
+
+/// Where a line begins, by the protocol's rules, and where its content ends.
+pub fn line(text: &str, line: usize) -> (usize, usize) {
+    let start = to_byte_idx(Scheme::Crlf, text, line);
+    let content = text[start..].split(['\r', '\n']).next().unwrap();
+    (start, start + content.len())
+}
+
+pub fn line_end(text: &str, index: usize) -> usize {
+    line(text, index).1
+}
+
+pub fn position_of(encoding: Encoding, text: &str, byte: usize) -> Position {
+    let index = from_byte_idx(Scheme::Crlf, text, byte);
+    let (start, end) = line(text, index);
+    let character = units(encoding, &text[start..floor(text, byte).min(end)]);
+    Position { line: index, character }
+}
+
+pub fn byte_of(encoding: Encoding, text: &str, position: Position) -> usize {
+    if position.line > count(Scheme::Crlf, text) {
+        return text.len();
+    }
+    let (start, end) = line(text, position.line);
+    start + boundary_within(encoding, &text[start..end], position.character)
+}
+
+pub fn exact_byte_of(encoding: Encoding, text: &str, position: Position) -> Option<usize> {
+    let byte = byte_of(encoding, text, position);
+    (position_of(encoding, text, byte) == position).then_some(byte)
+}
