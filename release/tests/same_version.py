@@ -19,6 +19,7 @@ PLACES = {
     "Cargo.toml": r'^version = "(.*)"$',
     "bindings/c/include/str_indices.h": r'^#define STR_INDICES_VERSION "(.*)"$',
     "bindings/c/include/str_rope.h": r'^#define STR_ROPE_VERSION "(.*)"$',
+    "bindings/c/include/str_index.h": r'^#define STR_INDEX_VERSION "(.*)"$',
     BY_HAND: r"^## ([0-9.]+)",
 }
 

@@ -15,11 +15,11 @@ PARAMETER = re.compile(r"(\w+): ([^,]+)")
 # how C says a type of Rattle's; a struct has its name in C after the library's, and the allocator takes no bytes
 C_TYPES = {
     "&[u8]": "const char *, size_t", "&mut [u8]": "char *, size_t", "usize": "size_t", "bool": "bool", "()": "void",
-    "&mut Slot": "str_rope *",
+    "&mut Slot": "str_rope *", "&Index<'_>": "const str_index *",
 }
 ALLOCATOR = "Global"
-# a number of 32 bits is an enum in C: by the parameter's name, and of a result
-ENUMS = {"scheme": "str_rope_scheme", "encoding": "str_rope_encoding", "result": "str_rope_status"}
+# a number of 32 bits is an enum of the library's: by the parameter's name, and of a result
+ENUMS = {"scheme": "scheme", "encoding": "encoding", "result": "status"}
 
 
 class Function(NamedTuple):
@@ -64,9 +64,12 @@ def build(tally, script, *words):
 STR_INDICES = Library(
     "str_indices", "str_indices_c", "build_library", (Function("str_indices_is_wide", "bool", "size_t"),))
 STR_ROPE = Library("str_rope", "text_rope_c", "build_rope", ())
+STR_INDEX = Library("str_index", "text_index_c", "build_index", (
+    Function("str_index_make", "str_index_status", "str_index **, const char *, size_t"),
+    Function("str_index_free", "void", "str_index *")))
 
 # those that are built here
-LIBRARIES = [library for library in [STR_INDICES, STR_ROPE] if library.is_here()]
+LIBRARIES = [library for library in [STR_INDICES, STR_ROPE, STR_INDEX] if library.is_here()]
 HEADERS = STR_INDICES.headers()
 PREFIX = "str_indices_"
 
@@ -85,17 +88,17 @@ def declared(library=STR_INDICES):
     return {name: Function(name, result.strip(), types_of(parameters)) for result, name, parameters in found}
 
 
-def c_type(name, rattle):
+def c_type(library, name, rattle):
     """How C says a type of Rattle's, of a parameter of that name or of the result."""
     if rattle == "u32":
-        return ENUMS[name]
+        return f"{library.name}_{ENUMS[name]}"
     return C_TYPES.get(rattle, "str_indices_" + re.sub(r"(?<!^)(?=[A-Z])", "_", rattle).lower())
 
 
-def c_types(parameters):
+def c_types(library, parameters):
     """How C says the types of an export's parameters."""
     named = [(name, rattle.strip()) for name, rattle in PARAMETER.findall(parameters)]
-    return ", ".join(c_type(name, rattle) for name, rattle in named if rattle != ALLOCATOR)
+    return ", ".join(c_type(library, name, rattle) for name, rattle in named if rattle != ALLOCATOR)
 
 
 def exported(library=STR_INDICES):
@@ -106,7 +109,8 @@ def exported(library=STR_INDICES):
     for path in sorted((ROOT / "crates" / library.crate / "src").glob("**/*.rt")):
         for word, parameters, result in export.findall(path.read_text(encoding="utf-8")):
             name = f"{library.name}_{word}"
-            functions[name] = Function(name, c_type("result", result.strip() or "()"), c_types(parameters))
+            functions[name] = Function(
+                name, c_type(library, "result", result.strip() or "()"), c_types(library, parameters))
     return functions
 
 

@@ -14,7 +14,7 @@ VERSION = (ROOT / "VERSION").read_text(encoding="utf-8").strip()
 STORE = "lib/pauskern"
 # the folders in which a compiler, a linker and pkg-config look
 SEEN = ["include", "lib", "lib/pkgconfig"]
-BUILDERS = {"build_library": "libstr_indices.a", "build_rope": "libstr_rope.a"}
+BUILDERS = {"build_library": "libstr_indices.a", "build_rope": "libstr_rope.a", "build_index": "libstr_index.a"}
 
 # a builder that makes a file which says what it was told; and a compiler that hands the archive on
 BUILDER = """#!/bin/sh
@@ -104,6 +104,7 @@ def try_words(tally, copy, folder):
         ([p, "--only"], 2, "--only has no library", "--only and no library"),
         ([p, "--only", "str"], 2, "no such library: str.", "--only and a library that it has not"),
         ([p, "--only", "str_rope", "--narrow"], 2, "--narrow is for str_indices", "--narrow for the rope alone"),
+        ([p, "--narrow", "--only", "str_index"], 2, "--narrow is for str_indices", "--narrow for the index alone"),
         (["--uninstall", p, "--narrow"], 2, "no other word goes with it", "--uninstall with another word"),
         ([below], 1, "file cannot be written", "a prefix that is no folder"),
         ([folder / "taken"], 1, "str_rope.h already", "a folder where a file is to stand"),
@@ -151,7 +152,7 @@ def try_again(tally, copy, folder):
     (prefix / "lib").mkdir(parents=True)
     ends(tally, copy.install(prefix, SAYS="one"), 0, str(prefix), "a prefix with a blank")
     one = stands(prefix)
-    tally.result(len(one) == 13 and all(one.values()), f"install puts {len(one)} files, and none is empty")
+    tally.result(len(one) == 19 and all(one.values()), f"install puts {len(one)} files, and none is empty")
     (prefix / "include/mine.h").touch()
     before = files(prefix)
     ends(tally, copy.install(prefix, CC="no_such_compiler"), 1, "no_such_compiler", "a compiler that is not there")
@@ -161,7 +162,7 @@ def try_again(tally, copy, folder):
     two = stands(prefix)
     changed = {path for path in one if two.get(path) != one[path]}
     right = changed == {"lib/libstr_indices.a", *(f"lib/libstr_indices.so{end}" for end in ["", ".0", f".{VERSION}"])}
-    tally.result(right and copy.built() == built + 1, "--only builds one library, and the other stays as it was")
+    tally.result(right and copy.built() == built + 1, "--only builds one library, and the others stay as they were")
     tally.result(b"two --narrow" in two["lib/libstr_indices.a"], "--narrow is handed to what builds the library")
     ends(tally, copy.install(prefix, "--uninstall"), 0, str(prefix), "--uninstall")
     left = {"include", "include/mine.h", "lib"}
@@ -171,11 +172,11 @@ def try_again(tally, copy, folder):
 def try_alone(tally, copy, folder):
     """Each library alone: a program that includes its header finds all that it wants."""
     prefix = folder / "alone"
-    for library in ["str_indices", "str_rope"]:
+    for library in ["str_indices", "str_rope", "str_index"]:
         copy.install(prefix, "--only", library)
         command = ["cc", "-fsyntax-only", "-Wall", "-Werror", f"-I{prefix}/include", "-x", "c", "-"]
         done = subprocess.run(command, input=f"#include <{library}.h>\n", capture_output=True, text=True)
-        others = {path for path in stands(prefix) if path.startswith("lib/lib") and library not in path}
+        others = {path for path in stands(prefix) if path.startswith("lib/lib") and f"lib{library}." not in path}
         if not tally.result(done.returncode == 0 and not others, f"{library} alone has the headers that it wants"):
             print(done.stderr, others)
         copy.install("--uninstall", prefix)
@@ -214,7 +215,7 @@ def try_links(tally, copy, folder):
         (other / name).mkdir(parents=True)
         (prefix / name).symlink_to(other / name)
     ends(tally, copy.install(prefix), 0, str(prefix), "folders that are links to others")
-    tally.result(len(stands(prefix)) == 13, "what is put through such links is found")
+    tally.result(len(stands(prefix)) == 19, "what is put through such links is found")
     copy.install("--uninstall", prefix)
     tally.result(not files(other) - {"include", "lib"}, "--uninstall takes all through such links")
 

@@ -1,14 +1,14 @@
 #!/usr/bin/env python3
 """Builds and runs what C and C++ have of the library, as a user would.
 
-The tables of worked answers and of positions and the example, compiled as C and as C++ with every warning an error; the
-tables by each half of the library, and the worked answers by the library without its wide half; the example's output; and
-all of these once more from installed prefixes by pkg-config, over the shared object and the archive, and the example by
-CMake, where these commands are there. Texts of all lengths beside a plain model, which end and begin at pages that may
+The tables of worked answers and of positions and the examples, compiled as C and as C++ with every warning an error; the
+tables by each half of the library, and the worked answers by the library without its wide half; what the examples print;
+and all of these once more from installed prefixes by pkg-config, over the shared object and the archive, and the examples
+by CMake, where these commands are there. Texts of all lengths beside a plain model, which end and begin at pages that may
 not be read. Then the headers and the types of the functions, which half answers on which processor, what install does,
-also where it is killed or the disk is full, each function exchanged for each other of its shape, and the rope, as the
-modules tell which try that. With --large the rope has texts of 100 MB. The last line printed is 'N passed, M failed', with
-what is left out.
+also where it is killed or the disk is full, each function exchanged for each other of its shape, the rope and the index,
+as the modules tell which try that. With --large the rope has texts of 100 MB. The last line printed is 'N passed, M
+failed', with what is left out.
 """
 import os
 import pathlib
@@ -22,9 +22,10 @@ import tempfile
 ROOT = pathlib.Path(__file__).resolve().parents[3]
 sys.path.insert(0, str(ROOT / "scripts/lib"))
 
-from c_exports import LIBRARIES, STR_INDICES, STR_ROPE, build, declared, pairs  # noqa: E402
+from c_exports import LIBRARIES, STR_INDEX, STR_INDICES, STR_ROPE, build, declared, pairs  # noqa: E402
 from c_halves import copy_for_builds, try_builds, try_halves  # noqa: E402
 from c_headers import try_headers  # noqa: E402
+from c_indexes import INDEXES, try_indexes  # noqa: E402
 from c_install import try_install  # noqa: E402
 from c_ropes import ROPES, try_ropes  # noqa: E402
 from exchanges import exchanging_library, try_exchanges  # noqa: E402
@@ -32,9 +33,11 @@ from install_faults import try_faults  # noqa: E402
 from halves import ASKED, halves, has_wide_half, missing  # noqa: E402
 from line_and_column import ROWS, check_example  # noqa: E402
 from page_lines import links_statically  # noqa: E402
+from report_span import check_reports  # noqa: E402
 from tally import Tally, least, sums_of  # noqa: E402
 
 EXAMPLE = ROOT / "bindings/c/examples/line_and_column.c"
+REPORT = ROOT / "bindings/c/examples/report_span.c"
 WORKED_ANSWERS = ROOT / "bindings/c/tests/worked_answers.c"
 POSITIONS = ROOT / "bindings/c/tests/positions.c"
 GUARDED = ROOT / "bindings/c/tests/guarded_texts.c"
@@ -158,13 +161,18 @@ def check_shared_object(prefix, library):
 # how a program is linked with the library of each kind: the words for pkg-config, and those for the compiler
 LINKED = {"shared": ("", ""), "static": ("--static", "-static")}
 # the programs over what is installed, and the library of each
-INSTALLED = {WORKED_ANSWERS: STR_INDICES, POSITIONS: STR_INDICES, EXAMPLE: STR_INDICES, ROPES: STR_ROPE}
+INSTALLED = {
+    WORKED_ANSWERS: STR_INDICES, POSITIONS: STR_INDICES, EXAMPLE: STR_INDICES, ROPES: STR_ROPE, INDEXES: STR_INDEX,
+    REPORT: STR_INDEX,
+}
 
 
 def run_as_installed(prefix, source, program, kind, environment):
     """The program, with the library of that kind below the prefix."""
     if source is EXAMPLE:
         check_example(tally, program, f"over the {kind} library", environment)
+    elif source is REPORT:
+        check_reports(tally, [program], f"over the {kind} library", env=environment)
     elif source is WORKED_ANSWERS:
         half, texts = halves(prefix / "lib/libstr_indices.a")[-1]
         asked = dict(environment, STR_INDICES_HALF=half["STR_INDICES_HALF"])
@@ -246,14 +254,14 @@ def run_exchanged(library, folder):
             try_exchanges(tally, programs, pairs(), "wide", "C by the wide half")
 
 
-def run_all(library, rope, folder, size):
+def run_all(archives, folder, size):
+    library = archives[STR_INDICES]
     for language, command in COMPILERS.items():
         compile_and_run(language, command, library, folder)
     run_guarded(library, folder)
     link_with_the_c_library_alone(library, folder)
     run_installed(folder)
-    archives = {STR_INDICES: library, STR_ROPE: rope}
-    try_headers(tally, {library: archives[library] for library in LIBRARIES if archives[library]})
+    try_headers(tally, archives)
     narrow = folder / "narrow/lib/libstr_indices.a"
     try_halves(tally, library, narrow, folder / "worked_answers_c", folder)
     (folder / "builds").mkdir()
@@ -263,18 +271,21 @@ def run_all(library, rope, folder, size):
     try_install(tally, folder / "installs")
     try_faults(tally, folder / "installs/faults")
     run_exchanged(library, folder)
-    if rope:
-        try_ropes(tally, rope, folder / "ropes", size)
+    if STR_ROPE in archives:
+        try_ropes(tally, archives[STR_ROPE], folder / "ropes", size)
+    if STR_INDEX in archives:
+        try_indexes(tally, archives[STR_INDEX], folder / "indexes")
 
 
 def main():
     size = "large" if sys.argv[1:] == ["--large"] else "usual"
     example = build(tally, "build_example")
-    rope = build(tally, STR_ROPE.script) if STR_ROPE in LIBRARIES else None
+    archives = {library: build(tally, library.script) for library in LIBRARIES if library is not STR_INDICES}
     if example:
         check_example(tally, example, "by build_example")
+        archives[STR_INDICES] = example.parent / "libstr_indices.a"
         with tempfile.TemporaryDirectory() as folder:
-            run_all(example.parent / "libstr_indices.a", rope, pathlib.Path(folder), size)
+            run_all({library: archive for library, archive in archives.items() if archive}, pathlib.Path(folder), size)
     return tally.end()
 
 

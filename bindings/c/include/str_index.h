@@ -1,0 +1,181 @@
+/*
+ * An index beside a UTF-8 text that does not change. It counts the chars,
+ * UTF-16 code units and line breaks of the text, and converts between those
+ * indices, byte indices and the positions of the Language Server Protocol 3.17,
+ * without going over the text.
+ *
+ * Each question is proved to answer by a definition, for every text, index and
+ * position. The answers are those of str_indices.h and
+ * str_indices_positions.h for the whole text.
+ *
+ *     str_index *index;
+ *     if (str_index_make(&index, text, len) != STR_INDEX_OK) ...
+ *     size_t lines = str_index_count(index, STR_INDEX_CRLF) + 1;
+ *     str_index_free(index);
+ *
+ * All indices are byte indices where nothing else is said, and begin at 0. A
+ * char is a Unicode scalar value.
+ *
+ * What the caller owes, and what nothing checks:
+ *
+ *   - An index keeps the address of its text, and no copy. The `len` bytes from
+ *     `text` on may be read, and no thread writes to them, from the call that
+ *     makes the index until it is freed. `text` is not null, even where `len`
+ *     is 0, and `len` is at most PTRDIFF_MAX. That the bytes are UTF-8 is
+ *     checked.
+ *   - An index that is handed over was made by str_index_make, answered
+ *     STR_INDEX_OK, and was not freed since. No pointer is null, but for the
+ *     one that str_index_free takes.
+ *   - An index is freed once, and in no other call meanwhile or afterwards.
+ *     Any number of threads may ask one index at once: a question writes
+ *     nothing. An index may be freed by another thread than made it.
+ *   - calloc and free are those of one allocator, and align a block as the C
+ *     standard says.
+ *   - An index is not made and not freed in a signal handler, or in the forked
+ *     child of a process with threads.
+ *
+ * Where one of these is broken, what a call does is undefined. The library is
+ * built for Linux on x86-64 processors from the level x86-64-v2 on (with
+ * SSE4.2), and does not ask whether it runs on one.
+ *
+ * What a call costs: marks stand in the text, one for each 1,024 bytes, with
+ * the counts of what is before them. To make an index goes over the text twice,
+ * once for whether it is UTF-8. A count takes one step. A conversion from a
+ * byte looks at two marks, and one to a byte halves the marks; each reads at
+ * most 1,028 bytes of the text. A line or its end takes two conversions at
+ * most, a position five, and a range eight.
+ *
+ * An index is one block of memory: 48 bytes for each mark, and 128 besides.
+ */
+#ifndef STR_INDEX_H
+#define STR_INDEX_H
+
+#include <stdbool.h>
+#include <stddef.h>
+#include <stdint.h> /* SIZE_MAX */
+
+#include <str_indices_positions.h> /* the types of positions */
+
+/* The version of the header; that of the library is at the end of its file. */
+#define STR_INDEX_VERSION "0.4.4"
+
+#ifdef __cplusplus
+extern "C" {
+#endif
+
+/* An index. What is in it is the library's own. */
+typedef struct str_index str_index;
+
+/* What is counted. The breaks of the last three are those of lines_lf,
+ * lines_crlf and lines in str_indices.h. A greater number counts as
+ * STR_INDEX_LINES. */
+typedef enum str_index_scheme {
+    STR_INDEX_CHARS, /* chars */
+    STR_INDEX_UTF16, /* UTF-16 code units */
+    STR_INDEX_LF,    /* line breaks: LF alone */
+    STR_INDEX_CRLF,  /* line breaks: LF, CR, and CR LF, which is one break */
+    STR_INDEX_LINES  /* line breaks: all those of Unicode */
+} str_index_scheme;
+
+/* What an offset on a line counts. The first is the protocol's default. A
+ * greater number counts as STR_INDEX_ENCODING_UTF32. */
+typedef enum str_index_encoding {
+    STR_INDEX_ENCODING_UTF16, /* UTF-16 code units */
+    STR_INDEX_ENCODING_UTF8,  /* bytes */
+    STR_INDEX_ENCODING_UTF32  /* chars */
+} str_index_encoding;
+
+/* Whether an index was made. */
+typedef enum str_index_status {
+    STR_INDEX_OK,        /* it was */
+    STR_INDEX_NO_MEMORY, /* memory was refused */
+    STR_INDEX_NOT_UTF8   /* the bytes handed over are not UTF-8 */
+} str_index_status;
+
+/*
+ * The index.
+ */
+
+/* Makes the index of a text, for which `*index` then stands. It is NULL where
+ * the status is another than STR_INDEX_OK. Takes time in the length of the
+ * text. May answer STR_INDEX_NO_MEMORY, and then nothing is said of the bytes,
+ * and STR_INDEX_NOT_UTF8. */
+str_index_status str_index_make(str_index **index, const char *text,
+                                size_t len);
+
+/* Frees an index, and leaves its text. NULL is none, and nothing is done. */
+void str_index_free(str_index *index);
+
+/*
+ * Questions, each for every index, position and range.
+ */
+
+/* How many bytes the text has. */
+size_t str_index_len(const str_index *index);
+
+/* How many chars, UTF-16 code units or line breaks the text has. */
+size_t str_index_count(const str_index *index, str_index_scheme scheme);
+
+/* From a byte index to a char, code unit or line index: how many of them end
+ * at or before the byte. A byte inside a char or a break belongs to that char,
+ * or to the line that the break ends. Any byte index past the end gives all. */
+size_t str_index_from_byte_idx(const str_index *index, str_index_scheme scheme,
+                               size_t byte_idx);
+
+/* From a char, code unit or line index to the byte index where that char, the
+ * char of that unit, or that line begins. An index past the last gives the
+ * length of the text in bytes. */
+size_t str_index_to_byte_idx(const str_index *index, str_index_scheme scheme,
+                             size_t idx);
+
+/* Whether a byte index is between two chars, or at the beginning or the end of
+ * the text. One past the end is not. */
+bool str_index_is_char_boundary(const str_index *index, size_t byte_idx);
+
+/*
+ * Lines and positions of a language server, as in str_indices_positions.h: a
+ * line ends in LF, CR or CR LF, and a position is a line and an offset on it,
+ * in units of the encoding.
+ */
+
+/* The byte index where the content of a line ends: before its break, or the
+ * length of the text in bytes where it is the last line or past it. */
+size_t str_index_line_end(const str_index *index, size_t line_idx);
+
+/* The bytes of the content of a line, without its break. Past the last line
+ * they are none, at the end of the text. */
+str_indices_bytes str_index_line(const str_index *index, size_t line_idx);
+
+/* From a byte index to its position: the byte's line, and the units from that
+ * line's beginning to the byte. A byte inside a char has the position where
+ * the char begins, the byte between CR and LF that of the line's end, and a
+ * byte past the end that of the text's end. */
+str_indices_position str_index_position_of(const str_index *index,
+                                           str_index_encoding encoding,
+                                           size_t byte_idx);
+
+/* From a position to the byte index where the char at it begins. An offset
+ * inside a char belongs to it. An offset past the end of the line gives the
+ * line's end, before its break, and a line past the last one the length of the
+ * text in bytes. */
+size_t str_index_byte_of(const str_index *index, str_index_encoding encoding,
+                         str_indices_position position);
+
+/* The byte index of a position that names a place: as str_index_byte_of, but
+ * SIZE_MAX where the text has no such line, or the offset is past the end of
+ * the line or inside a char. */
+size_t str_index_exact_byte_of(const str_index *index,
+                               str_index_encoding encoding,
+                               str_indices_position position);
+
+/* The byte indices of a range, each as str_index_byte_of answers it; SIZE_MAX
+ * twice where the range's end is before its start. */
+str_indices_bytes str_index_byte_range(const str_index *index,
+                                       str_index_encoding encoding,
+                                       str_indices_range range);
+
+#ifdef __cplusplus
+}
+#endif
+
+#endif
