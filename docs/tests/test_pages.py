@@ -15,21 +15,23 @@ ROOT = pathlib.Path(__file__).resolve().parents[2]
 sys.path.insert(0, str(ROOT / "scripts/lib"))
 
 from page_lines import blocks, environment, try_lines  # noqa: E402
+from report_span import check_reports  # noqa: E402
 from tally import Tally  # noqa: E402
 
 LEFT_OUT = shutil.ignore_patterns(".git", "out", "target", "__pycache__", "Cargo.lock", "refusals")
 # each page, and the folder in which its lines run
 PAGES = {
     "README.md": ".", "bindings/c/README.md": ".",
-    **{f"bindings/{name}/README.md": f"bindings/{name}" for name in ("rust", "positions", "rope")},
+    **{f"bindings/{name}/README.md": f"bindings/{name}" for name in ("rust", "positions", "rope", "index")},
 }
 LANGUAGES = {"sh", "c", "toml", "rust", "text"}
 # the project that an entry goes into; one that replaces the original is for a project that has that
 PROJECT = '[package]\nname = "project"\nversion = "0.1.0"\nedition = "2021"\n\n'
 TAKES_ORIGINAL = '[dependencies]\nstr_indices = "0.4"\n\n'
 EMPTY = "fn main() {}\n"
-# what the programs of pages print
+# what the program of a page prints, where it asks for nothing; that of the index has rows of its own
 PRINTED = {"bindings/rope/README.md": "one\nand 🐸 two\n"}
+REPORTS = "bindings/index/README.md"
 
 tally = Tally()
 
@@ -52,10 +54,13 @@ def try_entry(page, found, folder):
     (project / "src").mkdir(parents=True)
     (project / "Cargo.toml").write_text(PROJECT + TAKES_ORIGINAL * ("[patch" in entry) + entry, encoding="utf-8")
     (project / "src/main.rs").write_text(program, encoding="utf-8")
-    command = ["cargo", "run", "--quiet", "--offline"]
-    done = subprocess.run(command, cwd=project, env=environment(folder, os.environ["PATH"]), capture_output=True, text=True)
-    right = done.returncode == 0 and done.stdout == PRINTED.get(page, "")
-    if not tally.result(right, f"{page}: its entry in a project{', with its program' if program != EMPTY else ''}"):
+    command, run = ["cargo", "run", "--quiet", "--offline"], environment(folder, os.environ["PATH"])
+    line = f"{page}: its entry in a project{', with its program' if program != EMPTY else ''}"
+    if page == REPORTS:
+        check_reports(tally, [*command, "--"], f"by {line}", cwd=project, env=run)
+        return
+    done = subprocess.run(command, cwd=project, env=run, capture_output=True, text=True)
+    if not tally.result(done.returncode == 0 and done.stdout == PRINTED.get(page, ""), line):
         print(done.returncode, done.stdout, done.stderr)
 
 

@@ -46,22 +46,25 @@ class Part(NamedTuple):
 
 
 FOR_C = ("str_indices_c", "str_indices_c_wide", "text_rope_c")
+ALL_FOR_C = (*FOR_C, "text_index_c")
 BINUTILS = ("ar", "ld", "nm", "objcopy", "readelf")
 SHELL = ("bash", "sh", "install", "cmp")
 RUST = ("cargo", "rustc", "cc", "pkg-config")
 # what builds the libraries for C
 FUNCTIONS = tuple(f"bindings/c/{name}" for name in ("build_library", "choose_half.c", "include/*"))
-ROPE = tuple(f"bindings/c/{name}" for name in ("build_rope", "heap.c", "include/*"))
+ROPE = tuple(f"bindings/c/{name}" for name in ("build_rope", "build_object", "heap.c", "include/*"))
+INDEX = tuple(f"bindings/c/{name}" for name in ("build_index", "build_object", "index.c", "include/*"))
 # the workspace of cargo, of which a part needs all members
 CARGO_CRATES = ("Cargo.toml", "bench/Cargo.toml", "bench/build.rs", "bench/src/**/*", "bench/plain/**/*",
-                "bindings/find_library.rs", *(f"bindings/{name}/**/*" for name in ("rust", "positions", "rope", "original")))
+                "bindings/find_library.rs",
+                *(f"bindings/{name}/**/*" for name in ("rust", "positions", "rope", "index", "original")))
 # what scripts/release packs and runs beside these
 RELEASED = (
     "bindings/c/install", "bindings/c/examples/*", "bindings/web/*", "release/cmake/*", "release/examples/**/*",
     "examples/rust/**/*", "examples/language_server/*", "examples/language_server/src/*", "docs/man/*",
     "VERSION", "LICENSE-*", "NOTICE", "scripts/release",
     *(f"{SHARED}/{name}.py" for name in ("man_pages", "debian_crates", "crate_copies")),
-    *(f"bindings/{name}/README.md" for name in ("web", "rust", "positions", "rope")),
+    *(f"bindings/{name}/README.md" for name in ("web", "rust", "positions", "rope", "index")),
     *(f"docs/{name}.md" for name in ("DEFINITIONS", "PROVED")),
     "release/README.md", "CHANGELOG.md", "SECURITY.md",
 )
@@ -71,16 +74,19 @@ PARTS = (
          ("crates/text_rope/tests/*.rt.txt",)),
     Part("crates/idx/tests/test_program.py", 60, ("idx",), (), SHELL),
     Part("crates/idx/tests/failing_calls.py", 60, ("idx",), ("crates/idx/tests/failing_calls.c",), ("cc",)),
-    Part("bindings/c/tests/test_c.py", 60, FOR_C, ("bindings/c/**/*", "VERSION"),
+    Part("bindings/c/tests/test_c.py", 60, ALL_FOR_C, ("bindings/c/**/*", "VERSION"),
          (*SHELL, *BINUTILS, "cc", "c++", "pkg-config", "cmake", "make", "valgrind", "qemu-x86_64")),
-    Part("docs/tests/test_pages.py", 60, (*FOR_C, "idx"),
-         (*FUNCTIONS, *ROPE, *CARGO_CRATES, "bindings/c/install", "bindings/c/examples/*", "examples/rust/**/*", "VERSION",
-          "scripts/test", "README.md", *(f"bindings/{name}/README.md" for name in ("c", "rust", "positions", "rope"))),
+    Part("docs/tests/test_pages.py", 60, (*ALL_FOR_C, "idx"),
+         (*FUNCTIONS, *ROPE, *INDEX, *CARGO_CRATES, "bindings/c/install", "bindings/c/examples/*", "examples/rust/**/*",
+          "VERSION", "scripts/test", "README.md",
+          *(f"bindings/{name}/README.md" for name in ("c", "rust", "positions", "rope", "index"))),
          (*SHELL, *BINUTILS, *RUST, "c++", "cmake", "make")),
-    Part("release/tests/test_release.py", 90, (*FOR_C, "position_mapper", "idx"), (*FUNCTIONS, *ROPE, *CARGO_CRATES, *RELEASED),
+    Part("release/tests/test_release.py", 90, (*ALL_FOR_C, "position_mapper", "idx"),
+         (*FUNCTIONS, *ROPE, *INDEX, *CARGO_CRATES, *RELEASED),
          (*SHELL, *BINUTILS, *RUST, "c++", "cmake", "make", "node", "groff", "git", "tar", "sha256sum")),
-    Part("bindings/rust/tests/test_rust.py", 60, FOR_C, (*FUNCTIONS, *ROPE, *CARGO_CRATES, "VERSION", "examples/rust/**/*",
-         "bench/run", "bench/picture.py"), (*SHELL, *BINUTILS, *RUST)),
+    Part("bindings/rust/tests/test_rust.py", 60, ALL_FOR_C,
+         (*FUNCTIONS, *ROPE, *INDEX, *CARGO_CRATES, "VERSION", "examples/rust/**/*", "bench/run", "bench/picture.py"),
+         (*SHELL, *BINUTILS, *RUST)),
     Part("bindings/web/tests/test_browser.py", 60, ("str_indices_c", "position_mapper"),
          ("bindings/web/**/*", "bindings/web/README.md", "VERSION", f"{SHARED}/crate_copies.py"),
          ("node", "chromium", "chromium-browser", "google-chrome", "bash", "tsc", "esbuild", "rollup")),

@@ -3,11 +3,11 @@
 
 The tests and the doc examples of bindings/rust, by each half of the library, and once over the library without its wide
 half, and the message where a library is missing; outside the repository, over installed libraries which pkg-config
-finds; those of bindings/positions, of bindings/rope, of bindings/original and of the benchmark; each function of
-str_indices exchanged for each other one of its shape, which a worked answer must see; the example of a project that
-uses bindings/rust; a program without std; and the benchmark, one round over small texts, whose times nobody looks at. The
-original is compared where the environment variable STR_INDICES_ORIGINAL names its folder. Where cargo is not on the path
-nothing is tried. The last line printed is 'N passed, M failed', with what is left out.
+finds; those of bindings/positions, of bindings/rope, of bindings/index, of bindings/original and of the benchmark; each
+function of str_indices exchanged for each other one of its shape, which a worked answer must see; the example of a project
+that uses bindings/rust; a program without std; and the benchmark, one round over small texts, whose times nobody looks at.
+The original is compared where the environment variable STR_INDICES_ORIGINAL names its folder. Where cargo is not on the
+path nothing is tried. The last line printed is 'N passed, M failed', with what is left out.
 """
 import json
 import os
@@ -32,9 +32,10 @@ POSITIONS = ROOT / "bindings/positions"
 EXAMPLE = ROOT / "examples/rust"
 NO_STD = BINDINGS / "tests/no_std"
 ROPE = ROOT / "bindings/rope"
+INDEX = ROOT / "bindings/index"
 
 # each folder with tests of its own, beside that of the library's functions, which has them by each half
-OTHERS = [POSITIONS, ROPE, ROOT / "bindings/original", ROOT / "bench"]
+OTHERS = [POSITIONS, ROPE, INDEX, ROOT / "bindings/original", ROOT / "bench"]
 
 TEST_RESULT = re.compile(r"^test result: \w+\. (\d+) passed; (\d+) failed", re.MULTILINE)
 COMPARED = re.compile(r"^random texts: .* (\d+) answers, none differs.*", re.MULTILINE)
@@ -101,7 +102,7 @@ def install(library, prefix):
 def test_outside(libraries, folder):
     """The workspace in a folder where there is nothing else of the repository, over the installed libraries."""
     if not shutil.which("pkg-config"):
-        tally.leave_out(2, "the crates over installed libraries, as pkg-config is not on the path")
+        tally.leave_out(3, "the crates over installed libraries, as pkg-config is not on the path")
         return
     for name in ["bindings", "bench"]:
         shutil.copytree(ROOT / name, folder / name)
@@ -110,7 +111,7 @@ def test_outside(libraries, folder):
         install(library, folder / "a prefix")
     search = str(folder / "a prefix/lib/pkgconfig")
     named = dict(os.environ, PKG_CONFIG_PATH=search)
-    for name in ["positions", "rope"]:
+    for name in ["positions", "rope", "index"]:
         done = cargo(folder / "bindings" / name, "test", env=named)
         right = right_tests(done.stdout) if done.returncode == 0 else 0
         if not tally.enough(f"tests of bindings/{name}", right, f"bindings/{name} outside the repository, by pkg-config"):
@@ -173,7 +174,7 @@ def test_benchmark():
         print(done.stdout + done.stderr)
 
 
-def test_all(library, rope, folder):
+def test_all(library, rope, index, folder):
     empty = folder / "empty"
     empty.mkdir()
     os.environ["CARGO_TARGET_DIR"] = str(folder / "target")
@@ -184,8 +185,9 @@ def test_all(library, rope, folder):
     test_without_the_wide_half()
     test_missing_library(BINDINGS, empty, library.name)
     test_missing_library(ROPE, library.parent / "narrow", rope.name)
+    test_missing_library(INDEX, library.parent / "narrow", index.name)
     test_others()
-    test_outside([library, rope], folder)
+    test_outside([library, rope, index], folder)
     test_exchanges(library, folder)
     test_example(folder / "target")
     test_no_std(folder / "target")
@@ -196,10 +198,10 @@ def main():
     if not shutil.which("cargo"):
         tally.leave_out(least("test_rust.py"), "cargo is not on the path")
     else:
-        library, rope = build(tally, "build_library"), build(tally, "build_rope")
-        if library and rope:
+        libraries = [build(tally, script) for script in ["build_library", "build_rope", "build_index"]]
+        if all(libraries):
             with tempfile.TemporaryDirectory() as folder:
-                test_all(library, rope, pathlib.Path(folder))
+                test_all(*libraries, pathlib.Path(folder))
     return tally.end()
 
 

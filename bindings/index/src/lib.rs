@@ -1,0 +1,36 @@
+//! An index beside a text that does not change: counts, conversions and positions of a language server, without going over
+//! the text for each.
+//!
+//! [`TextIndex::of`] goes over the text once, and keeps a mark for each 1,024 bytes, with the counts of what is before it.
+//! A question looks at marks, and reads at most 1,028 bytes of the text. The answers are those of the crates `str_indices`
+//! and `str_indices_positions` for the whole text, which are proved: each question is one call into a static library of
+//! proved functions.
+//!
+//! Every index and position has an answer, past the end too. Nothing panics, and only [`TextIndex::of`] takes memory.
+//!
+//! A tool knows places by bytes, and tells them to people and to editors:
+//!
+//! ```
+//! use str_indices_index::{Encoding, NoMemory, Position, Scheme, TextIndex};
+//!
+//! # fn main() -> Result<(), NoMemory> {
+//! let text = "let x = 1;\r\n🐸.push(\"世界\");\r\n";
+//! let index = TextIndex::of(text)?;
+//! assert_eq!(index.count(Scheme::Crlf), 2);
+//!
+//! let byte = text.find("世").unwrap();
+//! let position = index.position_of(Encoding::Utf16, byte);
+//! assert_eq!(position, Position { line: 1, character: 9 });
+//! assert_eq!(index.byte_of(Encoding::Utf16, position), byte);
+//! assert_eq!(index.line(position.line), "🐸.push(\"世界\");");
+//! # Ok(())
+//! # }
+//! ```
+#![no_std]
+
+mod index;
+mod library;
+mod positions;
+
+pub use index::{NoMemory, TextIndex};
+pub use str_indices_positions::{Encoding, Position, Range, Scheme};

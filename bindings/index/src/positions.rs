@@ -1,0 +1,89 @@
+//! Lines, and positions of the Language Server Protocol.
+use crate::library::*;
+use crate::TextIndex;
+use core::ops;
+use str_indices_positions::{Encoding, Position, Range};
+
+/// Lines, and positions of the Language Server Protocol 3.17, whose lines end in LF, CR or CR LF. The answers are those of the
+/// crate `str_indices_positions` for the whole text, which may be sliced at each byte index that is answered. Each asks two
+/// conversions for a line, five at most for a position, and eight for a range.
+///
+/// ```
+/// use str_indices_index::{Encoding, Position, Range, TextIndex};
+///
+/// # fn main() -> Result<(), str_indices_index::NoMemory> {
+/// let index = TextIndex::of("a\r\n🐸b")?;
+/// let (start, end) = (Position { line: 1, character: 2 }, Position { line: 1, character: 99 });
+/// assert_eq!(index.byte_of(Encoding::Utf16, start), 7);
+/// assert_eq!(index.position_of(Encoding::Utf8, 7), Position { line: 1, character: 4 });
+/// assert_eq!(index.byte_range(Encoding::Utf16, Range { start, end }), Some(7..8));
+/// # Ok(())
+/// # }
+/// ```
+impl<'a> TextIndex<'a> {
+    /// The content of a line, without its break. Past the last line it is empty, at the end of the text.
+    ///
+    /// ```
+    /// # fn main() -> Result<(), str_indices_index::NoMemory> {
+    /// let index = str_indices_index::TextIndex::of("one\r\ntwo\rmore")?;
+    /// assert_eq!([0, 1, 2, 3].map(|line| index.line(line)), ["one", "two", "more", ""]);
+    /// # Ok(())
+    /// # }
+    /// ```
+    pub fn line(&self, line_idx: usize) -> &'a str {
+        // SAFETY: as `library` says.
+        let bytes = unsafe { str_index_line(self.handle(), line_idx) };
+        &self.text()[bytes.start..bytes.end]
+    }
+
+    /// The byte index where the content of a line ends: before its break, or the length of the text in bytes where it is
+    /// the last line or past it.
+    pub fn line_end(&self, line_idx: usize) -> usize {
+        // SAFETY: as `library` says.
+        unsafe { str_index_line_end(self.handle(), line_idx) }
+    }
+
+    /// The position of a byte: its line, and the units from that line's beginning to the byte.
+    ///
+    /// A byte inside a char has the position where the char begins, the byte between CR and LF that of the line's end,
+    /// and a byte past the end that of the text's end.
+    pub fn position_of(&self, encoding: Encoding, byte_idx: usize) -> Position {
+        // SAFETY: as `library` says.
+        unsafe { str_index_position_of(self.handle(), encoding as u32, byte_idx) }
+    }
+
+    /// The byte index where the char at a position begins.
+    ///
+    /// An offset inside a char belongs to its char. An offset past the end of the line gives the line's end, before its
+    /// break, and a line past the last one the length of the text in bytes.
+    pub fn byte_of(&self, encoding: Encoding, position: Position) -> usize {
+        // SAFETY: as `library` says.
+        unsafe { str_index_byte_of(self.handle(), encoding as u32, position) }
+    }
+
+    /// The byte index of a position that names a place, or `None`: where the text has no such line, the offset is past
+    /// the end of the line, or the unit is inside a char.
+    ///
+    /// ```
+    /// use str_indices_index::{Encoding, Position, TextIndex};
+    ///
+    /// # fn main() -> Result<(), str_indices_index::NoMemory> {
+    /// let index = TextIndex::of("🐸b")?;
+    /// assert_eq!(index.exact_byte_of(Encoding::Utf16, Position { line: 0, character: 2 }), Some(4));
+    /// assert_eq!(index.exact_byte_of(Encoding::Utf16, Position { line: 0, character: 1 }), None);
+    /// # Ok(())
+    /// # }
+    /// ```
+    pub fn exact_byte_of(&self, encoding: Encoding, position: Position) -> Option<usize> {
+        // SAFETY: as `library` says.
+        let byte = unsafe { str_index_exact_byte_of(self.handle(), encoding as u32, position) };
+        (byte != NONE).then_some(byte)
+    }
+
+    /// The byte indices of a range, each as `byte_of` answers it, or `None` where its end is before its start.
+    pub fn byte_range(&self, encoding: Encoding, range: Range) -> Option<ops::Range<usize>> {
+        // SAFETY: as `library` says.
+        let bytes = unsafe { str_index_byte_range(self.handle(), encoding as u32, range) };
+        (bytes.start != NONE).then_some(bytes.start..bytes.end)
+    }
+}

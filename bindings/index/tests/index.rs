@@ -1,0 +1,308 @@
+//! Worked answers, and every index and position of texts beside the plain functions and a walk by `std`.
+#[path = "../../positions/tests/plain/mod.rs"]
+mod plain;
+
+use plain::{Numbers, ENCODINGS, SCHEMES};
+use std::error::Error as _;
+use std::thread;
+use str_indices::{chars, lines, lines_crlf, lines_lf, utf16};
+use str_indices_index::{Encoding, NoMemory, Position, Range, Scheme, TextIndex};
+
+/// 17 bytes: CR LF, a surrogate pair, CR, a char of three bytes, LF and LS.
+const BREAKS: &str = "a\r\n🐸b\rせ\n\u{2028}x";
+
+/// A line that ends in CR LF, one with a surrogate pair that ends in CR, one of a char of three bytes, an empty one, and
+/// one that no break ends.
+const LINES: &str = "a\r\n🐸b\rせ\n\nx";
+
+/// How far marks are from each other.
+const APART: usize = 1024;
+
+const MOST: usize = usize::MAX;
+
+fn index(text: &str) -> TextIndex<'_> {
+    TextIndex::of(text).unwrap()
+}
+
+#[test]
+fn worked_counts_and_conversions() {
+    let index = index(BREAKS);
+    assert_eq!((index.len(), index.is_empty(), index.text()), (17, false, BREAKS));
+    assert_eq!(SCHEMES.map(|scheme| index.count(scheme)), [10, 11, 2, 3, 4]);
+    for (byte, numbers) in [
+        (0, [0, 0, 0, 0, 0]),
+        (2, [2, 2, 0, 0, 0]),
+        (3, [3, 3, 1, 1, 1]),
+        (5, [3, 3, 1, 1, 1]),
+        (7, [4, 5, 1, 1, 1]),
+        (9, [6, 7, 1, 2, 2]),
+        (13, [8, 9, 2, 3, 3]),
+        (16, [9, 10, 2, 3, 4]),
+        (MOST, [10, 11, 2, 3, 4]),
+    ] {
+        assert_eq!(
+            SCHEMES.map(|scheme| index.from_byte_idx(scheme, byte)),
+            numbers,
+            "{byte}"
+        );
+    }
+    for (number, bytes) in [
+        (0, [0, 0, 0, 0, 0]),
+        (1, [1, 1, 3, 3, 3]),
+        (2, [2, 2, 13, 9, 9]),
+        (3, [3, 3, 17, 13, 13]),
+        (4, [7, 3, 17, 17, 16]),
+        (5, [8, 7, 17, 17, 17]),
+        (10, [17, 16, 17, 17, 17]),
+        (MOST, [17, 17, 17, 17, 17]),
+    ] {
+        assert_eq!(
+            SCHEMES.map(|scheme| index.to_byte_idx(scheme, number)),
+            bytes,
+            "{number}"
+        );
+    }
+    let boundaries: Vec<usize> = (0..=18).filter(|&byte| index.is_char_boundary(byte)).collect();
+    assert_eq!(boundaries, [0, 1, 2, 3, 7, 8, 9, 12, 13, 16, 17]);
+}
+
+#[test]
+fn worked_positions() {
+    let index = index(LINES);
+    for (byte, line, characters) in [
+        (0, 0, [0, 0, 0]),
+        (2, 0, [1, 1, 1]),
+        (6, 1, [0, 0, 0]),
+        (7, 1, [4, 2, 1]),
+        (8, 1, [5, 3, 2]),
+        (12, 2, [3, 1, 1]),
+        (13, 3, [0, 0, 0]),
+        (MOST, 4, [1, 1, 1]),
+    ] {
+        let positions = characters.map(|character| Position { line, character });
+        assert_eq!(
+            ENCODINGS.map(|encoding| index.position_of(encoding, byte)),
+            positions,
+            "{byte}"
+        );
+    }
+    for (line, character, bytes, exact) in [
+        (0, 1, [1, 1, 1], [Some(1), Some(1), Some(1)]),
+        (0, 2, [1, 1, 1], [None, None, None]),
+        (1, 1, [3, 3, 7], [None, None, Some(7)]),
+        (1, 2, [3, 7, 8], [None, Some(7), Some(8)]),
+        (1, 4, [7, 8, 8], [Some(7), None, None]),
+        (2, 1, [9, 12, 12], [None, Some(12), Some(12)]),
+        (5, 0, [15, 15, 15], [None, None, None]),
+        (MOST, MOST, [15, 15, 15], [None, None, None]),
+    ] {
+        let position = Position { line, character };
+        assert_eq!(
+            ENCODINGS.map(|encoding| index.byte_of(encoding, position)),
+            bytes,
+            "{position:?}"
+        );
+        assert_eq!(
+            ENCODINGS.map(|encoding| index.exact_byte_of(encoding, position)),
+            exact,
+            "{position:?}"
+        );
+    }
+}
+
+#[test]
+fn worked_lines_and_ranges() {
+    let index = index(LINES);
+    let contents = [0, 1, 2, 3, 4, 5, MOST].map(|line| index.line(line));
+    assert_eq!(contents, ["a", "🐸b", "せ", "", "x", "", ""]);
+    assert_eq!(
+        [0, 1, 2, 3, 4, 5, MOST].map(|line| index.line_end(line)),
+        [1, 8, 12, 13, 15, 15, 15]
+    );
+    let (start, end) = (Position { line: 1, character: 1 }, Position { line: 2, character: 2 });
+    let ranges = ENCODINGS.map(|encoding| index.byte_range(encoding, Range { start, end }));
+    assert_eq!(ranges, [Some(3..9), Some(3..12), Some(7..12)]);
+    let reversed = Range { start: end, end: start };
+    assert_eq!(
+        ENCODINGS.map(|encoding| index.byte_range(encoding, reversed)),
+        [None, None, None]
+    );
+}
+
+/// What the plain functions answer for a scheme: a count, an index of a byte, and a byte of an index.
+fn plain_answers(scheme: Scheme, text: &str, at: usize) -> (usize, usize, usize) {
+    match scheme {
+        Scheme::Chars => (
+            chars::count(text),
+            chars::from_byte_idx(text, at),
+            chars::to_byte_idx(text, at),
+        ),
+        Scheme::Utf16 => (
+            utf16::count(text),
+            utf16::from_byte_idx(text, at),
+            utf16::to_byte_idx(text, at),
+        ),
+        Scheme::Lf => (
+            lines_lf::count_breaks(text),
+            lines_lf::from_byte_idx(text, at),
+            lines_lf::to_byte_idx(text, at),
+        ),
+        Scheme::Crlf => (
+            lines_crlf::count_breaks(text),
+            lines_crlf::from_byte_idx(text, at),
+            lines_crlf::to_byte_idx(text, at),
+        ),
+        Scheme::Lines => (
+            lines::count_breaks(text),
+            lines::from_byte_idx(text, at),
+            lines::to_byte_idx(text, at),
+        ),
+    }
+}
+
+/// All questions at a number: that byte, that index, that line and offsets on it.
+fn try_number(index: &TextIndex, at: usize) {
+    let text = index.text();
+    for scheme in SCHEMES {
+        let (count, from, to) = plain_answers(scheme, text, at);
+        assert_eq!(index.count(scheme), count, "{scheme:?}");
+        assert_eq!(index.from_byte_idx(scheme, at), from, "{scheme:?} {at}");
+        assert_eq!(index.to_byte_idx(scheme, at), to, "{scheme:?} {at}");
+    }
+    assert_eq!(index.is_char_boundary(at), text.is_char_boundary(at), "{at}");
+    assert_eq!(index.line_end(at), str_indices_positions::line_end(text, at), "{at}");
+    let (start, end) = plain::line(text, at);
+    assert_eq!(index.line(at), &text[start..end], "{at}");
+    for encoding in ENCODINGS {
+        try_positions(index, encoding, at);
+    }
+}
+
+fn try_positions(index: &TextIndex, encoding: Encoding, at: usize) {
+    let text = index.text();
+    let here = index.position_of(encoding, at);
+    assert_eq!(here, encoding.position_of(text, at), "{encoding:?} {at}");
+    let start = Position {
+        line: at % 61,
+        character: at % 13,
+    };
+    for end in [
+        here,
+        start,
+        Position {
+            line: here.line,
+            character: here.character + 1,
+        },
+        Position { line: at, character: 1 },
+    ] {
+        assert_eq!(
+            index.byte_of(encoding, end),
+            encoding.byte_of(text, end),
+            "{encoding:?} {end:?}"
+        );
+        assert_eq!(
+            index.exact_byte_of(encoding, end),
+            encoding.exact_byte_of(text, end),
+            "{encoding:?} {end:?}"
+        );
+        let range = Range { start, end };
+        assert_eq!(
+            index.byte_range(encoding, range),
+            encoding.byte_range(text, range),
+            "{encoding:?} {range:?}"
+        );
+    }
+}
+
+fn try_text(text: &str) {
+    let index = index(text);
+    assert_eq!((index.len(), index.is_empty()), (text.len(), text.is_empty()));
+    for at in (0..=text.len() + 2).chain([MOST - 1, MOST]) {
+        try_number(&index, at);
+    }
+}
+
+#[test]
+fn short_texts_and_texts_about_a_mark() {
+    for len in [0, 1, APART - 1, APART, APART + 1, 2 * APART] {
+        try_text(&"a".repeat(len));
+    }
+}
+
+#[test]
+fn chars_and_breaks_across_the_places_of_marks() {
+    for across in ["\r\n", "\r\r\n", "🐸", "せ", "\u{85}", "\u{2029}", "🐸\r\n🐸"] {
+        for shift in 0..=across.len() {
+            let text = "ab\n".repeat(APART)[..APART - shift].to_owned() + across;
+            try_text(&text);
+        }
+    }
+}
+
+#[test]
+fn random_texts_beside_a_walk() {
+    let mut numbers = Numbers(20_261_128);
+    for _ in 0..30 {
+        let text = numbers.text(3000);
+        let index = index(&text);
+        for _ in 0..100 {
+            let at = numbers.below(text.len() + 3);
+            let position = Position {
+                line: numbers.below(300),
+                character: numbers.below(20),
+            };
+            for scheme in SCHEMES {
+                assert_eq!(index.count(scheme), plain::count(scheme, &text));
+                assert_eq!(index.from_byte_idx(scheme, at), plain::from_byte_idx(scheme, &text, at));
+                assert_eq!(index.to_byte_idx(scheme, at), plain::to_byte_idx(scheme, &text, at));
+            }
+            for encoding in ENCODINGS {
+                assert_eq!(index.position_of(encoding, at), plain::position_of(encoding, &text, at));
+                assert_eq!(
+                    index.byte_of(encoding, position),
+                    plain::byte_of(encoding, &text, position)
+                );
+                assert_eq!(
+                    index.exact_byte_of(encoding, position),
+                    plain::exact_byte_of(encoding, &text, position)
+                );
+            }
+        }
+    }
+}
+
+#[test]
+fn threads_ask_one_index_and_another_frees_it() {
+    let text = LINES.repeat(5000);
+    let index = index(&text);
+    thread::scope(|scope| {
+        for first in 0..8 {
+            let index = &index;
+            scope.spawn(move || {
+                for number in (first..5000).step_by(8) {
+                    let line = 4 * number;
+                    let start = number * LINES.len();
+                    assert_eq!(index.line(line + 1), "🐸b");
+                    assert_eq!(index.to_byte_idx(Scheme::Crlf, line + 1), start + 3);
+                    assert_eq!(index.from_byte_idx(Scheme::Lf, start + 13), 3 * number + 2);
+                    let position = index.position_of(Encoding::Utf16, start + 7);
+                    assert_eq!(
+                        position,
+                        Position {
+                            line: line + 1,
+                            character: 2
+                        }
+                    );
+                }
+            });
+        }
+    });
+    thread::scope(|scope| scope.spawn(move || drop(index)).join().unwrap());
+}
+
+#[test]
+fn what_it_tells_of_itself() {
+    assert_eq!(format!("{:?}", index("one")), "TextIndex { len: 3, .. }");
+    assert_eq!(NoMemory.to_string(), "memory was refused");
+    assert!(NoMemory.source().is_none());
+}
