@@ -90,7 +90,7 @@ def try_contents(top):
     tally.result(not unfilled, f"each file has its version {' '.join(unfilled)}")
     pages = sorted((top / "share/man").rglob("*.[13]"))
     names = [page.name for page in pages]
-    tally.result(names == ["idx.1", "str_indices.3", "str_rope.3"], f"the manual pages: {' '.join(names)}")
+    tally.result(names == ["idx.1", "str_index.3", "str_indices.3", "str_rope.3"], f"the manual pages: {' '.join(names)}")
     if shutil.which("groff"):
         warned = [subprocess.run(["groff", "-man", "-Tutf8", "-ww", page], capture_output=True).stderr for page in pages]
         tally.result(not any(warned), f"groff has no warning about them {b''.join(warned).decode()}")
