@@ -2,9 +2,12 @@
  * The memory of libstr_index.a: one block for an index and its marks, over calloc and
  * free. All else of the library is proved, and takes no memory.
  *
- * The proved functions read the index and the marks as the structs below. So each is as
- * `crates/text_index_c` declares it, field by field, of eight bytes each. What is said of
- * the two functions is their contracts; this file is read and not proved.
+ * The proved functions read and write these structs, so each is as Rattle declares it:
+ * struct mark as Mark in `crates/text_index`, struct str_index as Handle in
+ * `crates/text_index_c`, where a slice is an address and a number. Each question has one
+ * condition, that index_fill has made the index and that its text and marks are as they
+ * were then. So no other function makes one, and none changes one. This file is read
+ * and not proved.
  */
 #include <stdint.h>
 #include <stdlib.h>
@@ -19,26 +22,25 @@ struct mark {
 struct str_index {
     const char *text;
     size_t len;
-    struct mark first;
     const struct mark *marks;
     size_t many;
     struct mark whole;
 };
 
-/* What index_fill answers for a text that is UTF-8. */
-enum { FILLED = 0 };
+/* What index_fill answers where it has made the index. */
+enum { MADE = 0 };
 
-/* How many marks the text of such a length has. */
+/* How many marks a text of so many bytes takes. */
 size_t index_marks(size_t len);
 
-/* Makes the index of a text, with its marks in a room for exactly these, and answers
- * FILLED. The index has to be one before, as that of no text. Where the bytes are no
- * UTF-8 it stays so. */
+/* Makes the index that of a text, with marks in a room for so many as index_marks says,
+ * and answers MADE. Where the bytes are no UTF-8, the index is as before. It has to be a
+ * value before, with addresses that are not null. */
 uint32_t index_fill(const char *text, size_t len, struct mark *room, size_t many, struct str_index *index);
 
-/* A text has at most PTRDIFF_MAX bytes, so the size of the block does not overflow. What
- * is zeroed is a mark at the beginning of any text. Where there is no mark, the room for
- * them is the end of the block, which is an address as good as another. */
+/* A text has at most PTRDIFF_MAX bytes, so the size of the block does not overflow. All
+ * is zeroed, so that a value is handed on. Where there is no mark, the room for them is
+ * the end of the block, which is not null either. */
 str_index_status str_index_make(str_index **index, const char *text, size_t len)
 {
     size_t many = index_marks(len);
@@ -49,7 +51,7 @@ str_index_status str_index_make(str_index **index, const char *text, size_t len)
     struct mark *room = (struct mark *)(made + 1);
     made->text = text;
     made->marks = room;
-    if (index_fill(text, len, room, many, made) != FILLED) {
+    if (index_fill(text, len, room, many, made) != MADE) {
         free(made);
         return STR_INDEX_NOT_UTF8;
     }

@@ -15,7 +15,7 @@ PARAMETER = re.compile(r"(\w+): ([^,]+)")
 # how C says a type of Rattle's; a struct has its name in C after the library's, and the allocator takes no bytes
 C_TYPES = {
     "&[u8]": "const char *, size_t", "&mut [u8]": "char *, size_t", "usize": "size_t", "bool": "bool", "()": "void",
-    "&mut Slot": "str_rope *", "&Index<'_>": "const str_index *",
+    "&mut Slot": "str_rope *", "&Handle<'_>": "const str_index *",
 }
 ALLOCATOR = "Global"
 # a number of 32 bits is an enum of the library's: by the parameter's name, and of a result

@@ -45,7 +45,7 @@
  * most 1,028 bytes of the text. A line or its end takes two conversions at
  * most, a position five, and a range eight.
  *
- * An index is one block of memory: 48 bytes for each mark, and 128 besides.
+ * An index is one block of memory: 48 bytes for each mark, and 80 besides.
  */
 #ifndef STR_INDEX_H
 #define STR_INDEX_H

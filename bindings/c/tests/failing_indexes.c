@@ -14,7 +14,7 @@
 #include "refused_memory.h"
 
 /* The bytes of a mark and of an index without one, as the header says, and how far marks are from each other. */
-enum { MARK = 48, WITHOUT_MARKS = 128, APART = 1024 };
+enum { MARK = 48, WITHOUT_MARKS = 80, APART = 1024 };
 
 enum { LINE = 20, WHOLE = 100 * LINE * APART };
 

@@ -7,7 +7,7 @@ use str_indices_positions::Scheme;
 
 /// A text, and an index beside it.
 ///
-/// It takes 48 bytes for each kilobyte of the text and 128 besides, in one block. The text is lent to it, and may not be
+/// It takes 48 bytes for each kilobyte of the text and 80 besides, in one block. The text is lent to it, and may not be
 /// changed or dropped meanwhile:
 ///
 /// ```compile_fail,E0505
