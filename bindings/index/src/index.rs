@@ -85,12 +85,12 @@ impl<'a> TextIndex<'a> {
         self.index.as_ptr()
     }
 
-    /// The text, in no time.
+    /// The text, which may be kept longer than the index. Takes one step.
     pub fn text(&self) -> &'a str {
         self.text
     }
 
-    /// Whether the text has no byte.
+    /// Whether the text has no byte, in one step.
     pub fn is_empty(&self) -> bool {
         self.len() == 0
     }
@@ -118,8 +118,8 @@ impl<'a> TextIndex<'a> {
         unsafe { str_index_count(self.handle(), scheme as u32) }
     }
 
-    /// How many chars, UTF-16 code units or line breaks end at a byte index or before it. Past the end it is all. Looks at
-    /// two marks.
+    /// How many chars, UTF-16 code units or line breaks end at a byte index or before it. A byte inside a char or a break
+    /// belongs to that char, or to the line that the break ends. Past the end it is all. Looks at two marks.
     ///
     /// ```
     /// use str_indices_index::{Scheme, TextIndex};

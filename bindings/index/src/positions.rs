@@ -5,8 +5,8 @@ use core::ops;
 use str_indices_positions::{Encoding, Position, Range};
 
 /// Lines, and positions of the Language Server Protocol 3.17, whose lines end in LF, CR or CR LF. The answers are those of the
-/// crate `str_indices_positions` for the whole text, which may be sliced at each byte index that is answered. Each asks two
-/// conversions for a line, five at most for a position, and eight for a range.
+/// crate `str_indices_positions` for the whole text, which may be sliced at each byte index that is answered. What one costs is
+/// told in conversions: so many calls of [`TextIndex::from_byte_idx`] or [`TextIndex::to_byte_idx`] at most.
 ///
 /// ```
 /// use str_indices_index::{Encoding, Position, Range, TextIndex};
@@ -21,7 +21,8 @@ use str_indices_positions::{Encoding, Position, Range};
 /// # }
 /// ```
 impl<'a> TextIndex<'a> {
-    /// The content of a line, without its break. Past the last line it is empty, at the end of the text.
+    /// The content of a line, without its break. Past the last line it is empty, at the end of the text. Takes two
+    /// conversions.
     ///
     /// ```
     /// # fn main() -> Result<(), str_indices_index::NoMemory> {
@@ -37,7 +38,7 @@ impl<'a> TextIndex<'a> {
     }
 
     /// The byte index where the content of a line ends: before its break, or the length of the text in bytes where it is
-    /// the last line or past it.
+    /// the last line or past it. Takes one conversion.
     pub fn line_end(&self, line_idx: usize) -> usize {
         // SAFETY: as `library` says.
         unsafe { str_index_line_end(self.handle(), line_idx) }
@@ -46,7 +47,7 @@ impl<'a> TextIndex<'a> {
     /// The position of a byte: its line, and the units from that line's beginning to the byte.
     ///
     /// A byte inside a char has the position where the char begins, the byte between CR and LF that of the line's end,
-    /// and a byte past the end that of the text's end.
+    /// and a byte past the end that of the text's end. Takes four conversions.
     pub fn position_of(&self, encoding: Encoding, byte_idx: usize) -> Position {
         // SAFETY: as `library` says.
         unsafe { str_index_position_of(self.handle(), encoding as u32, byte_idx) }
@@ -55,14 +56,14 @@ impl<'a> TextIndex<'a> {
     /// The byte index where the char at a position begins.
     ///
     /// An offset inside a char belongs to its char. An offset past the end of the line gives the line's end, before its
-    /// break, and a line past the last one the length of the text in bytes.
+    /// break, and a line past the last one the length of the text in bytes. Takes four conversions.
     pub fn byte_of(&self, encoding: Encoding, position: Position) -> usize {
         // SAFETY: as `library` says.
         unsafe { str_index_byte_of(self.handle(), encoding as u32, position) }
     }
 
     /// The byte index of a position that names a place, or `None`: where the text has no such line, the offset is past
-    /// the end of the line, or the unit is inside a char.
+    /// the end of the line, or the unit is inside a char. Takes five conversions.
     ///
     /// ```
     /// use str_indices_index::{Encoding, Position, TextIndex};
@@ -80,7 +81,8 @@ impl<'a> TextIndex<'a> {
         (byte != NONE).then_some(byte)
     }
 
-    /// The byte indices of a range, each as `byte_of` answers it, or `None` where its end is before its start.
+    /// The byte indices of a range, each as `byte_of` answers it, or `None` where its end is before its start. Takes eight
+    /// conversions.
     pub fn byte_range(&self, encoding: Encoding, range: Range) -> Option<ops::Range<usize>> {
         // SAFETY: as `library` says.
         let bytes = unsafe { str_index_byte_range(self.handle(), encoding as u32, range) };
