@@ -58,17 +58,30 @@ pub(crate) enum Shape {
     LongAccented,
 }
 
+/// All of them, the six daily ones first.
+const SHAPES: [Shape; 11] = [
+    Shape::Source,
+    Shape::Prose,
+    Shape::Japanese,
+    Shape::Emoji,
+    Shape::Crlf,
+    Shape::Mixed,
+    Shape::OneLine,
+    Shape::Feeds,
+    Shape::AllBreaks,
+    Shape::LongHan,
+    Shape::LongAccented,
+];
+
 impl Shape {
     /// One of the six that are daily.
     pub(crate) fn daily(random: &mut Random) -> Shape {
-        match random.below(6) {
-            0 => Shape::Source,
-            1 => Shape::Prose,
-            2 => Shape::Japanese,
-            3 => Shape::Emoji,
-            4 => Shape::Crlf,
-            _ => Shape::Mixed,
-        }
+        SHAPES[random.below(6) % 6]
+    }
+
+    /// Each of them in turn.
+    pub(crate) fn each(i: usize) -> Shape {
+        SHAPES[i % 11]
     }
 
     /// One of the four that are awkward.
