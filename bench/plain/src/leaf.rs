@@ -14,7 +14,7 @@ pub const LF: usize = 3;
 pub const CRLF: usize = 4;
 
 /// How many bytes are looked at in one step.
-const STEP: usize = 16;
+pub const STEP: usize = 16;
 
 /// How many steps are counted together.
 const TOGETHER: usize = 4 * STEP;
@@ -70,11 +70,11 @@ impl Summary {
 }
 
 /// Which of sixteen bytes start characters, start characters of four bytes, are LF, and are CR.
-struct Seen {
+pub struct Seen {
     starts: u32,
     wide: u32,
-    lf: u32,
-    cr: u32,
+    pub lf: u32,
+    pub cr: u32,
 }
 
 /// The mask of the first so many of sixteen bytes.
@@ -110,7 +110,17 @@ impl Seen {
         }
     }
 
-    /// The same of sixteen bytes or fewer.
+    /// The same of sixteen bytes or fewer, most often of sixteen.
+    #[inline(always)]
+    pub fn of_any(part: &[u8]) -> Seen {
+        if part.len() == STEP {
+            Seen::of(loaded(part))
+        } else {
+            Seen::of_part(part)
+        }
+    }
+
+    /// The same of fewer.
     fn of_part(part: &[u8]) -> Seen {
         let mut bytes = [0; STEP];
         bytes[..part.len()].copy_from_slice(part);

@@ -1,17 +1,20 @@
 //! Times a text that changes in Rust: in a plain B-tree, in a `String`, which moves its bytes at each change, or in the rope of
 //! the Cargo crate `str_rope`, which calls the library for C.
 //!
-//! Its words and lines are those of `../rope.rt.txt`, where the first word is `btree`, `string` or `rust`.
+//! Its words and lines are those of `../rope.rt.txt`, where the first word is `btree`, `string` or `rust`. Where it is
+//! `starts`, they are those of `../index.rt.txt`: the questions about a text that does not change, by a list of its lines.
 
 mod btree;
 mod calls;
 mod kept;
 mod leaf;
 mod questions;
+mod starts;
 
 use btree::BTree;
-use calls::{changes, hashed, made, questions, read, Call, Change};
+use calls::{below, changes, hashed, made, next, questions, read, Call, Change};
 use kept::Kept;
+use starts::{Position, Starts};
 use std::hint::black_box;
 use std::time::Instant;
 use std::{env, fs};
@@ -42,19 +45,24 @@ fn tell(name: &str, figure: u128, sum: u64) {
 }
 
 /// Makes the calls, and takes the nanoseconds of one of each batch; answers a check sum of the first batch.
-fn timed<K: Kept>(text: &mut K, calls: &[Call], times: &mut Vec<u128>) -> u64 {
-    let mut room = [0; ROOM];
+fn timed<C: Copy>(calls: &[C], times: &mut Vec<u128>, mut made: impl FnMut(C, u64) -> u64) -> u64 {
     let mut sum = 0_u64;
     let mut first = None;
     for batch in calls.chunks(BATCH) {
         let start = Instant::now();
         for call in batch {
-            sum = sum.wrapping_add(made(text, *call, sum, &mut room));
+            sum = sum.wrapping_add(made(*call, sum));
         }
         times.push(start.elapsed().as_nanos() / batch.len() as u128);
         first.get_or_insert(sum);
     }
     first.unwrap_or(0)
+}
+
+/// The same of calls of a text that changes.
+fn timed_in<K: Kept>(text: &mut K, calls: &[Call], times: &mut Vec<u128>) -> u64 {
+    let mut room = [0; ROOM];
+    timed(calls, times, |call, before| made(text, call, before, &mut room))
 }
 
 fn median(mut times: Vec<u128>) -> u128 {
@@ -87,7 +95,7 @@ fn tell_questions<K: Kept>(text: &mut K, calls: usize) {
     ];
     for (name, kind, n) in rows {
         let mut times = Vec::new();
-        let sum = timed(text, &questions(kind, n, calls), &mut times);
+        let sum = timed_in(text, &questions(kind, n, calls), &mut times);
         tell(name, median(times), sum);
     }
 }
@@ -106,7 +114,7 @@ fn tell_changes<K: Kept>(source: &str, scale: Scale) {
         let (mut twin, mut text) = (K::of(source), K::of(source));
         for ((_, change), times) in rows.iter().zip(&mut times) {
             let calls = changes(&mut twin, *change, round as u64, scale.changes);
-            timed(&mut text, &calls, times);
+            timed_in(&mut text, &calls, times);
         }
         sum = sum.wrapping_add(hashed(&text));
     }
@@ -161,6 +169,42 @@ fn tell_all<K: Kept>(source: &str, job: &str, numbers: &[usize]) {
     }
 }
 
+fn tell_row<C: Copy>(name: &str, calls: &[C], made: impl FnMut(C, u64) -> u64) {
+    let mut times = Vec::new();
+    let sum = timed(calls, &mut times, made);
+    tell(name, median(times), sum);
+}
+
+/// What the questions take where a list of lines is made beside the text. Each waits for the answer before it.
+fn tell_starts(source: &str, calls: usize) {
+    let starts = Starts::of(source);
+    let building = rate(source.len(), || Starts::of(black_box(source)));
+    tell("build", building, starts.breaks() as u64);
+    let mut seed = 1;
+    let bytes = (0..calls).map(|_| {
+        seed = next(seed);
+        below(seed, source.len())
+    });
+    let bytes: Vec<usize> = bytes.collect();
+    tell_row("position", &bytes, |byte, before| {
+        let found = starts.position_of(byte ^ (before & 1) as usize);
+        (found.line + found.character) as u64
+    });
+    let positions: Vec<Position> = bytes.iter().map(|byte| starts.position_of(*byte)).collect();
+    tell_row("byte", &positions, |position, before| {
+        let character = position.character ^ (before & 1) as usize;
+        starts.byte_of(Position { character, ..position }) as u64
+    });
+}
+
+/// Tells the memory that the list takes, with the text's bytes.
+fn tell_weight(source: &str) {
+    let before = memory();
+    let starts = black_box(Starts::of(source));
+    tell("loaded", memory().saturating_sub(before) as u128, source.len() as u64);
+    drop(starts);
+}
+
 fn main() {
     let words: Vec<String> = env::args().collect();
     let [_, way, file, job, numbers @ ..] = words.as_slice() else {
@@ -171,6 +215,10 @@ fn main() {
     match way.as_str() {
         "btree" => tell_all::<BTree>(&source, job, &numbers),
         "rust" => tell_all::<Rope>(&source, job, &numbers),
+        "starts" => match numbers.as_slice() {
+            [calls] => tell_starts(&source, *calls),
+            _ => tell_weight(&source),
+        },
         _ => tell_all::<String>(&source, job, &numbers),
     }
 }
