@@ -15,6 +15,7 @@ ROOT = pathlib.Path(__file__).resolve().parents[2]
 sys.path.insert(0, str(ROOT / "scripts/lib"))
 
 from page_lines import blocks, environment, try_lines  # noqa: E402
+from proved import hand_on  # noqa: E402
 from report_span import check_reports  # noqa: E402
 from tally import Tally  # noqa: E402
 
@@ -37,8 +38,9 @@ tally = Tally()
 
 
 def clone(folder):
-    """The repository as it is fetched, with nothing built."""
+    """The repository as it is fetched, with nothing built, but with what was proved of its crates."""
     shutil.copytree(ROOT, folder, ignore=LEFT_OUT)
+    hand_on(ROOT, folder)
     subprocess.run(["git", "init", "-q", "."], cwd=folder, check=True)
     return folder
 

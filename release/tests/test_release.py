@@ -22,6 +22,7 @@ sys.path.insert(0, str(ROOT / "scripts/lib"))
 
 from debian_crates import source_flags  # noqa: E402
 from page_lines import blocks, environment, try_lines  # noqa: E402
+from proved import hand_on  # noqa: E402
 from tally import Tally  # noqa: E402
 
 LEFT_OUT = shutil.ignore_patterns(".git", "out", "target", "dist", "__pycache__", "Cargo.lock")
@@ -44,20 +45,14 @@ def has_crates_of_server():
         return subprocess.run(command, cwd=folder / "examples/language_server", capture_output=True).returncode == 0
 
 
-def take_proofs(top):
-    """Puts what was proved here beside the crates of the copy. The toolchain takes nothing of what changed."""
-    (top / ".git/info/exclude").write_text("out/\n", encoding="utf-8")
-    for made in ROOT.glob("crates/*/out"):
-        shutil.copytree(made, top / made.relative_to(ROOT))
-
-
 def build(folder, flags):
     """The archive, from a commit of a copy in the folder; None where that fails."""
     top = folder / "pauskern"
     shutil.copytree(ROOT, top, ignore=LEFT_OUT)
     for words in [["init", "-q", "."], ["add", "-A"], COMMIT]:
         subprocess.run(["git", *words], cwd=top, env=dict(os.environ, **WHEN), check=True)
-    take_proofs(top)
+    (top / ".git/info/exclude").write_text("out/\n", encoding="utf-8")
+    hand_on(ROOT, top)
     (folder / "gate.txt").write_text(GATE_OUTPUT, encoding="utf-8")
     done = subprocess.run([top / "scripts/release", *flags, folder / "gate.txt"], stdout=subprocess.PIPE, text=True)
     if not tally.result(done.returncode == 0, "scripts/release"):

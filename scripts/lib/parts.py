@@ -15,6 +15,7 @@ from typing import Dict, List, NamedTuple, Tuple
 
 from crate_copies import crate_lines, stands_on, with_all_below
 from kept import crate_sum, files_of_crate, sum_of, sum_of_file, sums_of_files
+from proved import hand_on
 
 SHARED = "scripts/lib"
 # what no part reads: what is made, and pages, but for those that it names
@@ -176,15 +177,12 @@ def name_of(root: pathlib.Path, part: Part) -> str:
 
 
 def copy(root: pathlib.Path, part: Part, folder: pathlib.Path) -> None:
-    """Puts what the part reads, and nothing else, into the folder, as a repository of its own. What was proved of its crates
-    comes with them; the toolchain takes nothing of what changed."""
+    """Puts what the part reads, and nothing else, into the folder, as a repository of its own, with what was proved there."""
     crates = below(part)
-    for crate in crates:
-        if (root / "crates" / crate / "out").is_dir():
-            shutil.copytree(root / "crates" / crate / "out", folder / "crates" / crate / "out")
     for path in [*files(root, part), *(file for crate in crates for file in files_of_crate(root, crate))]:
         place = folder / path.relative_to(root)
         place.parent.mkdir(parents=True, exist_ok=True)
         shutil.copy2(path, place, follow_symlinks=False)
     (folder / "crates.txt").write_text("".join(f"{crate_lines()[crate]}\n" for crate in crates), encoding="utf-8")
+    hand_on(root, folder)
     subprocess.run(["git", "init", "-q", "."], cwd=folder, check=True)
