@@ -416,7 +416,7 @@ def test_a_copy_elsewhere_has_the_same_names(copy, names):
     ("examples/language_server/tests/changes.lua", "test_editor.py"), ("bindings/rust/tests/test_rust.py", "test_rust.py"),
     ("bindings/c/tests/c_ropes.py", "test_c.py"), ("scripts/lib/exchanges.py", "test_c.py test_rust.py"),
     ("bindings/c/index.c", "test_c.py test_pages.py test_release.py test_rust.py"),
-    ("scripts/lib/report_span.py", "test_c.py test_pages.py"),
+    ("scripts/lib/report_span.py", "test_c.py test_pages.py"), ("bench/peers/twin.cpp", "test_rust.py"),
     ("scripts/lib/position_model.py", "test_positions.py position_changes.py test_editor.py"),
 ])
 def test_parts_that_run_again(path, changed, copy, names):

@@ -5,9 +5,10 @@ The tests and the doc examples of bindings/rust, by each half of the library, an
 half, and the message where a library is missing; outside the repository, over installed libraries which pkg-config
 finds; those of bindings/positions, of bindings/rope, of bindings/index, of bindings/original and of the benchmark; each
 function of str_indices exchanged for each other one of its shape, which a worked answer must see; the example of a project
-that uses bindings/rust; a program without std; and the benchmark, one round over small texts, whose times nobody looks at.
-The original is compared where the environment variable STR_INDICES_ORIGINAL names its folder. Where cargo is not on the
-path nothing is tried. The last line printed is 'N passed, M failed', with what is left out.
+that uses bindings/rust; a program without std; and the benchmarks, the functions and each buffer that people know beside a
+B-tree, once over small texts, whose times nobody looks at. The original is compared where the environment variable
+STR_INDICES_ORIGINAL names its folder. Where cargo is not on the path nothing is tried. The last line printed is 'N passed, M
+failed', with what is left out.
 """
 import json
 import os
@@ -40,6 +41,7 @@ OTHERS = [POSITIONS, ROPE, INDEX, ROOT / "bindings/original", ROOT / "bench"]
 TEST_RESULT = re.compile(r"^test result: \w+\. (\d+) passed; (\d+) failed", re.MULTILINE)
 COMPARED = re.compile(r"^random texts: .* (\d+) answers, none differs.*", re.MULTILINE)
 NOT_COMPARED = "STR_INDICES_ORIGINAL names no folder"
+NO_PACKAGE = re.compile(r"\w+ needs Debian's package .*")
 
 tally = Tally()
 
@@ -174,6 +176,16 @@ def test_benchmark():
         print(done.stdout + done.stderr)
 
 
+def test_buffer(way):
+    """A buffer that people know has the text of a B-tree after the same changes, and its answers where both are in bytes."""
+    done = subprocess.run([ROOT / "bench/rope", "--small", "btree", way], capture_output=True, text=True)
+    missed = NO_PACKAGE.search(done.stderr)
+    if missed:
+        tally.leave_out(1, f"bench/rope, {way} beside a B-tree, as {missed[0]}")
+    elif not tally.result(done.returncode == 0 and "insert" in done.stdout, f"bench/rope, {way} beside a B-tree, small texts"):
+        print(done.stdout + done.stderr)
+
+
 def test_all(library, rope, index, folder):
     empty = folder / "empty"
     empty.mkdir()
@@ -192,6 +204,8 @@ def test_all(library, rope, index, folder):
     test_example(folder / "target")
     test_no_std(folder / "target")
     test_benchmark()
+    for way in ["scintilla", "gtk", "qt"]:
+        test_buffer(way)
 
 
 def main():
