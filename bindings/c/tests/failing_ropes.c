@@ -184,7 +184,11 @@ static void try_each(const call *one, int is_held)
     printf("%s%s: %ld allocations\n", one->name, is_held ? " beside a snapshot" : "", k - 1);
 }
 
-/* What takes no memory, where there is none: questions, and a few bytes less or more in one piece of a text that shares none. */
+/*
+ * What takes no memory, where there is none: questions, and a few bytes less or
+ * more in one piece of a text that shares none. A piece that would outgrow its
+ * memory stays as it is.
+ */
 static void without_memory(void)
 {
     str_rope rope = STR_ROPE_EMPTY, rest = STR_ROPE_EMPTY;
@@ -193,6 +197,7 @@ static void without_memory(void)
     same(has_whole(&rope), "questions", 0);
     same(str_rope_remove(&rope, 20001, 20005) == STR_ROPE_OK && str_rope_len(&rope) == WHOLE - 4, "remove", 0);
     same(str_rope_insert(&rope, 20001, whole + 20001, 4) == STR_ROPE_OK && has_whole(&rope), "insert", 0);
+    same(str_rope_insert(&rest, 4, put, 900) == STR_ROPE_NO_MEMORY && has(&rest, "rest", 4), "a longer insert", 0);
     str_rope_free(&rope);
     str_rope_free(&rest);
     refused = NEVER;

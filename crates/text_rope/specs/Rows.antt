@@ -2,7 +2,7 @@
 --     max_piece                 how many bytes a row has at most
 --     min_piece                 how many bytes a row has that is not written with the one beside it
 --     IsSmall summary           it is that of a text that a row can have
---     IsKept summary text room  the summary is the text's, which is not empty, not too long, and has room to grow
+--     IsKept summary text       the summary is the text's, which is not empty and not too long
 use Rattle.std.specs.Prelude.{ℕ, ◌≡◌, ◌≢◌, ◌≤◌, []}
 use Rattle.str_indices.specs.Text.{Text, size}
 use Rattle.text_summary.specs.Summaries.{summary_of}
@@ -22,9 +22,8 @@ pub record IsSmall (summary : Summary) : Type 0 where
   pub right : summary ≡ summary_of text
   pub short : size text ≤ max_piece
 
--- what holds of each row: the memory that it has taken is enough for the longest one
-pub record IsKept (summary : Summary) (text : Text) (room : ℕ) : Type 0 where
+-- what holds of each row
+pub record IsKept (summary : Summary) (text : Text) : Type 0 where
   pub right : summary ≡ summary_of text
   pub some : text ≢ []
   pub short : size text ≤ max_piece
-  pub roomy : max_piece ≤ room

@@ -23,8 +23,11 @@ pub const MAX_PIECE: usize = 1024;
 /// A row that a change would make shorter than this is written anew.
 pub(crate) const FEW: usize = MAX_PIECE / 4;
 
-/// A text that is neither empty nor longer than `MAX_PIECE`, in memory for that many bytes, which may have several owners,
-/// and its counts. A contract sees the text's characters.
+/// The memory of a row grows by so many bytes. Four times that is the most for which glibc has lists of one size.
+const STEP: usize = 248;
+
+/// A text that is neither empty nor longer than `MAX_PIECE`, in memory that may have several owners, and its counts. A
+/// contract sees the text's characters.
 #[derive(Drop)]
 pub(crate) struct Row {
     text: Arc<String>,
@@ -33,7 +36,6 @@ pub(crate) struct Row {
 
 impl Model for Row {
     ghost use Rattle.std.specs.Prelude.{chars, string_bytes};
-    ghost use Rattle.std.specs.String.{string_capacity};
     ghost use Rattle.str_indices.specs.Text.{Text};
 
     ghost Value = { Text };
@@ -43,7 +45,7 @@ impl Model for Row {
 
     ghost view = { λ r. chars (string_bytes r.text.value) };
 
-    ghost invariant = { λ r. IsKept (summary_in r.counts) (chars (string_bytes r.text.value)) (string_capacity r.text.value) };
+    ghost invariant = { λ r. IsKept (summary_in r.counts) (chars (string_bytes r.text.value)) };
 }
 
 /// Why a change was not made in place.
@@ -72,7 +74,7 @@ impl Row {
         requires summary { summary ≡ summary_of (chars text.now) }
         ensures { IfOk result (λ row. row ≡ chars text.now) }
     {
-        let mut copy = String::with_capacity(alloc, MAX_PIECE)?;
+        let mut copy = String::with_capacity(alloc, memory_for(summary.len))?;
         copy.push_str(text)?;
         Ok(Row {
             text: Arc::new(alloc, copy)?,
@@ -134,7 +136,8 @@ impl Row {
     }
 
     /// Exchanges what is between two byte indices for a text, in its own memory, where that has no other owner, the row
-    /// begins and ends as before, and a quarter of that memory is in use then. `shift` becomes the summaries before and after; else nothing changes.
+    /// begins and ends as before, and has not become short. `shift` becomes the summaries before and after; else nothing
+    /// changes. It takes memory where the row becomes longer than any it was.
     pub(crate) fn replace_in_place(
         &mut self,
         from: usize,
@@ -165,10 +168,10 @@ impl Row {
     fn are_boundaries(&self, from: usize, to: usize) -> bool
         ensures { IsTrue result ↔ (IsBoundary self.now from × IsBoundary self.now to) }
     {
-        self.is_char_boundary(from) && self.is_char_boundary(to)
+        self.is_char_boundary(from) && (from == to || self.is_char_boundary(to))
     }
 
-    /// Exchanges what is between two boundaries for a text that its memory is enough for, where that has no other owner and
+    /// Exchanges what is between two boundaries for a text that a row has room for, where its memory has no other owner and
     /// the row begins and ends as before.
     fn replace_alike(
         &mut self,
@@ -198,14 +201,17 @@ impl Row {
             return Err(Unplaced::NoRoom);
         };
         let _text = text.as_str();
+        if !has_memory(text, changed.len) {
+            return Err(Unplaced::NoRoom);
+        }
         exchange(text, from, to, more);
         self.counts = Counts::of(changed);
         *shift = Shift { out, own: changed };
         Ok(())
     }
 
-    /// Whether its memory is enough after a change of so many bytes for so many others, and a quarter in use, or no less
-    /// than before.
+    /// Whether it is not too long after a change of so many bytes for so many others, and not short, or no shorter than
+    /// before.
     fn has_room(&self, out: usize, more: usize) -> bool
         requires { out ≤ size self.now }
         ensures room { result ≡ true → size self.now + more ≤ max_piece + out }
@@ -227,7 +233,8 @@ impl Row {
         requires end { IsBoundary self.now to }
         requires own { own ≡ summary_of (chars more.now) }
         requires short { size self.now + length more.now ≤ max_piece + (to - from) }
-        ensures { (new : Text) → IsReplaced self.now new from to (chars more.now) → result ≡ summary_of new }
+        ensures summary { (new : Text) → IsReplaced self.now new from to (chars more.now) → result ≡ summary_of new }
+        ensures len { result.len + (to - from) ≡ size self.now + length more.now }
     {
         let change = Change::of(self.text(), from, to, own);
         changed(self.summary(), change)
@@ -242,21 +249,46 @@ fn are_alike(out: &Summary, own: &Summary) -> bool
     out.starts_lf == own.starts_lf && out.ends_cr == own.ends_cr
 }
 
+/// How many bytes of memory a row of so many bytes gets: up to a step more, as far as the longest row needs it.
+fn memory_for(len: usize) -> usize
+    requires { len ≤ max_piece }
+    ensures { len ≤ result }
+{
+    ((len / STEP + 1) * STEP).min(MAX_PIECE)
+}
+
+/// Whether a text has memory for so many bytes, or gets it.
+fn has_memory(text: &mut String, len: usize) -> bool
+    requires { len ≤ max_piece }
+    ensures text { string_bytes text.new ≡ string_bytes text.old }
+    ensures room { result ≡ true → len ≤ string_capacity text.new }
+{
+    if len <= text.capacity() {
+        return true;
+    }
+    let more = memory_for(len) - text.len();
+    match text.reserve_exact(more) {
+        Ok(()) => true,
+        Err(_) => false,
+    }
+}
+
 /// Exchanges what is between two boundaries of a text for another one, where there is room for it.
 fn exchange(text: &mut String, from: usize, to: usize, more: &str)
     requires order { from ≤ to }
     requires start { IsBoundary (chars (string_bytes text.old)) from }
     requires end { IsBoundary (chars (string_bytes text.old)) to }
     requires room { string_len text.old + length more.now ≤ string_capacity text.old + (to - from) }
-    ensures text { IsReplaced (chars (string_bytes text.old)) (chars (string_bytes text.new)) from to (chars more.now) }
-    ensures room { string_capacity text.old ≤ string_capacity text.new }
+    ensures { IsReplaced (chars (string_bytes text.old)) (chars (string_bytes text.new)) from to (chars more.now) }
 {
     if from == to {
         put(text, from, more);
         return;
     }
     take_out(text, from, to);
-    put(text, from, more);
+    if 0 < more.len() {
+        put(text, from, more);
+    }
 }
 
 /// Takes out what is between two boundaries.

@@ -1,4 +1,4 @@
-use Rattle.text_rope.proofs.lemmas.{◌+◌, ◌-◌, ap, arith, refl, chars, inl, inr, cases_lt, size, joined, boundary_end, boundary_in_chunk, part_of_chunk, boundary_of_part, chunk_of_rest, rest_after}
+use Rattle.text_rope.proofs.lemmas.{◌+◌, ◌-◌, ◌∷◌, ◌∙◌, ap, sym, arith, refl, chars, inl, inr, cases_lt, size, joined, boundary_end, boundary_in_chunk, part_of_chunk, boundary_of_part, chunk_of_rest, rest_after}
 use Rattle.text_rope.specs.Chunks.{IsPartAt}
 use Rattle.text_rope.proofs.iter.Chunks.next_chunk.Goals as goal
 
@@ -39,7 +39,8 @@ invariant_of-self c =
         start = boundary_of_part (part_of_chunk at to chunk c.between-part.ensures (omega (arith, chunk.after)) refl);
         stop = within.stop;
       };
-      rows_are = λ before some. rest_after c.rest_of-rest.ensures c.in-Some.ensures.cases.0
+      rows_are = λ before some. rest_after c.rest_of-rest.ensures
+          (c.in-Some.ensures.cases.0 ∙ ap (λ rows. c.in-Some.row.now ∷ rows) (sym c.looked_ahead-self-inside.ensures))
           (omega (arith, chunk.after, within.order, is.len, c.min-to.ensures));
     }
 

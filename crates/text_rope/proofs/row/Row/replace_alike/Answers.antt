@@ -1,18 +1,20 @@
 use Rattle.text_rope.proofs.lemmas.{◌≡◌, ◌∙◌, ap, sym, arith, chars, string_bytes, IsUtf8, IsReplaced, size, size-chars, size-replaced, some_of}
-use Rattle.std.specs.String.{string_capacity}
 use Rattle.text_rope.proofs.row.Row.replace_alike.Goals as goal
 
 pub exchange-requires-clause-room : goal.exchange-requires-clause-room
 exchange-requires-clause-room c =
-    let text = c.in-Some.text.now in
-    let is : chars (string_bytes text) ≡ c.args.self.now = ap (λ s. chars (string_bytes s)) c.in-Some.ensures.value ∙ c.self.view_is in
-    let utf8 : IsUtf8 (string_bytes text) = rw c.as_str-text.ensures.value at c.as_str-text.utf8 in
+    let before = c.in-Some.text.now in
+    let text = c.has_memory.new.text in
+    let is : chars (string_bytes text) ≡ c.args.self.now =
+    ap chars c.has_memory.ensures.text ∙ ap (λ s. chars (string_bytes s)) c.in-Some.ensures.value ∙ c.self.view_is in
+    let read : IsUtf8 (string_bytes before) = rw c.as_str-text.ensures.value at c.as_str-text.utf8 in
+    let utf8 : IsUtf8 (string_bytes text) = rw (← c.has_memory.ensures.text) at read in
     omega (
       arith,
       size-chars (string_bytes text) utf8,
       ap size is,
-      ap string_capacity c.in-Some.ensures.value,
-      c.self.invariant.roomy,
+      c.has_memory.ensures.room c.if-not-has_memory.false,
+      c.summary_after-changed.ensures.len,
       c.requires.room,
       text.bytes.ok,
     )
@@ -20,35 +22,34 @@ exchange-requires-clause-room c =
 pub of-self-inside-requires : goal.of-self-inside-requires
 of-self-inside-requires c =
     let new = chars (string_bytes c.exchange.new.text) in
-    let is : chars (string_bytes c.in-Some.text.now) ≡ c.args.self.now =
-    ap (λ s. chars (string_bytes s)) c.in-Some.ensures.value ∙ c.self.view_is in
-    let r : IsReplaced c.args.self.now new c.args.from c.args.to (chars c.args.more.now) = rw is at c.exchange.ensures.text in
+    let is : chars (string_bytes c.has_memory.new.text) ≡ c.args.self.now =
+    ap chars c.has_memory.ensures.text ∙ ap (λ s. chars (string_bytes s)) c.in-Some.ensures.value ∙ c.self.view_is in
+    let r : IsReplaced c.args.self.now new c.args.from c.args.to (chars c.args.more.now) = rw is at c.exchange.ensures in
     let sizes = size-replaced c.args.self.now new c.args.from c.args.to (chars c.args.more.now) r in
     let in_size = size-chars c.args.more.now c.utf8.more in
-    record { text = new; right = c.summary_after-changed.ensures new r; short = omega (arith, sizes, in_size, c.requires.room) }
+    record { text = new; right = c.summary_after-changed.ensures.summary new r; short = omega (arith, sizes, in_size, c.requires.room) }
 
 pub invariant_of-self-2 : goal.invariant_of-self-2
 invariant_of-self-2 c =
     let new = chars (string_bytes c.exchange.new.text) in
-    let is : chars (string_bytes c.in-Some.text.now) ≡ c.args.self.now =
-    ap (λ s. chars (string_bytes s)) c.in-Some.ensures.value ∙ c.self.view_is in
-    let r : IsReplaced c.args.self.now new c.args.from c.args.to (chars c.args.more.now) = rw is at c.exchange.ensures.text in
+    let is : chars (string_bytes c.has_memory.new.text) ≡ c.args.self.now =
+    ap chars c.has_memory.ensures.text ∙ ap (λ s. chars (string_bytes s)) c.in-Some.ensures.value ∙ c.self.view_is in
+    let r : IsReplaced c.args.self.now new c.args.from c.args.to (chars c.args.more.now) = rw is at c.exchange.ensures in
     let sizes = size-replaced c.args.self.now new c.args.from c.args.to (chars c.args.more.now) r in
     let in_size = size-chars c.args.more.now c.utf8.more in
     record {
-      right = c.of-self-inside.ensures ∙ c.summary_after-changed.ensures new r;
+      right = c.of-self-inside.ensures ∙ c.summary_after-changed.ensures.summary new r;
       some = some_of new (λ none. omega (arith, sizes, in_size, none, c.requires.some, c.requires.order));
       short = omega (arith, sizes, in_size, c.requires.room);
-      roomy = omega (arith, c.exchange.ensures.room, ap string_capacity c.in-Some.ensures.value, c.self.invariant.roomy);
     }
 
 pub returns-clause-shift : goal.returns-clause-shift
 returns-clause-shift c =
     let new = chars (string_bytes c.exchange.new.text) in
-    let is : chars (string_bytes c.in-Some.text.now) ≡ c.args.self.now =
-    ap (λ s. chars (string_bytes s)) c.in-Some.ensures.value ∙ c.self.view_is in
-    let r : IsReplaced c.args.self.now new c.args.from c.args.to (chars c.args.more.now) = rw is at c.exchange.ensures.text in
-    let own = c.summary_after-changed.ensures new r in
+    let is : chars (string_bytes c.has_memory.new.text) ≡ c.args.self.now =
+    ap chars c.has_memory.ensures.text ∙ ap (λ s. chars (string_bytes s)) c.in-Some.ensures.value ∙ c.self.view_is in
+    let r : IsReplaced c.args.self.now new c.args.from c.args.to (chars c.args.more.now) = rw is at c.exchange.ensures in
+    let own = c.summary_after-changed.ensures.summary new r in
     let out = c.summary-out.ensures.summary in
     let sizes = size-replaced c.args.self.now new c.args.from c.args.to (chars c.args.more.now) r in
     let in_size = size-chars c.args.more.now c.utf8.more in
