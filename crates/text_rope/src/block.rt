@@ -58,8 +58,8 @@ impl Block {
         self.rows.as_slice()
     }
 
-    /// Exchanges what is between two byte indices for a text, in the memory of the one row that both are in, where it has
-    /// room for it; else nothing changes.
+    /// Exchanges what is between two byte indices for a text, in the one row that both are in, where it has room for it; else
+    /// nothing changes.
     pub(crate) fn replace_in_place(
         &mut self,
         work: &mut Work,

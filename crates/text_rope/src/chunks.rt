@@ -42,8 +42,8 @@ pub struct Found<'a> {
     pub chunk: Chunk<'a>,
 }
 
-/// The row that a byte is in, and where it starts, none from the end of the text on; as many looks and reads at most as a
-/// question.
+/// The row that a byte is in, and where it starts, none from the end of the text on; in as many looks and reads at most as
+/// a question.
 pub fn chunk_in<'a>(v: &mut View<'a>, at: usize) -> Option<Chunk<'a>>
     ensures chunk { IfSome result (λ chunk. IsChunkAt (joined v.old.texts) (chars chunk.text.now) chunk.start at) }
     ensures piece { IfSome result (λ chunk. size (chars chunk.text.now) ≤ max_piece) }
@@ -61,7 +61,7 @@ pub fn chunk_in<'a>(v: &mut View<'a>, at: usize) -> Option<Chunk<'a>>
 }
 
 /// The row that a byte is in, where it starts, and what is counted in a scheme before it, none from the end of the text
-/// on; as many looks and reads at most.
+/// on; in as many looks and reads at most.
 pub fn located_in<'a>(v: &mut View<'a>, s: Scheme, at: usize) -> Option<Located<'a>>
     ensures located { IfSome result (λ l.
         IsLocated s (joined v.old.texts) (chars l.chunk.text.now) l.chunk.start l.before at) }

@@ -55,8 +55,8 @@ pub fn from_in(v: &mut View, s: Scheme, b: usize) -> usize
     look.reached + row.from_byte_idx(s, b - place.before.len)
 }
 
-/// The byte index in the text after the first `k` of them, its length where it has fewer; as many looks and reads at
-/// most.
+/// The byte index in the text after the first `k` of them, its length where it has fewer; in as many looks and reads at
+/// most as `from_in`.
 pub fn to_in(v: &mut View, s: Scheme, k: usize) -> usize
     ensures answer { result ≡ to_byte_idx s (joined v.old.texts) k }
     ensures texts { v.new.texts ≡ v.old.texts }
@@ -80,7 +80,8 @@ pub fn to_in(v: &mut View, s: Scheme, k: usize) -> usize
     place.before.len + row.to_byte_idx(s, k - look.reached)
 }
 
-/// Whether a byte index is between characters, or at the beginning or end of the text; as many looks and reads at most.
+/// Whether a byte index is between characters, or at the beginning or end of the text; in as many looks and reads at most
+/// as `from_in`.
 pub fn is_boundary_in(v: &mut View, at: usize) -> bool
     ensures answer { IsTrue result ↔ IsBoundary (joined v.old.texts) at }
     ensures texts { v.new.texts ≡ v.old.texts }

@@ -136,8 +136,8 @@ impl Row {
     }
 
     /// Exchanges what is between two byte indices for a text, in its own memory, where that has no other owner, the row
-    /// begins and ends as before, and has not become short. `shift` becomes the summaries before and after; else nothing
-    /// changes. It takes memory where the row becomes longer than any it was.
+    /// begins and ends as before, and does not become short. `shift` becomes the summaries before and after; else nothing
+    /// changes. It takes memory only where the row outgrows its own.
     pub(crate) fn replace_in_place(
         &mut self,
         from: usize,

@@ -127,8 +127,8 @@ impl Side {
         })
     }
 
-    /// Exchanges what is between two byte indices for a text, in the memory of the one row that both are in, where no node
-    /// on the way has another owner and the row has room for it; else nothing changes. Copies no node.
+    /// Exchanges what is between two byte indices for a text, in the one row that both are in, where no node on the way has
+    /// another owner and the row has room for it; else nothing changes. Copies no node.
     #[cycle(replace_in_place)]
     #[tactic(auto, using(crate::proofs::lemmas::Forks::fork_size))]
     fn replace_in_place(
@@ -171,7 +171,7 @@ impl Side {
 }
 
 impl Fork {
-    /// The same below it.
+    /// The same in the side that both indices are in.
     #[cycle(replace_in_place)]
     fn replace_in_place(
         &mut self,
@@ -314,8 +314,8 @@ impl Tree {
         }
     }
 
-    /// Exchanges what is between two byte indices for a text, in the memory of the one row that both are in, where no node
-    /// on the way has another owner and the row has room for it; else nothing changes. Takes no memory.
+    /// Exchanges what is between two byte indices for a text, in the one row that both are in, where no node on the way has
+    /// another owner and the row has room for it; else nothing changes. Takes memory only where that row outgrows its own.
     pub(crate) fn replace_in_place(
         &mut self,
         work: &mut Work,
