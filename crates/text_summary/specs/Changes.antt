@@ -2,10 +2,8 @@
 --     IsReplaced old new from to text    new is old with what is between two byte indices exchanged for the text
 --     IsChange a m b t change            what is known of m between a and b, and of t that comes in for m
 --     IsExchangeOf a m b t exchange      the same without where m starts
---     IsSpan x text y span               the text has its place between x and y
 --     FitsIn whole change                the change is of a text with that summary, and no text is too long
 --     FitsExchange whole exchange        the same of an exchange
---     FitsSpan change span               it is of a text that has its place in one that is not too long
 use Rattle.std.specs.Prelude.{ℕ, ◌≡◌, ◌+◌, ◌^◌, ◌<◌, ◌++◌}
 use Rattle.str_indices.specs.Text.{Text, size}
 use Rattle.str_indices.specs.Joins.{starts_with_feed, ends_in_return}
@@ -13,7 +11,6 @@ use Rattle.text_summary.specs.Summaries.{summary_of}
 use Rattle.text_summary.specs.declared.summaries.Summary.{Summary}
 use Rattle.text_summary.specs.declared.changes.Change.{Change}
 use Rattle.text_summary.specs.declared.changes.Exchange.{Exchange}
-use Rattle.text_summary.specs.declared.changes.Span.{Span}
 
 -- what is between two byte indices, each between characters, is exchanged for a text
 pub record IsReplaced (old new : Text) (from to : ℕ) (text : Text) : Type 0 where
@@ -61,22 +58,3 @@ pub record FitsExchange (whole : Summary) (exchange : Exchange) : Type 0 where
   pub exchange_is : IsExchangeOf a m b t exchange
   pub short_old : size (a ++ (m ++ b)) < 2 ^ 63
   pub short_new : size (a ++ (t ++ b)) < 2 ^ 63
-
--- a text has its place between x and y
-pub record IsSpan (x text y : Text) (span : Span) : Type 0 where
-  pub start : span.start ≡ size x
-  pub len : span.len ≡ size text
-  pub ends_cr : span.ends_cr ≡ ends_in_return x
-  pub starts_lf : span.starts_lf ≡ starts_with_feed y
-
--- the change is of a text that has its place in one that is not too long
-pub record FitsSpan (change : Change) (span : Span) : Type 0 where
-  pub x : Text
-  pub a : Text
-  pub m : Text
-  pub b : Text
-  pub y : Text
-  pub t : Text
-  pub change_is : IsChange a m b t change
-  pub span_is : IsSpan x (a ++ (m ++ b)) y span
-  pub short : size (x ++ ((a ++ (m ++ b)) ++ y)) < 2 ^ 63

@@ -5,7 +5,7 @@ ghost use Rattle.str_indices.specs.Joins.{starts_with_feed, ends_in_return, seam
 ghost use Rattle.str_indices.specs.Relations.{IsBoundary};
 ghost use Rattle.str_indices.specs.declared.Scheme.TheVariants.{Crlf};
 ghost use Rattle.text_summary.specs.Summaries.{summary_of};
-ghost use Rattle.text_summary.specs.Changes.{IsChange, IsExchangeOf, IsSpan, FitsIn, FitsExchange, FitsSpan};
+ghost use Rattle.text_summary.specs.Changes.{IsChange, IsExchangeOf, FitsIn, FitsExchange};
 
 use crate::seams::{joined_ends_cr, joined_starts_lf};
 use crate::{Scheme, Summary, ends_cr, halves, lost_at_seam, starts_lf};
@@ -38,19 +38,6 @@ pub struct Exchange {
     pub own: Summary,
 }
 
-/// Where a text has its place in a longer one.
-#[derive(Clone, Copy)]
-pub struct Span {
-    /// The byte index where it starts.
-    pub start: usize,
-    /// How many bytes it has.
-    pub len: usize,
-    /// Whether the text before it ends in CR.
-    pub ends_cr: bool,
-    /// Whether the text after it starts with LF.
-    pub starts_lf: bool,
-}
-
 impl Change {
     /// The change by which what is between two boundaries of a text is exchanged for another one.
     pub fn of(text: &str, from: usize, to: usize, own: Summary) -> Change
@@ -68,46 +55,6 @@ impl Change {
             starts_lf: starts_lf(back),
             out: Summary::of(part),
             own,
-        }
-    }
-
-    /// The same change in a longer text, in which the text that it is known of has its place.
-    pub fn within(self, span: Span) -> Change
-        requires { FitsSpan self span }
-        ensures { (x a m b y t : Text) → IsChange a m b t self → IsSpan x (a ++ (m ++ b)) y span →
-            IsChange (x ++ a) m (b ++ y) t result }
-    {
-        Change {
-            start: span.start + self.start,
-            ends_cr: self.ends_cr_within(span),
-            starts_lf: self.starts_lf_within(span),
-            out: self.out,
-            own: self.own,
-        }
-    }
-
-    /// Whether the longer text ends in CR before the part that goes out.
-    fn ends_cr_within(self, span: Span) -> bool
-        ensures { (x a m b y t : Text) → IsChange a m b t self → IsSpan x (a ++ (m ++ b)) y span →
-            result ≡ ends_in_return (x ++ a) }
-    {
-        if self.start == 0 {
-            span.ends_cr
-        } else {
-            self.ends_cr
-        }
-    }
-
-    /// Whether it starts with LF after that part.
-    fn starts_lf_within(self, span: Span) -> bool
-        requires { FitsSpan self span }
-        ensures { (x a m b y t : Text) → IsChange a m b t self → IsSpan x (a ++ (m ++ b)) y span →
-            result ≡ starts_with_feed (b ++ y) }
-    {
-        if self.start + self.out.len == span.len {
-            span.starts_lf
-        } else {
-            self.starts_lf
         }
     }
 }

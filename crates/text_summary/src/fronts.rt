@@ -41,17 +41,6 @@ impl Front {
         }
     }
 
-    /// What is known after a text with a summary.
-    pub fn of(s: Scheme, text: Summary) -> Front
-        ensures { (a : Text) → text ≡ summary_of a → IsFront s a result }
-    {
-        Front {
-            len: text.len,
-            total: text.count(s),
-            ends_cr: text.ends_cr,
-        }
-    }
-
     /// The count of the text before, less what the seam takes off where the text after it starts with LF or not.
     pub fn reached(self, s: Scheme, starts_lf: bool) -> usize
         requires { IsBefore s self starts_lf }

@@ -1,6 +1,6 @@
 -- What the proofs of other crates may cite of this one.
 pub use Rattle.text_summary.proofs.lemmas.Boundaries.{AreParts, parts_of, same_cut, same_parts, boundary-le, boundary_left, boundary_right, boundary_upto, boundary_start, boundary_end}
-pub use Rattle.text_summary.proofs.lemmas.Changing.{replaced_bytes, size-replaced, replaced_within, replaced_whole, replaced_nothing, taken_then_put, put_then_taken}
+pub use Rattle.text_summary.proofs.lemmas.Changing.{replaced_bytes, size-replaced, taken_then_put}
 pub use Rattle.text_summary.proofs.lemmas.Fronts.{Tells, tells, TellsAt, tells_at}
 pub use Rattle.text_summary.proofs.lemmas.Joining.{joined-append, joined-split, joined-take, drop-piece, joined-drop, joined_size-insert, joined_size-take}
 pub use Rattle.text_summary.proofs.lemmas.Narrowing.{each_byte_is_boundary, characters_are_bytes, units_are_bytes}

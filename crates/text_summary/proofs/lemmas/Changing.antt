@@ -1,5 +1,5 @@
 -- A text with a part of it exchanged for another text.
-use Rattle.text_summary.proofs.lemmas.Common.{◌≡◌, ℕ, ◌+◌, ◌-◌, ◌≤◌, List, [], ◌++◌, take, drop, refl, arith, sym, ◌∙◌, ap, append_assoc, length-take-le, chars, IsUtf8, IsUtf8-take, Text, size, size-append, size-chars, chars-append, IsBoundary, IsCharBoundary-from_boundary, take-append-drop, IsReplaced}
+use Rattle.text_summary.proofs.lemmas.Common.{◌≡◌, ℕ, ◌+◌, ◌-◌, ◌≤◌, List, [], ◌++◌, take, drop, arith, sym, ◌∙◌, ap, append_assoc, length-take-le, chars, IsUtf8, IsUtf8-take, Text, size, size-append, size-chars, chars-append, IsBoundary, IsCharBoundary-from_boundary, take-append-drop, IsReplaced}
 use Rattle.text_summary.proofs.lemmas.Boundaries.{parts_of, same_cut}
 
 -- the bytes of a text with those between two boundaries exchanged
@@ -51,41 +51,6 @@ size-replaced old new from to text r = omega (
   size-append text r.back,
 )
 
--- what is exchanged in a part of a text is exchanged in all
-pub replaced_within : (x old new y : Text) (from to first last : ℕ) (text : Text) → IsReplaced old new from to text
-    → size x + from ≡ first → size x + to ≡ last → IsReplaced (x ++ (old ++ y)) (x ++ (new ++ y)) first last text
-replaced_within x old new y from to first last text r first_is last_is =
-    let was : x ++ ((r.front ++ (r.middle ++ r.back)) ++ y) ≡ (x ++ r.front) ++ (r.middle ++ (r.back ++ y)) =
-    simp append_assoc in
-    let is : x ++ ((r.front ++ (text ++ r.back)) ++ y) ≡ (x ++ r.front) ++ (text ++ (r.back ++ y)) = simp append_assoc in
-    record {
-      front = x ++ r.front;
-      middle = r.middle;
-      back = r.back ++ y;
-      was = ap (λ p. x ++ (p ++ y)) r.was ∙ was;
-      start = omega (arith, size-append x r.front, r.start);
-      end = omega (arith, size-append x r.front, r.end);
-      is = ap (λ p. x ++ (p ++ y)) r.is ∙ is;
-    }
-
--- all of a text between two others, exchanged
-pub replaced_whole : (x old new y : Text) (first last : ℕ) → size x ≡ first → size x + size old ≡ last
-    → IsReplaced (x ++ (old ++ y)) (x ++ (new ++ y)) first last new
-replaced_whole x old new y first last first_is last_is =
-    record { front = x; middle = old; back = y; was = refl; start = first_is; end = last_is; is = refl }
-
--- nothing between a boundary and itself, exchanged for nothing
-pub replaced_nothing : (text : Text) (from to : ℕ) → from ≡ to → IsBoundary text from → IsReplaced text text from to []
-replaced_nothing text from to same at = record {
-  front = at.front;
-  middle = [];
-  back = at.back;
-  was = at.split;
-  start = at.place;
-  end = omega (arith, at.place);
-  is = at.split;
-}
-
 -- a text put in where a part was taken out before
 pub taken_then_put : (old mid new : Text) (from to : ℕ) (text : Text) → IsReplaced old mid from to []
     → IsReplaced mid new from from text → IsReplaced old new from to text
@@ -102,25 +67,4 @@ taken_then_put old mid new from to text out put =
       start = out.start;
       end = out.end;
       is = put.is ∙ ap (λ r. r ++ (text ++ put.back)) (sym outer.front) ∙ ap (λ r. out.front ++ (text ++ r)) (sym inner.back);
-    }
-
--- a text put in before the part that is taken out then
-pub put_then_taken : (old mid new : Text) (from to start end : ℕ) (text : Text) → IsReplaced old mid from from text
-    → IsReplaced mid new start end [] → from + size text ≡ start → to + size text ≡ end → IsReplaced old new from to text
-put_then_taken old mid new from to start end text put out start_is end_is =
-    let none : size put.middle ≡ 0 = omega (arith, put.start, put.end) in
-    let bare = same_cut [] put.back put.middle put.back in
-    let empty : [] ≡ put.middle = (same_cut [] (put.middle ++ put.back) put.middle put.back refl (sym none)).front in
-    let whole : (put.front ++ text) ++ put.back ≡ out.front ++ (out.middle ++ out.back) =
-    append_assoc put.front text put.back ∙ sym put.is ∙ out.was in
-    let outer = same_cut (put.front ++ text) put.back out.front (out.middle ++ out.back) whole
-    (omega (arith, size-append put.front text, put.start, out.start)) in
-    record {
-      front = put.front;
-      middle = out.middle;
-      back = out.back;
-      was = put.was ∙ ap (λ r. put.front ++ (r ++ put.back)) (sym empty) ∙ ap (λ r. put.front ++ r) outer.back;
-      start = put.start;
-      end = omega (arith, put.start, out.start, out.end);
-      is = out.is ∙ ap (λ r. r ++ out.back) (sym outer.front) ∙ append_assoc put.front text out.back;
     }
