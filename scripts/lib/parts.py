@@ -71,7 +71,7 @@ RELEASED = (
 )
 
 PARTS = (
-    Part("crates/text_rope/tests/refused_growths.py", 60, ("piece_text", "text_rope", "text_index"),
+    Part("crates/text_rope/tests/refused_growths.py", 60, ("piece_text", "text_rope", "text_index", "test_support"),
          ("crates/text_rope/tests/*.rt.txt",)),
     Part("crates/idx/tests/test_program.py", 60, ("idx",), (), SHELL),
     Part("crates/idx/tests/failing_calls.py", 60, ("idx",), ("crates/idx/tests/failing_calls.c",), ("cc",)),

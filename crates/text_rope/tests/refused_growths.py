@@ -6,20 +6,27 @@ step by step; the second does so at several numbers of pieces. refused_index_gro
 each once, beside a copy of its library, and refuses the same allocation in each of its runs. In each run the program has
 taken less memory before its first step, so that a later growth is refused. It must answer `NoMemory` then, with every other
 answer as before, and succeed at the second try. The last runs come to an end with no growth refused. The rope is changed
-once more with a snapshot held before each step, which must keep its text. The last line printed is 'N passed, M failed'.
+once more with a snapshot held before each step, which must keep its text.
+
+Then small_rows.rt.txt changes a rope at random beside a plain text, and compares what is answered of both, with no growth
+refused. Of the rope's rows and blocks small numbers are put into the copy of its library, so that the tree is deep.
+The last line printed is 'N passed, M failed'.
 """
 import pathlib
 import re
 import subprocess
 import sys
 import tempfile
-from typing import NamedTuple, Tuple
+from typing import Dict, NamedTuple, Tuple
 
 ROOT = pathlib.Path(__file__).resolve().parents[3]
 sys.path.insert(0, str(ROOT / "scripts/lib"))
 
 from crate_copies import copy_program  # noqa: E402
 from tally import Tally  # noqa: E402
+
+
+Numbers = Tuple[Tuple[str, int], ...]
 
 
 class Program(NamedTuple):
@@ -33,8 +40,15 @@ class Program(NamedTuple):
     made: str
     least: int
     passed_over: int = 0
-    numbers: Tuple[Tuple[str, int], ...] = ()
+    numbers: Numbers = ()
     runs: int = 40
+
+
+class Small(NamedTuple):
+    """Small numbers for those in the rope's sources, by the name of the file, and those of the program that changes it."""
+
+    sources: Dict[str, Numbers]
+    numbers: Numbers
 
 
 # what the rope has at the end
@@ -64,16 +78,29 @@ PROGRAMS = (
     Program("refused_index_growths", "text_index", INDEXES_MADE, 2, passed_over=1, runs=5),
 )
 
+SMALL = (
+    # the deepest trees: no two blocks go into one
+    Small({"row": (("MAX_PIECE", 16), ("STEP", 4)), "block": (("MAX_ROWS", 2),), "loads": (("LOADED_ROWS", 2),)}, ()),
+    Small({"row": (("MAX_PIECE", 64), ("STEP", 8)), "block": (("MAX_ROWS", 8),)}, (("CHANGES", 600), ("LONG", 2000))),
+)
+
 REFUSED = "no memory, and all as before\n"
 
+LEFT_OUT = ("must-fail", "out")
 
-def source_of(program):
-    """The text of the program, with its numbers."""
-    source = (ROOT / f"crates/text_rope/tests/{program.name}.rt.txt").read_text(encoding="utf-8")
-    for name, number in program.numbers:
-        source, made = re.subn(f"(const {name}: usize =) [0-9]+;", rf"\1 {number};", source)
+
+def with_numbers(source, numbers):
+    """A source with the numbers in the place of its own."""
+    for name, number in numbers:
+        source, made = re.subn(f"(const {name}: usize =) [^;]+;", rf"\1 {number};", source)
         assert made == 1, name
     return source
+
+
+def source_of(name, numbers):
+    """The text of the program of that name, with the numbers."""
+    source = (ROOT / f"crates/text_rope/tests/{name}.rt.txt").read_text(encoding="utf-8")
+    return with_numbers(source, numbers)
 
 
 def run_all(program, crate, cases):
@@ -96,7 +123,8 @@ def try_program(program, tally):
     """Refuses each growth of the program in turn."""
     with tempfile.TemporaryDirectory() as folder:
         folder = pathlib.Path(folder)
-        crate = copy_program(program.name, [program.library], source_of(program), folder, left_out=("must-fail", "out"))
+        source = source_of(program.name, program.numbers)
+        crate = copy_program(program.name, [program.library], source, folder, left_out=LEFT_OUT)
         done = run_all(program, crate, folder / "cases")
     if not tally.result(done.returncode == 0, f"{program.name} is built once, and comes to an end in {program.runs} runs"):
         print(done.stdout + done.stderr)
@@ -110,10 +138,29 @@ def try_program(program, tally):
     tally.result(program.least < growths == max(refused) < program.runs, told)
 
 
+def try_small(small, tally):
+    """Changes a rope of small rows and blocks beside a plain text, and tells how many answers were compared."""
+    with tempfile.TemporaryDirectory() as folder:
+        folder = pathlib.Path(folder)
+        source = source_of("small_rows", small.numbers)
+        crate = copy_program("small_rows", ["text_rope", "test_support"], source, folder, left_out=LEFT_OUT)
+        for name, numbers in small.sources.items():
+            path = folder / f"crates/text_rope/src/{name}.rt"
+            path.write_text(with_numbers(path.read_text(encoding="utf-8"), numbers), encoding="utf-8")
+        command = ["rt", "try", "--steps", "1", "--seconds", "900"]
+        done = subprocess.run(command, cwd=crate, capture_output=True, text=True)
+    told = re.match("([0-9]+) answers, .*", done.stdout)
+    if not tally.result(done.returncode == 0 and told is not None, f"small rows: {told[0] if told else 'no answers'}"):
+        print(done.stdout + done.stderr)
+    return int(told[1]) if told else 0
+
+
 def main():
     tally = Tally()
     for program in PROGRAMS:
         try_program(program, tally)
+    answers = sum(try_small(small, tally) for small in SMALL)
+    tally.enough("answers of small_rows.rt.txt", answers, "answers of ropes with small rows")
     return tally.end()
 
 
