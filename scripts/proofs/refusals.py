@@ -24,8 +24,8 @@ from typing import Dict, Iterable, Iterator, List, NamedTuple, Set, Tuple
 from crate_copies import ROOT, copy_crate, copy_crates, stands_on, with_all_below
 from kept import Kept, crate_sum, scripts_sum, sum_of
 
-# side by side; one processor is left to whatever runs beside, and more of them would each take longer
-JOBS = max(1, min(3, (os.cpu_count() or 1) - 1))
+# side by side; of more than two processors one is left to whatever runs beside, and more of them would each take longer
+JOBS = max(2, min(3, (os.cpu_count() or 1) - 1))
 # how many groups are tried in one copy
 MOST_GROUPS = 5
 
