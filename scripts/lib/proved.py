@@ -2,6 +2,8 @@
 import pathlib
 import shutil
 
+from crate_copies import copy_or_link
+
 
 def hand_on(root: pathlib.Path, folder: pathlib.Path) -> None:
     """Puts what proofs left beside the crates below the root beside those of them that the folder has. The toolchain takes
@@ -9,4 +11,4 @@ def hand_on(root: pathlib.Path, folder: pathlib.Path) -> None:
     for made in root.glob("crates/*/out"):
         crate = folder / "crates" / made.parent.name
         if crate.is_dir():
-            shutil.copytree(made, crate / "out")
+            shutil.copytree(made, crate / "out", copy_function=copy_or_link)

@@ -2,16 +2,17 @@
 
 An edit has lines of a word and a text. 'refuses:' names a function and what must be open in it: a clause of
 its contract, or 'returns' for one without a name; 'invariant' for that of a type whose value it leaves; what a call in it
-asks, as 'CALL asks CLAUSE'; what a loop with that label keeps, as 'LABEL keeps'; or 'proof', where a file Proof.antt proves
-it step by step, which names no clause. 'file:' names a file of the crate, and each 'old:' text, which stands once in it,
-becomes the 'new:' text of the next line. A file CRATE.edits has many: each begins with its name in brackets, and what begins
-with '#' is for the reader. A file NAME.edit, as the toolchain's gate reads it, has one.
+asks, as 'CALL asks CLAUSE'; what a loop with that label keeps, as 'LABEL keeps'; 'proof', where a file Proof.antt proves
+it step by step, which names no clause; or 'lemma NAME', for an edit of a definition. 'file:' names a file of the crate,
+and each 'old:' text, which stands once in it, becomes the 'new:' text of the next line. A file CRATE.edits has many: each
+begins with its name in brackets, and what begins with '#' is for the reader.
 
 Each crate is copied with all below it, and proved as it stands, before and after. What a script puts into one group is
 tried in one check of a copy, each edit by the function that it names and no other. What was refused where it should be, in
 a copy that was proved before and after, is kept, as kept.py says: a later run tries only what changed since.
 """
 import concurrent.futures
+import contextlib
 import os
 import pathlib
 import re
@@ -28,6 +29,10 @@ from kept import Kept, crate_sum, scripts_sum, sum_of
 JOBS = max(2, min(3, (os.cpu_count() or 1) - 1))
 # how many groups are tried in one copy
 MOST_GROUPS = 5
+
+# A declaration by what is nowhere. Where a function's answers have it, a check tells which goals of the function are open,
+# and does not go on to offer answers for them, which takes a quarter of its time
+NO_OFFER = "\n\nleft-out : nowhere\nleft-out = nowhere\n"
 
 # what the checker says where a proof file names what is no longer there, which tells nothing of the contract
 STALE_NAME = re.compile(r"has no field|is not in scope(?! here, so what is shown)|has no `|was not admitted")
@@ -86,6 +91,8 @@ class Edit:
             return re.compile(r"invariant_of-")
         if self.goal == "proof":
             return re.compile(r"\w+_spec$")
+        if self.goal.startswith("lemma "):
+            return re.compile(rf"{re.escape(self.goal.removeprefix('lemma '))}$")
         return re.compile(rf"returns(-.*)?-clause-{re.escape(self.goal)}$")
 
     def is_refused(self, goals: List[str]) -> bool:
@@ -93,10 +100,8 @@ class Edit:
 
 
 def edits_in(path: pathlib.Path) -> List[Edit]:
-    """The edits of a file, in its order: one of a file NAME.edit, and many of CRATE.edits."""
+    """The edits of a file CRATE.edits, in its order."""
     lines = [line for line in path.read_text(encoding="utf-8").splitlines() if line and not line.startswith("#")]
-    if path.suffix == ".edit":
-        return [Edit(path.stem, lines)]
     heads = [at for at, line in enumerate(lines) if line.startswith("[")]
     edits = [Edit(lines[at][1:-1], lines[at + 1:end]) for at, end in zip(heads, [*heads[1:], len(lines)])]
     names = [edit.name for edit in edits]
@@ -145,6 +150,33 @@ def proofs_of(function: str) -> List[str]:
     return ["/".join(("proofs", *folder, "")) for folder in folders]
 
 
+def answers_file(crate: pathlib.Path, function: str) -> pathlib.Path:
+    """The file of the function's answers, whether it is there or not."""
+    folders = [crate / folder for folder in proofs_of(function)]
+    return next((folder for folder in folders if any(folder.glob("*.antt"))), folders[0]) / "Answers.antt"
+
+
+@contextlib.contextmanager
+def no_offers(crate: pathlib.Path, edits: List[Edit]) -> Iterator[None]:
+    """Has a check offer no answers for these functions meanwhile. What is open in them stays so, and nothing else is."""
+    files = {answers_file(crate, edit.function) for edit in edits}
+    before = {file: file.read_text(encoding="utf-8") if file.is_file() else None
+              for file in files if not (file.parent / "Proof.antt").is_file()}
+    for file, text in before.items():
+        file.parent.mkdir(parents=True, exist_ok=True)
+        file.write_text((text or "") + NO_OFFER, encoding="utf-8")
+    yield
+    for file, text in before.items():
+        file.unlink() if text is None else file.write_text(text, encoding="utf-8")
+
+
+def opened_by_no_offers(crate: pathlib.Path, edit: Edit) -> List[str]:
+    """The goals that are open in the edit's function before the edit is made, only since no answers are offered: none."""
+    with no_offers(crate, [edit]):
+        _, output = check(crate, [edit.function])
+    return open_goals(crate, edit.function, output)
+
+
 def head_of(function: str) -> str:
     """What the names of the function's goals begin with in a cycle of several types."""
     return "::".join(function.split("::")[-2:]) + "-"
@@ -157,9 +189,10 @@ def own_goals(function: str, goals: List[str]) -> List[str]:
 
 
 def refused_at_proofs(function: str, output: str) -> List[str]:
-    """The goals that the check refuses at the function's proof files, but for those where a name alone is stale."""
+    """The goals that the check refuses at the function's proof files, and the lemmas, but for those where a name alone is
+    stale."""
     error = re.compile(r"^(?:\./)?(proofs/\S+)\.antt:\d+:\d+: error: `([^`]*)`: (.*(?:\n  .*)*)", re.MULTILINE)
-    folders = tuple(proofs_of(function))
+    folders = (*proofs_of(function), "proofs/lemmas/")
     found = error.findall(output)
     return [goal for file, goal, said in found if file.startswith(folders) and not STALE_NAME.search(said)]
 
@@ -189,9 +222,8 @@ def refused_functions(crate: pathlib.Path, output: str) -> Set[str]:
 
 def goals_after(crate: pathlib.Path, function: str, goals: List[str]) -> List[str]:
     """The goals open besides these, once their answers are holes: beside a wrong answer the check names none."""
-    files = [crate / folder / "Answers.antt" for folder in proofs_of(function)]
-    file = next((file for file in files if file.is_file()), None)
-    if not file:
+    file = answers_file(crate, function)
+    if not file.is_file():
         return []
     text = holed = file.read_text(encoding="utf-8")
     for goal in goals:
@@ -211,7 +243,8 @@ def try_together(crate: pathlib.Path, edits: List[Edit], nothing_else: bool) -> 
         texts, fault = edit.apply(crate)
         made += [] if fault else [edit]
         before = {**texts, **before}
-    status, output = check(crate, [edit.function for edit in made])
+    with no_offers(crate, made):
+        status, output = check(crate, [edit.function for edit in made])
     write(crate, before)
     if status != 1 or nothing_else and not refused_functions(crate, output) <= {edit.function for edit in made}:
         return {}, output
@@ -223,7 +256,8 @@ def try_alone(crate: pathlib.Path, edit: Edit, nothing_else: bool) -> Tuple[List
     texts, fault = edit.apply(crate)
     if fault:
         return [], fault
-    status, output = check(crate, [edit.function])
+    with no_offers(crate, [edit]):
+        status, output = check(crate, [edit.function])
     counts = status == 1 and not (nothing_else and refused_functions(crate, output) - {edit.function})
     goals = open_goals(crate, edit.function, output) if counts else []
     if goals and not edit.is_refused(goals):
@@ -350,6 +384,8 @@ class Trial:
             if run.returncode != 0:
                 yield False, f"the crates are not proved unedited: {run.stdout}"
                 return
+            opened = pool.map(lambda name: opened_by_no_offers(first / "crates" / name, self.groups[name][0][0]), self.groups)
+            yield from ((False, f"open before an edit is made: {goals}") for goals in opened if goals)
             for copy in self.copies(pool, first, pathlib.Path(folder)):
                 yield from self.results(copy)
 

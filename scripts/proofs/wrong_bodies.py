@@ -2,12 +2,11 @@
 """Tries wrong bodies: each must be refused by the function, and at the clause, that it names.
 
 A wrong body is an edit of refusals/bodies/CRATE.edits, as refusals.py reads them. It fails where another function alone is
-refused, where none is, where another goal is open, and where only a name in a proof file is no longer there. The few of
-crates/CRATE/must-fail are tried by the gate of the toolchain, and gate_edits.py reads what that tells of them.
+refused, where none is, where another goal is open, and where only a name in a proof file is no longer there.
 
 Wrong bodies of several functions are tried at once, each by its own function: of another function a proof sees the
-contract alone. What changes more than the body of the named function is tried alone. A list of names tries those alone,
-those of must-fail/ too. The last line printed is 'N passed, M failed'.
+contract alone. What changes more than the body of the named function is tried alone. A list of names tries those alone.
+The last line printed is 'N passed, M failed'.
 """
 import pathlib
 import re
@@ -16,13 +15,12 @@ import sys
 ROOT = pathlib.Path(__file__).resolve().parents[2]
 sys.path.insert(0, str(ROOT / "scripts/lib"))
 
-import gate_edits  # noqa: E402
 from crate_copies import stands_on  # noqa: E402
 from refusals import Trial, apply_together, edits_in  # noqa: E402
 from tally import Tally  # noqa: E402
 
 # how many are tried at once
-MOST = 12
+MOST = 36
 
 # what may stand at the head of a changed line outside of a body
 NO_BODY = re.compile(r"\s*(ensures|requires|ghost|const|static|use|type|#\[|///)")
@@ -67,12 +65,10 @@ def grouped(crate, edits):
 
 
 def trial(names=()):
-    """The edits that are tried: all but those that the gate of the toolchain tries, or those of these names."""
+    """The edits that are tried: all, or those of these names."""
     groups = {}
     for crate in stands_on():
-        edits = edits_of(crate)
-        if names:
-            edits = [edit for edit in [*edits, *gate_edits.edits_of(crate)] if edit.name in names]
+        edits = [edit for edit in edits_of(crate) if not names or edit.name in names]
         if edits:
             groups[crate] = grouped(crate, edits)
     return Trial(groups)

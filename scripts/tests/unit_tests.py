@@ -37,7 +37,6 @@ if __name__ == "__main__":
     # before the imports: the Python that runs this file may have no pytest, and that of the command has it
     sys.exit(by_pytest())
 
-import gate_edits  # noqa: E402
 import kept  # noqa: E402
 import parts  # noqa: E402
 import pytest  # noqa: E402
@@ -118,12 +117,32 @@ def test_an_edit_alone(names, answers, nothing_else, is_refused, crate, monkeypa
     assert contents(crate) == before
 
 
+@pytest.mark.parametrize("function, file", [
+    pytest.param(LOAD, "load/Answers.antt", id="answers that there are"),
+    pytest.param("text_probe::Probe::peek", "peek/Answers.antt", id="no answers yet"),
+    pytest.param("text_probe::Probe::fill", "fill/Proof.antt", id="a proof step by step"),
+    pytest.param("text_probe::Probe::down", "+down/Answers.antt", id="a function that calls itself"),
+])
+def test_no_offers_of_answers(function, file, crate):
+    for path in ["fill/Proof.antt", "+down/Invariants.antt"]:
+        (crate / "proofs/text_probe/Probe" / path).parent.mkdir()
+        (crate / "proofs/text_probe/Probe" / path).write_text("a proof\n")
+    before = contents(crate)
+    with refusals.no_offers(crate, [edit_of(f"refuses: {function} returns", *CHANGE)]):
+        meanwhile = contents(crate)
+    changed = {path: text for path, text in meanwhile.items() if before.get(path) != text}
+    path = crate / "proofs/text_probe/Probe" / file
+    assert changed == ({} if path.name == "Proof.antt" else {path: before.get(path, "") + refusals.NO_OFFER})
+    assert contents(crate) == before
+
+
 @pytest.mark.parametrize("names, goal, fits", [
     ("f answer", "returns-clause-answer", True), ("f answer", "returns-tail-clause-answer", True),
     ("f answer", "returns-clause-answers", False), ("f returns", "returns", True), ("f returns", "returns-clause-x", False),
     ("f invariant", "invariant_of-self", True), ("f g asks end", "g-requires-0-clause-end", True),
     ("f g asks end", "h-requires-clause-end", False), ("f g asks", "g-requires", True),
     ("f g asks", "g-requires-clause-end", False), ("f proof", "f_spec", True), ("f proof", "returns", False),
+    ("f lemma seam-loss", "seam-loss", True), ("f lemma seam-loss", "seam-loss-same", False),
 ])
 def test_goals_that_fit(names, goal, fits):
     assert edit_of(f"refuses: {names}").is_refused([goal]) == fits
@@ -180,30 +199,6 @@ def test_a_file_of_edits_that_is_refused(lines, tmp_path):
         edits_in(tmp_path, lines)
 
 
-# What the gate of the toolchain tells of the edits in must-fail/.
-
-@pytest.mark.parametrize("told, is_refused", [
-    pytest.param("{label}: note: {file}:{line}:5: it is not proved that (`returns-clause-answer`)", True, id="at its clause"),
-    pytest.param("{label}: note: {file}:{line}:5: it is not proved that (`returns-clause-pass`)", False, id="at another"),
-    pytest.param("{label}: note: {file}:1:5: it is not proved that (`returns-clause-answer`)", False, id="at another line"),
-    pytest.param("{label}: {proofs}Answers.antt:1:1: error: `returns-clause-answer`: no proof", True, id="in its proofs"),
-    pytest.param("{label}: proofs/other/Answers.antt:1:1: error: `returns-clause-answer`: no proof", False, id="in others"),
-    pytest.param("{label} (only by a limit of the prover): note: {file}:{line}:5: it is not proved that"
-                 " (`returns-clause-answer`)", False, id="by a limit"),
-    pytest.param("rt: must-fail {crate}/{name}.edit: NOT REFUSED", False, id="not refused"),
-    pytest.param("", False, id="nothing is told"),
-])
-def test_the_gate_of_the_toolchain(told, is_refused):
-    (crate, name), edit = next((key, edit) for key, edit in gate_edits.edits().items() if edit.goal == "answer")
-    (file, old, _), = edit.changes
-    line = (ROOT / "crates" / crate / file).read_text(encoding="utf-8").partition(old)[0].count("\n") + 1
-    label = f"rt: must-fail {crate}/{name}.edit: refused, as it must be"
-    proofs = refusals.proofs_of(edit.function)[0]
-    line_of_it = told.format(label=label, file=file, line=line, proofs=proofs, crate=crate, name=name)
-    results = {words: right for right, words in gate_edits.results(line_of_it + "\n")}
-    assert [right for words, right in results.items() if words.startswith(f"{crate} {name},")] == [is_refused]
-
-
 # What is counted.
 
 @pytest.mark.parametrize("output, sums", [
@@ -254,8 +249,8 @@ def others_once_changed(root, path, before, names):
 
 
 @pytest.mark.parametrize("path, lowest", [
-    ("docs/GATE.md", None), ("bindings/c/heap.c", None), ("crates/text_rope/must-fail/x.edit", None),
-    ("crates/text_rope/out/x", None), ("crates/text_rope/src/rope.rt", "text_rope"),
+    ("docs/GATE.md", None), ("bindings/c/heap.c", None), ("crates/text_rope/out/x", None),
+    ("crates/text_rope/src/rope.rt", "text_rope"),
     ("crates/text_rope/proofs/new.antt", "text_rope"), ("crates/str_indices/specs/new.antt", "str_indices"),
     ("crates/byte_chunk/src/lib.rt", "byte_chunk"), ("crates/idx/src/main.rt", "idx"),
 ])

@@ -111,7 +111,7 @@ def run(lists, folder):
     """What the program prints for each list, by its number."""
     libraries = ["rope_positions", "text_rope", "position_mapper"]
     source = (ROOT / "crates/rope_positions/tests/rope_positions.rt.txt").read_text(encoding="utf-8")
-    crate = copy_program("rope_changes", libraries, source, folder, left_out=("must-fail", "out"))
+    crate = copy_program("rope_changes", libraries, source, folder, left_out=("out",))
     cases = folder / "cases"
     cases.mkdir()
     for number, case in enumerate(lists):

@@ -86,7 +86,7 @@ SMALL = (
 
 REFUSED = "no memory, and all as before\n"
 
-LEFT_OUT = ("must-fail", "out")
+LEFT_OUT = ("out",)
 
 
 def with_numbers(source, numbers):
