@@ -20,7 +20,7 @@ import shutil
 import subprocess
 import tempfile
 import time
-from typing import Dict, Iterable, Iterator, List, NamedTuple, Set, Tuple
+from typing import Dict, Iterable, Iterator, List, NamedTuple, Optional, Set, Tuple
 
 from crate_copies import ROOT, copy_crate, copy_crates, stands_on, with_all_below
 from kept import Kept, crate_sum, scripts_sum, sum_of
@@ -150,18 +150,29 @@ def proofs_of(function: str) -> List[str]:
     return ["/".join(("proofs", *folder, "")) for folder in folders]
 
 
-def answers_file(crate: pathlib.Path, function: str) -> pathlib.Path:
-    """The file of the function's answers, whether it is there or not."""
-    folders = [crate / folder for folder in proofs_of(function)]
-    return next((folder for folder in folders if any(folder.glob("*.antt"))), folders[0]) / "Answers.antt"
+def may_call_itself(crate: pathlib.Path, edit: Edit) -> bool:
+    """Whether a function of that name calls one of that name, where the edit is made. Its proof may then stand elsewhere."""
+    (file, _, _), *_ = edit.changes
+    name = re.escape(edit.function.split("::")[-1])
+    text = (crate / file).read_text(encoding="utf-8")
+    bodies = re.findall(rf"^( *)(?:\S[^\n]*)?\bfn {name}\b(.*?)^\1}}", text, re.MULTILINE | re.DOTALL)
+    return any(re.search(rf"\b{name}\(", body) for _, body in bodies)
+
+
+def place_of_answers(crate: pathlib.Path, edit: Edit) -> Optional[pathlib.Path]:
+    """The file for the answers of the edit's function, whether it is there or not; None where there can be no such file."""
+    folders = [crate / folder for folder in proofs_of(edit.function)]
+    folder = next((folder for folder in folders if any(folder.glob("*.antt"))), None)
+    if folder:
+        return None if (folder / "Proof.antt").is_file() else folder / "Answers.antt"
+    return None if may_call_itself(crate, edit) else folders[0] / "Answers.antt"
 
 
 @contextlib.contextmanager
 def no_offers(crate: pathlib.Path, edits: List[Edit]) -> Iterator[None]:
     """Has a check offer no answers for these functions meanwhile. What is open in them stays so, and nothing else is."""
-    files = {answers_file(crate, edit.function) for edit in edits}
-    before = {file: file.read_text(encoding="utf-8") if file.is_file() else None
-              for file in files if not (file.parent / "Proof.antt").is_file()}
+    files = {place_of_answers(crate, edit) for edit in edits} - {None}
+    before = {file: file.read_text(encoding="utf-8") if file.is_file() else None for file in files}
     for file, text in before.items():
         file.parent.mkdir(parents=True, exist_ok=True)
         file.write_text((text or "") + NO_OFFER, encoding="utf-8")
@@ -222,8 +233,9 @@ def refused_functions(crate: pathlib.Path, output: str) -> Set[str]:
 
 def goals_after(crate: pathlib.Path, function: str, goals: List[str]) -> List[str]:
     """The goals open besides these, once their answers are holes: beside a wrong answer the check names none."""
-    file = answers_file(crate, function)
-    if not file.is_file():
+    files = [crate / folder / "Answers.antt" for folder in proofs_of(function)]
+    file = next((file for file in files if file.is_file()), None)
+    if not file:
         return []
     text = holed = file.read_text(encoding="utf-8")
     for goal in goals:
