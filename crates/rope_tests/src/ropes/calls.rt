@@ -1,49 +1,43 @@
 //! Each call of a rope, with worked answers.
 use super::{Change, assert_same, lines, make};
-use std::alloc::Global;
+use std::alloc::{AllocError, Global};
 use std::process::Abort;
 use std::test::Fail;
 use text_rope::Refusal::{NotBoundary, NotOrdered, TooLong};
 use text_rope::Scheme::{self, Chars, Crlf, Lf, Lines, Utf16};
 use text_rope::{Chunk, Chunks, Refusal, Rope, count_in, from_in, is_boundary_in, to_in};
 
-/// A text with its five counts, and for each scheme a byte index with its answer, and an index with its byte.
-type Row = (
-    &'static str,
-    [(Scheme, usize, (usize, usize), (usize, usize)); 5],
-);
+/// A scheme with its count, a byte index with its answer, and an index with its byte.
+type Answers = (Scheme, usize, (usize, usize), (usize, usize));
 
-const ROWS: [Row; 3] = [
-    (
-        "Hel🐸lo world! こん🐸にち🐸🐸は!",
-        [
-            (Chars, 23, (7, 4), (4, 7)),
-            (Utf16, 27, (26, 17), (18, 23)),
-            (Lf, 0, (45, 0), (1, 45)),
-            (Crlf, 0, (45, 0), (1, 45)),
-            (Lines, 0, (45, 0), (1, 45)),
-        ],
-    ),
-    (
-        "a\r\nb\u{2028}\r",
-        [
-            (Chars, 6, (7, 5), (5, 7)),
-            (Utf16, 6, (7, 5), (6, 8)),
-            (Lf, 1, (3, 1), (1, 3)),
-            (Crlf, 2, (2, 0), (2, 8)),
-            (Lines, 3, (7, 2), (2, 7)),
-        ],
-    ),
-    (
-        "",
-        [
-            (Chars, 0, (1, 0), (1, 0)),
-            (Utf16, 0, (1, 0), (1, 0)),
-            (Lf, 0, (1, 0), (1, 0)),
-            (Crlf, 0, (1, 0), (1, 0)),
-            (Lines, 0, (1, 0), (1, 0)),
-        ],
-    ),
+/// A text with characters of one, three and four bytes.
+const FROGS: &str = "Hel🐸lo world! こん🐸にち🐸🐸は!";
+
+const OF_FROGS: [Answers; 5] = [
+    (Chars, 23, (7, 4), (4, 7)),
+    (Utf16, 27, (26, 17), (18, 23)),
+    (Lf, 0, (45, 0), (1, 45)),
+    (Crlf, 0, (45, 0), (1, 45)),
+    (Lines, 0, (45, 0), (1, 45)),
+];
+
+/// A text with three kinds of breaks.
+const BREAKS: &str = "a\r\nb\u{2028}\r";
+
+const OF_BREAKS: [Answers; 5] = [
+    (Chars, 6, (7, 5), (5, 7)),
+    (Utf16, 6, (7, 5), (6, 8)),
+    (Lf, 1, (3, 1), (1, 3)),
+    (Crlf, 2, (2, 0), (2, 8)),
+    (Lines, 3, (7, 2), (2, 7)),
+];
+
+const OF_NO_TEXT: [Answers; 5] = [
+    (Chars, 0, (1, 0), (1, 0)),
+    (Utf16, 0, (1, 0), (1, 0)),
+    (Lf, 0, (1, 0), (1, 0)),
+    (Crlf, 0, (1, 0), (1, 0)),
+    (Lines, 0, (1, 0), (1, 0)),
 ];
 
 /// Compares a count, an index and a byte with those of a row.
@@ -79,20 +73,32 @@ fn assert_length(rt: &impl Abort, rope: &Rope, text: &str) {
 }
 
 /// Asks a rope, and its view.
-fn assert_row(rt: &impl Abort, rope: &Rope, row: &Row) {
-    assert_length(rt, rope, row.0);
-    for (s, count, (byte_idx, from), (idx, to)) in row.1 {
+fn assert_answers(rt: &impl Abort, rope: &Rope, answers: &[Answers]) {
+    for &(s, count, (byte_idx, from), (idx, to)) in answers {
         let wanted = [count, from, to];
         assert_found(rt, s, ask(rope, s, byte_idx, idx), wanted);
         assert_found(rt, s, ask_view(rope, s, byte_idx, idx), wanted);
     }
 }
 
+/// Asks a rope of a text.
+fn assert_text(
+    rt: &impl Abort,
+    alloc: Global,
+    text: &str,
+    answers: &[Answers],
+) -> Result<(), Refusal> {
+    let rope = Rope::from_str(alloc, text)?;
+    assert_length(rt, &rope, text);
+    assert_answers(rt, &rope, answers);
+    Ok(())
+}
+
 #[test]
 fn questions(rt: HostRuntime) -> Result<(), Fail> {
-    for row in ROWS {
-        assert_row(&rt, &Rope::from_str(rt.alloc(), row.0)?, &row);
-    }
+    assert_text(&rt, rt.alloc(), FROGS, &OF_FROGS)?;
+    assert_text(&rt, rt.alloc(), BREAKS, &OF_BREAKS)?;
+    assert_text(&rt, rt.alloc(), "", &OF_NO_TEXT)?;
     Ok(())
 }
 
@@ -155,8 +161,8 @@ fn assert_step(rt: &impl Abort, rope: &mut Rope, step: &Step) {
 #[test]
 fn changes(rt: HostRuntime) {
     let mut rope = Rope::new(rt.alloc());
-    for step in STEPS {
-        assert_step(&rt, &mut rope, &step);
+    for step in &STEPS {
+        assert_step(&rt, &mut rope, step);
     }
 }
 
@@ -174,13 +180,19 @@ fn assert_chunk_at(rt: &impl Abort, rope: &Rope, text: &str, byte_idx: usize) {
     assert!(rt; is_right, "{byte_idx}");
 }
 
+/// Pieces in one text.
+fn in_one(alloc: Global, pieces: Chunks<'_>) -> Result<String, AllocError> {
+    let mut whole = String::new(alloc);
+    for piece in pieces {
+        whole.push_str(piece)?;
+    }
+    Ok(whole)
+}
+
 /// What is between two bytes of a rope, from its pieces.
 fn part(alloc: Global, rope: &Rope, from: usize, to: usize) -> Result<String, Fail> {
-    let mut part = String::new(alloc);
-    for piece in rope.chunks_in(from..to)? {
-        part.push_str(piece)?;
-    }
-    Ok(part)
+    let pieces = rope.chunks_in(from..to)?;
+    Ok(in_one(alloc, pieces)?)
 }
 
 fn assert_part(

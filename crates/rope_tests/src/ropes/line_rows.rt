@@ -1,9 +1,10 @@
 //! The lines of a text, with worked answers, and with breaks that lie across two pieces.
-use super::assert_same;
+use super::{assert_same, joined};
+use std::alloc::{AllocError, Global};
 use std::process::Abort;
 use std::test::Fail;
 use text_rope::Scheme::{self, Chars, Crlf, Lf, Lines, Utf16};
-use text_rope::{Line, Rope, line_in};
+use text_rope::{Line, Refusal, Rope, line_in};
 
 /// A line by a scheme: where it begins, where its content ends, and where its break does.
 type Row = (Scheme, usize, [usize; 3]);
@@ -43,35 +44,52 @@ const WIDE_ROWS: [Row; 8] = [
     (Lf, 0, [0, 10, 10]),
 ];
 
+fn assert_found(rt: &impl Abort, found: Line, s: Scheme, k: usize, wanted: [usize; 3]) {
+    let Line { start, end, next } = found;
+    let found = [start, end, next];
+    assert!(rt; found == wanted, "{s:?} {k}: {found:?}");
+}
+
+/// Asks a rope, and its view.
 fn assert_line(rt: &impl Abort, rope: &Rope, (s, k, wanted): Row) {
-    for found in [rope.line(s, k), line_in(&mut rope.view(), s, k)] {
-        let Line { start, end, next } = found;
-        assert!(rt;
-            [start, end, next] == wanted,
-            "{s:?} {k}: {start} {end} {next}"
-        );
+    assert_found(rt, rope.line(s, k), s, k, wanted);
+    assert_found(rt, line_in(&mut rope.view(), s, k), s, k, wanted);
+}
+
+/// Compares lines of a text with their rows.
+fn assert_lines(rt: &impl Abort, alloc: Global, text: &str, rows: &[Row]) -> Result<(), Refusal> {
+    let rope = Rope::from_str(alloc, text)?;
+    for row in rows {
+        assert_line(rt, &rope, *row);
     }
+    Ok(())
 }
 
 #[test]
 fn lines_of_each_scheme(rt: HostRuntime) -> Result<(), Fail> {
-    let rope = Rope::from_str(rt.alloc(), "a\r\nb\u{c}c\u{2028}\r")?;
-    for row in ROWS {
-        assert_line(&rt, &rope, row);
-    }
-    let wide = Rope::from_str(rt.alloc(), "a🐸\u{85}\u{2029}")?;
-    for row in WIDE_ROWS {
-        assert_line(&rt, &wide, row);
-    }
+    assert_lines(&rt, rt.alloc(), "a\r\nb\u{c}c\u{2028}\r", &ROWS)?;
+    assert_lines(&rt, rt.alloc(), "a🐸\u{85}\u{2029}", &WIDE_ROWS)?;
+    Ok(())
+}
+
+/// A text, and as many breaks after it as fill more than a piece.
+fn with_breaks(alloc: Global, first: &str) -> Result<String, AllocError> {
+    let breaks = "\r\n".repeat(alloc, 800)?;
+    joined(alloc, [first, &breaks, ""])
+}
+
+/// Compares every answer of a rope of a text.
+fn assert_loaded(rt: &impl Abort, alloc: Global, text: &str) -> Result<(), Refusal> {
+    let rope = Rope::from_str(alloc, text)?;
+    assert_same(rt, &rope, text);
     Ok(())
 }
 
 #[test]
 fn breaks_across_pieces(rt: HostRuntime) -> Result<(), Fail> {
     for first in ["", "x"] {
-        let mut text = first.to_owned(rt.alloc())?;
-        text.push_str(&"\r\n".repeat(rt.alloc(), 800)?)?;
-        assert_same(&rt, &Rope::from_str(rt.alloc(), &text)?, &text);
+        let text = with_breaks(rt.alloc(), first)?;
+        assert_loaded(&rt, rt.alloc(), &text)?;
     }
     Ok(())
 }

@@ -4,7 +4,7 @@ use super::{Both, assert_same, lines};
 use std::process::Abort;
 use std::test::Fail;
 use test_support::Random;
-use text_rope::Rope;
+use text_rope::{Refusal, Rope};
 
 /// How many changes there are.
 const CHANGES: usize = 6_000;
@@ -12,37 +12,61 @@ const CHANGES: usize = 6_000;
 /// How many snapshots there are at most.
 const KEPT: usize = 12;
 
+/// Puts a letter between CR and LF of the text, and takes the end of the snapshot out.
+fn change_both(rope: &mut Rope, before: &mut Rope) -> Result<(), Refusal> {
+    rope.insert(2, "x")?;
+    before.remove(1..4)
+}
+
 #[test]
 fn a_change_of_either_leaves_the_other(rt: HostRuntime) -> Result<(), Fail> {
     let mut rope = Rope::from_str(rt.alloc(), "a\r\nb")?;
     let mut before = rope.snapshot()?;
-    rope.insert(2, "x")?;
-    before.remove(1..4)?;
+    change_both(&mut rope, &mut before)?;
     assert_same(&rt, &rope, "a\rx\nb");
     assert_same(&rt, &before, "a");
     Ok(())
 }
 
+/// A snapshot of a rope, with an 'a' put in at its beginning.
+fn with_letter(rope: &Rope) -> Result<Rope, Refusal> {
+    let mut copy = rope.snapshot()?;
+    copy.insert(0, "a")?;
+    Ok(copy)
+}
+
 #[test]
 fn a_snapshot_of_no_text(rt: HostRuntime) -> Result<(), Fail> {
     let rope = Rope::new(rt.alloc());
-    let mut copy = rope.snapshot()?;
-    copy.insert(0, "a")?;
+    let copy = with_letter(&rope)?;
     assert_same(&rt, &rope, "");
     assert_same(&rt, &copy, "a");
+    Ok(())
+}
+
+/// Puts a snapshot of a rope after it; what is left of the snapshot is no text.
+fn append_snapshot(rope: &mut Rope) -> Result<Rope, Refusal> {
+    let mut copy = rope.snapshot()?;
+    rope.append(&mut copy)?;
+    Ok(copy)
+}
+
+/// Takes two snapshots of a text, and puts one of them after it.
+fn assert_twice(rt: &impl Abort, rope: &mut Rope, text: &str, twice: &str) -> Result<(), Refusal> {
+    let held = rope.snapshot()?;
+    let copy = append_snapshot(rope)?;
+    assert_same(rt, rope, twice);
+    assert_same(rt, &copy, "");
+    assert_same(rt, &held, text);
     Ok(())
 }
 
 #[test]
 fn a_text_and_its_snapshot_in_one(rt: HostRuntime) -> Result<(), Fail> {
     let text = lines(rt.alloc(), 40)?;
+    let twice = text.repeat(rt.alloc(), 2)?;
     let mut rope = Rope::from_str(rt.alloc(), &text)?;
-    let mut copy = rope.snapshot()?;
-    let held = rope.snapshot()?;
-    rope.append(&mut copy)?;
-    assert_same(&rt, &rope, &text.repeat(rt.alloc(), 2)?);
-    assert_same(&rt, &copy, "");
-    assert_same(&rt, &held, &text);
+    assert_twice(&rt, &mut rope, &text, &twice)?;
     Ok(())
 }
 

@@ -1,29 +1,48 @@
 //! Ropes that are cut in two and put together.
-use super::{Both, LINE, assert_same, assert_same_counts, joined, lines};
+use super::{LINE, assert_same, assert_same_counts, joined, lines};
 use std::alloc::Global;
 use std::process::Abort;
 use std::test::Fail;
 use text_rope::{Refusal, Rope};
 
-/// Puts the second text after the first, and the second rope after the first.
-fn append(rt: &impl Abort, alloc: Global, first: &str, second: &str) -> Result<Both, Fail> {
-    let mut both = Both::of(alloc, first)?;
-    let mut rest = Rope::from_str(alloc, second)?;
-    both.rope.append(&mut rest)?;
+/// Puts a text after a rope, by a rope of its own, and looks at what is left of that.
+fn append(rt: &impl Abort, alloc: Global, rope: &mut Rope, text: &str) -> Result<(), Refusal> {
+    let mut rest = Rope::from_str(alloc, text)?;
+    rope.append(&mut rest)?;
     assert_same(rt, &rest, "");
-    both.text = joined(alloc, [first, second, ""])?;
-    Ok(both)
+    Ok(())
+}
+
+/// Puts the second rope after the first, and compares the whole with both texts in one.
+fn assert_append(rt: &impl Abort, alloc: Global, first: &str, second: &str) -> Result<(), Fail> {
+    let mut rope = Rope::from_str(alloc, first)?;
+    append(rt, alloc, &mut rope, second)?;
+    let text = joined(alloc, [first, second, ""])?;
+    assert_same(rt, &rope, &text);
+    Ok(())
 }
 
 /// Cuts a rope at a byte, and compares both parts with those of the text.
+fn assert_parts(
+    rt: &impl Abort,
+    rope: &mut Rope,
+    at: usize,
+    front: &str,
+    back: &str,
+) -> Result<(), Refusal> {
+    let rest = rope.split_off(at)?;
+    assert_same_counts(rt, rope, front);
+    assert_same_counts(rt, &rest, back);
+    assert_same(rt, rope, front);
+    assert_same(rt, &rest, back);
+    Ok(())
+}
+
+/// Cuts a rope of a text at a byte.
 fn assert_cut(rt: &impl Abort, alloc: Global, text: &str, at: usize) -> Result<(), Fail> {
     let (front, back) = text.split_at_checked(at).ok_or("no boundary")?;
     let mut rope = Rope::from_str(alloc, text)?;
-    let rest = rope.split_off(at)?;
-    assert_same_counts(rt, &rope, front);
-    assert_same_counts(rt, &rest, back);
-    assert_same(rt, &rope, front);
-    assert_same(rt, &rest, back);
+    assert_parts(rt, &mut rope, at, front, back)?;
     Ok(())
 }
 
@@ -31,10 +50,8 @@ fn assert_cut(rt: &impl Abort, alloc: Global, text: &str, at: usize) -> Result<(
 fn a_rope_after_another(rt: HostRuntime) -> Result<(), Fail> {
     let text = joined(rt.alloc(), [&lines(rt.alloc(), 30)?, "\r", ""])?;
     for second in ["", "\nend", "🐸", LINE, &text] {
-        let both = append(&rt, rt.alloc(), &text, second)?;
-        assert_same(&rt, &both.rope, &both.text);
-        let both = append(&rt, rt.alloc(), second, &text)?;
-        assert_same(&rt, &both.rope, &both.text);
+        assert_append(&rt, rt.alloc(), &text, second)?;
+        assert_append(&rt, rt.alloc(), second, &text)?;
     }
     Ok(())
 }
