@@ -1,3 +1,4 @@
+use std::process::Abort;
 use str_indices::{Counts, counts};
 
 /// The text of the examples of `utf16`.
@@ -30,6 +31,10 @@ const TEXTS: &[CountsRow] = &[
     (REPEATED, 191, 191, 0, 0, 0),
 ];
 
+fn counts_are(rt: &impl Abort, text: &str, want: Counts) {
+    assert_eq!(rt; counts(text), want, "{text:?}");
+}
+
 #[test]
 fn all_counts_at_once(rt: HostRuntime) {
     for &(text, chars, utf16, lf, crlf, lines) in TEXTS {
@@ -40,6 +45,6 @@ fn all_counts_at_once(rt: HostRuntime) {
             crlf,
             lines,
         };
-        assert_eq!(rt; counts(text), want, "{text:?}");
+        counts_are(&rt, text, want);
     }
 }

@@ -39,7 +39,14 @@ fn walked_pairs(text: &str, end: usize) -> Option<usize> {
     Some(surrogate_pairs(text.get(..end)?))
 }
 
-/// Compares the kernels of a scheme over one type of chunk with the plain walk, after any of these numbers of leading bytes.
+/// Compares the kernels of a scheme over one type of chunk with these answers.
+fn answers_are<T: ByteChunk>(rt: &impl Abort, asked: Asked, answers: Answers) {
+    rows::count_is::<T>(rt, asked, answers.before);
+    rows::from_is::<T>(rt, asked, answers.from);
+    rows::to_is::<T>(rt, asked, answers.to);
+}
+
+/// Compares them with the plain walk, after any of these numbers of leading bytes.
 fn answer_as_the_walk<T: ByteChunk>(
     rt: &impl Abort,
     scheme: Scheme,
@@ -49,10 +56,7 @@ fn answer_as_the_walk<T: ByteChunk>(
 ) {
     let answers = walked(scheme, text, index);
     for &lead in leads {
-        let asked = Asked::new(scheme, text, index, lead);
-        rows::count_is::<T>(rt, asked, answers.before);
-        rows::from_is::<T>(rt, asked, answers.from);
-        rows::to_is::<T>(rt, asked, answers.to);
+        answers_are::<T>(rt, Asked::new(scheme, text, index, lead), answers);
     }
 }
 

@@ -149,10 +149,22 @@ fn walk_sees_breaks(rt: &impl Abort, text: &str, letters: usize, middle: &str, b
     walk_sees_breaks_at(rt, text, letters, middle, breaks, usize::MAX);
 }
 
+/// The same of a text that has so many letters before a middle.
+fn walk_sees_middle(
+    rt: &impl Abort,
+    alloc: Global,
+    letters: usize,
+    middle: &str,
+    breaks: [usize; 3],
+) -> Result<(), AllocError> {
+    let text = surround(alloc, letters, middle)?;
+    walk_sees_breaks(rt, &text, letters, middle, breaks);
+    Ok(())
+}
+
 fn walk_sees_each_break_behind(rt: &impl Abort, alloc: Global, letters: usize) -> Result<(), Fail> {
-    for (middle, breaks) in MIDDLES {
-        let text = surround(alloc, letters, middle)?;
-        walk_sees_breaks(rt, &text, letters, middle, breaks);
+    for (middle, breaks) in &MIDDLES {
+        walk_sees_middle(rt, alloc, letters, middle, *breaks)?;
     }
     Ok(())
 }
@@ -165,15 +177,26 @@ fn the_walk_sees_each_break(rt: HostRuntime) -> Result<(), Fail> {
     Ok(())
 }
 
-/// Compares the kernels at every index of each text that has so many letters before the middle.
+/// Compares the kernels at every index of a text that has so many letters before a middle.
+fn middle_behind<T: ByteChunk>(
+    rt: &impl Abort,
+    alloc: Global,
+    letters: usize,
+    middle: &str,
+) -> Result<(), AllocError> {
+    let text = surround(alloc, letters, middle)?;
+    all_answer_everywhere::<T>(rt, &text, &FEW_LEADS);
+    Ok(())
+}
+
+/// The same with each middle.
 fn middles_behind<T: ByteChunk>(
     rt: &impl Abort,
     alloc: Global,
     letters: usize,
 ) -> Result<(), Fail> {
-    for (middle, _) in MIDDLES {
-        let text = surround(alloc, letters, middle)?;
-        all_answer_everywhere::<T>(rt, &text, &FEW_LEADS);
+    for (middle, _) in &MIDDLES {
+        middle_behind::<T>(rt, alloc, letters, middle)?;
     }
     Ok(())
 }

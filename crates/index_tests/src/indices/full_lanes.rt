@@ -64,15 +64,24 @@ const TO: &[Row] = &[
     ("\u{1F438}", 1025, Scheme::Utf16, 2050, 4100),
 ];
 
-/// The count of all of the text, and what the greatest index gives.
+/// The count of all of the text, and what the greatest index gives, after so many leading bytes.
+fn count_after<T: ByteChunk>(
+    rt: &impl Abort,
+    scheme: Scheme,
+    text: &str,
+    count: usize,
+    lead: usize,
+) {
+    let whole = Asked::new(scheme, text, text.len(), lead);
+    rows::count_is::<T>(rt, whole, Some(count));
+    let past = Asked::new(scheme, text, usize::MAX, lead);
+    rows::from_is::<T>(rt, past, count);
+    rows::to_is::<T>(rt, past, text.len());
+}
+
 fn count_whole<T: ByteChunk>(rt: &impl Abort, scheme: Scheme, text: &str, count: usize) {
     for lead in [0, 1, 31] {
-        let index = text.len();
-        rows::count_is::<T>(rt, Asked::new(scheme, text, index, lead), Some(count));
-        let index = usize::MAX;
-        let past = Asked::new(scheme, text, index, lead);
-        rows::from_is::<T>(rt, past, count);
-        rows::to_is::<T>(rt, past, text.len());
+        count_after::<T>(rt, scheme, text, count, lead);
     }
 }
 

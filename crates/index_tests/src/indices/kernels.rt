@@ -40,11 +40,12 @@ fn count_at_boundary<T: ByteChunk>(
     }
     laws::boundaries(text, end);
     let probe = &mut Probe::<T>::of(text);
-    match scheme {
-        Scheme::Chars => Some(chars::count_impl(probe, end, lead)),
-        Scheme::Utf16 => Some(utf16::count_impl(probe, end, lead)),
-        _ => Some(lines::count_breaks_impl(probe, end, lead)),
-    }
+    let count = match scheme {
+        Scheme::Chars => chars::count_impl(probe, end, lead),
+        Scheme::Utf16 => utf16::count_impl(probe, end, lead),
+        _ => lines::count_breaks_impl(probe, end, lead),
+    };
+    Some(count)
 }
 
 /// The surrogate pairs before `end`, or `None` where the kernel does not take that end.

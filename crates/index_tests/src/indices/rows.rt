@@ -16,7 +16,7 @@ pub type Row = (&'static str, usize, usize);
 pub type RangeRow = (&'static str, usize, usize, usize);
 
 /// What a function is asked, for the words of a failed assertion.
-#[derive(Clone, Copy)]
+#[derive(Clone, Copy, Debug)]
 pub struct Asked<'a> {
     scheme: Scheme,
     text: &'a str,
@@ -42,17 +42,7 @@ impl<'a> Asked<'a> {
 
 /// Asserts that a call has answered what is wanted.
 pub fn same(rt: &impl Abort, call: &str, asked: Asked, found: Option<usize>, want: Option<usize>) {
-    let Asked {
-        scheme,
-        text,
-        index,
-        lead,
-    } = asked;
-    assert_eq!(rt;
-        found,
-        want,
-        "{scheme:?} {call} {index} of {text:?} after {lead}"
-    );
+    assert_eq!(rt; found, want, "{call} {asked:?}");
 }
 
 /// As `same`, where the call always has an answer.
