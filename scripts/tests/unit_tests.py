@@ -64,8 +64,9 @@ def contents(folder: pathlib.Path) -> dict:
 
 @pytest.fixture(autouse=True)
 def own_cache(tmp_path, monkeypatch):
-    """What is kept goes into a folder of the test's own."""
+    """What is kept goes into a folder of the test's own, and is taken from there also where the gate takes nothing."""
     monkeypatch.setenv("XDG_CACHE_HOME", str(tmp_path / "cache"))
+    monkeypatch.delenv("GATE_ANEW", raising=False)
 
 
 @pytest.fixture
