@@ -137,6 +137,16 @@ def test_no_offers_of_answers(function, file, crate):
     assert contents(crate) == before
 
 
+@pytest.mark.parametrize("body, has_place", [
+    pytest.param("other(at)", True, id="calls another"), pytest.param("self.peek(at)", False, id="calls itself"),
+])
+def test_answers_of_a_function_without_any(body, has_place, crate):
+    (crate / "src/text_probe.rt").write_text(f"    fn peek(&self, at: usize)\n    {{\n        {body}\n    }}\n")
+    edit = edit_of("refuses: text_probe::Probe::peek returns", *CHANGE)
+    place = crate / "proofs/text_probe/Probe/peek/Answers.antt"
+    assert refusals.place_of_answers(crate, edit) == (place if has_place else None)
+
+
 @pytest.mark.parametrize("names, goal, fits", [
     ("f answer", "returns-clause-answer", True), ("f answer", "returns-tail-clause-answer", True),
     ("f answer", "returns-clause-answers", False), ("f returns", "returns", True), ("f returns", "returns-clause-x", False),
