@@ -184,8 +184,8 @@ def no_offers(crate: pathlib.Path, edits: List[Edit]) -> Iterator[None]:
 def opened_by_no_offers(crate: pathlib.Path, edit: Edit) -> List[str]:
     """The goals that are open in the edit's function before the edit is made, only since no answers are offered: none."""
     with no_offers(crate, [edit]):
-        _, output = check(crate, [edit.function])
-    return open_goals(crate, edit.function, output)
+        status, output = check(crate, [edit.function])
+    return open_goals(crate, edit.function, output) if status in (0, 1) else [f"no verdict, and status {status}"]
 
 
 def head_of(function: str) -> str:
