@@ -107,6 +107,7 @@ impl PieceText {
     {
         let piece = Piece::of(self.alloc, text)?;
         let own = piece.summary();
+        self.pieces.reserve(1)?;
         self.runs.make_room(self.pieces.as_slice(), at)?;
         self.pieces.insert(at, piece)?;
         let swap = Swap {
@@ -214,6 +215,7 @@ impl PieceText {
         let piece = &self.pieces[i];
         let whole = piece.summary();
         let (left, right) = piece.halves(self.alloc, at)?;
+        self.pieces.reserve(1)?;
         self.runs.make_room(self.pieces.as_slice(), i)?;
         self.pieces.insert(i + 1, right)?;
         self.pieces[i] = left;

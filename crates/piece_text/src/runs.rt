@@ -2,7 +2,7 @@
 //!
 //! The runs stand one after the other, from the first piece on. The pieces after the last run are in none: they are few,
 //! and so a change at the end of the list sums nothing. A change in a run corrects its sum by what goes out and what comes
-//! in. A run is cut, and a new one is made, before the list grows, so that nothing is left to be refused once it has.
+//! in. The list gets its room before a run is cut or a new one is made, and after that nothing is left to be refused.
 ghost use Rattle.std.specs.Prelude.{◌≡◌, ◌≢◌, ◌+◌, ◌^◌, ◌<◌, ◌≤◌, [], List, length, take, drop};
 ghost use Rattle.str_indices.specs.Joins.{starts_with_feed, ends_in_return};
 ghost use Rattle.str_indices.specs.Text.{Text};

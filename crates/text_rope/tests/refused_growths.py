@@ -5,8 +5,9 @@ The programs refused_growths.rt.txt, refused_runs.rt.txt and refused_rope_growth
 step by step; the second does so at several numbers of pieces. refused_index_growths.rt.txt makes indexes. `rt try` builds
 each once, beside a copy of its library, and refuses the same allocation in each of its runs. In each run the program has
 taken less memory before its first step, so that a later growth is refused. It must answer `NoMemory` then, with every other
-answer as before, and succeed at the second try. The last runs come to an end with no growth refused. The rope is changed
-once more with a snapshot held before each step, which must keep its text.
+answer as before, and succeed at the second try. The second program compares the runs too, which a text tells in that copy
+alone. The last runs come to an end with no growth refused. The rope is changed once more with a snapshot held before each
+step, which must keep its text.
 
 Then small_rows.rt.txt changes a rope at random beside a plain text, and compares what is answered of both, with no growth
 refused. Of the rope's rows and blocks small numbers are put into the copy of its library, so that the tree is deep.
@@ -32,7 +33,8 @@ Numbers = Tuple[Tuple[str, int], ...]
 class Program(NamedTuple):
     """A program, the library that it stands on, what it prints at its end, and how many growths it has at least.
 
-    Of a program that has many, the first growths are not refused. It may have numbers to be put in for those in its text.
+    Of a program that has many, the first growths are not refused. It may have numbers to be put in for those in its text, and
+    what its library does not tell, to be put at the end of the library's sources, by the name of the file.
     """
 
     name: str
@@ -41,6 +43,7 @@ class Program(NamedTuple):
     least: int
     passed_over: int = 0
     numbers: Numbers = ()
+    told: Dict[str, str] = {}
     runs: int = 40
 
 
@@ -56,20 +59,51 @@ ROPE_MADE = "3204 bytes, 480 breaks, the number 8730228837852749474\n"
 
 INDEXES_MADE = "3500 bytes in the last text, 947 breaks in all\n"
 
+# what a text in pieces tells in the copy: how many pieces each run has, from which its sums follow, and the room of its lists
+RUNS_TOLD = {
+    "runs": """
+impl Runs {
+    pub(crate) fn room(&self) -> usize {
+        self.runs.capacity()
+    }
+}
+""",
+    "list": """
+impl PieceText {
+    pub fn runs(&self) -> [usize; 8] {
+        let mut told = [0; 8];
+        for (i, run) in self.runs.as_slice().iter().enumerate() {
+            told[i] = run.pieces;
+        }
+        told
+    }
+
+    pub fn room(&self) -> [usize; 2] {
+        [self.pieces.capacity(), self.runs.room()]
+    }
+}
+""",
+}
+
+
+def of_runs(made, passed_over, *numbers):
+    """The program that changes a text with runs."""
+    return Program("refused_runs", "piece_text", made, 25, passed_over, numbers, RUNS_TOLD)
+
+
 PROGRAMS = (
     # each of the six pieces that are put in takes its copy and its place, each of the three splits two of both, and the list
     # is longer at times
     Program("refused_growths", "piece_text", "9 pieces, 16 bytes, 5 breaks\n", 24),
     # each of the five pieces that are put in takes its copy and its place, and the two halves of one too. Beside them grow:
     # the list of pieces, and that of runs, which gets its first
-    Program("refused_runs", "piece_text", "132 pieces, 136 bytes, 3 breaks\n", 25, passed_over=250),
+    of_runs("132 pieces, 136 bytes, 2 breaks\n", 250),
+    # both grow where a piece is split
+    of_runs("130 pieces, 134 bytes, 2 breaks\n", 248, ("PIECES", 126)),
     # that of four runs, which gets one more after them
-    Program("refused_runs", "piece_text", "388 pieces, 392 bytes, 2 breaks\n", 25, passed_over=764, numbers=(("PIECES", 384),)),
+    of_runs("388 pieces, 392 bytes, 2 breaks\n", 764, ("PIECES", 384)),
     # and one more of a run that is cut
-    Program(
-        "refused_runs", "piece_text", "389 pieces, 393 bytes, 2 breaks\n", 25, passed_over=766,
-        numbers=(("PIECES", 321), ("FRONT", 64)),
-    ),
+    of_runs("389 pieces, 393 bytes, 2 breaks\n", 766, ("PIECES", 321), ("FRONT", 64)),
     # each piece that is written takes its text and its place, each block its list and its place, and what comes in between two
     # parts of pieces is put together first
     Program("refused_rope_growths", "text_rope", ROPE_MADE, 50, runs=160),
@@ -81,7 +115,7 @@ PROGRAMS = (
 SMALL = (
     # the deepest trees: no two blocks go into one
     Small({"row": (("MAX_PIECE", 16), ("STEP", 4)), "block": (("MAX_ROWS", 2),), "loads": (("LOADED_ROWS", 2),)}, ()),
-    Small({"row": (("MAX_PIECE", 64), ("STEP", 8)), "block": (("MAX_ROWS", 8),)}, (("CHANGES", 600), ("LONG", 2000))),
+    Small({"row": (("MAX_PIECE", 64), ("STEP", 8)), "block": (("MAX_ROWS", 8),)}, (("CHANGES", 600), ("LONG", 2800))),
 )
 
 REFUSED = "no memory, and all as before\n"
@@ -125,6 +159,9 @@ def try_program(program, tally):
         folder = pathlib.Path(folder)
         source = source_of(program.name, program.numbers)
         crate = copy_program(program.name, [program.library], source, folder, left_out=LEFT_OUT)
+        for name, told in program.told.items():
+            with open(folder / f"crates/{program.library}/src/{name}.rt", "a", encoding="utf-8") as library:
+                library.write(told)
         done = run_all(program, crate, folder / "cases")
     if not tally.result(done.returncode == 0, f"{program.name} is built once, and comes to an end in {program.runs} runs"):
         print(done.stdout + done.stderr)
