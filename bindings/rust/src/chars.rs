@@ -9,8 +9,6 @@ use crate::library;
 ///
 /// assert_eq!(chars::count("Hello せかい!"), 10);
 /// ```
-///
-/// Takes time linear in the length of the text.
 #[inline]
 pub fn count(text: &str) -> usize {
     library::count(library::str_indices_chars_count, text)
@@ -27,8 +25,6 @@ pub fn count(text: &str) -> usize {
 /// assert_eq!(chars::from_byte_idx("せかい", 5), 1);
 /// assert_eq!(chars::from_byte_idx("せかい", 100), 3);
 /// ```
-///
-/// Takes time linear in the byte index, and never more than in the length of the text.
 #[inline]
 pub fn from_byte_idx(text: &str, byte_idx: usize) -> usize {
     library::convert(library::str_indices_chars_from_byte_idx, text, byte_idx)
@@ -45,8 +41,6 @@ pub fn from_byte_idx(text: &str, byte_idx: usize) -> usize {
 /// assert_eq!(&text[chars::to_byte_idx(text, 2)..], "い");
 /// assert_eq!(chars::to_byte_idx(text, 100), 9);
 /// ```
-///
-/// Takes time linear in the answer.
 #[inline]
 pub fn to_byte_idx(text: &str, char_idx: usize) -> usize {
     library::convert(library::str_indices_chars_to_byte_idx, text, char_idx)

@@ -12,8 +12,6 @@ use crate::library;
 ///
 /// assert_eq!(lines::count_breaks("one\r\ntwo\u{2028}more"), 2);
 /// ```
-///
-/// Takes time linear in the length of the text.
 #[inline]
 pub fn count_breaks(text: &str) -> usize {
     library::count(library::str_indices_lines_count_breaks, text)
@@ -31,8 +29,6 @@ pub fn count_breaks(text: &str) -> usize {
 /// assert_eq!(lines::from_byte_idx("one\r\ntwo\u{2028}more", 11), 2);
 /// assert_eq!(lines::from_byte_idx("one\r\ntwo\u{2028}more", 100), 2);
 /// ```
-///
-/// Takes time linear in the byte index, and never more than in the length of the text.
 #[inline]
 pub fn from_byte_idx(text: &str, byte_idx: usize) -> usize {
     library::convert(library::str_indices_lines_from_byte_idx, text, byte_idx)
@@ -49,8 +45,6 @@ pub fn from_byte_idx(text: &str, byte_idx: usize) -> usize {
 /// assert_eq!(&text[lines::to_byte_idx(text, 1)..], "two\u{2028}more");
 /// assert_eq!(lines::to_byte_idx(text, 100), 15);
 /// ```
-///
-/// Takes time linear in the answer.
 #[inline]
 pub fn to_byte_idx(text: &str, line_idx: usize) -> usize {
     library::convert(library::str_indices_lines_to_byte_idx, text, line_idx)

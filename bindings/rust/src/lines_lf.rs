@@ -11,8 +11,6 @@ use crate::library;
 ///
 /// assert_eq!(lines_lf::count_breaks("one\r\ntwo\rmore"), 1);
 /// ```
-///
-/// Takes time linear in the length of the text.
 #[inline]
 pub fn count_breaks(text: &str) -> usize {
     library::count(library::str_indices_lines_lf_count_breaks, text)
@@ -30,8 +28,6 @@ pub fn count_breaks(text: &str) -> usize {
 /// assert_eq!(lines_lf::from_byte_idx("one\r\ntwo\rmore", 5), 1);
 /// assert_eq!(lines_lf::from_byte_idx("one\r\ntwo\rmore", 100), 1);
 /// ```
-///
-/// Takes time linear in the byte index, and never more than in the length of the text.
 #[inline]
 pub fn from_byte_idx(text: &str, byte_idx: usize) -> usize {
     library::convert(library::str_indices_lines_lf_from_byte_idx, text, byte_idx)
@@ -48,8 +44,6 @@ pub fn from_byte_idx(text: &str, byte_idx: usize) -> usize {
 /// assert_eq!(&text[lines_lf::to_byte_idx(text, 1)..], "two\rmore");
 /// assert_eq!(lines_lf::to_byte_idx(text, 100), 13);
 /// ```
-///
-/// Takes time linear in the answer.
 #[inline]
 pub fn to_byte_idx(text: &str, line_idx: usize) -> usize {
     library::convert(library::str_indices_lines_lf_to_byte_idx, text, line_idx)

@@ -10,8 +10,6 @@ use crate::library;
 ///
 /// assert_eq!(utf16::count("Hi 🐸!"), 6);
 /// ```
-///
-/// Takes time linear in the length of the text.
 #[inline]
 pub fn count(text: &str) -> usize {
     library::count(library::str_indices_utf16_count, text)
@@ -24,8 +22,6 @@ pub fn count(text: &str) -> usize {
 ///
 /// assert_eq!(utf16::count_surrogates("Hi 🐸!"), 1);
 /// ```
-///
-/// Takes time linear in the length of the text.
 #[inline]
 pub fn count_surrogates(text: &str) -> usize {
     library::count(library::str_indices_utf16_count_surrogates, text)
@@ -43,8 +39,6 @@ pub fn count_surrogates(text: &str) -> usize {
 /// assert_eq!(utf16::from_byte_idx("Hi 🐸!", 7), 5);
 /// assert_eq!(utf16::from_byte_idx("Hi 🐸!", 100), 6);
 /// ```
-///
-/// Takes time linear in the byte index, and never more than in the length of the text.
 #[inline]
 pub fn from_byte_idx(text: &str, byte_idx: usize) -> usize {
     library::convert(library::str_indices_utf16_from_byte_idx, text, byte_idx)
@@ -62,8 +56,6 @@ pub fn from_byte_idx(text: &str, byte_idx: usize) -> usize {
 /// assert_eq!(utf16::to_byte_idx("Hi 🐸!", 5), 7);
 /// assert_eq!(utf16::to_byte_idx("Hi 🐸!", 100), 8);
 /// ```
-///
-/// Takes time linear in the answer.
 #[inline]
 pub fn to_byte_idx(text: &str, utf16_idx: usize) -> usize {
     library::convert(library::str_indices_utf16_to_byte_idx, text, utf16_idx)

@@ -4,8 +4,7 @@
 //! code units, the protocol's default, and the methods of [`Encoding`] in bytes or scalar values too. No position names a
 //! place inside or after a break on its line: an offset past the line's end means the line's end, before its break.
 //!
-//! Every text, byte index and position has an answer: nothing panics, nothing allocates. Each takes time linear in the
-//! byte index that it is about, and in the length of that line.
+//! Every text, byte index and position has an answer: nothing panics, nothing allocates.
 #![tactic(auto)]
 
 ghost use Rattle.std.specs.Prelude.{◌≡◌, ◌+◌, ◌≤◌, ◌↔◌, IfSome, IsCharBoundary, IsTrue, chars, drop, length, nat_le};

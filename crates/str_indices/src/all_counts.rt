@@ -7,7 +7,7 @@ use crate::kinds::{Kinds, kinds_of, no_wide_break};
 use crate::schemes::Counts;
 use crate::{chars, lines, lines_crlf, lines_lf, utf16};
 
-/// The counts of a text by every scheme, in time linear in its length.
+/// The counts of a text by every scheme.
 pub fn counts(text: &str) -> Counts
     ensures chars { result.chars ≡ count Chars (chars text.now) }
     ensures utf16 { result.utf16 ≡ count Utf16 (chars text.now) }

@@ -7,7 +7,7 @@ use crate::places::boundary_at_or_before;
 use crate::weights::{LeadingBytes, Weights};
 use byte_chunk::{ByteChunk, Chunk, Probe};
 
-/// How many chars the text has, in time linear in its length. An empty text has none.
+/// How many chars the text has. An empty text has none.
 #[tactic(auto, using(crate::proofs::lemmas::bytes::Walks::whole_text))]
 pub fn count(text: &str) -> usize
     ensures { result ≡ count Chars (chars text.now) }
@@ -18,8 +18,6 @@ pub fn count(text: &str) -> usize
 /// Converts a byte index to a char index: the number of chars that end at or before the byte.
 ///
 /// A byte inside a char belongs to that char. Any byte index past the end gives the number of chars.
-///
-/// Takes time linear in the byte index, and never more than in the length of the text.
 pub fn from_byte_idx(text: &str, byte_idx: usize) -> usize
     ensures { result ≡ from_byte_idx Chars (chars text.now) byte_idx }
 {
@@ -29,8 +27,6 @@ pub fn from_byte_idx(text: &str, byte_idx: usize) -> usize
 /// Converts a char index to the byte index where that char begins.
 ///
 /// Any index past the last char gives the length of the text in bytes. The text may be sliced at the answer.
-///
-/// Takes time linear in the answer.
 pub fn to_byte_idx(text: &str, char_idx: usize) -> usize
     ensures answer { result ≡ to_byte_idx Chars (chars text.now) char_idx }
     ensures boundary { IsCharBoundary text.now result }

@@ -2,6 +2,10 @@
 //! byte indices.
 //!
 //! Each module is one indexing scheme. Every text and every index has an answer: nothing panics, nothing allocates.
+//!
+//! A function of a module calls one kernel, which has its name and then `_impl`. By the kernel's contract it loads at most
+//! `n / 16` chunks of 16 bytes of the `n` bytes that it counts in, or `answer / 16 + 5` where the answer is a byte index. It
+//! takes at most 20 bytes one by one, and peeks at most twice for each of them, four times for each chunk, and thrice more.
 #![tactic(auto)]
 
 mod all_counts;

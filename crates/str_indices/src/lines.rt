@@ -13,7 +13,7 @@ use crate::places::{boundary_at_or_after, boundary_at_or_before, is_not_crlf_mid
 use crate::weights::{CR, LF};
 use byte_chunk::{ByteChunk, Chunk, Probe};
 
-/// How many line breaks the text has, in time linear in its length.
+/// How many line breaks the text has.
 ///
 /// That is one less than its lines: after a break at the end of the text an empty line begins.
 #[tactic(auto, using(crate::proofs::lemmas::bytes::Walks::whole_text))]
@@ -27,8 +27,6 @@ pub fn count_breaks(text: &str) -> usize
 ///
 /// A break belongs to the line that it ends, and so does each byte inside it: a byte between CR and LF is on the line
 /// that the CR LF ends. A byte past the end gives the index of the last line.
-///
-/// Takes time linear in the byte index, and never more than in the length of the text.
 pub fn from_byte_idx(text: &str, byte_idx: usize) -> usize
     ensures { result ≡ from_byte_idx Lines (chars text.now) byte_idx }
 {
@@ -38,8 +36,6 @@ pub fn from_byte_idx(text: &str, byte_idx: usize) -> usize
 /// Converts a line index to the byte index where that line begins: 0, or right after a line break.
 ///
 /// An index past the last line gives the length of the text in bytes. The text may be sliced at the answer.
-///
-/// Takes time linear in the answer.
 pub fn to_byte_idx(text: &str, line_idx: usize) -> usize
     ensures answer { result ≡ to_byte_idx Lines (chars text.now) line_idx }
     ensures boundary { IsCharBoundary text.now result }

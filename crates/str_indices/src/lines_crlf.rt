@@ -12,7 +12,7 @@ use crate::places::{byte_before, is_not_crlf_middle};
 use crate::weights::{CR, LF};
 use byte_chunk::{ByteChunk, Chunk, Probe};
 
-/// How many line breaks the text has, LF, CR and CRLF, which is one break, in time linear in its length.
+/// How many line breaks the text has, LF, CR and CRLF, which is one break.
 ///
 /// That is one less than its lines: after a break at the end of the text an empty line begins.
 #[tactic(auto, using(crate::proofs::lemmas::bytes::Walks::whole_text))]
@@ -26,8 +26,6 @@ pub fn count_breaks(text: &str) -> usize
 ///
 /// A break belongs to the line that it ends, and the byte between CR and LF to the line that the CRLF ends. A byte past
 /// the end gives the index of the last line.
-///
-/// Takes time linear in the byte index, and never more than in the length of the text.
 pub fn from_byte_idx(text: &str, byte_idx: usize) -> usize
     ensures { result ≡ from_byte_idx Crlf (chars text.now) byte_idx }
 {
@@ -37,8 +35,6 @@ pub fn from_byte_idx(text: &str, byte_idx: usize) -> usize
 /// Converts a line index to the byte index where that line begins: 0, or right after a line break.
 ///
 /// An index past the last line gives the length of the text in bytes. The text may be sliced at the answer.
-///
-/// Takes time linear in the answer.
 pub fn to_byte_idx(text: &str, line_idx: usize) -> usize
     ensures answer { result ≡ to_byte_idx Crlf (chars text.now) line_idx }
     ensures boundary { IsCharBoundary text.now result }

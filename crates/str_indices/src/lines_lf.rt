@@ -9,7 +9,7 @@ use crate::passes::{count_up_to, find_first};
 use crate::weights::{LineFeeds, Weights};
 use byte_chunk::{ByteChunk, Chunk, Probe};
 
-/// How many line breaks the text has, in time linear in its length.
+/// How many line breaks the text has.
 ///
 /// A text has one line more: after a break at its end an empty line begins.
 #[tactic(auto, using(crate::proofs::lemmas::bytes::Walks::whole_text))]
@@ -23,8 +23,6 @@ pub fn count_breaks(text: &str) -> usize
 ///
 /// A break belongs to the line that it ends, and the byte between CR and LF to the line of the CR. A byte past the end
 /// gives the index of the last line.
-///
-/// Takes time linear in the byte index, and never more than in the length of the text.
 pub fn from_byte_idx(text: &str, byte_idx: usize) -> usize
     ensures { result ≡ from_byte_idx Lf (chars text.now) byte_idx }
 {
@@ -34,8 +32,6 @@ pub fn from_byte_idx(text: &str, byte_idx: usize) -> usize
 /// Converts a line index to the byte index where that line begins: 0, or right after a line break.
 ///
 /// An index past the last line gives the length of the text in bytes. The text may be sliced at the answer.
-///
-/// Takes time linear in the answer.
 pub fn to_byte_idx(text: &str, line_idx: usize) -> usize
     ensures answer { result ≡ to_byte_idx Lf (chars text.now) line_idx }
     ensures boundary { IsCharBoundary text.now result }

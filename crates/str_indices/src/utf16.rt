@@ -10,7 +10,7 @@ use crate::places::boundary_at_or_before;
 use crate::weights::{FourByteLeads, Units, Weights};
 use byte_chunk::{ByteChunk, Chunk, Probe};
 
-/// How many UTF-16 code units the text would take, in time linear in its length.
+/// How many UTF-16 code units the text would take.
 #[tactic(auto, using(crate::proofs::lemmas::bytes::Walks::whole_text))]
 pub fn count(text: &str) -> usize
     ensures { result ≡ count Utf16 (chars text.now) }
@@ -18,7 +18,7 @@ pub fn count(text: &str) -> usize
     count_impl(&mut Probe::<Chunk>::of(text), text.len(), 0)
 }
 
-/// How many surrogate pairs the text would have in UTF-16, one for each char of four bytes, in time linear in its length.
+/// How many surrogate pairs the text would have in UTF-16, one for each char of four bytes.
 #[tactic(auto, using(crate::proofs::lemmas::bytes::Walks::whole_text))]
 pub fn count_surrogates(text: &str) -> usize
     ensures { result ≡ surrogates (chars text.now) }
@@ -30,8 +30,6 @@ pub fn count_surrogates(text: &str) -> usize
 ///
 /// A byte inside a char belongs to that char, whose first unit is the answer. A byte past the end gives the number of
 /// units.
-///
-/// Takes time linear in the byte index, and never more than in the length of the text.
 pub fn from_byte_idx(text: &str, byte_idx: usize) -> usize
     ensures { result ≡ from_byte_idx Utf16 (chars text.now) byte_idx }
 {
@@ -42,8 +40,6 @@ pub fn from_byte_idx(text: &str, byte_idx: usize) -> usize
 ///
 /// The second unit of a surrogate pair belongs to its char. An index past the last unit gives the length of the
 /// text in bytes. The text may be sliced at the answer.
-///
-/// Takes time linear in the answer.
 pub fn to_byte_idx(text: &str, utf16_idx: usize) -> usize
     ensures answer { result ≡ to_byte_idx Utf16 (chars text.now) utf16_idx }
     ensures boundary { IsCharBoundary text.now result }
