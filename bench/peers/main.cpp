@@ -1,6 +1,6 @@
 // Times a text that changes in a buffer that people know. Its words and lines are those of ../rope.rt.txt, where the first
-// word is that of the buffer. A row that the buffer has no answer for is left out, and `-` stands for a check sum that those
-// of the others cannot equal, since it is of places or lengths in another unit than bytes.
+// word is that of the buffer, and the job is times or memory. A row that the buffer has no answer for is left out, and `-`
+// stands for a check sum that those of the others cannot equal, since it is of places or lengths in another unit than bytes.
 #include "peer.h"
 
 #include <malloc.h>

@@ -1,14 +1,20 @@
 #!/usr/bin/env python3
-"""Shows by their texts that functions which are said once more promise the same.
+"""Shows by their texts that what is said once more is the same: clauses, and what the benchmark calls.
 
 A wrong body is tried at one implementation of a call of `ByteChunk` and at one half of the C library. That stands for the
 others where these have the same clauses. So no implementation of the trait may state a clause of its own, which would
 take the place of the trait's; and the exports of the wide half must have those of the narrow half, which the browser's are.
-Both searches are tried on edited texts too, in which they must find the fault. The last line printed is
+
+The workloads are timed over the sources of the start too, which docs/PERF.md names, with another file in the place of the
+one that has all of the libraries' names. So each name in that file must be public there, and no workload may call what is
+public now and was not then. Without the history of the start this is left out.
+
+All searches are tried on edited texts too, in which they must find the fault. The last line printed is
 'N passed, M failed'.
 """
 import pathlib
 import re
+import subprocess
 import sys
 
 ROOT = pathlib.Path(__file__).resolve().parents[2]
@@ -26,8 +32,19 @@ FILES = [
     ("positions.rt", 13, ("position_at Utf8 ", "position_at Utf16 ")),
 ]
 
+PERF = ROOT / "docs/PERF.md"
+WORKLOADS = ROOT / "crates/workloads/src"
+LIBRARY = WORKLOADS / "library.rt"
+LIBRARY_AT_START = ROOT / "bench/start.rt.txt"
+
 IMPL = re.compile(r"^impl ByteChunk for .*?^\}", re.MULTILINE | re.DOTALL)
 CLAUSE = re.compile(r"^\s+(requires|ensures)\b", re.MULTILINE)
+START = re.compile(r"after (\w{40}), the start\.$", re.MULTILINE)
+NAMED = re.compile(r"^pub\(crate\) use (\w+)::([^;]+);", re.MULTILINE)
+PUBLIC = re.compile(r"^ *pub (?:use|fn|mod|enum|struct|type|const|trait) ([^;({]+(?:\{[\w, \n]*\};)?)", re.MULTILINE)
+FUNCTION = re.compile(r"\bfn (\w+)")
+PUBLIC_FUNCTION = re.compile(r"\bpub fn (\w+)")
+CALLED = re.compile(r"(?:\.|::)(\w+)\(")
 EXPORT = re.compile(r'^pub extern "C" fn str_indices_(?:narrow_|wide_)?(\w+)(\(.*?)^\{', re.MULTILINE | re.DOTALL)
 
 
@@ -64,11 +81,57 @@ def try_exports(tally, name, number, exchange):
         tally.result(edited != text and exports(edited) != wanted, f"{path.relative_to(ROOT)} with {new.strip()} is refused")
 
 
+def sources_of(start, crates):
+    """The sources of crates at the start, one after another; None where git does not have it."""
+    command = ["git", "grep", "-h", "", start, "--", f"crates/{crates}/src/*"]
+    found = subprocess.run(command, cwd=ROOT, capture_output=True, text=True)
+    return found.stdout if found.returncode < 2 else None
+
+
+def not_public(library, start):
+    """The names that a file has of the libraries, and that are not public in these at the start."""
+    for crate, names in NAMED.findall(library):
+        public = set(re.findall(r"\w+", " ".join(PUBLIC.findall(sources_of(start, crate)))))
+        names = re.sub(r" as \w+", "", names)
+        yield from (f"{crate}::{name}" for name in re.findall(r"\w+", names) if name not in public)
+
+
+def called_later(texts, then, now):
+    """What the texts call, do not define, and what is a public function now, and was none then."""
+    own, called = FUNCTION.findall(texts), CALLED.findall(texts)
+    later = {*PUBLIC_FUNCTION.findall(now)} - {*PUBLIC_FUNCTION.findall(then)}
+    return sorted(later & {*called} - {*own})
+
+
+def try_start(tally):
+    start = START.search(PERF.read_text(encoding="utf-8"))[1]
+    then = sources_of(start, "*")
+    if then is None:
+        tally.leave_out(4, f"what the workloads call at the start, as git has no {start}")
+        return
+    paths = [path for path in sorted(ROOT.glob("crates/*/src/**/*.rt")) if WORKLOADS not in path.parents]
+    now = "".join(path.read_text(encoding="utf-8") for path in paths)
+    crates = "|".join(sorted({path.relative_to(ROOT).parts[1] for path in paths}))
+    others = [path for path in sorted(WORKLOADS.glob("**/*.rt")) if path != LIBRARY]
+    workloads = "".join(path.read_text(encoding="utf-8") for path in others)
+    tally.result(not re.search(rf"\b({crates})::", workloads), f"{LIBRARY.relative_to(ROOT)} alone names a library")
+    names = LIBRARY_AT_START.relative_to(ROOT)
+    library = LIBRARY_AT_START.read_text(encoding="utf-8")
+    astray = list(not_public(library, start))
+    tally.result(not astray, f"the start has all that {names} names {' '.join(astray)}")
+    later = called_later(workloads + library, then, now)
+    tally.result(not later, f"the start has all that the workloads call {' '.join(later)}")
+    library = LIBRARY.read_text(encoding="utf-8")
+    found = [*not_public(library, start)], called_later(workloads + library, then, now)
+    tally.result(all(found), f"what the start has not is found: {' '.join([*found[0], *found[1]])}")
+
+
 def main():
     tally = Tally()
     try_chunks(tally)
     for name, number, exchange in FILES:
         try_exports(tally, name, number, exchange)
+    try_start(tally)
     return tally.end()
 
 

@@ -20,6 +20,10 @@ pub enum Call {
     Insert(usize, usize),
     /// What is between two bytes is taken out.
     Remove(usize, usize),
+    /// A part between two byte indices moves to a byte index of the rest.
+    Move(usize, usize, usize),
+    /// CR and a letter are put in at the end, and LF and a letter at the beginning, in turns.
+    Flip(usize),
 }
 
 /// A change, at a random place or beside the one before.
@@ -29,6 +33,8 @@ pub enum Change {
     Backspace,
     Insert,
     Type,
+    /// A line is moved.
+    Move,
 }
 
 /// Pseudo-random numbers, the same in each program.
@@ -83,6 +89,24 @@ pub fn made<K: Kept>(text: &mut K, call: Call, before: u64, room: &mut [u8]) -> 
             text.remove(from, to);
             0
         }
+        Call::Move(from, to, at) => {
+            text.move_part(from, to, at);
+            0
+        }
+        Call::Flip(i) => {
+            flip(text, i);
+            0
+        }
+    }
+}
+
+/// Where `i` is even, the text ends in CR or begins with LF after this, and where it is odd no longer.
+fn flip<K: Kept>(text: &mut K, i: usize) {
+    match i % 4 {
+        0 => text.insert(text.len(), "\r"),
+        1 => text.insert(text.len(), "a"),
+        2 => text.insert(0, "\n"),
+        _ => text.insert(0, "a"),
     }
 }
 
@@ -102,7 +126,7 @@ pub fn questions(kind: Call, n: usize, calls: usize) -> Vec<Call> {
 }
 
 /// The next change, where `last` is where the one before ended.
-fn next_change<K: Kept>(text: &K, change: Change, seed: u64, last: usize) -> Call {
+pub fn next_change<K: Kept>(text: &K, change: Change, seed: u64, last: usize) -> Call {
     let place = below(seed, text.len());
     let some = below(next(seed), 20);
     match change {
@@ -110,6 +134,26 @@ fn next_change<K: Kept>(text: &K, change: Change, seed: u64, last: usize) -> Cal
         Change::Backspace => Call::Remove(text.floor(last.saturating_sub(1)), last),
         Change::Insert => Call::Insert(text.floor(place), some + 1),
         Change::Type => Call::Insert(last, 1),
+        Change::Move => next_move(text, seed),
+    }
+}
+
+/// A line, and where another one begins once it is out.
+fn next_move<K: Kept>(text: &K, seed: u64) -> Call {
+    let start_of = |line| text.byte_of(Scheme::Crlf, line);
+    let lines = text.index_of(Scheme::Crlf, text.len());
+    let line = below(seed, lines);
+    let (from, to) = (start_of(line), start_of(line + 1));
+    let at = start_of(below(next(seed), lines));
+    Call::Move(from, to, if from < at { at - (to - from) } else { at })
+}
+
+/// Where a change ends.
+pub fn end_of(call: Call) -> usize {
+    match call {
+        Call::Insert(at, len) => at + len,
+        Call::Remove(from, _) => from,
+        _ => 0,
     }
 }
 
@@ -120,11 +164,7 @@ pub fn changes<K: Kept>(text: &mut K, change: Change, seed: u64, calls: usize) -
     let one = |_| {
         seed = next(next(seed));
         let call = next_change(text, change, seed, last);
-        last = match call {
-            Call::Insert(at, len) => at + len,
-            Call::Remove(from, _) => from,
-            _ => last,
-        };
+        last = end_of(call);
         made(text, call, 0, &mut []);
         call
     };

@@ -1,11 +1,18 @@
 //! A text that changes, kept in one of three ways.
 
 use crate::btree::BTree;
+use crate::leaf;
 use crate::questions::{byte_of, index_of};
 use str_rope::{Rope, Scheme};
 
 /// What is timed of a text.
 pub trait Kept: Sized {
+    /// How many bytes a piece of it has at most; 0 where it has none.
+    const PIECE: usize = 0;
+
+    /// Whether it has snapshots, and can be cut and joined.
+    const IS_ROPE: bool = false;
+
     fn of(source: &str) -> Self;
 
     fn len(&self) -> usize;
@@ -23,11 +30,21 @@ pub trait Kept: Sized {
 
     fn remove(&mut self, from: usize, to: usize);
 
-    /// Hands out the text between two bytes, in order.
+    /// Moves what is between two bytes to a place in the rest, where it can be cut.
+    fn move_part(&mut self, _from: usize, _to: usize, _at: usize) {}
+
+    /// A second text, where there are snapshots.
+    fn snapshot(&self) -> Option<Self> {
+        None
+    }
+
+    /// Hands out the text between two bytes, in order, piece by piece.
     fn read(&self, from: usize, to: usize, each: impl FnMut(&[u8]));
 }
 
 impl Kept for BTree {
+    const PIECE: usize = leaf::ROOM;
+
     fn of(source: &str) -> BTree {
         BTree::of(source)
     }
@@ -96,6 +113,9 @@ impl Kept for String {
 }
 
 impl Kept for Rope {
+    const PIECE: usize = 1024;
+    const IS_ROPE: bool = true;
+
     fn of(source: &str) -> Rope {
         source.parse().expect("there is memory")
     }
@@ -118,6 +138,20 @@ impl Kept for Rope {
 
     fn remove(&mut self, from: usize, to: usize) {
         Rope::remove(self, from..to).expect("both places are boundaries");
+    }
+
+    fn move_part(&mut self, from: usize, to: usize, at: usize) {
+        let cut = |text: &mut Rope, at| text.split_off(at).expect("the place is a boundary");
+        let mut part = cut(self, from);
+        let mut rest = cut(&mut part, to - from);
+        self.append(&mut rest).expect("there is memory");
+        let mut rest = cut(self, at);
+        self.append(&mut part).expect("there is memory");
+        self.append(&mut rest).expect("there is memory");
+    }
+
+    fn snapshot(&self) -> Option<Rope> {
+        Some(self.try_clone().expect("there is memory"))
     }
 
     fn read(&self, from: usize, to: usize, mut each: impl FnMut(&[u8])) {

@@ -12,7 +12,7 @@ mod questions;
 mod starts;
 
 use btree::BTree;
-use calls::{below, changes, hashed, made, next, questions, read, Call, Change};
+use calls::{below, changes, end_of, hashed, made, next, next_change, questions, read, Call, Change};
 use kept::Kept;
 use starts::{Position, Starts};
 use std::hint::black_box;
@@ -28,6 +28,15 @@ const TIMINGS: usize = 3;
 
 /// How many bytes are read together.
 const ROOM: usize = 4096;
+
+/// How many changes are made while one snapshot is kept.
+const HELD: usize = 1000;
+
+/// How many bytes of a piece removals leave.
+const LEFT: usize = 256;
+
+/// Of how many bytes the memory after removals is told.
+const MILLION: usize = 1_000_000;
 
 /// How many bytes a page of memory has.
 const PAGE: usize = 4096;
@@ -123,6 +132,120 @@ fn tell_changes<K: Kept>(source: &str, scale: Scale) {
     }
 }
 
+/// One change of each of some texts, timed together; in the calls are the changes before.
+fn time_each<K: Kept>(texts: &mut [K], calls: &mut [Call], change: Change, seed: u64) -> u128 {
+    let mut seed = seed;
+    for (text, call) in texts.iter().zip(calls.iter_mut()) {
+        seed = next(next(seed));
+        *call = next_change(text, change, seed, end_of(*call));
+    }
+    let start = Instant::now();
+    for (text, call) in texts.iter_mut().zip(calls.iter()) {
+        made(text, *call, 0, &mut []);
+    }
+    start.elapsed().as_nanos() / BATCH as u128
+}
+
+/// The rounds of changes of fresh short texts, with a change of each kind in each of them.
+fn tell_short<K: Kept>(source: &str, rounds: usize) {
+    let rows = [
+        ("insert", Change::Insert),
+        ("remove", Change::Remove),
+        ("typing", Change::Type),
+        ("backspace", Change::Backspace),
+    ];
+    let mut times = rows.map(|_| Vec::new());
+    let mut sum = 0_u64;
+    for round in 0..rounds {
+        let mut texts: Vec<K> = (0..BATCH).map(|_| K::of(source)).collect();
+        let mut calls = [Call::Flip(0); BATCH];
+        for ((_, change), times) in rows.iter().zip(&mut times) {
+            times.push(time_each(&mut texts, &mut calls, *change, round as u64));
+        }
+        sum = texts.iter().fold(sum, |sum, text| sum.wrapping_add(hashed(text)));
+    }
+    for ((name, _), times) in rows.iter().zip(times) {
+        tell(name, median(times), sum);
+    }
+}
+
+/// Where each piece ends.
+fn ends<K: Kept>(text: &K) -> Vec<usize> {
+    let mut end = 0;
+    let mut found = Vec::new();
+    text.read(0, text.len(), |piece| {
+        end += piece.len();
+        found.push(end);
+    });
+    found
+}
+
+/// Where the piece of that number begins.
+fn start_of(ends: &[usize], piece: usize) -> usize {
+    piece.checked_sub(1).map_or(0, |before| ends[before])
+}
+
+/// Puts letters into the piece before the middle, until it is full; answers where it ends.
+fn fill_piece<K: Kept>(text: &mut K) -> usize {
+    let ends = ends(text);
+    let piece = ends.partition_point(|end| *end < text.len() / 2);
+    let start = start_of(&ends, piece);
+    let inside = text.floor(start + K::PIECE / 2);
+    for _ in ends[piece]..start + K::PIECE {
+        text.insert(inside, "f");
+    }
+    start + K::PIECE
+}
+
+/// Takes out each piece but for its last bytes, from the last piece to the first.
+fn shrink_pieces<K: Kept>(text: &mut K) {
+    let ends = ends(text);
+    for (piece, end) in ends.iter().enumerate().rev() {
+        let start = start_of(&ends, piece);
+        let to = text.floor(end.saturating_sub(LEFT));
+        if start < to {
+            text.remove(start, to);
+        }
+    }
+}
+
+fn tell_changed<K: Kept>(name: &str, source: &str, calls: &[Call]) {
+    let mut text = K::of(source);
+    let mut times = Vec::new();
+    timed_in(&mut text, calls, &mut times);
+    tell(name, median(times), hashed(&text));
+}
+
+/// Changes where a piece begins or ends, or is shared.
+fn tell_edges<K: Kept>(source: &str, n: usize) {
+    let flips: Vec<Call> = (0..n).map(Call::Flip).collect();
+    tell_changed::<K>("flips", source, &flips);
+    if K::PIECE > 0 {
+        let mut text = K::of(source);
+        let end = fill_piece(&mut text);
+        let mut times = Vec::new();
+        timed_in(&mut text, &vec![Call::Insert(end, 1); n], &mut times);
+        tell("full", median(times), 0);
+    }
+    if K::IS_ROPE {
+        let moves = changes(&mut K::of(source), Change::Move, 0, n);
+        tell_changed::<K>("moves", source, &moves);
+        tell_held::<K>(source, n);
+    }
+}
+
+/// Inserts all over the text, while a snapshot is kept.
+fn tell_held<K: Kept>(source: &str, n: usize) {
+    let inserts = changes(&mut K::of(source), Change::Insert, 0, n);
+    let mut text = K::of(source);
+    let mut times = Vec::new();
+    for some in inserts.chunks(HELD) {
+        let _second = text.snapshot();
+        timed_in(&mut text, some, &mut times);
+    }
+    tell("held", median(times), hashed(&text));
+}
+
 fn tell_times<K: Kept>(source: &str, scale: Scale) {
     let mut text = K::of(source);
     tell("load", rate(source.len(), || K::of(black_box(source))), hashed(&text));
@@ -154,6 +277,19 @@ fn tell_memory<K: Kept>(source: &str, inserts: usize) {
     tell("inserted", memory().saturating_sub(before) as u128, text.len() as u64);
 }
 
+/// Tells the memory that a text keeps after `shrink_pieces`. A second text of the first length takes what the pieces gave back:
+/// so both take what the first keeps and what one load takes.
+fn tell_removals<K: Kept>(source: &str) {
+    let before = memory();
+    let mut text = K::of(source);
+    let whole = memory().saturating_sub(before);
+    shrink_pieces(&mut text);
+    let second = black_box(K::of(source));
+    let left = memory().saturating_sub(before).saturating_sub(whole);
+    drop(second);
+    tell("removed", (left * MILLION / text.len().max(1)) as u128, MILLION as u64);
+}
+
 fn tell_all<K: Kept>(source: &str, job: &str, numbers: &[usize]) {
     match (job, numbers) {
         ("times", &[questions, rounds, changes]) => tell_times::<K>(
@@ -164,8 +300,11 @@ fn tell_all<K: Kept>(source: &str, job: &str, numbers: &[usize]) {
                 changes,
             },
         ),
+        ("short", &[rounds]) => tell_short::<K>(source, rounds),
+        ("edges", &[changes]) => tell_edges::<K>(source, changes),
         ("memory", &[inserts]) => tell_memory::<K>(source, inserts),
-        _ => panic!("the jobs are times, with three numbers, and memory, with one"),
+        ("removals", &[]) => tell_removals::<K>(source),
+        _ => panic!("the jobs are times, with three numbers, short, edges and memory, with one, and removals"),
     }
 }
 

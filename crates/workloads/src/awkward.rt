@@ -3,12 +3,11 @@
 
 use crate::digest::Digest;
 use crate::faults::Fault;
+use crate::library::{Change, Encoding, Range, Rope, Scheme, apply, byte_of, position_of};
 use crate::random::Random;
 use crate::ropes::{random_place, read_all, read_lines, take_chars, tell_cursor};
 use crate::texts::{Shape, letter, text_of};
-use rope_positions::{Change, Encoding, Range, apply, byte_of, position_of};
 use std::alloc::Global;
-use text_rope::{Rope, Scheme};
 
 /// How many bytes a text has.
 const BYTES: usize = 1_000_000;

@@ -3,14 +3,14 @@
 
 use crate::digest::Digest;
 use crate::faults::Fault;
+use crate::library::{
+    Change, Encoding, Position, Range, Rope, apply_exact, byte_of, byte_range, exact_byte_of,
+    position_of,
+};
 use crate::random::Random;
 use crate::ropes::read_all;
 use crate::texts::{Shape, letter, text_of};
-use rope_positions::{
-    Change, Encoding, Position, Range, apply_exact, byte_of, byte_range, exact_byte_of, position_of,
-};
 use std::alloc::Global;
-use text_rope::Rope;
 
 /// How many bytes a text has.
 const BYTES: usize = 1_000_000;

@@ -3,11 +3,11 @@
 
 use crate::digest::Digest;
 use crate::faults::Fault;
+use crate::library::{Rope, Scheme};
 use crate::random::Random;
 use crate::ropes::{random_place, read_all, read_lines, take_chars, tell_cursor};
 use crate::texts::{Shape, front, letter, text_of};
 use std::alloc::Global;
-use text_rope::{Rope, Scheme};
 
 /// How many bytes the texts have.
 const SIZES: [usize; 4] = [100_000, 500_000, 1_000_000, 2_000_000];

@@ -1,25 +1,26 @@
 //! Why the program ends early.
 
+use crate::library::{PieceRefusal, RopeRefusal};
 use std::alloc::AllocError;
 use std::io;
 
 #[derive(Debug, Drop)]
 pub(crate) enum Fault {
-    Rope(text_rope::Refusal),
-    Pieces(piece_text::Refusal),
+    Rope(RopeRefusal),
+    Pieces(PieceRefusal),
     NoMemory,
     System,
     Words,
 }
 
-impl From<text_rope::Refusal> for Fault {
-    fn from(refusal: text_rope::Refusal) -> Fault {
+impl From<RopeRefusal> for Fault {
+    fn from(refusal: RopeRefusal) -> Fault {
         Fault::Rope(refusal)
     }
 }
 
-impl From<piece_text::Refusal> for Fault {
-    fn from(refusal: piece_text::Refusal) -> Fault {
+impl From<PieceRefusal> for Fault {
+    fn from(refusal: PieceRefusal) -> Fault {
         Fault::Pieces(refusal)
     }
 }

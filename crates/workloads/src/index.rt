@@ -3,12 +3,10 @@
 
 use crate::digest::Digest;
 use crate::faults::Fault;
-use crate::indexed::Indexed;
+use crate::library::{Encoding, Position, Range, Scheme, TextIndex};
 use crate::random::Random;
 use crate::texts::{Shape, text_of};
-use position_mapper::{Encoding, Position, Range};
 use std::alloc::Global;
-use str_indices::Scheme;
 
 /// How many bytes the texts have.
 const SIZES: [usize; 6] = [1_000, 4_000, 16_000, 64_000, 250_000, 1_000_000];
@@ -73,7 +71,7 @@ fn report(
     digest: &mut Digest,
 ) -> Result<(), Fault> {
     let source = text_of(alloc, random, shape, bytes)?;
-    let text = Indexed::of(alloc, source.as_str())?;
+    let text = TextIndex::of(alloc, source.as_str())?;
     for i in 0..spans {
         tell_span(&text, ENCODINGS[i % 3], random, digest);
         ask(&text, SCHEMES[i % 5], random, digest);
@@ -82,7 +80,7 @@ fn report(
 }
 
 /// The position of a byte, and what a range from there on has.
-fn tell_span(text: &Indexed<'_>, encoding: Encoding, random: &mut Random, digest: &mut Digest) {
+fn tell_span(text: &TextIndex<'_>, encoding: Encoding, random: &mut Random, digest: &mut Digest) {
     let start = text.position_of(encoding, random.below(text.len()));
     digest.take(start.line);
     digest.take(start.character);
@@ -101,7 +99,7 @@ fn tell_span(text: &Indexed<'_>, encoding: Encoding, random: &mut Random, digest
 }
 
 /// A count, and a conversion each way at random places.
-fn ask(text: &Indexed<'_>, s: Scheme, random: &mut Random, digest: &mut Digest) {
+fn ask(text: &TextIndex<'_>, s: Scheme, random: &mut Random, digest: &mut Digest) {
     let count = text.count(s);
     digest.take(count);
     digest.take(text.from_byte_idx(s, random.below(text.len().saturating_add(1))));

@@ -2,11 +2,11 @@
 
 use crate::digest::Digest;
 use crate::faults::Fault;
+use crate::library::{Rope, Scheme};
 use crate::random::Random;
 use crate::ropes::{random_place, read_all, read_lines, take_chars, tell_cursor};
 use crate::texts::{Shape, letter, text_of};
 use std::alloc::Global;
-use text_rope::{Rope, Scheme};
 
 /// How many bytes the file has.
 const BYTES: usize = 100_000_000;

@@ -1,6 +1,6 @@
 //! What a user waits for, as programs that can be timed: a language server's day, an editor, a large file, spans of a text,
-//! a buffer of pieces, awkward texts, positions on lines that go over pieces, buffers of few pieces, undo, and spans by an
-//! index.
+//! a buffer of pieces, awkward texts, positions on lines that go over pieces, buffers of few pieces, undo, spans by an index,
+//! and lines moved by cuts.
 //!
 //! Its words are the workload's name, a seed, and how many rounds it takes. It makes its own texts from the seed, and prints
 //! the name and a digest of all answers, which is the same in each run of the same words.
@@ -8,12 +8,13 @@
 
 mod awkward;
 mod awkward_positions;
+mod cut_and_paste;
 mod digest;
 mod editor;
 mod faults;
 mod index;
-mod indexed;
 mod large;
+mod library;
 mod pieces;
 mod random;
 mod ropes;
@@ -50,6 +51,7 @@ fn run(
         "undo_large" => undo::run(alloc, random, 100_000_000, rounds, digest),
         "index" => index::run(alloc, random, rounds, digest),
         "index_large" => index::run_large(alloc, random, rounds, digest),
+        "cut_and_paste" => cut_and_paste::run(alloc, random, rounds, digest),
         "all" => run_each(alloc, random, rounds, digest),
         _ => Err(Fault::Words),
     }
@@ -70,7 +72,8 @@ fn run_each(
     awkward_positions::run(alloc, random, rounds, digest)?;
     short_lists::run(alloc, random, rounds, digest)?;
     undo::run(alloc, random, 1_000_000, rounds, digest)?;
-    index::run(alloc, random, rounds, digest)
+    index::run(alloc, random, rounds, digest)?;
+    cut_and_paste::run(alloc, random, rounds, digest)
 }
 
 fn number(word: &str) -> Result<u64, Fault> {

@@ -2,9 +2,9 @@
 
 use crate::digest::Digest;
 use crate::faults::Fault;
+use crate::library::{PieceText, Scheme};
 use crate::random::Random;
 use crate::texts::{Shape, back, front, letter, text_of};
-use piece_text::{PieceText, Scheme};
 use std::alloc::Global;
 
 /// How many pieces the buffers begin with.

@@ -2,8 +2,8 @@
 
 use crate::digest::Digest;
 use crate::faults::Fault;
+use crate::library::{Rope, Scheme};
 use crate::random::Random;
-use text_rope::{Rope, Scheme};
 
 /// Reads all of the text, wherever its chunks begin and end.
 pub(crate) fn read_all(rope: &Rope, digest: &mut Digest) {

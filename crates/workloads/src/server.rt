@@ -2,15 +2,14 @@
 
 use crate::digest::Digest;
 use crate::faults::Fault;
+use crate::library::{
+    Change, Encoding, Position, Range, Rope, Scheme, apply, apply_exact, byte_of, byte_range,
+    exact_byte_of, position_of,
+};
 use crate::random::Random;
 use crate::ropes::read_all;
 use crate::texts::{Shape, letter, text_of};
-use rope_positions::{
-    Change, Encoding, Position, Range, apply, apply_exact, byte_of, byte_range, exact_byte_of,
-    position_of,
-};
 use std::alloc::Global;
-use text_rope::{Rope, Scheme};
 
 /// How many bytes the files have.
 const SIZES: [usize; 8] = [

@@ -3,11 +3,10 @@
 
 use crate::digest::Digest;
 use crate::faults::Fault;
+use crate::library::{Encoding, Position, Range, chars, lines, lines_crlf, lines_lf, utf16};
 use crate::random::Random;
 use crate::texts::{Shape, back, front, text_of};
-use position_mapper::{Encoding, Position, Range};
 use std::alloc::Global;
-use str_indices::{chars, lines, lines_crlf, lines_lf, utf16};
 
 /// How many bytes the texts have.
 const SIZES: [usize; 6] = [1_000, 4_000, 16_000, 64_000, 250_000, 1_000_000];

@@ -2,11 +2,11 @@
 
 use crate::digest::Digest;
 use crate::faults::Fault;
+use crate::library::{Rope, Scheme, copy_of};
 use crate::random::Random;
 use crate::ropes::{random_place, read_all, read_lines, take_chars, tell_cursor};
 use crate::texts::{Shape, front, letter, text_of};
 use std::alloc::Global;
-use text_rope::{Rope, Scheme};
 
 /// How many states are kept.
 const KEPT: usize = 8;
@@ -24,7 +24,7 @@ pub(crate) fn run(
     let mut rope = Rope::from_str(alloc, source.as_str())?;
     let mut states = Vec::new(alloc);
     for i in 0..rounds {
-        keep(&mut states, i, rope.snapshot()?)?;
+        keep(&mut states, i, copy_of(alloc, &rope)?)?;
         change(&mut rope, source.as_str(), i, random, digest)?;
         look_back(&states, random, digest)?;
         if i % 4 == 3 {
@@ -82,7 +82,7 @@ fn look_back(states: &Vec<Rope>, random: &mut Random, digest: &mut Digest) -> Re
 /// An old state, to go on from.
 fn come_back(alloc: Global, states: &Vec<Rope>, random: &mut Random) -> Result<Rope, Fault> {
     match states.get(random.below(states.len())) {
-        Some(state) => Ok(state.snapshot()?),
+        Some(state) => copy_of(alloc, state),
         None => Ok(Rope::new(alloc)),
     }
 }
