@@ -184,6 +184,51 @@ static void try_each(const call *one, int is_held)
     printf("%s%s: %ld allocations\n", one->name, is_held ? " beside a snapshot" : "", k - 1);
 }
 
+/* Removals from a text where there is no memory, and which of them are done. */
+typedef struct {
+    size_t len, from, to;
+    str_rope_status status;
+} removal;
+
+/*
+ * Each second byte is a line feed. A text of 5,000 bytes has six pieces of 833 or 834:
+ * one of them is not taken below 509 in its own memory, and neither is a part
+ * over an edge.
+ */
+static const removal removals[] = {
+    {5, 1, 2, STR_ROPE_OK},
+    {256, 1, 2, STR_ROPE_OK},
+    {900, 10, 899, STR_ROPE_OK},
+    {900, 0, 1, STR_ROPE_OK},
+    {900, 0, 900, STR_ROPE_OK},
+    {900, 900, 900, STR_ROPE_OK},
+    {5000, 0, 1, STR_ROPE_OK},
+    {5000, 4999, 5000, STR_ROPE_OK},
+    {5000, 100, 400, STR_ROPE_OK},
+    {5000, 100, 700, STR_ROPE_NO_MEMORY},
+    {5000, 800, 900, STR_ROPE_NO_MEMORY},
+    {5000, 0, 4999, STR_ROPE_NO_MEMORY},
+    {5000, 0, 5000, STR_ROPE_OK},
+};
+
+static void removals_without_memory(void)
+{
+    static char bytes[5000];
+    for (size_t i = 0; i < sizeof bytes; i++)
+        bytes[i] = i % 2 == 0 ? 'a' : '\n';
+    for (size_t i = 0; i < sizeof removals / sizeof removals[0]; i++) {
+        const removal *one = &removals[i];
+        str_rope rope = STR_ROPE_EMPTY;
+        same(str_rope_assign(&rope, bytes, one->len) == STR_ROPE_OK, "assign", (long)i);
+        refused = ALWAYS;
+        same(str_rope_remove(&rope, one->from, one->to) == one->status, "a removal", (long)i);
+        size_t left = one->status == STR_ROPE_OK ? one->len - (one->to - one->from) : one->len;
+        same(str_rope_len(&rope) == left, "what a removal leaves", (long)i);
+        str_rope_free(&rope);
+        refused = NEVER;
+    }
+}
+
 /*
  * What takes no memory, where there is none: questions, and a few bytes less or
  * more in one piece of a text that shares none. A piece that would outgrow its
@@ -214,6 +259,7 @@ int main(void)
     }
     long before = living;
     without_memory();
+    removals_without_memory();
     same(living == before, "what is left over", living - before);
     printf("%d passed, %d failed\n", passed, failed);
     return failed != 0;

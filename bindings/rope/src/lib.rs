@@ -9,7 +9,7 @@
 //!   length of the text.
 //! - **Memory may be refused.** So a rope is made of a text by `parse` or `try_from`, which answer a `Result`, and
 //!   [`Rope::try_clone`] does; only `clone` and `to_string` end the program then, as those of a `String` do. Each change
-//!   may be refused so: a rope that shares its pieces with a clone takes memory to remove text too.
+//!   may be refused so, a removal too, but not one that takes out all.
 //! - **Chunks are copies.** Each item of [`Rope::chunks`] owns its bytes, and holds no memory of the heap. There is no
 //!   slice of a rope; [`Rope::text_in`] copies a part.
 //! - **A rope is `Send`, and not `Sync`.** [`Rope::append`] takes the other rope by `&mut`, and leaves it empty.

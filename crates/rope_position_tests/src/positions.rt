@@ -195,11 +195,11 @@ fn answers_stay_those_of_the_text(rt: HostRuntime) -> Result<(), Fail> {
     Ok(())
 }
 
-/// Two texts, each longer than half of the longest piece, of which the first ends in CR and the second begins with LF.
+/// Two texts of two pieces or more each. The first ends in CR, and the second begins with LF.
 fn two_pieces(alloc: Global) -> Result<(String, String), AllocError> {
     let mut front = String::new(alloc);
     let mut back = String::from_str(alloc, "\n")?;
-    for _ in 0..80 {
+    for _ in 0..200 {
         front.push_str("ab\r\n🐸c\r")?;
         back.push_str("せ\n\rdd")?;
     }

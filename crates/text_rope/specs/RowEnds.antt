@@ -2,8 +2,9 @@
 --     IsRowEnd texts at                    a row ends there, or it is the beginning
 --     AreFirst texts front at              the rows before there
 --     AreLast texts back at                the rows after it
---     IsRowRound texts row start end at    the row that a byte index is in or at the end of
-use Rattle.std.specs.Prelude.{ℕ, ◌≡◌, ◌+◌, ◌≤◌, List, ◌∷◌, ◌++◌}
+--     AreExchanged old new from to rows    rows exchanged for others
+--     IsRowOf texts row start end          a row, and where it starts and ends
+use Rattle.std.specs.Prelude.{ℕ, ◌≡◌, ◌+◌, List, ◌∷◌, ◌++◌}
 use Rattle.str_indices.specs.Text.{Text, size}
 use Rattle.text_summary.specs.Pieces.{joined_size}
 
@@ -26,12 +27,18 @@ pub record AreLast (texts back : List Text) (at : ℕ) : Type 0 where
   pub split : texts ≡ front ++ back
   pub place : joined_size front ≡ at
 
--- the row that a byte index is in or at the end of, and where it starts and ends
-pub record IsRowRound (texts : List Text) (row : Text) (start end at : ℕ) : Type 0 where
+-- the rows between two byte indices, at each of which one ends or all begin, are exchanged for others
+pub record AreExchanged (old new : List Text) (from to : ℕ) (rows : List Text) : Type 0 where
+  pub front : List Text
+  pub back : List Text
+  pub first : AreFirst old front from
+  pub last : AreLast old back to
+  pub is : new ≡ front ++ (rows ++ back)
+
+-- a row, and where it starts and ends
+pub record IsRowOf (texts : List Text) (row : Text) (start end : ℕ) : Type 0 where
   pub front : List Text
   pub back : List Text
   pub parts : texts ≡ front ++ row ∷ back
   pub start_is : start ≡ joined_size front
   pub end_is : end ≡ start + size row
-  pub after : start ≤ at
-  pub within : at ≤ end

@@ -1,9 +1,13 @@
 -- A row: one piece of a text.
 --     max_piece                 how many bytes a row has at most
---     min_piece                 how many bytes a row has that is not written with the one beside it
+--     min_piece                 how many bytes a row has at least that is not alone
+--     IsFull row                it has as many
+--     AreFull rows              each has as many
+--     IsFilled rows             each has as many, or there is one at most
 --     IsSmall summary           it is that of a text that a row can have
 --     IsKept summary text       the summary is the text's, which is not empty and not too long
-use Rattle.std.specs.Prelude.{ℕ, ◌≡◌, ◌≢◌, ◌≤◌, []}
+use Rattle.std.specs.Prelude.{ℕ, ◌≡◌, ◌≢◌, ◌≤◌, ◌⊎◌, List, [], length}
+use Rattle.std.specs.List.{All}
 use Rattle.str_indices.specs.Text.{Text, size}
 use Rattle.text_summary.specs.Summaries.{summary_of}
 use Rattle.text_summary.specs.declared.summaries.Summary.{Summary}
@@ -12,9 +16,22 @@ use Rattle.text_summary.specs.declared.summaries.Summary.{Summary}
 abbrev pub max_piece : ℕ
 max_piece = 1024
 
--- a quarter of that: a shorter row is written with the one beside it
+-- how many bytes a row has at least that is not alone: half of that, less what a cut leaves off that may not go through a
+-- character
 abbrev pub min_piece : ℕ
-min_piece = 256
+min_piece = 509
+
+-- a row has as many
+abbrev pub IsFull : Text → Type 0
+IsFull row = min_piece ≤ size row
+
+-- each row has as many
+abbrev pub AreFull : List Text → Type 0
+AreFull rows = All IsFull rows
+
+-- what holds of the rows of each rope: each has as many, or there is one at most
+abbrev pub IsFilled : List Text → Type 0
+IsFilled rows = AreFull rows ⊎ (length rows ≤ 1)
 
 -- the summary is that of a text that a row can have
 pub record IsSmall (summary : Summary) : Type 0 where

@@ -67,13 +67,16 @@ impl Block {
         to: usize,
         more: &str,
         own: &Summary,
+        least: usize,
         shift: &mut Shift,
     ) -> Result<(), Unplaced>
+        requires some { 0 < least }
         requires order { from ≤ to }
         requires within { to ≤ joined_size self.old }
         requires short { joined_size self.old < 2 ^ 63 }
         requires own { own.now ≡ summary_of (chars more.now) }
         ensures changed { OnOk result (IsOneChanged self.old self.new from to (chars more.now) shift.new) }
+        ensures full { OnOk result (least ≤ shift.new.own.len) }
         ensures not_boundary { result ≡ Err NotBoundary
             → ¬ (IsBoundary (joined self.old) from × IsBoundary (joined self.old) to) }
         ensures few { length self.new ≤ joined_size self.new }
@@ -90,6 +93,7 @@ impl Block {
             to - place.start,
             more,
             own,
+            least,
             shift,
         )
     }

@@ -1,12 +1,11 @@
 //! Whole rows of a tree exchanged for others, beside the tree as it was.
-ghost use Rattle.std.specs.Prelude.{◌≡◌, ◌+◌, ◌-◌, ◌*◌, ◌^◌, ◌<◌, ◌≤◌, ◌++◌, max, min, length, take, IfOk};
-ghost use Rattle.text_summary.specs.Changes.{IsReplaced};
-ghost use Rattle.text_summary.specs.Pieces.{joined, joined_size};
+ghost use Rattle.std.specs.Prelude.{◌≡◌, ◌≢◌, ◌+◌, ◌-◌, ◌*◌, ◌^◌, ◌<◌, ◌≤◌, ◌++◌, max, min, length, take, IfOk};
+ghost use Rattle.text_summary.specs.Pieces.{joined_size};
 ghost use Rattle.text_rope.specs.Blocks.{max_rows};
-ghost use Rattle.text_rope.specs.RowEnds.{AreFirst, AreLast, IsRowEnd};
+ghost use Rattle.text_rope.specs.RowEnds.{AreExchanged, AreFirst, AreLast, IsRowEnd};
 ghost use Rattle.text_rope.specs.Shapes.{IsJoinedHeight};
 ghost use Rattle.text_rope.specs.States.{texts_of};
-ghost use Rattle.text_rope.specs.Work.{WorkState, Costs, GrowsFor, IsHeightOf, height_of, height_or};
+ghost use Rattle.text_rope.specs.Work.{WorkState, Costs, TakesLog, IsHeightOf, height_of, height_or};
 
 use crate::block::{MAX_ROWS, push_shared};
 use crate::joins::join;
@@ -29,8 +28,7 @@ pub(crate) fn replaced(
     requires start { IsRowEnd side.now.texts from }
     requires end { IsRowEnd side.now.texts to }
     requires short { joined_size side.now.texts + joined_size rows.items < 2 ^ 63 + (to - from) }
-    ensures replaced { IfOk result (λ whole.
-        IsReplaced (joined side.now.texts) (joined (texts_of whole)) from to (joined rows.items)) }
+    ensures replaced { IfOk result (λ whole. AreExchanged side.now.texts (texts_of whole) from to rows.items) }
     ensures few { length rows.items ≤ max_rows → Costs work.old work.new (56 * side.now.height + 12) 240 }
     ensures work { Costs work.old work.new (56 * side.now.height + 44 * length rows.items + 50)
         (2 * length rows.items + 240) }
@@ -58,8 +56,7 @@ fn replaced_few(
     requires end { IsRowEnd side.now.texts to }
     requires short { joined_size side.now.texts + joined_size rows.items < 2 ^ 63 + (to - from) }
     requires few { length rows.items ≤ max_rows }
-    ensures replaced { IfOk result (λ whole.
-        IsReplaced (joined side.now.texts) (joined (texts_of whole)) from to (joined rows.items)) }
+    ensures replaced { IfOk result (λ whole. AreExchanged side.now.texts (texts_of whole) from to rows.items) }
     ensures low { height_or 0 result ≤ side.now.height + 1 }
     ensures work { Costs work.old work.new (6 * height_or (side.now.height + 1) result + 50 * side.now.height + 6)
         (192 + 16 * min side.now.height 2 + 16 * min (height_or 1 result) 1) }
@@ -100,14 +97,13 @@ fn replaced_rows(
     requires short { joined_size own.now + joined_size rows.items < 2 ^ 63 + (to - from) }
     requires few_own { length own.now ≤ max_rows }
     requires few { length rows.items ≤ max_rows }
-    ensures replaced { IfOk result (λ whole.
-        IsReplaced (joined own.now) (joined (texts_of whole)) from to (joined rows.items)) }
+    ensures replaced { IfOk result (λ whole. AreExchanged own.now (texts_of whole) from to rows.items) }
     ensures low { height_or 0 result ≤ 1 }
     ensures work { Costs work.old work.new 5 48 }
 {
     let (front, rest) = own.split_at(rows_before(own, from));
     let (_, back) = rest.split_at(rows_before(rest, to - from));
-    let mut all = Vec::new(alloc);
+    let mut all = Vec::with_capacity(alloc, front.len() + rows.len() + back.len())?;
     push_shared(work, &mut all, front)?;
     all.append(&mut rows)?;
     push_shared(work, &mut all, back)?;
@@ -279,19 +275,18 @@ pub(crate) fn height_of(root: &Option<Side>) -> usize
     }
 }
 
-/// All of two trees in one, beside both.
+/// All of two trees in one, beside both. Neither is one row.
 pub(crate) fn appended(
     work: &mut Work,
     alloc: Global,
     front: &Tree,
     back: &Tree,
 ) -> Result<Tree, AllocError>
-    requires { joined_size front.now + joined_size back.now < 2 ^ 63 }
+    requires short { joined_size front.now + joined_size back.now < 2 ^ 63 }
+    requires front { length front.now ≢ 1 }
+    requires back { length back.now ≢ 1 }
     ensures rows { IfOk result (λ tree. tree ≡ front.now ++ back.now) }
-    ensures nodes { GrowsFor 6 (joined_size front.now + joined_size back.now) 0 work.old.nodes work.new.nodes }
-    ensures copied { work.new.rows ≤ work.old.rows + 16 }
-    ensures nodes_kept { work.old.nodes ≤ work.new.nodes }
-    ensures copied_kept { work.old.rows ≤ work.new.rows }
+    ensures work { TakesLog 6 16 (joined_size front.now + joined_size back.now) 0 work.old work.new }
 {
     let front = front.share()?.into_root();
     let back = back.share()?.into_root();

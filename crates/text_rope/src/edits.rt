@@ -1,197 +1,230 @@
 //! A part of a text exchanged for another text, beside the tree as it was.
-ghost use Rattle.std.specs.Prelude.{◌≡◌, ◌+◌, ◌-◌, ◌*◌, ◌^◌, ◌<◌, ◌≤◌, ◌++◌, chars, length, string_bytes, IfOk};
+ghost use Rattle.std.specs.Prelude.{◌≡◌, ◌+◌, ◌-◌, ◌*◌, ◌/◌, ◌^◌, ◌<◌, ◌≤◌, ◌++◌, ◌⊎◌, chars, length, string_bytes, IfOk};
 ghost use Rattle.str_indices.specs.Relations.{IsBoundary};
 ghost use Rattle.str_indices.specs.Text.{size};
 ghost use Rattle.text_summary.specs.Changes.{IsReplaced};
 ghost use Rattle.text_summary.specs.Pieces.{joined, joined_size};
-ghost use Rattle.text_rope.specs.Edits.{IsWidened};
-ghost use Rattle.text_rope.specs.RowEnds.{IsRowEnd, IsRowRound};
-ghost use Rattle.text_rope.specs.Rows.{max_piece};
-ghost use Rattle.text_rope.specs.States.{RowsState, Views, texts_of};
-ghost use Rattle.text_rope.specs.Work.{WorkState, Costs, GrowsFor};
+ghost use Rattle.text_rope.specs.Edits.{IsPatch, IsSpread, patched};
+ghost use Rattle.text_rope.specs.RowEnds.{IsRowOf};
+ghost use Rattle.text_rope.specs.Rows.{max_piece, min_piece, IsFilled};
+ghost use Rattle.text_rope.specs.Work.{WorkState, Costs, TakesLog};
 
 use crate::changes::replaced;
+use crate::iter::{between, rest_in};
 use crate::loads::{rows_of, tree_from};
-use crate::queries::place_at;
-use crate::row::{FEW, MAX_PIECE};
-use crate::tree::{Side, View};
+use crate::row::MIN_PIECE;
+use crate::tree::{Side, Tree};
 use crate::work::Work;
 use std::alloc::{AllocError, Global};
-use text_summary::{Scheme, halves};
 
 /// A row's text, and the byte indices where it starts and ends.
 #[derive(Clone, Copy)]
-pub(crate) struct Stretch<'a> {
-    pub(crate) text: &'a str,
-    pub(crate) start: usize,
-    pub(crate) end: usize,
-}
-
-/// A text for whole rows, and the byte indices where these start and end.
-#[derive(Drop)]
-struct Patch {
-    text: String,
+struct Stretch<'a> {
+    text: &'a str,
     start: usize,
     end: usize,
 }
 
-/// The tree of a text with what is between two boundaries exchanged for another one; it may have no rows before or then.
-pub(crate) fn exchanged_in(
-    v: &mut View,
+/// Whole rows in which a part is exchanged: the byte indices where they start and end, and what of them stays before the part
+/// and behind it, each in two texts.
+#[derive(Clone, Copy)]
+pub(crate) struct Patch<'a> {
+    pub(crate) start: usize,
+    pub(crate) end: usize,
+    pub(crate) before: &'a str,
+    pub(crate) head: &'a str,
+    pub(crate) tail: &'a str,
+    pub(crate) behind: &'a str,
+}
+
+/// The tree of a text with what is between two boundaries exchanged for another one; either may have no rows.
+pub(crate) fn exchanged(
     work: &mut Work,
     alloc: Global,
+    tree: &Tree,
     from: usize,
     to: usize,
     more: &str,
-) -> Result<Option<Side>, AllocError>
+) -> Result<Tree, AllocError>
     requires order { from ≤ to }
-    requires start { IsBoundary (joined v.old.texts) from }
-    requires end { IsBoundary (joined v.old.texts) to }
-    requires short { joined_size v.old.texts + length more.now < 2 ^ 63 + (to - from) }
-    ensures replaced { IfOk result (λ whole.
-        IsReplaced (joined v.old.texts) (joined (texts_of whole)) from to (chars more.now)) }
-    ensures nodes { GrowsFor 56 (joined_size v.old.texts) (length more.now) work.old.nodes work.new.nodes }
-    ensures copied { work.new.rows ≤ work.old.rows + length more.now + 240 }
-    ensures looks { GrowsFor 3 (joined_size v.old.texts) 0 v.old.looks v.new.looks }
-    ensures reads { v.new.reads ≤ v.old.reads + 3 }
-    ensures nodes_kept { work.old.nodes ≤ work.new.nodes }
-    ensures copied_kept { work.old.rows ≤ work.new.rows }
-    ensures looks_kept { v.old.looks ≤ v.new.looks }
-    ensures reads_kept { v.old.reads ≤ v.new.reads }
+    requires start { IsBoundary (joined tree.now) from }
+    requires end { IsBoundary (joined tree.now) to }
+    requires short { joined_size tree.now + length more.now < 2 ^ 63 + (to - from) }
+    ensures replaced { IfOk result (λ whole. IsReplaced (joined tree.now) (joined whole) from to (chars more.now)) }
+    ensures work { TakesLog 60 240 (joined_size tree.now) (length more.now) work.old work.new }
 {
-    match v.root() {
+    match tree.root() {
         Some(side) => {
             let (_height, _summary) = (side.height(), side.summary());
-            exchanged(v, work, alloc, side, from, to, more)
+            exchanged_in(work, alloc, side, from, to, more)
         }
         None => Ok(tree_from(work, alloc, more)?),
     }
 }
 
-/// The same where it has rows: those that both ends are in, and those between, are written anew.
-fn exchanged(
-    v: &mut View,
+/// The same where it has rows: those that the part is in are written anew, with one beside them where they would be short.
+fn exchanged_in(
     work: &mut Work,
     alloc: Global,
     side: &Side,
     from: usize,
     to: usize,
     more: &str,
-) -> Result<Option<Side>, AllocError>
+) -> Result<Tree, AllocError>
+    requires filled { IsFilled side.now.texts }
     requires order { from ≤ to }
     requires start { IsBoundary (joined side.now.texts) from }
     requires end { IsBoundary (joined side.now.texts) to }
     requires short { joined_size side.now.texts + length more.now < 2 ^ 63 + (to - from) }
-    ensures replaced { IfOk result (λ whole.
-        IsReplaced (joined side.now.texts) (joined (texts_of whole)) from to (chars more.now)) }
-    ensures work { Costs work.old work.new (56 * side.now.height + length more.now + 60) (length more.now + 240) }
-    ensures view { Views v.old v.new (3 * side.now.height + 3) 3 }
+    ensures replaced { IfOk result (λ whole. IsReplaced (joined side.now.texts) (joined whole) from to (chars more.now)) }
+    ensures work { Costs work.old work.new (59 * side.now.height + 64 * (length more.now / min_piece) + 100)
+        (3 * (length more.now / min_piece) + 240) }
 {
-    let patch = patch_of(v, alloc, side, from, to, more)?;
-    let even = evened(v, alloc, side, patch)?;
-    let rows = rows_of(alloc, even.text.as_str())?;
-    Ok(replaced(work, alloc, side, even.start, even.end, rows)?)
+    let _few = side.summary();
+    let patch = patch_of(work, side, from, to);
+    let patch = widened(work, side, from, to, patch, more.len());
+    let Patch {
+        before,
+        head,
+        tail,
+        behind,
+        ..
+    } = patch;
+    let text = text_of(alloc, before, head, more, tail, behind)?;
+    let rows = rows_of(alloc, text.as_str())?;
+    let root = replaced(work, alloc, side, patch.start, patch.end, rows)?;
+    Ok(Tree::of(root))
 }
 
-/// The rows that both ends are in, and those between, with the part exchanged.
-fn patch_of(
-    v: &mut View,
-    alloc: Global,
-    side: &Side,
-    from: usize,
-    to: usize,
-    more: &str,
-) -> Result<Patch, AllocError>
+/// The rows that a part is in. A part of no bytes between two rows is in the one that ends there.
+fn patch_of<'a>(work: &mut Work, side: &'a Side, from: usize, to: usize) -> Patch<'a>
     requires order { from ≤ to }
     requires start { IsBoundary (joined side.now.texts) from }
     requires end { IsBoundary (joined side.now.texts) to }
-    requires short { length more.now < 2 ^ 63 }
-    ensures view { Views v.old v.new (2 * side.now.height + 2) 2 }
-    ensures short { IfOk result (λ p. size (chars (string_bytes p.text)) ≤ length more.now + 2 * max_piece) }
-    ensures widened { IfOk result (λ p. IsWidened (joined side.now.texts) from to (chars more.now)
-        p.start p.end (chars (string_bytes p.text))) }
-    ensures start { IfOk result (λ p. IsRowEnd side.now.texts p.start) }
-    ensures end { IfOk result (λ p. IsRowEnd side.now.texts p.end) }
+    ensures patch { IsPatch side.now.texts from to result }
+    ensures short { length result.head.now + length result.tail.now ≤ 2 * max_piece }
+    ensures before { length result.before.now ≡ 0 }
+    ensures behind { length result.behind.now ≡ 0 }
+    ensures work { Costs work.old work.new (2 * side.now.height + 2) 0 }
 {
-    let first = stretch_at(v, side, from);
-    let last = stretch_at(v, side, to);
-    let (head, _) = halves(first.text, from - first.start);
-    let (_, tail) = halves(last.text, to - last.start);
-    Ok(Patch {
-        text: text_of(alloc, head, more, tail)?,
+    let _some = side.summary();
+    let last = stretch_at(work, side, to.saturating_sub(1));
+    let first = first_from(work, side, last, from);
+    Patch {
         start: first.start,
         end: last.end,
-    })
+        before: "",
+        head: between(first.text, 0, from - first.start),
+        tail: between(last.text, to - last.start, last.text.len()),
+        behind: "",
+    }
 }
 
-/// The same with the row behind it, or else the one before it, where it is short for a row.
-fn evened(v: &mut View, alloc: Global, side: &Side, patch: Patch) -> Result<Patch, AllocError>
-    requires order { patch.start ≤ patch.end }
-    requires start { IsRowEnd side.now.texts patch.start }
-    requires end { IsRowEnd side.now.texts patch.end }
-    ensures view { Views v.old v.new (side.now.height + 1) 1 }
-    ensures short { IfOk result (λ p. size (chars (string_bytes p.text)) ≤ size (chars (string_bytes patch.text)) + max_piece) }
-    ensures widened { IfOk result (λ p. IsWidened (joined side.now.texts)
-        patch.start patch.end (chars (string_bytes patch.text)) p.start p.end (chars (string_bytes p.text))) }
-    ensures start { IfOk result (λ p. IsRowEnd side.now.texts p.start) }
-    ensures end { IfOk result (λ p. IsRowEnd side.now.texts p.end) }
+/// The row that a part begins in, where the one that it ends in is known.
+fn first_from<'a>(work: &mut Work, side: &'a Side, last: Stretch<'a>, from: usize) -> Stretch<'a>
+    requires row { IsRowOf side.now.texts (chars last.text.now) last.start last.end }
+    requires piece { size (chars last.text.now) ≤ max_piece }
+    requires within { from ≤ last.end }
+    ensures row { IsRowOf side.now.texts (chars result.text.now) result.start result.end }
+    ensures piece { size (chars result.text.now) ≤ max_piece }
+    ensures after { result.start ≤ from }
+    ensures within { from ≤ result.end }
+    ensures first { result.start ≤ last.entry.start }
+    ensures work { Costs work.old work.new (side.now.height + 1) 0 }
 {
-    let text = patch.text.as_str();
-    let Patch { start, end, .. } = patch;
-    if text.is_empty() || FEW <= text.len() {
-        return Ok(patch);
+    if last.start <= from {
+        return last;
     }
-    if end < side.summary().len {
-        let next = stretch_at(v, side, end);
-        let (_, behind) = halves(next.text, end - next.start);
-        return Ok(Patch {
-            text: text_of(alloc, "", text, behind)?,
-            start,
+    stretch_at(work, side, from)
+}
+
+/// The same with the row behind it, or else the one before it, where `more` bytes with what stays are too few for a row.
+fn widened<'a>(
+    work: &mut Work,
+    side: &'a Side,
+    from: usize,
+    to: usize,
+    patch: Patch<'a>,
+    more: usize,
+) -> Patch<'a>
+    requires filled { IsFilled side.now.texts }
+    requires patch { IsPatch side.now.texts from to patch }
+    requires short { length patch.head.now + length patch.tail.now ≤ 2 * max_piece }
+    requires before { length patch.before.now ≡ 0 }
+    requires behind { length patch.behind.now ≡ 0 }
+    requires more { more < 2 ^ 63 }
+    ensures patch { IsPatch side.now.texts from to result }
+    ensures short { IsSpread result (3 * max_piece) }
+    ensures filled { (patched result more ≡ 0) ⊎ (min_piece ≤ patched result more)
+        ⊎ ((result.start ≡ 0) × (result.end ≡ joined_size side.now.texts)) }
+    ensures work { Costs work.old work.new (side.now.height + 1) 0 }
+{
+    let whole = side.summary().len;
+    let len = patch.head.len() + more + patch.tail.len();
+    if len == 0 || MIN_PIECE <= len {
+        return patch;
+    }
+    if patch.end < whole {
+        let next = stretch_at(work, side, patch.end);
+        return Patch {
             end: next.end,
-        });
+            behind: next.text,
+            ..patch
+        };
     }
-    if 0 < start {
-        let prior = stretch_at(v, side, start - 1);
-        let (before, _) = halves(prior.text, start - prior.start);
-        return Ok(Patch {
-            text: text_of(alloc, before, text, "")?,
+    if 0 < patch.start {
+        let prior = stretch_at(work, side, patch.start - 1);
+        return Patch {
             start: prior.start,
-            end,
-        });
+            before: prior.text,
+            ..patch
+        };
     }
-    Ok(patch)
+    patch
 }
 
-/// Three texts, one after the other.
-fn text_of(alloc: Global, head: &str, more: &str, tail: &str) -> Result<String, AllocError>
-    requires { length more.now < 2 ^ 63 }
-    ensures { IfOk result (λ text. chars (string_bytes text) ≡ chars head.now ++ (chars more.now ++ chars tail.now)) }
+/// A text between others, in one.
+fn text_of(
+    alloc: Global,
+    before: &str,
+    head: &str,
+    more: &str,
+    tail: &str,
+    behind: &str,
+) -> Result<String, AllocError>
+    requires { length before.now + length head.now + length tail.now + length behind.now ≤ 3 * max_piece }
+    ensures text { IfOk result (λ text. chars (string_bytes text)
+        ≡ (chars before.now ++ chars head.now) ++ (chars more.now ++ (chars tail.now ++ chars behind.now))) }
+    ensures len { IfOk result (λ text. length (string_bytes text)
+        ≡ (length before.now + length head.now) + (length more.now + (length tail.now + length behind.now))) }
 {
-    let mut text = String::with_capacity(alloc, more.len() + 2 * MAX_PIECE)?;
+    let around = before.len() + head.len() + tail.len() + behind.len();
+    let mut text = String::with_capacity(alloc, around + more.len())?;
+    text.push_str(before)?;
     text.push_str(head)?;
     text.push_str(more)?;
     text.push_str(tail)?;
+    text.push_str(behind)?;
     Ok(text)
 }
 
-/// The row that a byte index is in or at the end of.
-fn stretch_at<'a>(v: &mut View, side: &'a Side, at: usize) -> Stretch<'a>
-    requires { at ≤ joined_size side.now.texts }
-    ensures view { Views v.old v.new (side.now.height + 1) 1 }
-    ensures row { IsRowRound side.now.texts (chars result.text.now) result.start result.end at }
-    ensures inside { at < joined_size side.now.texts → at < result.end }
+/// The row that a byte is in.
+fn stretch_at<'a>(work: &mut Work, side: &'a Side, at: usize) -> Stretch<'a>
+    requires { at < joined_size side.now.texts }
+    ensures row { IsRowOf side.now.texts (chars result.text.now) result.start result.end }
+    ensures after { result.start ≤ at }
+    ensures inside { at < result.end }
+    ensures len { length result.text.now ≡ size (chars result.text.now) }
     ensures piece { size (chars result.text.now) ≤ max_piece }
+    ensures work { Costs work.old work.new (side.now.height + 1) 0 }
 {
-    let whole = side.summary();
-    let inside = at.min(whole.len - 1);
-    let place = place_at(v, side, Scheme::Lf, inside);
-    v.read();
-    let row = place.row;
+    let _short = side.summary();
+    let rest = rest_in(work, side, 0, at);
+    let row = &rest.rows[0];
     let text = row.text();
-    let start = place.before.len;
     Stretch {
         text,
-        start,
-        end: start + text.len(),
+        start: rest.start,
+        end: rest.start + text.len(),
     }
 }

@@ -6,9 +6,11 @@ ghost use Rattle.text_summary.specs.Pieces.{joined, joined_size};
 ghost use Rattle.text_rope.specs.Chunks.{ChunksState, IsWithin, IsPartAt};
 ghost use Rattle.text_rope.specs.Rests.{IsRestFrom, IsRestAt};
 ghost use Rattle.text_rope.specs.Rows.{max_piece};
+ghost use Rattle.text_rope.specs.Work.{WorkState, Costs};
 
 use crate::row::Row;
 use crate::tree::{Look, Side, Tree};
+use crate::work::Work;
 use std::marker::Model;
 use text_summary::halves;
 
@@ -112,7 +114,7 @@ impl<'a> Iterator for Chunks<'a> {
 }
 
 /// The part of a text between two boundaries.
-fn between(text: &str, from: usize, to: usize) -> &str
+pub(crate) fn between(text: &str, from: usize, to: usize) -> &str
     requires order { from ≤ to }
     requires start { IsBoundary (chars text.now) from }
     requires end { IsBoundary (chars text.now) to }
@@ -135,9 +137,9 @@ fn looked_ahead(rows: &[Row]) -> &[Row]
 
 /// The last rows of a block, and the byte index where the first of them starts.
 #[derive(Clone, Copy)]
-struct Rest<'a> {
-    rows: &'a [Row],
-    start: usize,
+pub(crate) struct Rest<'a> {
+    pub(crate) rows: &'a [Row],
+    pub(crate) start: usize,
 }
 
 /// The rows of a block from the one that a byte is in: those at hand, or else by a way down the tree.
@@ -150,28 +152,29 @@ fn rest_of<'a>(tree: &'a Tree, rows: &'a [Row], at: usize) -> Rest<'a>
         let _some = row.summary();
         return Rest { rows, start: at };
     }
-    let Some(side) = tree.view().root() else {
+    let Some(side) = tree.root() else {
         unreachable!()
     };
     let _short = side.summary();
-    rest_in(side, 0, at)
+    rest_in(&mut Work::none(), side, 0, at)
 }
 
 /// The rows of a block from the one that a byte is in, where so many bytes are before the tree. Reads lengths alone.
-fn rest_in(side: &Side, before: usize, at: usize) -> Rest<'_>
+pub(crate) fn rest_in<'a>(work: &mut Work, side: &'a Side, before: usize, at: usize) -> Rest<'a>
     requires short { before + joined_size side.now.texts < 2 ^ 63 }
     requires after { before ≤ at }
     requires inside { at < before + joined_size side.now.texts }
-    ensures { IsRestAt before side.now.texts result.rows.now result.start at }
+    ensures rest { IsRestAt before side.now.texts result.rows.now result.start at }
+    ensures work { Costs work.old work.new (side.now.height + 1) 0 }
 {
-    match side.look() {
+    match work.look(side) {
         Look::Rows(rows) => rest_of_rows(rows, before, at),
         Look::Sides(left, right) => {
             let middle = before + left.summary().len;
             if at < middle {
-                rest_in(left, before, at)
+                rest_in(work, left, before, at)
             } else {
-                rest_in(right, middle, at)
+                rest_in(work, right, middle, at)
             }
         }
     }

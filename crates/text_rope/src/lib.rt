@@ -25,6 +25,6 @@ pub use lines::{Line, line_in};
 pub use queries::{count_in, from_in, is_boundary_in, to_in};
 pub use refusals::Refusal;
 pub use rope::Rope;
-pub use row::MAX_PIECE;
+pub use row::{MAX_PIECE, MIN_PIECE};
 pub use text_summary::{Front, Scheme, Summary};
 pub use tree::View;

@@ -1,9 +1,9 @@
 //! A text in rows, and rows in a tree.
-ghost use Rattle.std.specs.Prelude.{◌≡◌, ◌≢◌, ◌+◌, ◌-◌, ◌*◌, ◌^◌, ◌<◌, ◌≤◌, ◌++◌, [], chars, length, IfOk, OnOk};
+ghost use Rattle.std.specs.Prelude.{◌≡◌, ◌≢◌, ◌+◌, ◌-◌, ◌*◌, ◌/◌, ◌^◌, ◌<◌, ◌≤◌, ◌++◌, [], chars, length, IfOk, OnOk};
 ghost use Rattle.str_indices.specs.Text.{size};
 ghost use Rattle.text_summary.specs.Pieces.{joined, joined_size};
 ghost use Rattle.text_rope.specs.Blocks.{max_rows};
-ghost use Rattle.text_rope.specs.Rows.{max_piece, min_piece};
+ghost use Rattle.text_rope.specs.Rows.{max_piece, min_piece, AreFull};
 ghost use Rattle.text_rope.specs.States.{texts_of};
 ghost use Rattle.text_rope.specs.Work.{WorkState, Costs, height_of, height_or};
 
@@ -11,7 +11,7 @@ use crate::block::MAX_ROWS;
 use crate::changes::{height_of, joined};
 use crate::joins::join;
 use crate::row::{MAX_PIECE, Row};
-use crate::tree::{Side, block_of};
+use crate::tree::{Side, Tree, block_of};
 use crate::work::Work;
 use std::alloc::{AllocError, Global};
 
@@ -25,24 +25,24 @@ const LOADED_ROWS: usize = MAX_ROWS / 8 * 7;
 const WIDEST: usize = 4;
 
 /// A tree of a text, in even rows.
-pub(crate) fn tree_from(
-    work: &mut Work,
-    alloc: Global,
-    text: &str,
-) -> Result<Option<Side>, AllocError>
+pub(crate) fn tree_from(work: &mut Work, alloc: Global, text: &str) -> Result<Tree, AllocError>
     requires { length text.now < 2 ^ 63 }
-    ensures text { IfOk result (λ whole. joined (texts_of whole) ≡ chars text.now) }
-    ensures work { Costs work.old work.new (length text.now + 40) (length text.now + 20) }
+    ensures text { IfOk result (λ tree. joined tree ≡ chars text.now) }
+    ensures work { Costs work.old work.new (64 * (length text.now / min_piece) + 40) (3 * (length text.now / min_piece) + 20) }
 {
     let rows = rows_of(alloc, text)?;
-    Ok(tree_of(work, alloc, rows)?)
+    let root = tree_of(work, alloc, rows)?;
+    Ok(Tree::of(root))
 }
 
-/// The rows of a text, of about as many bytes: so there are few.
+/// The rows of a text, of about as many bytes, and none short where there are several.
 pub(crate) fn rows_of(alloc: Global, text: &str) -> Result<Vec<Row>, AllocError>
     requires { length text.now < 2 ^ 63 }
     ensures text { IfOk result (λ rows. joined rows.items ≡ chars text.now) }
     ensures few { IfOk result (λ rows. min_piece * length rows.items ≤ length text.now + min_piece) }
+    ensures full { min_piece ≤ length text.now → IfOk result (λ rows. AreFull rows.items) }
+    ensures one { length text.now ≤ max_piece → IfOk result (λ rows. length rows.items ≤ 1) }
+    ensures none { length text.now ≡ 0 → IfOk result (λ rows. length rows.items ≡ 0) }
 {
     let mut rows = Vec::with_capacity(alloc, text.len().div_ceil(LOADED))?;
     let mut rest = text;
@@ -62,7 +62,10 @@ fn first_row(text: &str) -> (&str, &str)
     ensures some { chars result.0.now ≢ [] }
     ensures piece { size (chars result.0.now) ≤ max_piece }
     ensures less { length result.1.now < length text.now }
-    ensures enough { 0 < length result.1.now → min_piece + length result.1.now ≤ length text.now }
+    ensures len { size (chars result.0.now) + length result.1.now ≡ length text.now }
+    ensures whole { length text.now ≤ max_piece → length result.1.now ≡ 0 }
+    ensures enough { 0 < length result.1.now → min_piece ≤ size (chars result.0.now) }
+    ensures rest { 0 < length result.1.now → min_piece ≤ length result.1.now }
 {
     if text.len() <= MAX_PIECE {
         return (text, "");

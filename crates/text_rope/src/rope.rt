@@ -1,5 +1,5 @@
 //! A text that is kept in a balanced tree of its rows.
-ghost use Rattle.std.specs.Prelude.{◌≡◌, ◌≢◌, ◌+◌, ◌-◌, ◌^◌, ◌<◌, ◌≤◌, ◌↔◌, ◌⊎◌, [], ◌++◌, chars, length, encode_utf8_all, Err, IsOk, IsErr, IsErrOf, IsTrue, IsOkUnless, IsSome, IfSome, IfOk, OnOk, OnErr};
+ghost use Rattle.std.specs.Prelude.{◌≡◌, ◌≢◌, ◌+◌, ◌-◌, ◌*◌, ◌^◌, ◌<◌, ◌≤◌, ◌↔◌, ◌⊎◌, [], ◌++◌, chars, length, encode_utf8_all, Err, IsOk, IsErr, IsErrOf, IsTrue, IsOkUnless, IsSome, IfSome, IfOk, OnOk, OnErr};
 ghost use Rattle.str_indices.specs.Relations.{IsBoundary};
 ghost use Rattle.str_indices.specs.Schemes.{count, from_byte_idx, to_byte_idx};
 ghost use Rattle.str_indices.specs.Text.{size};
@@ -8,14 +8,14 @@ ghost use Rattle.text_summary.specs.Pieces.{joined};
 ghost use Rattle.text_rope.specs.Chunks.{IsChunkAt, ChunksState, IsCopied, IsRead};
 ghost use Rattle.text_rope.specs.Edits.{IsInserted, IsRemoved, IsCutAt};
 ghost use Rattle.text_rope.specs.Lines.{line_end};
-ghost use Rattle.text_rope.specs.Rows.{max_piece};
+ghost use Rattle.text_rope.specs.Rows.{max_piece, min_piece};
 ghost use Rattle.text_rope.specs.States.{RowsState};
-ghost use Rattle.text_rope.specs.Work.{WorkState, GrowsFor};
+ghost use Rattle.text_rope.specs.Work.{WorkState, TakesLog};
 ghost use Rattle.text_rope.specs.declared.refusals.Refusal.TheVariants.{NotOrdered, NotBoundary, TooLong, NoMemory};
 
 use crate::changes::appended;
 use crate::copies::{read_at, read_chunks};
-use crate::edits::exchanged_in;
+use crate::edits::exchanged;
 use crate::loads::tree_from;
 use crate::row::{MAX_PIECE, Unplaced};
 use crate::tree::Tree;
@@ -34,7 +34,8 @@ const MAX_LEN: usize = isize::MAX as usize;
 
 /// A text that is kept in a balanced tree of its rows. A contract sees the text, the list of its characters.
 ///
-/// A question looks at a number of nodes that is logarithmic in the number of rows, and reads one row.
+/// A question looks at a number of nodes that is logarithmic in the number of rows, and reads one row at most; a line asks up to
+/// three.
 #[derive(Drop)]
 pub struct Rope {
     tree: Tree,
@@ -74,10 +75,7 @@ impl Rope {
             return Err(Refusal::NoMemory);
         }
         match tree_from(&mut Work::none(), alloc, text) {
-            Ok(root) => Ok(Rope {
-                tree: Tree::of(root),
-                alloc,
-            }),
+            Ok(tree) => Ok(Rope { tree, alloc }),
             Err(_) => Err(Refusal::NoMemory),
         }
     }
@@ -114,8 +112,11 @@ impl Rope {
     }
 
     /// The text as a question with counted looks and reads sees it: `count_in`, `from_in`, `to_in`, `line_in`, `is_boundary_in`.
+    ///
+    /// Each row has `MIN_PIECE` bytes or more where there are several, so a text of n bytes has at most n / `MIN_PIECE` + 1 rows.
     pub fn view(&self) -> View<'_>
         ensures text { joined result.texts ≡ self.now }
+        ensures few { min_piece * length result.texts ≤ size self.now + min_piece }
         ensures looks { result.looks ≡ 0 }
         ensures reads { result.reads ≡ 0 }
     {
@@ -244,7 +245,7 @@ impl Rope {
     ///
     /// After a refusal every answer is as before. It is `NotOrdered` where the first index is above the second, or else
     /// `NotBoundary` where one is inside a character or past the end, or else `TooLong` where the text would have more
-    /// than `isize::MAX` bytes, and else `NoMemory` where memory was refused.
+    /// than `isize::MAX` bytes, and else `NoMemory` where memory was refused: never where nothing is left of the text.
     pub fn replace(&mut self, range: Range<usize>, text: &str) -> Result<(), Refusal>
         ensures ok { OnOk result (IsReplaced self.old self.new range.start range.end (chars text.now)) }
         ensures err { OnErr result (self.new ≡ self.old) }
@@ -254,7 +255,8 @@ impl Rope {
         ensures too_long { IsErrOf result TooLong
             ↔ ((range.start ≤ range.end) × (IsBoundary self.old range.start × IsBoundary self.old range.end)
             × (2 ^ 63 + (range.end - range.start) ≤ size self.old + length text.now)) }
-        ensures no_memory { IsErrOf result NoMemory → (range.start < range.end) ⊎ (chars text.now ≢ []) }
+        ensures no_memory { IsErrOf result NoMemory → (chars text.now ≢ [])
+            ⊎ ((range.start < range.end) × (range.end - range.start < size self.old)) }
     {
         if range.end < range.start {
             return Err(Refusal::NotOrdered);
@@ -283,14 +285,16 @@ impl Rope {
     /// Takes out what is between two byte indices, each between characters.
     ///
     /// After a refusal every answer is as before. It is `NotOrdered` where the first index is above the second, or else
-    /// `NotBoundary` where one is inside a character or past the end, and else `NoMemory` where memory was refused.
+    /// `NotBoundary` where one is inside a character or past the end, and else `NoMemory` where memory was refused: never where
+    /// nothing is left of the text.
     pub fn remove(&mut self, range: Range<usize>) -> Result<(), Refusal>
         ensures ok { OnOk result (IsRemoved self.old self.new range.start range.end) }
         ensures err { OnErr result (self.new ≡ self.old) }
         ensures not_ordered { IsErrOf result NotOrdered ↔ (range.end < range.start) }
         ensures not_boundary { IsErrOf result NotBoundary
             ↔ ((range.start ≤ range.end) × ¬ (IsBoundary self.old range.start × IsBoundary self.old range.end)) }
-        ensures no_memory { IsErrOf result NoMemory → range.start < range.end }
+        ensures no_memory { IsErrOf result NoMemory
+            → (range.start < range.end) × (range.end - range.start < size self.old) }
         ensures too_long { result ≢ Err TooLong }
     {
         if range.end < range.start {
@@ -324,7 +328,30 @@ impl Rope {
             self.tree = mem::replace(&mut other.tree, Tree::of(None));
             return Ok(());
         }
-        match appended(&mut Work::none(), self.alloc, &self.tree, &other.tree) {
+        self.append_some(&mut Work::none(), other)
+    }
+
+    /// The same where neither is empty. One row is put in as a text is, and two trees are joined.
+    fn append_some(&mut self, work: &mut Work, other: &mut Rope) -> Result<(), Refusal>
+        requires short { size self.old + size other.old < 2 ^ 63 }
+        ensures ok { OnOk result (self.new ≡ self.old ++ other.old) }
+        ensures moved { OnOk result (other.new ≡ []) }
+        ensures err { OnErr result ((self.new ≡ self.old) × (other.new ≡ other.old)) }
+        ensures no_other { IsOkUnless result NoMemory }
+        ensures work { TakesLog 61 241 (size self.old + size other.old) max_piece work.old work.new }
+    {
+        let len = self.len();
+        if let Some(row) = other.tree.only_row() {
+            self.exchange(work, len, len, row.text())?;
+            other.tree = Tree::of(None);
+            return Ok(());
+        }
+        if let Some(row) = self.tree.only_row() {
+            other.exchange(work, 0, 0, row.text())?;
+            self.tree = mem::replace(&mut other.tree, Tree::of(None));
+            return Ok(());
+        }
+        match appended(work, self.alloc, &self.tree, &other.tree) {
             Ok(tree) => {
                 self.tree = tree;
                 other.tree = Tree::of(None);
@@ -361,10 +388,7 @@ impl Rope {
         ensures ok { IfOk result (λ back. IsCutAt self.old self.new back at) }
         ensures err { OnErr result (self.new ≡ self.old) }
         ensures inside { IsErr result → (0 < at) × (at < size self.old) }
-        ensures nodes { GrowsFor 112 (size self.old) 0 work.old.nodes work.new.nodes }
-        ensures copied { work.new.rows ≤ work.old.rows + 480 }
-        ensures nodes_kept { work.old.nodes ≤ work.new.nodes }
-        ensures copied_kept { work.old.rows ≤ work.new.rows }
+        ensures work { TakesLog 120 480 (size self.old) 0 work.old work.new }
     {
         let len = self.len();
         if at == len {
@@ -393,17 +417,14 @@ impl Rope {
         requires short { size self.old < 2 ^ 63 }
         ensures ok { OnOk result (IsRemoved self.old self.new from to) }
         ensures err { OnErr result (self.new ≡ self.old) }
-        ensures nodes { GrowsFor 56 (size self.old) 0 work.old.nodes work.new.nodes }
-        ensures copied { work.new.rows ≤ work.old.rows + 240 }
-        ensures nodes_kept { work.old.nodes ≤ work.new.nodes }
-        ensures copied_kept { work.old.rows ≤ work.new.rows }
+        ensures work { TakesLog 60 240 (size self.old) 0 work.old work.new }
     {
         self.rewrite(work, from, to, "")?;
         Ok(())
     }
 
-    /// Exchanges what is between two byte indices, each between characters, for a text: in place where nothing is shared
-    /// and one row has room for it.
+    /// Exchanges what is between two byte indices, each between characters, for a text: in place where no node on the way is
+    /// shared and one row has room for it.
     fn exchange(
         &mut self,
         work: &mut Work,
@@ -418,16 +439,17 @@ impl Rope {
         ensures too_long { IsErrOf result TooLong
             ↔ ((IsBoundary self.old from × IsBoundary self.old to)
             × (2 ^ 63 + (to - from) ≤ size self.old + length text.now)) }
-        ensures no_memory { IsErrOf result NoMemory → (from < to) ⊎ (chars text.now ≢ []) }
+        ensures no_memory { IsErrOf result NoMemory → (chars text.now ≢ []) ⊎ ((from < to) × (to - from < size self.old)) }
         ensures not_ordered { result ≢ Err NotOrdered }
-        ensures nodes { GrowsFor 57 (size self.old) (length text.now) work.old.nodes work.new.nodes }
-        ensures copied { work.new.rows ≤ work.old.rows + length text.now + 241 }
-        ensures nodes_kept { work.old.nodes ≤ work.new.nodes }
-        ensures copied_kept { work.old.rows ≤ work.new.rows }
+        ensures work { TakesLog 61 241 (size self.old) (length text.now) work.old work.new }
     {
         let len = self.len();
         if len < to {
             return Err(Refusal::NotBoundary);
+        }
+        if takes_all(len, from, to, text) {
+            self.tree = Tree::of(None);
+            return Ok(());
         }
         if MAX_PIECE < text.len() || MAX_LEN - (len - (to - from)) < text.len() {
             return self.exchange_beside(work, from, to, text);
@@ -456,10 +478,7 @@ impl Rope {
             × (2 ^ 63 + (to - from) ≤ size self.old + length text.now)) }
         ensures no_memory { IsErrOf result NoMemory → (from < to) ⊎ (chars text.now ≢ []) }
         ensures not_ordered { result ≢ Err NotOrdered }
-        ensures nodes { GrowsFor 56 (size self.old) (length text.now) work.old.nodes work.new.nodes }
-        ensures copied { work.new.rows ≤ work.old.rows + length text.now + 240 }
-        ensures nodes_kept { work.old.nodes ≤ work.new.nodes }
-        ensures copied_kept { work.old.rows ≤ work.new.rows }
+        ensures work { TakesLog 60 240 (size self.old) (length text.now) work.old work.new }
     {
         if !(self.is_char_boundary(from) && self.is_char_boundary(to)) {
             return Err(Refusal::NotBoundary);
@@ -491,13 +510,17 @@ impl Rope {
         requires short { size self.old + length text.now < 2 ^ 63 + (to - from) }
         ensures ok { OnOk result (IsReplaced self.old self.new from to (chars text.now)) }
         ensures err { OnErr result (self.new ≡ self.old) }
-        ensures nodes { GrowsFor 56 (size self.old) (length text.now) work.old.nodes work.new.nodes }
-        ensures copied { work.new.rows ≤ work.old.rows + length text.now + 240 }
-        ensures nodes_kept { work.old.nodes ≤ work.new.nodes }
-        ensures copied_kept { work.old.rows ≤ work.new.rows }
+        ensures work { TakesLog 60 240 (size self.old) (length text.now) work.old work.new }
     {
-        let root = exchanged_in(&mut self.tree.view(), work, self.alloc, from, to, text)?;
-        self.tree = Tree::of(root);
+        self.tree = exchanged(work, self.alloc, &self.tree, from, to, text)?;
         Ok(())
     }
+}
+
+/// Whether all of a text of `len` bytes goes out, and nothing comes in.
+fn takes_all(len: usize, from: usize, to: usize, text: &str) -> bool
+    requires { from ≤ to }
+    ensures { IsTrue result ↔ ((chars text.now ≡ []) × (to - from ≡ len)) }
+{
+    text.is_empty() && to - from == len
 }

@@ -20,8 +20,9 @@ use text_summary::{Change, Scheme, Summary, changed};
 /// How many bytes a row has at most.
 pub const MAX_PIECE: usize = 1024;
 
-/// A row that a change would make shorter than this is written anew.
-pub(crate) const FEW: usize = MAX_PIECE / 4;
+/// How many bytes a row has at least where it is not the only one: half of `MAX_PIECE`, less what a cut leaves off that may not
+/// go through a character.
+pub const MIN_PIECE: usize = MAX_PIECE / 2 - 3;
 
 /// The memory of a row grows by so many bytes. Four times that is the most for which glibc has lists of one size.
 const STEP: usize = 248;
@@ -53,7 +54,7 @@ impl Model for Row {
 pub(crate) enum Unplaced {
     /// One of its ends is inside a character.
     NotBoundary,
-    /// The row has no room for it or another owner, or would be short after it, or begin or end otherwise.
+    /// The row has no room for it, or would be short after it, or memory was refused; or a node on the way has another owner.
     NoRoom,
 }
 
@@ -135,22 +136,25 @@ impl Row {
         summary.is_char_boundary(self.text(), byte_idx)
     }
 
-    /// Exchanges what is between two byte indices for a text, in its own memory, where that has no other owner, the row
-    /// begins and ends as before, and does not become short. `shift` becomes the summaries before and after; else nothing
-    /// changes. It takes memory only where the row outgrows its own.
+    /// Exchanges what is between two byte indices for a text, where the row has at least `least` bytes after it and is not too
+    /// long. `shift` becomes the summaries before and after; else nothing changes. It takes memory only where the row outgrows
+    /// its own, or shares it.
     pub(crate) fn replace_in_place(
         &mut self,
         from: usize,
         to: usize,
         more: &str,
         own: &Summary,
+        least: usize,
         shift: &mut Shift,
     ) -> Result<(), Unplaced>
+        requires some { 0 < least }
         requires order { from ≤ to }
         requires within { to ≤ size self.old }
         requires own { own.now ≡ summary_of (chars more.now) }
         ensures replaced { OnOk result (IsReplaced self.old self.new from to (chars more.now)) }
         ensures shift { OnOk result (IsShift self.old self.new shift.new) }
+        ensures full { OnOk result (least ≤ size self.new) }
         ensures not_boundary { (result ≡ Err NotBoundary)
             ↔ (¬ (IsBoundary self.old from × IsBoundary self.old to)) }
         ensures err { OnErr result (self.new ≡ self.old) }
@@ -158,10 +162,10 @@ impl Row {
         if !self.are_boundaries(from, to) {
             return Err(Unplaced::NotBoundary);
         }
-        if !self.has_room(to - from, more.len()) {
+        if !self.has_room(to - from, more.len(), least) {
             return Err(Unplaced::NoRoom);
         }
-        self.replace_alike(from, to, more, own, shift)
+        self.replace_part(from, to, more, own, shift)
     }
 
     /// Whether two byte indices are between its characters, or at its beginning or end.
@@ -171,9 +175,9 @@ impl Row {
         self.is_char_boundary(from) && (from == to || self.is_char_boundary(to))
     }
 
-    /// Exchanges what is between two boundaries for a text that a row has room for, where its memory has no other owner and
-    /// the row begins and ends as before.
-    fn replace_alike(
+    /// Exchanges what is between two boundaries for a text that the row has room for: in its own memory, or in a copy where that
+    /// has another owner.
+    fn replace_part(
         &mut self,
         from: usize,
         to: usize,
@@ -189,15 +193,13 @@ impl Row {
         requires some { to < from + (size self.old + length more.now) }
         ensures replaced { OnOk result (IsReplaced self.old self.new from to (chars more.now)) }
         ensures shift { OnOk result (IsShift self.old self.new shift.new) }
+        ensures len { OnOk result (size self.new + (to - from) ≡ size self.old + length more.now) }
         ensures err { OnErr result (self.new ≡ self.old) }
         ensures room { result ≢ Err NotBoundary }
     {
         let out = self.summary();
         let changed = self.summary_after(from, to, more, *own);
-        if !are_alike(&out, &changed) {
-            return Err(Unplaced::NoRoom);
-        }
-        let Some(text) = Arc::get_mut(&mut self.text) else {
+        let Ok(text) = Arc::make_mut(&mut self.text) else {
             return Err(Unplaced::NoRoom);
         };
         let _text = text.as_str();
@@ -210,19 +212,15 @@ impl Row {
         Ok(())
     }
 
-    /// Whether it is not too long after a change of so many bytes for so many others, and not short, or no shorter than
-    /// before.
-    fn has_room(&self, out: usize, more: usize) -> bool
+    /// Whether it has from `least` to `MAX_PIECE` bytes after `out` bytes go out and `more` come in.
+    fn has_room(&self, out: usize, more: usize, least: usize) -> bool
         requires { out ≤ size self.now }
         ensures room { result ≡ true → size self.now + more ≤ max_piece + out }
-        ensures some { result ≡ true → out < size self.now + more }
+        ensures full { result ≡ true → least + out ≤ size self.now + more }
     {
         let len = self.summary().len;
         let kept = len - out;
-        if MAX_PIECE - kept < more {
-            return false;
-        }
-        FEW <= kept + more || out <= more
+        more <= MAX_PIECE - kept && least <= kept + more
     }
 
     /// The summary that it has after what is between two boundaries is exchanged for a text. Of its own text it reads the
@@ -239,14 +237,6 @@ impl Row {
         let change = Change::of(self.text(), from, to, own);
         changed(self.summary(), change)
     }
-}
-
-/// Whether two texts begin with LF or not, and end in CR or not, alike.
-fn are_alike(out: &Summary, own: &Summary) -> bool
-    ensures starts { result ≡ true → own.now.starts_lf ≡ out.now.starts_lf }
-    ensures ends { result ≡ true → own.now.ends_cr ≡ out.now.ends_cr }
-{
-    out.starts_lf == own.starts_lf && out.ends_cr == own.ends_cr
 }
 
 /// How many bytes of memory a row of so many bytes gets: up to a step more, as far as the longest row needs it.

@@ -1,5 +1,5 @@
 //! A balanced tree of rows, whose nodes may have several owners.
-ghost use Rattle.std.specs.Prelude.{◌≡◌, ◌≢◌, ◌+◌, ◌-◌, ◌^◌, ◌<◌, ◌≤◌, [], ◌++◌, chars, length, Err, IsOk, IfOk, OnOk, OnErr};
+ghost use Rattle.std.specs.Prelude.{◌≡◌, ◌≢◌, ◌+◌, ◌-◌, ◌^◌, ◌<◌, ◌≤◌, [], ◌∷◌, ◌++◌, ◌⊎◌, chars, length, Err, IsNone, IsOk, IfSome, IfOk, OnOk, OnErr};
 ghost use Rattle.str_indices.specs.Relations.{IsBoundary};
 ghost use Rattle.str_indices.specs.Text.{size};
 ghost use Rattle.text_summary.specs.Changes.{IsReplaced};
@@ -8,14 +8,15 @@ ghost use Rattle.text_summary.specs.Summaries.{summary_of};
 ghost use Rattle.text_rope.specs.Blocks.{max_rows};
 ghost use Rattle.text_rope.specs.Shapes.{DifferByAtMost, IsBlockOf, IsForkOf, fewest};
 ghost use Rattle.text_rope.specs.Looks.{IsLookAt};
-ghost use Rattle.text_rope.specs.Shifts.{IsOneChanged};
+ghost use Rattle.text_rope.specs.Shifts.{IsChangedIn, IsOneChanged};
 ghost use Rattle.text_rope.specs.States.{RowsState, texts_of, texts_under};
-ghost use Rattle.text_rope.specs.Views.{IsFork};
-ghost use Rattle.text_rope.specs.Work.{WorkState, Costs, GrowsFor};
+ghost use Rattle.text_rope.specs.Rows.{min_piece, IsFilled};
+ghost use Rattle.text_rope.specs.Views.{IsFork, seen};
+ghost use Rattle.text_rope.specs.Work.{WorkState, Costs, TakesLog};
 ghost use Rattle.text_rope.specs.declared.row.Unplaced.TheVariants.{NotBoundary};
 
 use crate::block::{Block, summary_of_rows};
-use crate::row::{Row, Unplaced};
+use crate::row::{MIN_PIECE, Row, Unplaced};
 use crate::shifts::{Shift, shifted};
 use crate::work::Work;
 use byte_chunk::Counter;
@@ -138,14 +139,17 @@ impl Side {
         to: usize,
         more: &str,
         own: &Summary,
+        least: usize,
         shift: &mut Shift,
     ) -> Result<(), Unplaced>
+        requires some { 0 < least }
         requires order { from ≤ to }
         requires within { to ≤ joined_size self.old.texts }
         requires own { own.now ≡ summary_of (chars more.now) }
         requires short { joined_size self.old.texts + size (chars more.now) < 2 ^ 63 + (to - from) }
         ensures changed { OnOk result (
             IsOneChanged self.old.texts self.new.texts from to (chars more.now) shift.new) }
+        ensures full { OnOk result (least ≤ shift.new.own.len) }
         ensures height { self.new.height ≡ self.old.height }
         ensures few { length self.new.texts ≤ joined_size self.new.texts }
         ensures not_boundary { result ≡ Err NotBoundary
@@ -157,15 +161,15 @@ impl Side {
         work.make();
         match &mut self.node {
             Node::Block(block) => match Arc::get_mut(block) {
-                Some(block) => block.replace_in_place(work, from, to, more, own, shift)?,
+                Some(block) => block.replace_in_place(work, from, to, more, own, least, shift)?,
                 None => return Err(Unplaced::NoRoom),
             },
             Node::Fork(fork) => match Arc::get_mut(fork) {
-                Some(fork) => fork.replace_in_place(work, from, to, more, own, shift)?,
+                Some(fork) => fork.replace_in_place(work, from, to, more, own, least, shift)?,
                 None => return Err(Unplaced::NoRoom),
             },
         }
-        self.summary = shifted(&self.summary, shift);
+        self.summary = summary_after(&self.node, &self.summary, shift);
         Ok(())
     }
 }
@@ -180,8 +184,10 @@ impl Fork {
         to: usize,
         more: &str,
         own: &Summary,
+        least: usize,
         shift: &mut Shift,
     ) -> Result<(), Unplaced>
+        requires some { 0 < least }
         requires sound { IsFork self.old.left self.old.right self.old.height }
         requires order { from ≤ to }
         requires within { to ≤ joined_size (self.old.left.texts ++ self.old.right.texts) }
@@ -192,6 +198,7 @@ impl Fork {
         ensures height { self.new.height ≡ self.old.height }
         ensures changed { OnOk result (IsOneChanged (self.old.left.texts ++ self.old.right.texts)
             (self.new.left.texts ++ self.new.right.texts) from to (chars more.now) shift.new) }
+        ensures full { OnOk result (least ≤ shift.new.own.len) }
         ensures few { length (self.new.left.texts ++ self.new.right.texts)
             ≤ joined_size (self.new.left.texts ++ self.new.right.texts) }
         ensures not_boundary { result ≡ Err NotBoundary
@@ -204,13 +211,29 @@ impl Fork {
         let middle = self.left.summary().len;
         let _right = self.right.summary();
         if to <= middle {
-            self.left.replace_in_place(work, from, to, more, own, shift)
+            self.left
+                .replace_in_place(work, from, to, more, own, least, shift)
         } else if middle <= from {
             self.right
-                .replace_in_place(work, from - middle, to - middle, more, own, shift)
+                .replace_in_place(work, from - middle, to - middle, more, own, least, shift)
         } else {
             Err(Unplaced::NoRoom)
         }
+    }
+}
+
+/// The summary of the text under a node in which a row has changed, by that of the text before. Reads no row, and sums them anew
+/// only where the row does not keep its ends.
+fn summary_after(node: &Node, whole: &Summary, shift: &Shift) -> Summary
+    requires { IsChangedIn whole.now (seen node.now).texts shift.now }
+    ensures { result ≡ summary_of (joined (seen node.now).texts) }
+{
+    if shift.keeps_ends() {
+        return shifted(whole, shift);
+    }
+    match node {
+        Node::Block(block) => summary_of_rows(block.rows()),
+        Node::Fork(fork) => joined(*fork.left.summary(), *fork.right.summary()),
     }
 }
 
@@ -258,7 +281,7 @@ pub(crate) fn fork_of(
     })
 }
 
-/// A tree that may have no rows. A contract sees their texts in order.
+/// A tree that may have no rows, and none that is short where it is not alone. A contract sees their texts in order.
 #[derive(Drop)]
 pub(crate) struct Tree {
     root: Option<Side>,
@@ -273,11 +296,16 @@ impl Model for Tree {
     ghost use Rattle.text_rope.specs.States.{texts_of};
 
     ghost view = { λ t. texts_of t.root };
+
+    ghost use Rattle.text_rope.specs.Rows.{IsFilled};
+
+    ghost invariant = { λ t. IsFilled (texts_of t.root) };
 }
 
 impl Tree {
     /// A tree, or none where there are no rows.
     pub(crate) fn of(root: Option<Side>) -> Tree
+        requires { IsFilled (texts_of root) }
         ensures { result ≡ texts_of root }
     {
         Tree { root }
@@ -285,9 +313,40 @@ impl Tree {
 
     /// The tree; none where there are no rows.
     pub(crate) fn into_root(self) -> Option<Side>
-        ensures { texts_of result ≡ self }
+        ensures rows { texts_of result ≡ self }
+        ensures filled { IsFilled self }
     {
         self.root
+    }
+
+    /// It lent.
+    pub(crate) fn root(&self) -> Option<&Side>
+        ensures rows { texts_under result ≡ self.now }
+        ensures filled { IsFilled self.now }
+    {
+        self.root.as_ref()
+    }
+
+    /// Its row, where it has one alone.
+    pub(crate) fn only_row(&self) -> Option<&Row>
+        ensures some { IfSome result (λ row. self.now ≡ row.now ∷ []) }
+        ensures none { IsNone result → length self.now ≢ 1 }
+    {
+        match self.root()?.look() {
+            Look::Rows(rows) if rows.len() == 1 => Some(&rows[0]),
+            _ => None,
+        }
+    }
+
+    /// How many bytes a row has at least after a change: it may be short where it is alone.
+    fn least(&self) -> usize
+        ensures some { 0 < result }
+        ensures full { (result ≡ min_piece) ⊎ (length self.now ≡ 1) }
+    {
+        match self.only_row() {
+            Some(_) => 1,
+            None => MIN_PIECE,
+        }
     }
 
     /// How many bytes its text has.
@@ -315,7 +374,8 @@ impl Tree {
     }
 
     /// Exchanges what is between two byte indices for a text, in the one row that both are in, where no node on the way has
-    /// another owner and the row has room for it; else nothing changes. Takes memory only where that row outgrows its own.
+    /// another owner and the row has room for it; else nothing changes. Takes memory only where that row outgrows its own, or
+    /// shares it.
     pub(crate) fn replace_in_place(
         &mut self,
         work: &mut Work,
@@ -330,26 +390,25 @@ impl Tree {
         ensures not_boundary { result ≡ Err NotBoundary
             → ¬ (IsBoundary (joined self.old) from × IsBoundary (joined self.old) to) }
         ensures err { OnErr result (self.new ≡ self.old) }
-        ensures nodes { GrowsFor 1 (joined_size self.old) 0 work.old.nodes work.new.nodes }
-        ensures copied { work.new.rows ≤ work.old.rows + 1 }
-        ensures nodes_kept { work.old.nodes ≤ work.new.nodes }
-        ensures copied_kept { work.old.rows ≤ work.new.rows }
+        ensures work { TakesLog 1 1 (joined_size self.old) 0 work.old work.new }
     {
+        let least = self.least();
         let Some(side) = &mut self.root else {
             return Err(Unplaced::NoRoom);
         };
         let _height = side.height();
         let _short = side.summary();
         let own = Summary::of(more);
-        side.replace_in_place(work, from, to, more, &own, &mut Shift::none())
+        side.replace_in_place(work, from, to, more, &own, least, &mut Shift::none())
     }
 
     /// It as a question sees it, with nothing counted.
     pub(crate) fn view(&self) -> View<'_>
-        ensures { result ≡ record { texts = self.now; looks = 0; reads = 0 } }
+        ensures view { result ≡ record { texts = self.now; looks = 0; reads = 0 } }
+        ensures filled { IsFilled self.now }
     {
         View {
-            root: self.root.as_ref(),
+            root: self.root(),
             looks: Counter::zero(),
             reads: Counter::zero(),
         }

@@ -40,7 +40,7 @@ impl Work {
         ensures nodes { self.new.nodes ≡ self.old.nodes + 1 }
         ensures rows { self.new.rows ≡ self.old.rows }
     {
-        self.nodes.tick();
+        self.make();
         side.look()
     }
 

@@ -153,7 +153,7 @@ fn answers_stay_those_of_the_text(rt: HostRuntime) -> Result<(), Fail> {
         }
     }
     assert!(rt;
-        most_pieces > 150 && shared > 1_000,
+        most_pieces > 140 && shared > 1_000,
         "{most_pieces} {shared}"
     );
     Ok(())

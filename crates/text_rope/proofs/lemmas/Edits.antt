@@ -1,31 +1,85 @@
 -- A part of a text exchanged by the rows round it.
-use Rattle.text_rope.proofs.lemmas.Common.{◌≡◌, ℕ, ◌+◌, ◌-◌, ◌<◌, ◌≤◌, List, [], ◌∷◌, ◌++◌, sym, ap, ◌∙◌, arith, append_assoc, Text, size, size-append, joined, IsBoundary, boundary_right, boundary_upto, same_cut, same_parts, none_of, append-nil, joined-append, IsReplaced}
+use Rattle.text_rope.proofs.lemmas.Common.{◌≡◌, ℕ, ◌+◌, ◌-◌, ◌<◌, ◌≤◌, List, [], ◌∷◌, ◌++◌, refl, sym, ap, ◌∙◌, arith, append_assoc, Text, size, size-append, joined, joined_size, IsBoundary, boundary_right, boundary_upto, same_cut, same_parts, none_of, append-nil, joined-append, IsReplaced}
 use Rattle.text_rope.proofs.lemmas.Forks.{joined_size-append}
 use Rattle.text_rope.proofs.lemmas.Places.{text_of_place}
-use Rattle.text_rope.proofs.lemmas.RowEnds.{cut_twice}
-use Rattle.text_rope.specs.Edits.{IsInserted, IsRemoved, IsCutAt, IsWidened}
-use Rattle.text_rope.specs.RowEnds.{IsRowEnd, IsRowRound}
+use Rattle.text_rope.proofs.lemmas.RowEnds.{cut_twice, size-row}
+use Rattle.text_rope.specs.Chunks.{IsPartAt}
+use Rattle.text_rope.specs.Edits.{IsInserted, IsRemoved, IsCutAt}
+use Rattle.text_rope.specs.RowEnds.{IsRowOf, IsRowEnd}
 
 -- where the row starts, and where it ends
-pub row_start : (texts : List Text) (row : Text) (start end at : ℕ) → IsRowRound texts row start end at → IsRowEnd texts start
-row_start texts row start end at is = record { front = is.front; back = row ∷ is.back; split = is.parts; place = sym is.start_is }
+pub row_start : (texts : List Text) (row : Text) (start end : ℕ) → IsRowOf texts row start end → IsRowEnd texts start
+row_start texts row start end is = record { front = is.front; back = row ∷ is.back; split = is.parts; place = sym is.start_is }
 
-pub row_end : (texts : List Text) (row : Text) (start end at : ℕ) → IsRowRound texts row start end at → IsRowEnd texts end
-row_end texts row start end at is = record {
+pub row_end : (texts : List Text) (row : Text) (start end : ℕ) → IsRowOf texts row start end → IsRowEnd texts end
+row_end texts row start end is = record {
   front = is.front ++ row ∷ [];
   back = is.back;
   split = is.parts ∙ sym (append_assoc is.front (row ∷ []) is.back);
   place = omega (arith, joined_size-append is.front (row ∷ []), size-append row [], is.start_is, is.end_is);
 }
 
--- a boundary of the text is one of the row
-pub boundary_in_row : (texts : List Text) (row : Text) (start end at : ℕ) → IsRowRound texts row start end at
+-- a boundary of the text is one of the row that it is in or at an end of
+pub boundary_in_row : (texts : List Text) (row : Text) (start end at : ℕ) → IsRowOf texts row start end → start ≤ at → at ≤ end
     → IsBoundary (joined texts) at → IsBoundary row (at - start)
-boundary_in_row texts row start end at is boundary =
+boundary_in_row texts row start end at is after within boundary =
     let whole = text_of_place texts is.front row is.back is.parts in
     let back = joined is.back in
-    let outer = boundary_right (joined is.front) (row ++ back) at (at - start) (omega (arith, is.start_is, is.after)) in
-    boundary_upto row back (at - start) (omega (arith, is.within, is.end_is)) (outer.0 (rw whole at boundary))
+    let outer = boundary_right (joined is.front) (row ++ back) at (at - start) (omega (arith, is.start_is, after)) in
+    boundary_upto row back (at - start) (omega (arith, within, is.end_is)) (outer.0 (rw whole at boundary))
+
+-- a row that starts before a byte and ends after it starts there where one ends there
+begins_at : (xs fs : List Text) (row : Text) (bs front back : List Text) (at : ℕ) → xs ≡ fs ++ row ∷ bs → xs ≡ front ++ back
+    → joined_size front ≡ at → joined_size fs ≤ at → at < joined_size fs + size row → joined_size fs ≡ at
+begins_at xs [] row bs [] back at parts split place after inside = place
+begins_at xs [] row bs (f ∷ front) back at parts split place after inside =
+    let both : row ∷ bs ≡ f ∷ (front ++ back) = sym parts ∙ split in
+    let head : row ≡ f = cc in
+    absurd (omega (arith, size-row f front, ap size head, place, inside))
+begins_at xs (y ∷ fs) row bs [] back at parts split place after inside = omega (arith, place, after)
+begins_at xs (y ∷ fs) row bs (f ∷ front) back at parts split place after inside =
+    let both : y ∷ (fs ++ row ∷ bs) ≡ f ∷ (front ++ back) = sym parts ∙ split in
+    let head : y ≡ f = cc in
+    let tails : fs ++ row ∷ bs ≡ front ++ back = cc in
+    let sizes = size-row y fs in
+    let own = size-row f front in
+    let same = ap size head in
+    let inner = begins_at (fs ++ row ∷ bs) fs row bs front back (at - size y) refl tails (omega (arith, own, same, place))
+    (omega (arith, sizes, after)) (omega (arith, sizes, own, same, place, inside)) in
+    omega (arith, inner, sizes, own, same, place)
+
+pub row_begins : (texts : List Text) (row : Text) (start end at : ℕ) → IsRowEnd texts at → IsRowOf texts row start end → start ≤ at
+    → at < end → start ≡ at
+row_begins texts row start end at ends is after inside = is.start_is
+    ∙ begins_at texts is.front row is.back ends.front ends.back at is.parts ends.split ends.place (omega (arith, is.start_is, after))
+    (omega (arith, is.start_is, is.end_is, inside))
+
+-- and one that the byte before is in ends there
+ends_at : (xs fs : List Text) (row : Text) (bs front back : List Text) (at : ℕ) → xs ≡ fs ++ row ∷ bs → xs ≡ front ++ back
+    → joined_size front ≡ at → joined_size fs < at → at ≤ joined_size fs + size row → joined_size fs + size row ≡ at
+ends_at xs [] row bs [] back at parts split place after within = absurd (omega (arith, place, after))
+ends_at xs [] row bs (f ∷ front) back at parts split place after within =
+    let both : row ∷ bs ≡ f ∷ (front ++ back) = sym parts ∙ split in
+    let head : row ≡ f = cc in
+    omega (arith, size-row f front, ap size head, place, within)
+ends_at xs (y ∷ fs) row bs [] back at parts split place after within = absurd (omega (arith, place, after))
+ends_at xs (y ∷ fs) row bs (f ∷ front) back at parts split place after within =
+    let both : y ∷ (fs ++ row ∷ bs) ≡ f ∷ (front ++ back) = sym parts ∙ split in
+    let head : y ≡ f = cc in
+    let tails : fs ++ row ∷ bs ≡ front ++ back = cc in
+    let sizes = size-row y fs in
+    let own = size-row f front in
+    let same = ap size head in
+    let inner = ends_at (fs ++ row ∷ bs) fs row bs front back (at - size y) refl tails (omega (arith, own, same, place))
+    (omega (arith, sizes, own, same, place, after)) (omega (arith, sizes, within)) in
+    omega (arith, inner, sizes, own, same, place)
+
+pub row_ends : (texts : List Text) (row : Text) (start end at : ℕ) → IsRowEnd texts at → IsRowOf texts row start end → start < at
+    → at ≤ end → end ≡ at
+row_ends texts row start end at ends is after within =
+    let inner = ends_at texts is.front row is.back ends.front ends.back at is.parts ends.split ends.place
+    (omega (arith, is.start_is, after)) (omega (arith, is.start_is, is.end_is, within)) in
+    omega (arith, inner, is.end_is, is.start_is)
 
 -- a boundary of the text
 pub row_end_boundary : (texts : List Text) (at : ℕ) → IsRowEnd texts at → IsBoundary (joined texts) at
@@ -36,44 +90,69 @@ row_end_boundary texts at is = record {
   place = is.place;
 }
 
--- a part of a text between two byte indices
-pub record IsPart (whole part : Text) (start end : ℕ) : Type 0 where
-  pub front : Text
-  pub back : Text
-  pub parts : whole ≡ front ++ (part ++ back)
-  pub start_is : size front ≡ start
-  pub end_is : start + size part ≡ end
+-- no row ends behind the end
+pub row_within : (texts : List Text) (row : Text) (start end : ℕ) → IsRowOf texts row start end → end ≤ joined_size texts
+row_within texts row start end is = omega (
+  arith,
+  is.start_is,
+  is.end_is,
+  ap joined_size is.parts,
+  joined_size-append is.front (row ∷ is.back),
+  size-row row is.back,
+)
 
--- an empty one where a row ends
-pub part_none : (texts : List Text) (at : ℕ) → IsRowEnd texts at → IsPart (joined texts) [] at at
-part_none texts at is =
-    let boundary = row_end_boundary texts at is in
-    record { front = boundary.front; back = boundary.back; parts = boundary.split; start_is = boundary.place; end_is = omega arith }
-
--- what a row has before a place in it, and what from there on
-pub part_before : (texts : List Text) (row : Text) (start end at : ℕ) (a b : Text) → IsRowRound texts row start end at → row ≡ a ++ b
-    → size a ≡ at - start → IsPart (joined texts) a start at
-part_before texts row start end at a b is row_is size_is = record {
+-- a row is a part of the text, and so is a part of it
+pub part_row : (texts : List Text) (row : Text) (start end : ℕ) → IsRowOf texts row start end → IsPartAt (joined texts) row start end
+part_row texts row start end is = record {
   front = joined is.front;
-  back = b ++ joined is.back;
-  parts = text_of_place texts is.front row is.back is.parts ∙ ap (λ r. joined is.front ++ (r ++ joined is.back)) row_is
-      ∙ ap (λ r. joined is.front ++ r) (append_assoc a b (joined is.back));
-  start_is = sym is.start_is;
-  end_is = omega (arith, size_is, is.after);
+  back = joined is.back;
+  parts = text_of_place texts is.front row is.back is.parts;
+  start = sym is.start_is;
+  end = omega (arith, is.start_is, is.end_is);
 }
 
-pub part_after : (texts : List Text) (row : Text) (start end at : ℕ) (a b : Text) → IsRowRound texts row start end at → row ≡ a ++ b
-    → size a ≡ at - start → IsPart (joined texts) b at end
-part_after texts row start end at a b is row_is size_is =
-    let same : joined is.front ++ ((a ++ b) ++ joined is.back) ≡ (joined is.front ++ a) ++ (b ++ joined is.back) =
-    simp append_assoc in
+pub part_of_row : (texts : List Text) (row part : Text) (start end a b from to : ℕ) → IsRowOf texts row start end → IsPartAt row part a b
+    → start + a ≡ from → start + b ≡ to → IsPartAt (joined texts) part from to
+part_of_row texts row part start end a b from to is p from_is to_is =
+    let x = joined is.front in
+    let y = joined is.back in
+    let same : x ++ ((p.front ++ (part ++ p.back)) ++ y) ≡ (x ++ p.front) ++ (part ++ (p.back ++ y)) = simp append_assoc in
+    let whole = size-append x p.front in
     record {
-      front = joined is.front ++ a;
-      back = joined is.back;
-      parts = text_of_place texts is.front row is.back is.parts ∙ ap (λ r. joined is.front ++ (r ++ joined is.back)) row_is ∙ same;
-      start_is = omega (arith, size-append (joined is.front) a, size_is, is.start_is, is.after);
-      end_is = omega (arith, ap size row_is, size-append a b, size_is, is.end_is, is.after);
+      front = x ++ p.front;
+      back = p.back ++ y;
+      parts = text_of_place texts is.front row is.back is.parts ∙ ap (λ r. x ++ (r ++ y)) p.parts ∙ same;
+      start = omega (arith, whole, p.start, is.start_is, from_is);
+      end = omega (arith, whole, p.end, is.start_is, to_is);
     }
+
+-- two parts, one after the other
+pub part_both : (whole a b : Text) (from at to : ℕ) → IsPartAt whole a from at → IsPartAt whole b at to → IsPartAt whole (a ++ b) from to
+part_both whole a b from at to x y =
+    let regroup : x.front ++ (a ++ x.back) ≡ (x.front ++ a) ++ x.back = sym (append_assoc x.front a x.back) in
+    let cut = same_cut (x.front ++ a) x.back y.front (b ++ y.back) (sym regroup ∙ sym x.parts ∙ y.parts)
+    (omega (arith, size-append x.front a, x.end, y.start)) in
+    record {
+      front = x.front;
+      back = y.back;
+      parts = x.parts ∙ ap (λ t. x.front ++ (a ++ t)) cut.back ∙ ap (λ t. x.front ++ t) (sym (append_assoc a b y.back));
+      start = x.start;
+      end = omega (arith, size-append a b, x.start, x.end, y.start, y.end);
+    }
+
+-- a part that is exchanged for more, and a wider one for a text: this is more between what stays of the wider one
+record IsWidened (whole : Text) (from to : ℕ) (more : Text) (start end : ℕ) (text : Text) : Type 0 where
+  pub front : Text
+  pub head : Text
+  pub middle : Text
+  pub tail : Text
+  pub back : Text
+  pub parts : whole ≡ front ++ (head ++ (middle ++ (tail ++ back)))
+  pub start_is : size front ≡ start
+  pub from_is : start + size head ≡ from
+  pub to_is : from + size middle ≡ to
+  pub end_is : to + size tail ≡ end
+  pub is : text ≡ head ++ (more ++ tail)
 
 -- the ends of what is exchanged are boundaries
 pub replaced_ends : (old new : Text) (from to : ℕ) (text : Text) → IsReplaced old new from to text
@@ -101,25 +180,12 @@ replaced_none old from to text same none at = record {
   is = at.split ∙ ap (λ t. at.front ++ (t ++ at.back)) (sym none);
 }
 
--- the place in a row is in it too one byte further
-pub round_after : (texts : List Text) (row : Text) (start end at : ℕ) → 0 < at → at - 1 < end → IsRowRound texts row start end (at - 1)
-    → IsRowRound texts row start end at
-round_after texts row start end at some inside is = record {
-  front = is.front;
-  back = is.back;
-  parts = is.parts;
-  start_is = is.start_is;
-  end_is = is.end_is;
-  after = omega (arith, is.after);
-  within = omega (arith, some, inside);
-}
-
 -- a part between two others, exchanged with them
-pub widened_of : (whole head tail more text : Text) (start from to end : ℕ) → IsPart whole head start from → IsPart whole tail to end
+widened_of : (whole head tail more text : Text) (start from to end : ℕ) → IsPartAt whole head start from → IsPartAt whole tail to end
     → from ≤ to → text ≡ head ++ (more ++ tail) → IsWidened whole from to more start end text
 widened_of whole head tail more text start from to end a b order is =
     let cut = cut_twice whole (a.front ++ head) a.back b.front (tail ++ b.back) (a.parts ∙ sym (append_assoc a.front head a.back)) b.parts
-    (omega (arith, size-append a.front head, a.start_is, a.end_is, b.start_is)) in
+    (omega (arith, size-append a.front head, a.start, a.end, b.start, order)) in
     record {
       front = a.front;
       head = head;
@@ -127,15 +193,15 @@ widened_of whole head tail more text start from to end a b order is =
       tail = tail;
       back = b.back;
       parts = cut.parts ∙ append_assoc a.front head (cut.middle ++ (tail ++ b.back));
-      start_is = a.start_is;
-      from_is = a.end_is;
-      to_is = omega (arith, cut.size_is, size-append a.front head, a.start_is, a.end_is, b.start_is);
-      end_is = b.end_is;
+      start_is = a.start;
+      from_is = omega (arith, a.start, a.end);
+      to_is = omega (arith, cut.size_is, size-append a.front head, a.start, a.end, b.start);
+      end_is = omega (arith, b.start, b.end);
       is = is;
     }
 
 -- the wider part exchanged is the part exchanged
-pub narrowed : (whole new more text : Text) (from to start end : ℕ) → IsWidened whole from to more start end text
+narrowed : (whole new more text : Text) (from to start end : ℕ) → IsWidened whole from to more start end text
     → IsReplaced whole new start end text → IsReplaced whole new from to more
 narrowed whole new more text from to start end w r =
     let inner = w.head ++ (w.middle ++ w.tail) in
@@ -157,19 +223,12 @@ narrowed whole new more text from to start end w r =
           ∙ ap (λ x. w.front ++ ((w.head ++ (more ++ w.tail)) ++ x)) same.back ∙ is;
     }
 
--- so many bytes more go out as come in
-pub widened_bytes : (whole more text : Text) (from to start end : ℕ) → IsWidened whole from to more start end text
-    → (from ≤ to) × ((start ≤ from) × ((to ≤ end) × (size text + (to - from) ≡ size more + (end - start))))
-widened_bytes whole more text from to start end w = (
-  omega (arith, w.to_is),
-  (
-    omega (arith, w.from_is),
-    (
-      omega (arith, w.end_is),
-      omega (arith, ap size w.is, size-append w.head (more ++ w.tail), size-append more w.tail, w.from_is, w.to_is, w.end_is),
-    ),
-  ),
-)
+-- so is a part exchanged by a wider one
+pub narrowed_parts : (whole new head tail more text : Text) (start from to end : ℕ) → IsPartAt whole head start from
+    → IsPartAt whole tail to end → from ≤ to → text ≡ head ++ (more ++ tail) → IsReplaced whole new start end text
+    → IsReplaced whole new from to more
+narrowed_parts whole new head tail more text start from to end a b order is replaced =
+    narrowed whole new more text from to start end (widened_of whole head tail more text start from to end a b order is) replaced
 
 -- nothing exchanged for a text is that text put in
 pub inserted_of : (old new : Text) (at : ℕ) (text : Text) → IsReplaced old new at at text → IsInserted old new at text
@@ -195,6 +254,35 @@ removed_of old new from to text none r = record {
   end = r.end;
   is = r.is ∙ ap (λ t. r.front ++ (t ++ r.back)) none;
 }
+
+-- all of it exchanged for nothing
+pub replaced_all : (old : Text) (from to : ℕ) (text : Text) → text ≡ [] → from ≤ to → to ≤ size old
+    → to - from ≡ size old → IsReplaced old [] from to text
+replaced_all old from to text none order within all = record {
+  front = [];
+  middle = old;
+  back = [];
+  was = sym (append-nil old);
+  start = omega (arith, order, within, all);
+  end = omega (arith, order, within, all);
+  is = sym (append-nil text ∙ none);
+}
+
+-- a text put in at the end, and at the beginning
+pub put_behind : (old new : Text) (at : ℕ) (text : Text) → at ≡ size old → IsReplaced old new at at text → new ≡ old ++ text
+put_behind old new at text is r =
+    let middle : r.middle ≡ [] = none_of r.middle (omega (arith, r.start, r.end)) in
+    let back : r.back ≡ [] = none_of r.back (omega (arith, ap size r.was, size-append r.front (r.middle ++ r.back), size-append r.middle r.back, r.start, is)) in
+    let front : old ≡ r.front =
+    r.was ∙ ap (λ m. r.front ++ (m ++ r.back)) middle ∙ ap (λ b. r.front ++ b) back ∙ append-nil r.front in
+    r.is ∙ ap (λ b. r.front ++ (text ++ b)) back ∙ ap (λ t. r.front ++ t) (append-nil text) ∙ ap (λ f. f ++ text) (sym front)
+
+pub put_before : (old new : Text) (text : Text) → IsReplaced old new 0 0 text → new ≡ text ++ old
+put_before old new text r =
+    let front : r.front ≡ [] = none_of r.front r.start in
+    let middle : r.middle ≡ [] = none_of r.middle (omega (arith, r.start, r.end)) in
+    let rest : old ≡ r.back = r.was ∙ ap (λ f. f ++ (r.middle ++ r.back)) front ∙ ap (λ m. m ++ r.back) middle in
+    r.is ∙ ap (λ f. f ++ (text ++ r.back)) front ∙ ap (λ b. text ++ b) (sym rest)
 
 -- what is before a place, with the rest taken out, and what is from it on, taken from a copy
 pub cut_of : (whole copy front back : Text) (at len : ℕ) → copy ≡ whole → len ≡ size whole → IsRemoved whole front at len

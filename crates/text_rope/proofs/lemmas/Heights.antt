@@ -1,7 +1,8 @@
 -- The fewest rows of a tree of a height.
 use Rattle.std.proofs.Math.Pow.{pow_mono}
-use Rattle.text_rope.specs.Work.{IsHeightOf, GrowsFor}
-use Rattle.text_rope.proofs.lemmas.Common.{◌≡◌, ℕ, zero, suc, ◌+◌, ◌*◌, ◌^◌, ◌<◌, ◌≤◌, inl, inr, arith, max, cases_lt, mul-le-mul, DifferByAtMost, fewest}
+use Rattle.std.specs.Prelude.{min}
+use Rattle.text_rope.specs.Work.{WorkState, Costs, IsHeightOf, TakesLog}
+use Rattle.text_rope.proofs.lemmas.Common.{◌≡◌, ℕ, zero, suc, ◌+◌, ◌-◌, ◌*◌, ◌/◌, ◌^◌, ◌<◌, ◌≤◌, inl, inr, arith, max, min_piece, cases_lt, mul-le-mul, DifferByAtMost, fewest}
 
 -- more for a greater height
 pub fewest-suc : (h : ℕ) → fewest h + 1 ≤ fewest (suc h)
@@ -97,32 +98,114 @@ height_wider h n bytes is le =
     let wide : n + 1 ≤ bytes + 1 = omega arith in
     record { low = omega (arith, is.low, mul-le-mul wide wide) }
 
--- a counter that grows with the height of a tree, or with those of two
-pub grows : (h n bytes times more old new : ℕ) → fewest h ≤ n → n ≤ bytes → new ≤ old + times * (h + 3) + more
-    → GrowsFor times bytes more old new
-grows h n bytes times more old new many few within = record { height = h; is = height_of_bytes h n bytes many few; at_most = within }
+-- a tree without rows
+pub height_none : (bytes : ℕ) → IsHeightOf 0 bytes
+height_none bytes =
+    let one : 1 ≤ bytes + 1 = omega arith in
+    let square : 1 * 1 ≤ (bytes + 1) * (bytes + 1) = mul-le-mul one one in
+    record { low = omega (arith, square) }
 
-pub grows_both : (a b n m times more old new : ℕ) → IsHeightOf a n → IsHeightOf b m → new ≤ old + times * (max a b + 3) + more
-    → GrowsFor times (n + m) more old new
-grows_both a b n m times more old new of_a of_b within =
+-- a cost by the height of a tree
+pub takes_log : (h n bytes times rows more : ℕ) (old new : WorkState) → fewest h ≤ n → n ≤ bytes
+    → Costs old new (times * (h + 3) + 64 * (more / min_piece)) (rows + 3 * (more / min_piece)) → TakesLog times rows bytes more old new
+takes_log h n bytes times rows more old new many few costs =
+    record { height = h; is = height_of_bytes h n bytes many few; costs = costs }
+
+-- by the heights of two
+pub takes_both : (a b n m : ℕ) (old new : WorkState) → IsHeightOf a n → IsHeightOf b m
+    → Costs old new (6 * ((a - b) + (b - a)) + 3) (16 * (1 - min a b)) → TakesLog 6 16 (n + m) 0 old new
+takes_both a b n m old new of_a of_b costs =
     elim (cases_lt a b) [
-      | inl less ↦ let is : max a b ≡ b = omega arith in
-          record { height = b; is = height_wider b m (n + m) of_b (omega arith); at_most = rw is at within }
-      | inr not_less ↦ let is : max a b ≡ a = omega arith in
-          record { height = a; is = height_wider a n (n + m) of_a (omega arith); at_most = rw is at within }
+      | inl less ↦ record {
+        height = b;
+        is = height_wider b m (n + m) of_b (omega arith);
+        costs = record {
+          nodes_at_most = omega (arith, less, costs.nodes_at_most);
+          rows_at_most = omega (arith, costs.rows_at_most);
+          nodes_kept = costs.nodes_kept;
+          rows_kept = costs.rows_kept;
+        };
+      }
+      | inr not_less ↦ record {
+        height = a;
+        is = height_wider a n (n + m) of_a (omega arith);
+        costs = record {
+          nodes_at_most = omega (arith, not_less, costs.nodes_at_most);
+          rows_at_most = omega (arith, costs.rows_at_most);
+          nodes_kept = costs.nodes_kept;
+          rows_kept = costs.rows_kept;
+        };
+      }
     ]
 
--- one counter that grows twice with the height of one tree
-pub grows_further : (bytes more old middle new : ℕ) → GrowsFor 1 bytes 0 old middle → GrowsFor 56 bytes more middle new
-    → GrowsFor 57 bytes more old new
-grows_further bytes more old middle new a b = elim (cases_lt a.height b.height) [
-  | inl less ↦ record { height = b.height; is = b.is; at_most = omega (arith, a.at_most, b.at_most, less) }
-  | inr not_less ↦ record { height = a.height; is = a.is; at_most = omega (arith, a.at_most, b.at_most, not_less) }
+-- a change in place that was tried first, and two changes of one text
+takes_of : (h a b bytes more : ℕ) (old middle new : WorkState) → IsHeightOf h bytes → a ≤ h → b ≤ h
+    → Costs old middle (1 * (a + 3) + 64 * (0 / min_piece)) (1 + 3 * (0 / min_piece))
+    → Costs middle new (60 * (b + 3) + 64 * (more / min_piece)) (240 + 3 * (more / min_piece)) → TakesLog 61 241 bytes more old new
+takes_of h a b bytes more old middle new is a_low b_low first then = record {
+  height = h;
+  is = is;
+  costs = record {
+    nodes_at_most = omega (arith, a_low, b_low, first.nodes_at_most, then.nodes_at_most);
+    rows_at_most = omega (arith, first.rows_at_most, then.rows_at_most);
+    nodes_kept = omega (arith, first.nodes_kept, then.nodes_kept);
+    rows_kept = omega (arith, first.rows_kept, then.rows_kept);
+  };
+}
+
+pub takes_further : (bytes more : ℕ) (old middle new : WorkState) → TakesLog 1 1 bytes 0 old middle
+    → TakesLog 60 240 bytes more middle new → TakesLog 61 241 bytes more old new
+takes_further bytes more old middle new a b = elim (cases_lt a.height b.height) [
+  | inl less ↦ takes_of b.height a.height b.height bytes more old middle new b.is (omega (arith, less)) (omega arith) a.costs b.costs
+  | inr not_less ↦
+      takes_of a.height a.height b.height bytes more old middle new a.is (omega arith) (omega (arith, not_less)) a.costs b.costs
 ]
 
-pub grows_twice : (bytes old middle new : ℕ) → GrowsFor 56 bytes 0 old middle → GrowsFor 56 bytes 0 middle new
-    → GrowsFor 112 bytes 0 old new
-grows_twice bytes old middle new a b = elim (cases_lt a.height b.height) [
-  | inl less ↦ record { height = b.height; is = b.is; at_most = omega (arith, a.at_most, b.at_most, less) }
-  | inr not_less ↦ record { height = a.height; is = a.is; at_most = omega (arith, a.at_most, b.at_most, not_less) }
+twice_of : (h a b bytes : ℕ) (old middle new : WorkState) → IsHeightOf h bytes → a ≤ h → b ≤ h
+    → Costs old middle (60 * (a + 3) + 64 * (0 / min_piece)) (240 + 3 * (0 / min_piece))
+    → Costs middle new (60 * (b + 3) + 64 * (0 / min_piece)) (240 + 3 * (0 / min_piece)) → TakesLog 120 480 bytes 0 old new
+twice_of h a b bytes old middle new is a_low b_low first then = record {
+  height = h;
+  is = is;
+  costs = record {
+    nodes_at_most = omega (arith, a_low, b_low, first.nodes_at_most, then.nodes_at_most);
+    rows_at_most = omega (arith, first.rows_at_most, then.rows_at_most);
+    nodes_kept = omega (arith, first.nodes_kept, then.nodes_kept);
+    rows_kept = omega (arith, first.rows_kept, then.rows_kept);
+  };
+}
+
+pub takes_twice : (bytes : ℕ) (old middle new : WorkState) → TakesLog 60 240 bytes 0 old middle → TakesLog 60 240 bytes 0 middle new
+    → TakesLog 120 480 bytes 0 old new
+takes_twice bytes old middle new a b = elim (cases_lt a.height b.height) [
+  | inl less ↦ twice_of b.height a.height b.height bytes old middle new b.is (omega (arith, less)) (omega arith) a.costs b.costs
+  | inr not_less ↦
+      twice_of a.height a.height b.height bytes old middle new a.is (omega arith) (omega (arith, not_less)) a.costs b.costs
 ]
+
+-- the cost of a change of a text is one of a longer text, with more that comes in
+pub takes_wider : (n m more most : ℕ) (old new : WorkState) → n ≤ m → more ≤ most → TakesLog 61 241 n more old new
+    → TakesLog 61 241 m most old new
+takes_wider n m more most old new le within takes = record {
+  height = takes.height;
+  is = height_wider takes.height n m takes.is le;
+  costs = record {
+    nodes_at_most = omega (arith, takes.costs.nodes_at_most, within);
+    rows_at_most = omega (arith, takes.costs.rows_at_most, within);
+    nodes_kept = takes.costs.nodes_kept;
+    rows_kept = takes.costs.rows_kept;
+  };
+}
+
+-- and so is that of a join
+pub takes_join : (m most : ℕ) (old new : WorkState) → TakesLog 6 16 m 0 old new → TakesLog 61 241 m most old new
+takes_join m most old new takes = record {
+  height = takes.height;
+  is = takes.is;
+  costs = record {
+    nodes_at_most = omega (arith, takes.costs.nodes_at_most);
+    rows_at_most = omega (arith, takes.costs.rows_at_most);
+    nodes_kept = takes.costs.nodes_kept;
+    rows_kept = takes.costs.rows_kept;
+  };
+}

@@ -1,11 +1,11 @@
 -- Some rows of which one has changed.
-use Rattle.text_rope.proofs.lemmas.Common.{◌≡◌, ◌≢◌, ℕ, suc, inl, inr, cases_lt, take-append-drop, ◌+◌, ◌-◌, ◌^◌, ◌<◌, ◌≤◌, List, [], ◌∷◌, ◌++◌, length, take, drop, sym, ap, ◌∙◌, arith, append_assoc, length-append, Text, size, size-append, size-some, IsBoundary, boundary_upto, boundary_right, joined, joined_size, joined-append, piece_at, IsReplaced, size-replaced, summary_of, Summary, IsShift, FitsShift, Seen}
+use Rattle.text_rope.proofs.lemmas.Common.{◌≡◌, ◌≢◌, ℕ, suc, inl, inr, cases_lt, take-append-drop, ◌+◌, ◌-◌, ◌^◌, ◌<◌, ◌≤◌, List, [], ◌∷◌, ◌++◌, length, take, drop, sym, ap, ◌∙◌, arith, append_assoc, length-append, Text, size, size-append, size-some, IsBoundary, boundary_upto, boundary_right, joined, joined_size, joined-append, piece_at, IsReplaced, size-replaced, summary_of, Summary, IsShift, Seen}
 use Rattle.std.proofs.lemmas.Grind.{get_or-set_at}
 use Rattle.std.proofs.lemmas.List.{take-set, drop-set, length-set, get_or-set_other}
 use Rattle.std.specs.Prelude.{slice_set, Result, Ok, Err, OnOk, OnErr}
 use Rattle.text_summary.proofs.lemmas.Callers.{drop-piece}
 use Rattle.text_rope.specs.Blocks.{AreSome}
-use Rattle.text_rope.specs.Shifts.{IsOneChanged}
+use Rattle.text_rope.specs.Shifts.{IsChangedIn, IsOneChanged}
 use Rattle.text_rope.specs.Views.{IsSide}
 use Rattle.text_rope.specs.declared.row.Unplaced.{Unplaced}
 use Rattle.text_rope.specs.declared.shifts.Shift.{Shift}
@@ -156,33 +156,34 @@ replaced_if old new from to text shift (Ok done) c order = replaced_whole old ne
 replaced_if old new from to text shift (Err e) c order = c
 
 -- the row stands in the text of a summary
-pub fits_shift : (old new : List Text) (from to : ℕ) (text : Text) (shift : Shift) (whole : Summary)
+pub changed_in : (old new : List Text) (from to : ℕ) (text : Text) (shift : Shift) (whole : Summary)
     → IsOneChanged old new from to text shift → from ≤ to → whole ≡ summary_of (joined old) → joined_size old < 2 ^ 63
-    → joined_size old + size text < 2 ^ 63 + (to - from) → FitsShift whole shift
-fits_shift old new from to text shift whole c order whole_is short room =
+    → joined_size old + size text < 2 ^ 63 + (to - from) → IsChangedIn whole new shift
+changed_in old new from to text shift whole c order whole_is short room =
     let was = joined-round old c.front c.back c.row c.was in
-    let is = joined-round new c.front c.back c.own c.is in
-    let sizes = size-replaced (joined old) (joined new) from to text (replaced_whole old new from to text shift c order) in
     record {
       x = joined c.front;
-      old = c.row;
-      new = c.own;
+      row = c.row;
+      own = c.own;
       y = joined c.back;
       whole_is = rw was at whole_is;
+      new_is = joined-round new c.front c.back c.own c.is;
       shift_is = c.shift_is;
       short_old = omega (arith, ap size was, short);
-      short_new = omega (arith, ap size is, sizes, room);
+      short_new = omega (
+        arith,
+        size-replaced (joined old) (joined new) from to text (replaced_whole old new from to text shift c order),
+        room,
+      );
     }
 
 -- what is known of a tree holds after that
 pub side_changed : (old new : Seen) (from to : ℕ) (text : Text) (shift : Shift) (whole after : Summary)
     → IsSide old whole → IsOneChanged old.texts new.texts from to text shift → from ≤ to → new.height ≡ old.height
-    → ((x row own y : Text) → whole ≡ summary_of (x ++ (row ++ y)) → IsShift row own shift → after ≡ summary_of (x ++ (own ++ y)))
+    → after ≡ summary_of (joined new.texts)
     → joined_size old.texts + size text < 2 ^ 63 + (to - from) → length new.texts ≤ joined_size new.texts
     → IsSide new after
-side_changed old new from to text shift whole after side c order height told room few =
-    let was = joined-round old.texts c.front c.back c.row c.was in
-    let is = joined-round new.texts c.front c.back c.own c.is in
+side_changed old new from to text shift whole after side c order height after_is room few =
     let sizes = size-replaced (joined old.texts) (joined new.texts) from to text
     (replaced_whole old.texts new.texts from to text shift c order) in
     let many : length new.texts ≡ length old.texts = omega (
@@ -193,8 +194,7 @@ side_changed old new from to text shift whole after side c order height told roo
       length-append c.front (c.own ∷ c.back),
     ) in
     record {
-      summary_is = told (joined c.front) c.row c.own (joined c.back) (rw was at side.summary_is) c.shift_is
-          ∙ ap summary_of (sym is);
+      summary_is = after_is;
       some = omega (arith, many, side.some);
       short = omega (arith, sizes, room);
       few = few;

@@ -1,10 +1,10 @@
 -- The ends of the rows of two trees, one after the other, and a part that is exchanged in one of them.
 use Rattle.text_rope.proofs.lemmas.Common.{◌≡◌, ℕ, zero, suc, ◌+◌, ◌-◌, ◌<◌, ◌≤◌, List, [], ◌∷◌, ◌++◌, length, take, drop, refl, sym, ap, ◌∙◌, arith, append_assoc, append-nil, add-one, Text, size, size-append, joined, joined_size, joined-append, take-append-drop, parts_of, same_cut, IsReplaced}
 use Rattle.text_rope.proofs.lemmas.Forks.{joined_size-append}
-use Rattle.text_rope.specs.RowEnds.{AreFirst, AreLast, IsRowEnd}
+use Rattle.text_rope.specs.RowEnds.{AreExchanged, AreFirst, AreLast, IsRowEnd}
 
 -- the bytes of a row and of those after it
-size-row : (x : Text) (xs : List Text) → joined_size (x ∷ xs) ≡ size x + joined_size xs
+pub size-row : (x : Text) (xs : List Text) → joined_size (x ∷ xs) ≡ size x + joined_size xs
 size-row x xs = size-append x (joined xs)
 
 -- one row more before
@@ -79,19 +79,6 @@ next_row xs i p at before = rw add-one ((next_end xs at.front at.back i p at.spl
 -- no row ends past the last
 pub row_end_le : (xs : List Text) (p : ℕ) → IsRowEnd xs p → p ≤ joined_size xs
 row_end_le xs p at = omega (arith, ap joined_size at.split, joined_size-append at.front at.back, at.place)
-
--- a part exchanged in the second of two texts
-pub replaced_behind : (x old new : Text) (from to first last : ℕ) (text : Text) → IsReplaced old new from to text
-    → size x + from ≡ first → size x + to ≡ last → IsReplaced (x ++ old) (x ++ new) first last text
-replaced_behind x old new from to first last text r first_is last_is = record {
-  front = x ++ r.front;
-  middle = r.middle;
-  back = r.back;
-  was = ap (λ t. x ++ t) r.was ∙ sym (append_assoc x r.front (r.middle ++ r.back));
-  start = omega (arith, size-append x r.front, r.start, first_is);
-  end = omega (arith, size-append x r.front, r.end, last_is);
-  is = ap (λ t. x ++ t) r.is ∙ sym (append_assoc x r.front (text ++ r.back));
-}
 
 -- the first rows of a list, and the last
 pub first_take : (own : List Text) (i at : ℕ) → joined_size (take i own) ≡ at → AreFirst own (take i own) at
@@ -168,39 +155,53 @@ cut_twice whole front rest upto back first last order =
     }
 
 -- the rows between two places, exchanged for others
-pub replaced_around : (texts front rows back whole : List Text) (from to : ℕ) → AreFirst texts front from → AreLast texts back to
-    → from ≤ to → whole ≡ front ++ (rows ++ back) → IsReplaced (joined texts) (joined whole) from to (joined rows)
-replaced_around texts front rows back whole from to a b order is =
-    let cut = cut_twice (joined texts) (joined front) (joined a.back) (joined b.front) (joined back)
-    (ap joined a.split ∙ joined-append front a.back) (ap joined b.split ∙ joined-append b.front back) (omega (arith, a.place, b.place)) in
+pub replaced_rows_of : (old new rows : List Text) (from to : ℕ) → AreExchanged old new from to rows → from ≤ to
+    → IsReplaced (joined old) (joined new) from to (joined rows)
+replaced_rows_of old new rows from to ex order =
+    let a = ex.first in
+    let b = ex.last in
+    let cut = cut_twice (joined old) (joined ex.front) (joined a.back) (joined b.front) (joined ex.back)
+    (ap joined a.split ∙ joined-append ex.front a.back) (ap joined b.split ∙ joined-append b.front ex.back) (omega (arith, a.place, b.place)) in
     record {
-      front = joined front;
+      front = joined ex.front;
       middle = cut.middle;
-      back = joined back;
+      back = joined ex.back;
       was = cut.parts;
       start = a.place;
       end = omega (arith, cut.size_is, b.place);
-      is = ap joined is ∙ joined-append front (rows ++ back) ∙ ap (λ r. joined front ++ r) (joined-append rows back);
+      is = ap joined ex.is ∙ joined-append ex.front (rows ++ ex.back) ∙ ap (λ r. joined ex.front ++ r) (joined-append rows ex.back);
     }
 
--- a part of the first of two trees exchanged, or of the second
-pub replaced_left : (xs ys new whole : List Text) (from to : ℕ) (text : Text) → IsReplaced (joined xs) (joined new) from to text
-    → whole ≡ new ++ ys → IsReplaced (joined (xs ++ ys)) (joined whole) from to text
-replaced_left xs ys new whole from to text r is = record {
-  front = r.front;
-  middle = r.middle;
-  back = r.back ++ joined ys;
-  was = joined-append xs ys ∙ ap (λ t. t ++ joined ys) r.was ∙ append_assoc r.front (r.middle ++ r.back) (joined ys)
-      ∙ ap (λ t. r.front ++ t) (append_assoc r.middle r.back (joined ys));
-  start = r.start;
-  end = r.end;
-  is = ap joined is ∙ joined-append new ys ∙ ap (λ t. t ++ joined ys) r.is ∙ append_assoc r.front (text ++ r.back) (joined ys)
-      ∙ ap (λ t. r.front ++ t) (append_assoc text r.back (joined ys));
+-- how many bytes there are then
+pub exchanged_bytes : (old new rows : List Text) (from to : ℕ) → AreExchanged old new from to rows
+    → joined_size new + to ≡ joined_size old + (from + joined_size rows)
+exchanged_bytes old new rows from to ex = omega (
+  arith,
+  ap joined_size ex.is,
+  joined_size-append ex.front (rows ++ ex.back),
+  joined_size-append rows ex.back,
+  ex.first.place,
+  last_size old ex.back to ex.last,
+)
+
+-- those of the first of two trees, or of the second
+pub exchanged_left : (xs ys new whole rows : List Text) (from to : ℕ) → AreExchanged xs new from to rows → whole ≡ new ++ ys
+    → AreExchanged (xs ++ ys) whole from to rows
+exchanged_left xs ys new whole rows from to ex is = record {
+  front = ex.front;
+  back = ex.back ++ ys;
+  first = first_left xs ys ex.front from ex.first;
+  last = last_left xs ys ex.back to ex.last;
+  is = is ∙ ap (λ r. r ++ ys) ex.is ∙ append_assoc ex.front (rows ++ ex.back) ys ∙ ap (λ r. ex.front ++ r) (append_assoc rows ex.back ys);
 }
 
-pub replaced_right : (xs ys new whole : List Text) (from to first last : ℕ) (text : Text)
-    → IsReplaced (joined ys) (joined new) from to text → joined_size xs + from ≡ first → joined_size xs + to ≡ last
-    → whole ≡ xs ++ new → IsReplaced (joined (xs ++ ys)) (joined whole) first last text
-replaced_right xs ys new whole from to first last text r first_is last_is is =
-    rw (joined-append xs ys, is, joined-append xs new)
-    (replaced_behind (joined xs) (joined ys) (joined new) from to first last text r first_is last_is)
+pub exchanged_right : (xs ys new whole rows : List Text) (from to first last : ℕ) → AreExchanged ys new from to rows
+    → joined_size xs + from ≡ first → joined_size xs + to ≡ last → whole ≡ xs ++ new
+    → AreExchanged (xs ++ ys) whole first last rows
+exchanged_right xs ys new whole rows from to first last ex first_is last_is is = record {
+  front = xs ++ ex.front;
+  back = ex.back;
+  first = first_right xs ys ex.front first from ex.first first_is;
+  last = last_right xs ys ex.back last to ex.last last_is;
+  is = is ∙ ap (λ r. xs ++ r) ex.is ∙ sym (append_assoc xs ex.front (rows ++ ex.back));
+}

@@ -57,20 +57,31 @@ ends_alike x old new y some some_new ends =
     ends_in_return-append x (old ++ y) (some-append old y some) ∙ ends_behind old new y ends
     ∙ sym (ends_in_return-append x (new ++ y) (some-append new y some_new))
 
+-- the rows begin and end alike where their summaries say so
+starts_of : (shift : Shift) (old new : Text) → IsShift old new shift → shift.own.starts_lf ≡ shift.out.starts_lf
+    → starts_with_feed new ≡ starts_with_feed old
+starts_of shift old new is same = sym (ap (λ s. s.starts_lf) is.own) ∙ same ∙ ap (λ s. s.starts_lf) is.out
+
+ends_of : (shift : Shift) (old new : Text) → IsShift old new shift → shift.own.ends_cr ≡ shift.out.ends_cr
+    → ends_in_return new ≡ ends_in_return old
+ends_of shift old new is same = sym (ap (λ s. s.ends_cr) is.own) ∙ same ∙ ap (λ s. s.ends_cr) is.out
+
 -- by what is known of the change
 pub shifted_count : (s : Scheme) (whole : Summary) (shift : Shift) (fits : FitsShift whole shift)
+    → shift.own.starts_lf ≡ shift.out.starts_lf → shift.own.ends_cr ≡ shift.out.ends_cr
     → IsShifted (count_of whole s) (count_of shift.own s) (count_of shift.out s) (count s (fits.x ++ (fits.new ++ fits.y)))
     (size (fits.x ++ (fits.old ++ fits.y)) + size (fits.x ++ (fits.new ++ fits.y)))
-shifted_count s whole shift fits =
+shifted_count s whole shift fits starts ends =
     let is = fits.shift_is in
     let old = ap (λ w. count_of w s) fits.whole_is ∙ count_of-summary s (fits.x ++ (fits.old ++ fits.y)) in
     let out = ap (λ w. count_of w s) is.out ∙ count_of-summary s fits.old in
     let own = ap (λ w. count_of w s) is.own ∙ count_of-summary s fits.new in
-    rw (old, out, own) (shift_of s fits.x fits.old fits.new fits.y is.some is.some_new is.starts_lf is.ends_cr)
+    rw (old, out, own) (shift_of s fits.x fits.old fits.new fits.y is.some is.some_new (starts_of shift fits.old fits.new is starts)
+    (ends_of shift fits.old fits.new is ends))
 
 -- all numbers
 pub shifted_numbers : (whole : Summary) (shift : Shift) (x old new y : Text) → whole ≡ summary_of (x ++ (old ++ y))
-    → IsShift old new shift
+    → IsShift old new shift → shift.own.starts_lf ≡ shift.out.starts_lf → shift.own.ends_cr ≡ shift.out.ends_cr
     → ◌≡◌ {A = Summary} (record {
       len = whole.len + shift.own.len - shift.out.len;
       chars = whole.chars + shift.own.chars - shift.out.chars;
@@ -81,9 +92,11 @@ pub shifted_numbers : (whole : Summary) (shift : Shift) (x old new y : Text) →
       starts_lf = whole.starts_lf;
       ends_cr = whole.ends_cr;
     }) (summary_of (x ++ (new ++ y)))
-shifted_numbers whole shift x old new y whole_is is =
-    let of = λ (s : Scheme). shift_of s x old new y is.some is.some_new is.starts_lf is.ends_cr in
+shifted_numbers whole shift x old new y whole_is is same_start same_end =
+    let starts = starts_of shift old new is same_start in
+    let ends = ends_of shift old new is same_end in
+    let of = λ (s : Scheme). shift_of s x old new y is.some is.some_new starts ends in
     let len : size (x ++ (old ++ y)) + size new - size old ≡ size (x ++ (new ++ y)) =
     omega (arith, size-append x (old ++ y), size-append old y, size-append x (new ++ y), size-append new y) in
     rw (whole_is, is.out, is.own) (same_fields len (of Chars).is (of Utf16).is (of Lf).is (of Crlf).is (of Lines).is
-    (starts_alike x old new y is.some is.some_new is.starts_lf) (ends_alike x old new y is.some is.some_new is.ends_cr))
+    (starts_alike x old new y is.some is.some_new starts) (ends_alike x old new y is.some is.some_new ends))

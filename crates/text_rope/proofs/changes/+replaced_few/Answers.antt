@@ -1,5 +1,5 @@
-use Rattle.text_rope.proofs.lemmas.{◌≡◌, ◌-◌, ◌++◌, ◌∙◌, ap, arith, length-append, Text, joined, row_end_left, row_end_right, first_left, last_right, last_size, replaced_left, replaced_right, replaced_around}
-use Rattle.text_rope.specs.RowEnds.{IsRowEnd}
+use Rattle.text_rope.proofs.lemmas.{◌≡◌, ◌-◌, ◌++◌, ◌∙◌, ap, arith, length-append, Text, joined_size, exchanged_bytes, row_end_left, row_end_right, first_left, last_right, last_size, exchanged_left, exchanged_right}
+use Rattle.text_rope.specs.RowEnds.{AreExchanged, IsRowEnd}
 use Rattle.text_rope.specs.States.{texts_of}
 use Rattle.text_rope.proofs.changes.+replaced_few.Goals as goal
 
@@ -43,6 +43,38 @@ replaced_few-requires-then-middle-from t c =
       ),
     )
 
+pub joined-requires : goal.joined-requires
+joined-requires t c =
+    let left = c.in-Sides.left.now.texts in
+    let front = texts_of c.in_ok-front-in-Sides.front in
+    record {
+      short = omega (
+        arith,
+        exchanged_bytes left front c.args.rows.items c.args.from c.args.to c.in_ok-front-in-Sides.ensures.replaced,
+        ap (λ side. joined_size side.texts) c.in_ok-back-in-Sides.ensures,
+        c.in-Sides.ensures.look.size_is,
+        c.requires.short,
+        c.requires.order,
+      );
+    }
+
+pub joined-requires-then-middle-from : goal.joined-requires-then-middle-from
+joined-requires-then-middle-from t c =
+    let right = c.in-Sides.right.now.texts in
+    let back = texts_of c.in_ok-back-in-Sides-2.back in
+    let middle = c.summary.result.now.len in
+    record {
+      short = omega (
+        arith,
+        exchanged_bytes right back c.args.rows.items (c.args.from - middle) (c.args.to - middle) c.in_ok-back-in-Sides-2.ensures.replaced,
+        ap (λ side. joined_size side.texts) c.in_ok-front-in-Sides-2.ensures,
+        c.in-Sides.ensures.look.size_is,
+        c.requires.short,
+        c.requires.order,
+        c.if-middle-from.true,
+      );
+    }
+
 pub front_of-requires : goal.front_of-requires
 front_of-requires t c =
     let fork = c.in-Sides.ensures.look in
@@ -85,7 +117,7 @@ returns-in_ok-joined-in-Sides-clause-replaced t c =
     let front = texts_of c.in_ok-front-in-Sides.front in
     let whole = texts_of c.in_ok-joined-in-Sides.field-0 in
     let is : whole ≡ front ++ right = c.in_ok-joined-in-Sides.ensures.rows ∙ ap (λ side. front ++ side.texts) c.in_ok-back-in-Sides.ensures in
-    rw c.in-Sides.ensures.look.texts (replaced_left left right front whole c.args.from c.args.to (joined c.args.rows.items)
+    rw c.in-Sides.ensures.look.texts (exchanged_left left right front whole c.args.rows.items c.args.from c.args.to
     c.in_ok-front-in-Sides.ensures.replaced is)
 
 pub returns-in_ok-joined-in-Sides-2-clause-replaced : goal.returns-in_ok-joined-in-Sides-2-clause-replaced
@@ -97,8 +129,8 @@ returns-in_ok-joined-in-Sides-2-clause-replaced t c =
     let middle = c.summary.result.now.len in
     let len = ap (λ s. s.len) c.summary.ensures.summary in
     let is : whole ≡ left ++ back = c.in_ok-joined-in-Sides-2.ensures.rows ∙ ap (λ side. side.texts ++ back) c.in_ok-front-in-Sides-2.ensures in
-    rw c.in-Sides.ensures.look.texts (replaced_right left right back whole (c.args.from - middle) (c.args.to - middle) c.args.from c.args.to
-    (joined c.args.rows.items) c.in_ok-back-in-Sides-2.ensures.replaced (omega (arith, len)) (omega (arith, len, c.requires.order)) is)
+    rw c.in-Sides.ensures.look.texts (exchanged_right left right back whole c.args.rows.items (c.args.from - middle) (c.args.to - middle)
+    c.args.from c.args.to c.in_ok-back-in-Sides-2.ensures.replaced (omega (arith, len)) (omega (arith, len, c.requires.order)) is)
 
 pub returns-in_ok-around-in-Sides-clause-replaced : goal.returns-in_ok-around-in-Sides-clause-replaced
 returns-in_ok-around-in-Sides-clause-replaced t c =
@@ -108,7 +140,12 @@ returns-in_ok-around-in-Sides-clause-replaced t c =
     let back = texts_of c.in_ok-back-in-Sides-3.back in
     let middle = c.summary.result.now.len in
     let len = ap (λ s. s.len) c.summary.ensures.summary in
-    rw c.in-Sides.ensures.look.texts (replaced_around (left ++ right) front c.args.rows.items back (texts_of c.in_ok-around-in-Sides.field-0)
-    c.args.from c.args.to (first_left left right front c.args.from c.in_ok-front-in-Sides-3.ensures.rows)
-    (last_right left right back c.args.to (c.args.to - middle) c.in_ok-back-in-Sides-3.ensures.rows (omega (arith, len)))
-    c.requires.order c.in_ok-around-in-Sides.ensures.rows)
+    let all : AreExchanged (left ++ right) (texts_of c.in_ok-around-in-Sides.field-0) c.args.from c.args.to c.args.rows.items =
+    record {
+      front = front;
+      back = back;
+      first = first_left left right front c.args.from c.in_ok-front-in-Sides-3.ensures.rows;
+      last = last_right left right back c.args.to (c.args.to - middle) c.in_ok-back-in-Sides-3.ensures.rows (omega (arith, len));
+      is = c.in_ok-around-in-Sides.ensures.rows;
+    } in
+    rw c.in-Sides.ensures.look.texts all

@@ -1,4 +1,4 @@
-use Rattle.text_rope.proofs.lemmas.{arith, last_size, replaced_around}
+use Rattle.text_rope.proofs.lemmas.{arith, last_size}
 use Rattle.text_rope.specs.States.{texts_of}
 use Rattle.text_rope.proofs.changes.replaced.Goals as goal
 
@@ -12,7 +12,10 @@ around-requires c = omega (
 )
 
 pub returns-clause-replaced : goal.returns-clause-replaced
-returns-clause-replaced c =
-    replaced_around c.args.side.now.texts (texts_of c.in_ok-front.front) c.args.rows.items (texts_of c.in_ok-back.back)
-    (texts_of c.in_ok-around.field-0) c.args.from c.args.to c.in_ok-front.ensures.rows c.in_ok-back.ensures.rows c.requires.order
-    c.in_ok-around.ensures.rows
+returns-clause-replaced c = record {
+  front = texts_of c.in_ok-front.front;
+  back = texts_of c.in_ok-back.back;
+  first = c.in_ok-front.ensures.rows;
+  last = c.in_ok-back.ensures.rows;
+  is = c.in_ok-around.ensures.rows;
+}

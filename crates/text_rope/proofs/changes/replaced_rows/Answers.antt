@@ -1,6 +1,5 @@
-use Rattle.text_rope.proofs.lemmas.{◌≡◌, ◌-◌, ◌++◌, ◌∙◌, take, drop, ap, arith, append_assoc, take-append-drop, joined_size, joined_size-append, row_end_right, first_take, last_drop, last_right, replaced_around}
+use Rattle.text_rope.proofs.lemmas.{◌≡◌, ◌-◌, ◌++◌, ◌∙◌, take, drop, ap, arith, append_assoc, take-append-drop, joined_size, joined_size-append, row_end_right, first_take, last_drop, last_right}
 use Rattle.text_rope.specs.RowEnds.{AreLast, IsRowEnd}
-use Rattle.text_rope.specs.States.{texts_of}
 use Rattle.text_rope.proofs.changes.replaced_rows.Goals as goal
 
 pub rows_before-requires-2 : goal.rows_before-requires-2
@@ -22,7 +21,7 @@ few_of-requires-clause-short c =
     let j = c.rows_before-2.result in
     let items : c.push_shared-2.new.rows.items ≡ (front ++ rows) ++ back =
     c.in_ok-push_shared-2.ensures.rows ∙ ap (λ x. x ++ back) (c.in_ok-append.ensures.items
-    ∙ ap (λ x. x ++ rows) (c.in_ok-push_shared.ensures.rows ∙ ap (λ x. x ++ front) c.new-all.ensures.items)) in
+    ∙ ap (λ x. x ++ rows) (c.in_ok-push_shared.ensures.rows ∙ ap (λ x. x ++ front) c.in_ok-all.ensures.items)) in
     omega (
       arith,
       ap joined_size items,
@@ -49,13 +48,17 @@ returns-clause-replaced c =
     let j = c.rows_before-2.result in
     let items : c.push_shared-2.new.rows.items ≡ (front ++ rows) ++ back =
     c.in_ok-push_shared-2.ensures.rows ∙ ap (λ x. x ++ back) (c.in_ok-append.ensures.items
-    ∙ ap (λ x. x ++ rows) (c.in_ok-push_shared.ensures.rows ∙ ap (λ x. x ++ front) c.new-all.ensures.items)) in
+    ∙ ap (λ x. x ++ rows) (c.in_ok-push_shared.ensures.rows ∙ ap (λ x. x ++ front) c.in_ok-all.ensures.items)) in
     let end : joined_size (take j (drop i own)) ≡ c.args.to - c.args.from = rw c.split_at.ensures.back at c.rows_before-2.ensures.place in
     let last : AreLast (take i own ++ drop i own) (drop j (drop i own)) c.args.to =
     last_right (take i own) (drop i own) (drop j (drop i own)) c.args.to (c.args.to - c.args.from)
     (last_drop (drop i own) j (c.args.to - c.args.from) end) (omega (arith, c.rows_before.ensures.place, c.requires.order)) in
-    replaced_around own (take i own) rows (drop j (drop i own)) (texts_of c.in_ok-few_of.field-0) c.args.from c.args.to
-    (first_take own i c.args.from c.rows_before.ensures.place) (rw (take-append-drop i own) at last) c.requires.order
-    (c.in_ok-few_of.ensures.rows ∙ items ∙ ap (λ f. (f ++ rows) ++ back) c.split_at.ensures.front
-    ∙ ap (λ b. (take i own ++ rows) ++ b) (c.split_at-2.ensures.back ∙ ap (λ r. drop j r) c.split_at.ensures.back)
-    ∙ append_assoc (take i own) rows (drop j (drop i own)))
+    record {
+      front = take i own;
+      back = drop j (drop i own);
+      first = first_take own i c.args.from c.rows_before.ensures.place;
+      last = rw (take-append-drop i own) at last;
+      is = c.in_ok-few_of.ensures.rows ∙ items ∙ ap (λ f. (f ++ rows) ++ back) c.split_at.ensures.front
+          ∙ ap (λ b. (take i own ++ rows) ++ b) (c.split_at-2.ensures.back ∙ ap (λ r. drop j r) c.split_at.ensures.back)
+          ∙ append_assoc (take i own) rows (drop j (drop i own));
+    }

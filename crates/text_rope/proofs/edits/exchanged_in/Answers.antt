@@ -1,19 +1,64 @@
-use Rattle.text_rope.proofs.lemmas.{arith, ap, length, joined_size, grows}
+use Rattle.std.specs.Prelude.{◌⊎◌}
+use Rattle.text_rope.proofs.lemmas.{◌≡◌, ◌≤◌, ◌++◌, ◌∙◌, inl, inr, cases_lt, ap, arith, chars, length, List, Text, ℕ, size, size-append, size-chars, string_bytes, joined, joined_size, AreFull, min_piece, max_piece, filled_exchanged, full_none, narrowed_parts, replaced_rows_of}
+use Rattle.text_rope.specs.States.{texts_of}
 use Rattle.text_rope.proofs.edits.exchanged_in.Goals as goal
 
-pub returns-in-Some-clause-replaced : goal.returns-in-Some-clause-replaced
-returns-in-Some-clause-replaced c = rw (← c.in-Some.ensures) c.exchanged.ensures.replaced
+-- the rows of a text that is none, or not short, or all
+which : (rows : List Text) (bytes start end whole : ℕ) → (min_piece ≤ bytes → AreFull rows) → (bytes ≤ max_piece → length rows ≤ 1)
+    → (bytes ≡ 0 → length rows ≡ 0) → (bytes ≡ 0) ⊎ ((min_piece ≤ bytes) ⊎ ((start ≡ 0) × (end ≡ whole)))
+    → AreFull rows ⊎ ((start ≡ 0) × ((end ≡ whole) × (length rows ≤ 1)))
+which rows bytes start end whole full one none (inl zero) = inl (full_none rows (none zero))
+which rows bytes start end whole full one none (inr (inl long)) = inl (full long)
+which rows bytes start end whole full one none (inr (inr all)) =
+    elim (cases_lt bytes min_piece) [
+      | inl short ↦ inr (all.0, (all.1, one (omega (arith, short))))
+      | inr long ↦ inl (full (omega (arith, long)))
+    ]
 
-pub returns-in-Some-clause-nodes : goal.returns-in-Some-clause-nodes
-returns-in-Some-clause-nodes c =
-    let texts = c.in-Some.side.now.texts in
-    grows c.in-Some.side.now.height (length texts) (joined_size c.args.v.now.texts) 56 (length c.args.more.now) c.args.work.now.nodes
-    c.exchanged.new.work.nodes c.height-height.ensures.many (omega (arith, ap joined_size c.in-Some.ensures, c.summary-summary.ensures.few))
-    (omega (arith, c.exchanged.ensures.work.nodes_at_most))
+pub replaced-requires-clause-short : goal.replaced-requires-clause-short
+replaced-requires-clause-short c =
+    let patch = c.widened-patch.result in
+    let p = c.widened-patch.ensures.patch in
+    let head = chars patch.before.now ++ chars patch.head.now in
+    let tail = chars patch.tail.now ++ chars patch.behind.now in
+    let more = chars c.args.more.now in
+    omega (
+      arith,
+      p.head.start,
+      p.head.end,
+      p.tail.start,
+      p.tail.end,
+      ap size (c.in_ok-rows.ensures.text ∙ ap chars c.as_str.ensures.value ∙ c.in_ok-text.ensures.text),
+      size-append head (more ++ tail),
+      size-append more tail,
+      size-chars c.args.more.now c.utf8.more,
+      c.requires.short,
+      c.requires.order,
+    )
 
-pub returns-in-Some-clause-looks : goal.returns-in-Some-clause-looks
-returns-in-Some-clause-looks c =
-    let texts = c.in-Some.side.now.texts in
-    grows c.in-Some.side.now.height (length texts) (joined_size c.args.v.now.texts) 3 0 c.args.v.now.looks c.exchanged.new.v.looks
-    c.height-height.ensures.many (omega (arith, ap joined_size c.in-Some.ensures, c.summary-summary.ensures.few))
-    (omega (arith, c.exchanged.ensures.view.looks_at_most))
+pub of-requires : goal.of-requires
+of-requires c =
+    let patch = c.widened-patch.result in
+    let rows = c.in_ok-rows.rows.items in
+    let told = c.in_ok-rows.ensures in
+    let texts = c.args.side.now.texts in
+    let len : length c.as_str.result.now ≡ length (string_bytes c.in_ok-text.text) = ap length c.as_str.ensures.value in
+    let filled = c.widened-patch.ensures.filled in
+    filled_exchanged texts (texts_of c.in_ok-root.root) rows patch.start patch.end c.requires.filled c.summary-few.ensures.few
+    c.in_ok-root.ensures.replaced c.widened-patch.ensures.patch.some
+    (which rows (length c.as_str.result.now) patch.start patch.end (joined_size texts) told.full told.one told.none
+    (rw (len, c.in_ok-text.ensures.len) filled))
+
+pub returns-clause-replaced : goal.returns-clause-replaced
+returns-clause-replaced c =
+    let patch = c.widened-patch.result in
+    let p = c.widened-patch.ensures.patch in
+    let head = chars patch.before.now ++ chars patch.head.now in
+    let tail = chars patch.tail.now ++ chars patch.behind.now in
+    let more = chars c.args.more.now in
+    let text = c.in_ok-rows.ensures.text ∙ ap chars c.as_str.ensures.value ∙ c.in_ok-text.ensures.text in
+    let texts = c.args.side.now.texts in
+    let root = texts_of c.in_ok-root.root in
+    rw c.of.ensures (narrowed_parts (joined texts) (joined root) head tail more (joined c.in_ok-rows.rows.items) patch.start c.args.from
+    c.args.to patch.end p.head p.tail c.requires.order text (replaced_rows_of texts root c.in_ok-rows.rows.items patch.start patch.end
+    c.in_ok-root.ensures.replaced (omega (arith, p.some))))

@@ -1,55 +1,58 @@
-use Rattle.text_rope.proofs.lemmas.{◌++◌, ap, arith, size, size-append, size-chars, joined, chars, string_bytes, boundary_in_row, row_end, part_before, part_after, widened_of}
+use Rattle.text_rope.proofs.lemmas.{◌-◌, arith, append-nil, chars, chars-nil, length, size-chars, boundary_in_row, row_start, row_end, part_of_row}
 use Rattle.text_rope.proofs.edits.patch_of.Goals as goal
 
-pub halves-requires : goal.halves-requires
-halves-requires c =
-    let first = c.stretch_at-first.result in
-    boundary_in_row c.args.side.now.texts (chars first.text.now) first.start first.end c.args.from c.stretch_at-first.ensures.row
-    c.requires.start
-
-pub halves-requires-2 : goal.halves-requires-2
-halves-requires-2 c =
-    let last = c.stretch_at-last.result in
-    boundary_in_row c.args.side.now.texts (chars last.text.now) last.start last.end c.args.to c.stretch_at-last.ensures.row
-    c.requires.end
-
-pub returns-clause-widened : goal.returns-clause-widened
-returns-clause-widened c =
+pub returns-clause-patch : goal.returns-clause-patch
+returns-clause-patch c =
     let texts = c.args.side.now.texts in
-    let first = c.stretch_at-first.result in
+    let first = c.first_from-first.result in
     let last = c.stretch_at-last.result in
-    let head = chars c.halves.result.0.now in
-    let behind = chars c.halves.result.1.now in
-    let before = chars c.halves-2.result.0.now in
-    let tail = chars c.halves-2.result.1.now in
-    widened_of (joined texts) head tail (chars c.args.more.now) (chars (string_bytes c.in_ok-text_of.field-0)) first.start c.args.from
-    c.args.to last.end (part_before texts (chars first.text.now) first.start first.end c.args.from head behind
-    c.stretch_at-first.ensures.row c.halves.ensures.parts c.halves.ensures.place) (part_after texts (chars last.text.now) last.start
-    last.end c.args.to before tail c.stretch_at-last.ensures.row c.halves-2.ensures.parts c.halves-2.ensures.place) c.requires.order
-    c.in_ok-text_of.ensures
-
-pub returns-clause-end : goal.returns-clause-end
-returns-clause-end c =
-    let last = c.stretch_at-last.result in
-    row_end c.args.side.now.texts (chars last.text.now) last.start last.end c.args.to c.stretch_at-last.ensures.row
+    let first_row = c.first_from-first.ensures.row in
+    let last_row = c.stretch_at-last.ensures.row in
+    record {
+      start = row_start texts (chars first.text.now) first.start first.end first_row;
+      end = row_end texts (chars last.text.now) last.start last.end last_row;
+      some = omega (
+        arith,
+        c.first_from-first.ensures.first,
+        c.stretch_at-last.ensures.after,
+        c.stretch_at-last.ensures.inside,
+        c.saturating_sub.ensures,
+      );
+      head = rw chars-nil (part_of_row texts (chars first.text.now) (chars c.between.result.now) first.start first.end 0
+          (c.args.from - first.start) first.start c.args.from first_row c.between.ensures (omega arith)
+          (omega (arith, c.first_from-first.ensures.after)));
+      tail = rw (chars-nil, append-nil) (part_of_row texts (chars last.text.now) (chars c.between-2.result.now) last.start last.end
+          (c.args.to - last.start) (length last.text.now) c.args.to last.end last_row c.between-2.ensures
+          (omega (arith, c.stretch_at-last.ensures.after, c.saturating_sub.ensures))
+          (omega (arith, last_row.end_is, c.stretch_at-last.ensures.len)));
+    }
 
 pub returns-clause-short : goal.returns-clause-short
-returns-clause-short c =
-    let head = chars c.halves.result.0.now in
-    let behind = chars c.halves.result.1.now in
-    let more = chars c.args.more.now in
-    let before = chars c.halves-2.result.0.now in
-    let tail = chars c.halves-2.result.1.now in
-    omega (
-      arith,
-      ap size c.in_ok-text_of.ensures,
-      size-append head (more ++ tail),
-      size-append more tail,
-      size-chars c.args.more.now c.utf8.more,
-      ap size c.halves.ensures.parts,
-      size-append head behind,
-      c.stretch_at-first.ensures.piece,
-      ap size c.halves-2.ensures.parts,
-      size-append before tail,
-      c.stretch_at-last.ensures.piece,
-    )
+returns-clause-short c = omega (
+  arith,
+  size-chars c.between.result.now c.between.utf8,
+  c.between.ensures.start,
+  c.between.ensures.end,
+  c.first_from-first.ensures.row.end_is,
+  c.first_from-first.ensures.within,
+  c.first_from-first.ensures.after,
+  c.first_from-first.ensures.piece,
+  size-chars c.between-2.result.now c.between-2.utf8,
+  c.between-2.ensures.start,
+  c.between-2.ensures.end,
+  c.stretch_at-last.ensures.len,
+  c.stretch_at-last.ensures.piece,
+)
+
+pub between-requires-clause-end : goal.between-requires-clause-end
+between-requires-clause-end c =
+    let first = c.first_from-first.result in
+    boundary_in_row c.args.side.now.texts (chars first.text.now) first.start first.end c.args.from c.first_from-first.ensures.row
+    c.first_from-first.ensures.after c.first_from-first.ensures.within c.requires.start
+
+pub between-requires-2-clause-start : goal.between-requires-2-clause-start
+between-requires-2-clause-start c =
+    let last = c.stretch_at-last.result in
+    boundary_in_row c.args.side.now.texts (chars last.text.now) last.start last.end c.args.to c.stretch_at-last.ensures.row
+    (omega (arith, c.stretch_at-last.ensures.after, c.saturating_sub.ensures))
+    (omega (arith, c.stretch_at-last.ensures.inside, c.saturating_sub.ensures)) c.requires.end

@@ -1,5 +1,6 @@
+use Rattle.std.proofs.Math.Nat.{div-mul-le_self}
 use Rattle.std.proofs.lemmas.Nat.{le-div}
-use Rattle.text_rope.proofs.lemmas.{◌<◌, ◌≤◌, ◌/◌, length, goes_far, refl, arith, append-nil, chars, chars-nil, size-chars, chars-some, IsCharBoundary-from_boundary, boundary_start, goes_on, chars-cut, size-part, some-part}
+use Rattle.text_rope.proofs.lemmas.{◌<◌, ◌≤◌, ◌*◌, ◌/◌, mul-le-mul, length, goes_far, refl, arith, append-nil, chars, chars-nil, size-chars, chars-some, IsCharBoundary-from_boundary, boundary_start, goes_on, chars-cut, size-part, some-part}
 use Rattle.text_rope.proofs.loads.first_row.Goals as goal
 
 pub returns-then-text-le-MAX_PIECE-clause-parts : goal.returns-then-text-le-MAX_PIECE-clause-parts
@@ -45,13 +46,46 @@ returns-clause-less c =
     (omega (arith, c.clamp-each.ensures)) (λ i past within. end.ensures.nearest i past (omega (arith, within))) in
     omega (arith, above, c.split_at.ensures.back_len)
 
+pub returns-clause-whole : goal.returns-clause-whole
+returns-clause-whole c short = absurd (omega (arith, short, c.if-text-le-MAX_PIECE.false))
+
 pub returns-clause-enough : goal.returns-clause-enough
 returns-clause-enough c some =
     let bytes = c.args.text.now in
     let len = length bytes in
     let rows = c.div_ceil-rows.result in
     let end = c.floor_char_boundary-end in
-    let wide : 260 ≤ len / rows = le-div 260 len rows (omega (arith, c.div_ceil-rows.ensures)) (omega (arith, c.div_ceil-rows.ensures)) in
+    let wide : 512 ≤ len / rows = le-div 512 len rows (omega (arith, c.div_ceil-rows.ensures))
+    (omega (arith, c.div_ceil-rows.ensures, c.if-text-le-MAX_PIECE.false)) in
     let far = goes_far bytes c.utf8.text end.result c.clamp-each.result end.ensures.boundary (omega (arith, c.split_at.ensures.back_len, some))
     end.ensures.nearest in
-    omega (arith, far, wide, c.clamp-each.ensures, c.split_at.ensures.back_len)
+    rw c.split_at.ensures.front (omega (arith, size-part bytes c.utf8.text end.result end.ensures.boundary, far, wide, c.clamp-each.ensures))
+
+pub returns-clause-rest : goal.returns-clause-rest
+returns-clause-rest c some =
+    let len = length c.args.text.now in
+    let rows = c.div_ceil-rows.result in
+    let two : 2 ≤ rows = omega (arith, c.div_ceil-rows.ensures, c.if-text-le-MAX_PIECE.false) in
+    let each : len / rows * 2 ≤ len / rows * rows = mul-le-mul (omega arith) two in
+    omega (
+      arith,
+      each,
+      div-mul-le_self len rows,
+      c.clamp-each.ensures,
+      c.floor_char_boundary-end.ensures.bound,
+      c.split_at.ensures.back_len,
+      c.if-text-le-MAX_PIECE.false,
+    )
+
+pub returns-then-text-le-MAX_PIECE-clause-len : goal.returns-then-text-le-MAX_PIECE-clause-len
+returns-then-text-le-MAX_PIECE-clause-len c = omega (arith, size-chars c.args.text.now c.utf8.text)
+
+pub returns-clause-len : goal.returns-clause-len
+returns-clause-len c =
+    let end = c.floor_char_boundary-end in
+    rw c.split_at.ensures.front (omega (
+      arith,
+      size-part c.args.text.now c.utf8.text end.result end.ensures.boundary,
+      end.ensures.boundary.0,
+      c.split_at.ensures.back_len,
+    ))

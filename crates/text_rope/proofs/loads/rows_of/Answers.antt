@@ -1,4 +1,5 @@
-use Rattle.text_rope.proofs.lemmas.{◌≡◌, ◌∷◌, length-append, ◌++◌, ◌∙◌, [], rules, arith, append_assoc, joined-append, sym, ap, append-nil, eqb-true, length, chars, chars-none, joined}
+use Rattle.text_rope.proofs.lemmas.{◌≡◌, ◌∷◌, length-append, ◌++◌, ◌∙◌, [], rules, arith, append_assoc, joined-append, sym, ap, append-nil, eqb-true, length, chars, chars-none, joined, inl, inr, cases_lt, ◌<◌, ◌≤◌, min_piece, IsFull}
+use Rattle.std.proofs.lemmas.List.Elements.{All-push}
 use Rattle.text_rope.proofs.loads.rows_of.Goals as goal
 
 pub loop-rest-preserved : goal.loop-rest-preserved
@@ -11,14 +12,28 @@ loop-rest-preserved c =
     ap joined c.in_ok-push.ensures.items ∙ joined-append rows (row ∷ [])
     ∙ ap (λ r. joined rows ++ r) (append-nil row ∙ c.in_ok-of.ensures) in
     let len = ap length c.in_ok-push.ensures.items ∙ length-append c.loop-rest.rows.items (row ∷ []) in
-    let before = c.loop-rest.invariant.before_last (omega (arith, c.first_row.ensures.less)) in
+    let some : 0 < length c.loop-rest.rest.now = omega (arith, c.first_row.ensures.less) in
+    let before = c.loop-rest.invariant.before_last some in
+    let sizes = c.first_row.ensures.len in
+    let own_full : min_piece ≤ length c.args.text.now → IsFull row =
+    λ long. elim (cases_lt 0 (length c.first_row.result.1.now)) [
+      | inl left ↦ rw c.in_ok-of.ensures (c.first_row.ensures.enough left)
+      | inr last ↦ rw c.in_ok-of.ensures (omega (arith, sizes, last, c.loop-rest.invariant.enough some long))
+    ] in
     record {
       utf8 = search rules;
       parts = c.loop-rest.invariant.parts ∙ ap (λ r. joined rows ++ r) c.first_row.ensures.parts
           ∙ sym (append_assoc (joined rows) own after) ∙ ap (λ r. r ++ after) (sym more);
       short = omega (arith, c.first_row.ensures.less, c.loop-rest.invariant.short);
       few = omega (arith, len, before, c.first_row.ensures.less);
-      before_last = λ some. omega (arith, len, before, c.first_row.ensures.enough some);
+      before_last = λ some. omega (arith, len, before, c.first_row.ensures.enough some, sizes);
+      full = λ long. rw c.in_ok-push.ensures.items (All-push IsFull c.loop-rest.rows.items row (c.loop-rest.invariant.full long)
+          (own_full long));
+      enough = λ some long. c.first_row.ensures.rest some;
+      one = λ short. omega (arith, len, c.loop-rest.invariant.none short some);
+      none = λ short left. absurd (omega (arith, left, c.first_row.ensures.whole (omega (arith, short, c.loop-rest.invariant.less))));
+      less = omega (arith, c.first_row.ensures.less, c.loop-rest.invariant.less);
+      empty = λ nothing. absurd (omega (arith, nothing, some, c.loop-rest.invariant.less));
     }
 
 pub returns-clause-text : goal.returns-clause-text

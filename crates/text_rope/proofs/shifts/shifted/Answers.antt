@@ -3,38 +3,39 @@ use Rattle.text_rope.proofs.shifts.shifted.Goals as goal
 
 pub overflow_add-result-2 : goal.overflow_add-result-2
 overflow_add-result-2 c =
-    omega (arith, (shifted_count Chars c.args.whole.now c.args.shift.now c.requires).fits, c.requires.short_old, c.requires.short_new)
+    omega (arith, (shifted_count Chars c.args.whole.now c.args.shift.now c.requires.fits c.requires.starts c.requires.ends).fits, c.requires.fits.short_old, c.requires.fits.short_new)
 
 pub overflow_sub-result-2 : goal.overflow_sub-result-2
-overflow_sub-result-2 c = omega (arith, (shifted_count Chars c.args.whole.now c.args.shift.now c.requires).out_le)
+overflow_sub-result-2 c = omega (arith, (shifted_count Chars c.args.whole.now c.args.shift.now c.requires.fits c.requires.starts c.requires.ends).out_le)
 
 pub overflow_add-result-3 : goal.overflow_add-result-3
 overflow_add-result-3 c =
-    omega (arith, (shifted_count Utf16 c.args.whole.now c.args.shift.now c.requires).fits, c.requires.short_old, c.requires.short_new)
+    omega (arith, (shifted_count Utf16 c.args.whole.now c.args.shift.now c.requires.fits c.requires.starts c.requires.ends).fits, c.requires.fits.short_old, c.requires.fits.short_new)
 
 pub overflow_sub-result-3 : goal.overflow_sub-result-3
-overflow_sub-result-3 c = omega (arith, (shifted_count Utf16 c.args.whole.now c.args.shift.now c.requires).out_le)
+overflow_sub-result-3 c = omega (arith, (shifted_count Utf16 c.args.whole.now c.args.shift.now c.requires.fits c.requires.starts c.requires.ends).out_le)
 
 pub overflow_add-result-4 : goal.overflow_add-result-4
 overflow_add-result-4 c =
-    omega (arith, (shifted_count Lf c.args.whole.now c.args.shift.now c.requires).fits, c.requires.short_old, c.requires.short_new)
+    omega (arith, (shifted_count Lf c.args.whole.now c.args.shift.now c.requires.fits c.requires.starts c.requires.ends).fits, c.requires.fits.short_old, c.requires.fits.short_new)
 
 pub overflow_sub-result-4 : goal.overflow_sub-result-4
-overflow_sub-result-4 c = omega (arith, (shifted_count Lf c.args.whole.now c.args.shift.now c.requires).out_le)
+overflow_sub-result-4 c = omega (arith, (shifted_count Lf c.args.whole.now c.args.shift.now c.requires.fits c.requires.starts c.requires.ends).out_le)
 
 pub overflow_add-result-5 : goal.overflow_add-result-5
 overflow_add-result-5 c =
-    omega (arith, (shifted_count Crlf c.args.whole.now c.args.shift.now c.requires).fits, c.requires.short_old, c.requires.short_new)
+    omega (arith, (shifted_count Crlf c.args.whole.now c.args.shift.now c.requires.fits c.requires.starts c.requires.ends).fits, c.requires.fits.short_old, c.requires.fits.short_new)
 
 pub overflow_sub-result-5 : goal.overflow_sub-result-5
-overflow_sub-result-5 c = omega (arith, (shifted_count Crlf c.args.whole.now c.args.shift.now c.requires).out_le)
+overflow_sub-result-5 c = omega (arith, (shifted_count Crlf c.args.whole.now c.args.shift.now c.requires.fits c.requires.starts c.requires.ends).out_le)
 
 pub overflow_add-result-6 : goal.overflow_add-result-6
 overflow_add-result-6 c =
-    omega (arith, (shifted_count Lines c.args.whole.now c.args.shift.now c.requires).fits, c.requires.short_old, c.requires.short_new)
+    omega (arith, (shifted_count Lines c.args.whole.now c.args.shift.now c.requires.fits c.requires.starts c.requires.ends).fits, c.requires.fits.short_old, c.requires.fits.short_new)
 
 pub overflow_sub-result-6 : goal.overflow_sub-result-6
-overflow_sub-result-6 c = omega (arith, (shifted_count Lines c.args.whole.now c.args.shift.now c.requires).out_le)
+overflow_sub-result-6 c = omega (arith, (shifted_count Lines c.args.whole.now c.args.shift.now c.requires.fits c.requires.starts c.requires.ends).out_le)
 
 pub returns : goal.returns
-returns c x old new y whole_is is = shifted_numbers c.args.whole.now c.args.shift.now x old new y whole_is is
+returns c x old new y whole_is is = shifted_numbers c.args.whole.now c.args.shift.now x old new y whole_is is c.requires.starts
+    c.requires.ends

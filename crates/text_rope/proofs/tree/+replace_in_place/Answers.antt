@@ -1,4 +1,4 @@
-use Rattle.text_rope.proofs.lemmas.{Seen, ◌≡◌, ◌++◌, refl, ◌∙◌, sym, ap, arith, chars, length-append, Text, joined_size, joined_size-append, right_if, boundaries_left, boundaries_right, fits_shift, side_changed}
+use Rattle.text_rope.proofs.lemmas.{Seen, ◌≡◌, ◌++◌, refl, ◌∙◌, sym, ap, arith, chars, length-append, Text, joined_size, joined_size-append, right_if, boundaries_left, boundaries_right, changed_in, side_changed}
 use Rattle.text_rope.specs.Shifts.{IsOneChanged}
 use Rattle.text_rope.specs.Views.{IsSide, IsFork, seen}
 use Rattle.text_rope.proofs.tree.+replace_in_place.Goals as goal
@@ -10,9 +10,9 @@ Fork::replace_in_place-replace_in_place-requires t c =
     let right = c.args.self.now.right.texts in
     let sizes = joined_size-append left right in
     let len = ap (λ s. s.len) c.summary.ensures.summary in
-    let r = c.requires.1.1.1 in (
+    let r = c.requires.1.1.1.1 in (
       grind (arith, length-append {A = Text}),
-      (r.0, (omega (arith, len, c.if-to-middle.true), (r.1.1.0, omega (arith, sizes, r.1.1.1)))),
+      (c.requires.1.1.0, (r.0, (omega (arith, len, c.if-to-middle.true), (r.1.1.0, omega (arith, sizes, r.1.1.1))))),
     )
 
 pub Fork::replace_in_place-replace_in_place-requires-then-middle-from : goal.Fork::replace_in_place-replace_in_place-requires-then-middle-from
@@ -21,11 +21,14 @@ Fork::replace_in_place-replace_in_place-requires-then-middle-from t c =
     let right = c.args.self.now.right.texts in
     let sizes = joined_size-append left right in
     let len = ap (λ s. s.len) c.summary.ensures.summary in
-    let r = c.requires.1.1.1 in (
+    let r = c.requires.1.1.1.1 in (
       grind (arith, length-append {A = Text}),
       (
-        omega (arith, r.0, c.if-middle-from.true),
-        (omega (arith, len, sizes, r.1.0, r.0, c.if-middle-from.true), (r.1.1.0, omega (arith, sizes, r.1.1.1, c.if-middle-from.true))),
+        c.requires.1.1.0,
+        (
+          omega (arith, r.0, c.if-middle-from.true),
+          (omega (arith, len, sizes, r.1.0, r.0, c.if-middle-from.true), (r.1.1.0, omega (arith, sizes, r.1.1.1, c.if-middle-from.true))),
+        ),
       ),
     )
 
@@ -35,7 +38,7 @@ Fork::replace_in_place-returns-then-to-middle-clause-not_boundary t c refused bo
     let right = c.args.self.now.right.texts in
     let len = ap (λ s. s.len) c.summary.ensures.summary in
     c.replace_in_place.ensures.not_boundary refused
-    (boundaries_left left right c.args.from c.args.to (omega (arith, len, c.if-to-middle.true)) c.requires.1.1.1.0 both)
+    (boundaries_left left right c.args.from c.args.to (omega (arith, len, c.if-to-middle.true)) c.requires.1.1.1.1.0 both)
 
 pub Fork::replace_in_place-returns-then-to-middle-clause-few : goal.Fork::replace_in_place-returns-then-to-middle-clause-few
 Fork::replace_in_place-returns-then-to-middle-clause-few t c =
@@ -70,11 +73,11 @@ Fork::replace_in_place-returns-then-middle-from-clause-not_boundary t c refused 
     let right = c.args.self.now.right.texts in
     let len = ap (λ s. s.len) c.summary.ensures.summary in
     c.replace_in_place-then-middle-from.ensures.not_boundary refused
-    (boundaries_right left right c.summary.result.now.len c.args.from c.args.to len c.if-middle-from.true c.requires.1.1.1.0 both)
+    (boundaries_right left right c.summary.result.now.len c.args.from c.args.to len c.if-middle-from.true c.requires.1.1.1.1.0 both)
 
-pub Side::replace_in_place-shifted-self-inside-requires : goal.Side::replace_in_place-shifted-self-inside-requires
-Side::replace_in_place-shifted-self-inside-requires t c =
-    let r = c.requires.1.1 in
+pub Side::replace_in_place-summary_after-self-inside-requires : goal.Side::replace_in_place-summary_after-self-inside-requires
+Side::replace_in_place-summary_after-self-inside-requires t c =
+    let r = c.requires.1.1.1 in
     elim c.match-self.branch [
       | Side::replace_in_place-in-Block+in-Some+in_ok-replace_in_place-in-Some w ↦
           let old = w.in-Block.block.value in
@@ -83,7 +86,7 @@ Side::replace_in_place-shifted-self-inside-requires t c =
           let is : old ≡ c.args.self.now.texts = ap (λ n. (seen n).texts) (sym w.in-Block.is) ∙ ap (λ d. d.texts) c.self.view_is in
           let changed : IsOneChanged old new c.args.from c.args.to (chars c.args.more.now) w.replace_in_place.new.shift =
           rw w.in-Some.ensures.value at w.in_ok-replace_in_place-in-Some.ensures.changed in
-          rw (w.self-inside-is, w.shift-is) (fits_shift old new c.args.from c.args.to (chars c.args.more.now) w.replace_in_place.new.shift
+          rw (w.self-inside-is, w.shift-is) (changed_in old new c.args.from c.args.to (chars c.args.more.now) w.replace_in_place.new.shift
           c.self.inside.summary changed r.0 side.summary_is side.short (omega (arith, ap joined_size is, r.1.1.1)))
       | Side::replace_in_place-in-Fork+in-Some-get_mut+in_ok-replace_in_place-in-Some-get_mut w ↦
           let fork = w.in-Fork.fork.value in
@@ -96,14 +99,14 @@ Side::replace_in_place-shifted-self-inside-requires t c =
           let is : old ≡ c.args.self.now.texts = ap (λ n. (seen n).texts) (sym w.in-Fork.is) ∙ ap (λ d. d.texts) c.self.view_is in
           let changed : IsOneChanged old new c.args.from c.args.to (chars c.args.more.now) shift =
           rw w.in-Some-get_mut.ensures.value at w.in_ok-replace_in_place-in-Some-get_mut.ensures.changed in
-          rw (w.self-inside-is, w.shift-is) (fits_shift old new c.args.from c.args.to (chars c.args.more.now) shift
+          rw (w.self-inside-is, w.shift-is) (changed_in old new c.args.from c.args.to (chars c.args.more.now) shift
           c.self.inside.summary changed r.0 sound.0.summary_is sound.0.short (omega (arith, ap joined_size is, r.1.1.1)))
     ]
 
 pub Side::replace_in_place-invariant_of-self-2 : goal.Side::replace_in_place-invariant_of-self-2
 Side::replace_in_place-invariant_of-self-2 t c =
-    let r = c.requires.1.1 in
-    let told = c.shifted-self-inside.ensures in
+    let r = c.requires.1.1.1 in
+    let told = c.summary_after-self-inside.ensures in
     elim c.match-self.branch [
       | Side::replace_in_place-in-Block+in-Some+in_ok-replace_in_place-in-Some w ↦
           let old : Seen = record { texts = w.in-Block.block.value; height = 0 } in
@@ -114,7 +117,7 @@ Side::replace_in_place-invariant_of-self-2 t c =
           let changed : IsOneChanged old.texts new.texts c.args.from c.args.to (chars c.args.more.now) w.replace_in_place.new.shift =
           rw w.in-Some.ensures.value at w.in_ok-replace_in_place-in-Some.ensures.changed in
           rw w.self-inside-is (side_changed old new c.args.from c.args.to (chars c.args.more.now) w.replace_in_place.new.shift
-          c.self.inside.summary c.shifted-self-inside.result side changed r.0 refl (λ x row own y whole is. told x row own y (rw w.self-inside-is whole) (rw w.shift-is is)) (omega (arith, ap joined_size is, r.1.1.1))
+          c.self.inside.summary c.summary_after-self-inside.result side changed r.0 refl (rw w.self-inside-is at told) (omega (arith, ap joined_size is, r.1.1.1))
           w.in_ok-replace_in_place-in-Some.ensures.few)
       | Side::replace_in_place-in-Fork+in-Some-get_mut+in_ok-replace_in_place-in-Some-get_mut w ↦
           let fork = w.in-Fork.fork.value in
@@ -129,8 +132,8 @@ Side::replace_in_place-invariant_of-self-2 t c =
           ap (λ n. (seen n).texts) (sym w.in-Fork.is) ∙ ap (λ d. d.texts) c.self.view_is in
           let changed : IsOneChanged old.texts new.texts c.args.from c.args.to (chars c.args.more.now) shift = rw here at ensured.changed in
           rw w.self-inside-is (
-            side_changed old new c.args.from c.args.to (chars c.args.more.now) shift c.self.inside.summary c.shifted-self-inside.result
-                sound.0 changed r.0 (rw here at ensured.height) (λ x row own y whole is. told x row own y (rw w.self-inside-is whole) (rw w.shift-is is)) (omega (arith, ap joined_size is, r.1.1.1)) ensured.few,
+            side_changed old new c.args.from c.args.to (chars c.args.more.now) shift c.self.inside.summary c.summary_after-self-inside.result
+                sound.0 changed r.0 (rw here at ensured.height) (rw w.self-inside-is at told) (omega (arith, ap joined_size is, r.1.1.1)) ensured.few,
             ensured.sound,
           )
     ]
