@@ -5,16 +5,17 @@ use Rattle.std.specs.Prelude.{ℕ, ◌≡◌, ◌+◌, ◌^◌, ◌<◌, ◌≤�
 use Rattle.text_summary.specs.Pieces.{joined, joined_size}
 use Rattle.text_summary.specs.Summaries.{summary_of}
 use Rattle.text_summary.specs.declared.summaries.Summary.{Summary}
+use Rattle.text_rope.specs.Blocks.{AreSome}
 use Rattle.text_rope.specs.Shapes.{Seen, DifferByAtMost, fewest}
 use Rattle.text_rope.specs.declared.tree.Node.{Node}
 use Rattle.text_rope.specs.declared.tree.Node.TheVariants.{Block, Fork}
 
--- what is known of each tree: the summary of its text, that this is neither empty nor too long, and how low it is
+-- what is known of each tree: the summary of its text, which is not too long, that no row is empty, and how low it is
 pub record IsSide (whole : Seen) (summary : Summary) : Type 0 where
   pub summary_is : summary ≡ summary_of (joined whole.texts)
   pub some : 0 < length whole.texts
   pub short : joined_size whole.texts < 2 ^ 63
-  pub few : length whole.texts ≤ joined_size whole.texts
+  pub each : AreSome whole.texts
   pub low : whole.height < length whole.texts
   pub many : fewest whole.height ≤ length whole.texts
 

@@ -79,7 +79,7 @@ impl Block {
         ensures full { OnOk result (least ≤ shift.new.own.len) }
         ensures not_boundary { result ≡ Err NotBoundary
             → ¬ (IsBoundary (joined self.old) from × IsBoundary (joined self.old) to) }
-        ensures few { length self.new ≤ joined_size self.new }
+        ensures each { AreSome self.new }
         ensures err { OnErr result (self.new ≡ self.old) }
         ensures work { Costs work.old work.new 0 1 }
     {
@@ -101,19 +101,20 @@ impl Block {
 
 /// A row of a block, and where it starts.
 #[derive(Clone, Copy)]
-struct RowPlace {
-    row: usize,
-    start: usize,
+pub(crate) struct RowPlace {
+    pub(crate) row: usize,
+    pub(crate) start: usize,
 }
 
-/// The first row that ends at a byte index or after it.
-fn row_up_to(rows: &[Row], to: usize) -> RowPlace
+/// The first row that ends at a byte index or after it: the one that the byte before is in.
+pub(crate) fn row_up_to(rows: &[Row], to: usize) -> RowPlace
     requires some { 0 < length rows.now }
     requires within { to ≤ joined_size rows.now }
     requires short { joined_size rows.now < 2 ^ 63 }
     ensures row { result.row < length rows.now }
     ensures start { result.start ≡ joined_size (take result.row rows.now) }
     ensures after { result.start ≤ to }
+    ensures before { 0 < to → result.start < to }
     ensures within { to ≤ result.start + size (piece_at rows.now result.row) }
 {
     let mut start = 0;
@@ -133,7 +134,6 @@ pub(crate) fn summary_of_rows(rows: &[Row]) -> Summary
     requires { joined_size rows.now < 2 ^ 63 }
     ensures summary { result ≡ summary_of (joined rows.now) }
     ensures each { AreSome rows.now }
-    ensures few { length rows.now ≤ joined_size rows.now }
 {
     let mut whole = Summary::none();
     for row in rows {

@@ -51,7 +51,7 @@ pub(crate) fn exchanged(
     requires end { IsBoundary (joined tree.now) to }
     requires short { joined_size tree.now + length more.now < 2 ^ 63 + (to - from) }
     ensures replaced { IfOk result (λ whole. IsReplaced (joined tree.now) (joined whole) from to (chars more.now)) }
-    ensures work { TakesLog 60 240 (joined_size tree.now) (length more.now) work.old work.new }
+    ensures work { TakesLog 53 240 (joined_size tree.now) (length more.now) work.old work.new }
 {
     match tree.root() {
         Some(side) => {
@@ -77,10 +77,10 @@ fn exchanged_in(
     requires end { IsBoundary (joined side.now.texts) to }
     requires short { joined_size side.now.texts + length more.now < 2 ^ 63 + (to - from) }
     ensures replaced { IfOk result (λ whole. IsReplaced (joined side.now.texts) (joined whole) from to (chars more.now)) }
-    ensures work { Costs work.old work.new (59 * side.now.height + 64 * (length more.now / min_piece) + 100)
+    ensures work { Costs work.old work.new (53 * side.now.height + 64 * (length more.now / min_piece) + 100)
         (3 * (length more.now / min_piece) + 240) }
 {
-    let _few = side.summary();
+    let _each = side.summary();
     let patch = patch_of(work, side, from, to);
     let patch = widened(work, side, from, to, patch, more.len());
     let Patch {

@@ -8,6 +8,7 @@ ghost use Rattle.text_rope.specs.Rests.{IsRestFrom, IsRestAt};
 ghost use Rattle.text_rope.specs.Rows.{max_piece};
 ghost use Rattle.text_rope.specs.Work.{WorkState, Costs};
 
+use crate::block::row_up_to;
 use crate::row::Row;
 use crate::tree::{Look, Side, Tree};
 use crate::work::Work;
@@ -187,17 +188,9 @@ fn rest_of_rows(rows: &[Row], before: usize, at: usize) -> Rest<'_>
     requires inside { at < before + joined_size rows.now }
     ensures { IsRestAt before rows.now result.rows.now result.start at }
 {
-    let mut start = before;
-    for i in 0..rows.len() {
-        let row = &rows[i];
-        let end = start + row.summary().len;
-        if at < end {
-            return Rest {
-                rows: &rows[i..],
-                start,
-            };
-        }
-        start = end;
+    let place = row_up_to(rows, at - before + 1);
+    Rest {
+        rows: &rows[place.row..],
+        start: before + place.start,
     }
-    unreachable!()
 }

@@ -6,7 +6,7 @@ ghost use Rattle.str_indices.specs.Text.{size};
 ghost use Rattle.text_summary.specs.Changes.{IsReplaced};
 ghost use Rattle.text_summary.specs.Pieces.{joined};
 ghost use Rattle.text_rope.specs.Chunks.{IsChunkAt, ChunksState, IsCopied, IsRead};
-ghost use Rattle.text_rope.specs.Edits.{IsInserted, IsRemoved, IsCutAt};
+ghost use Rattle.text_rope.specs.Edits.{IsCutAt};
 ghost use Rattle.text_rope.specs.Lines.{line_end};
 ghost use Rattle.text_rope.specs.Rows.{max_piece, min_piece};
 ghost use Rattle.text_rope.specs.States.{RowsState};
@@ -270,7 +270,7 @@ impl Rope {
     /// the end, or else `TooLong` where the text would have more than `isize::MAX` bytes, and else `NoMemory` where
     /// memory was refused.
     pub fn insert(&mut self, at: usize, text: &str) -> Result<(), Refusal>
-        ensures ok { OnOk result (IsInserted self.old self.new at (chars text.now)) }
+        ensures ok { OnOk result (IsReplaced self.old self.new at at (chars text.now)) }
         ensures err { OnErr result (self.new ≡ self.old) }
         ensures not_boundary { IsErrOf result NotBoundary ↔ (¬ (IsBoundary self.old at)) }
         ensures too_long { IsErrOf result TooLong
@@ -278,8 +278,7 @@ impl Rope {
         ensures no_memory { IsErrOf result NoMemory → chars text.now ≢ [] }
         ensures not_ordered { result ≢ Err NotOrdered }
     {
-        self.exchange(&mut Work::none(), at, at, text)?;
-        Ok(())
+        self.exchange(&mut Work::none(), at, at, text)
     }
 
     /// Takes out what is between two byte indices, each between characters.
@@ -288,7 +287,7 @@ impl Rope {
     /// `NotBoundary` where one is inside a character or past the end, and else `NoMemory` where memory was refused: never where
     /// nothing is left of the text.
     pub fn remove(&mut self, range: Range<usize>) -> Result<(), Refusal>
-        ensures ok { OnOk result (IsRemoved self.old self.new range.start range.end) }
+        ensures ok { OnOk result (IsReplaced self.old self.new range.start range.end []) }
         ensures err { OnErr result (self.new ≡ self.old) }
         ensures not_ordered { IsErrOf result NotOrdered ↔ (range.end < range.start) }
         ensures not_boundary { IsErrOf result NotBoundary
@@ -338,7 +337,7 @@ impl Rope {
         ensures moved { OnOk result (other.new ≡ []) }
         ensures err { OnErr result ((self.new ≡ self.old) × (other.new ≡ other.old)) }
         ensures no_other { IsOkUnless result NoMemory }
-        ensures work { TakesLog 61 241 (size self.old + size other.old) max_piece work.old work.new }
+        ensures work { TakesLog 54 241 (size self.old + size other.old) max_piece work.old work.new }
     {
         let len = self.len();
         if let Some(row) = other.tree.only_row() {
@@ -388,7 +387,7 @@ impl Rope {
         ensures ok { IfOk result (λ back. IsCutAt self.old self.new back at) }
         ensures err { OnErr result (self.new ≡ self.old) }
         ensures inside { IsErr result → (0 < at) × (at < size self.old) }
-        ensures work { TakesLog 120 480 (size self.old) 0 work.old work.new }
+        ensures work { TakesLog 106 480 (size self.old) 0 work.old work.new }
     {
         let len = self.len();
         if at == len {
@@ -404,23 +403,9 @@ impl Rope {
             tree: self.tree.share()?,
             alloc: self.alloc,
         };
-        back.take_out(work, 0, at)?;
-        self.take_out(work, at, len)?;
+        back.rewrite(work, 0, at, "")?;
+        self.rewrite(work, at, len, "")?;
         Ok(back)
-    }
-
-    /// Takes out what is between two boundaries.
-    fn take_out(&mut self, work: &mut Work, from: usize, to: usize) -> Result<(), AllocError>
-        requires order { from ≤ to }
-        requires start { IsBoundary self.old from }
-        requires end { IsBoundary self.old to }
-        requires short { size self.old < 2 ^ 63 }
-        ensures ok { OnOk result (IsRemoved self.old self.new from to) }
-        ensures err { OnErr result (self.new ≡ self.old) }
-        ensures work { TakesLog 60 240 (size self.old) 0 work.old work.new }
-    {
-        self.rewrite(work, from, to, "")?;
-        Ok(())
     }
 
     /// Exchanges what is between two byte indices, each between characters, for a text: in place where no node on the way is
@@ -441,7 +426,7 @@ impl Rope {
             × (2 ^ 63 + (to - from) ≤ size self.old + length text.now)) }
         ensures no_memory { IsErrOf result NoMemory → (chars text.now ≢ []) ⊎ ((from < to) × (to - from < size self.old)) }
         ensures not_ordered { result ≢ Err NotOrdered }
-        ensures work { TakesLog 61 241 (size self.old) (length text.now) work.old work.new }
+        ensures work { TakesLog 54 241 (size self.old) (length text.now) work.old work.new }
     {
         let len = self.len();
         if len < to {
@@ -478,7 +463,7 @@ impl Rope {
             × (2 ^ 63 + (to - from) ≤ size self.old + length text.now)) }
         ensures no_memory { IsErrOf result NoMemory → (from < to) ⊎ (chars text.now ≢ []) }
         ensures not_ordered { result ≢ Err NotOrdered }
-        ensures work { TakesLog 60 240 (size self.old) (length text.now) work.old work.new }
+        ensures work { TakesLog 53 240 (size self.old) (length text.now) work.old work.new }
     {
         if !(self.is_char_boundary(from) && self.is_char_boundary(to)) {
             return Err(Refusal::NotBoundary);
@@ -510,7 +495,7 @@ impl Rope {
         requires short { size self.old + length text.now < 2 ^ 63 + (to - from) }
         ensures ok { OnOk result (IsReplaced self.old self.new from to (chars text.now)) }
         ensures err { OnErr result (self.new ≡ self.old) }
-        ensures work { TakesLog 60 240 (size self.old) (length text.now) work.old work.new }
+        ensures work { TakesLog 53 240 (size self.old) (length text.now) work.old work.new }
     {
         self.tree = exchanged(work, self.alloc, &self.tree, from, to, text)?;
         Ok(())

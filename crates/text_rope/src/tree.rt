@@ -5,7 +5,7 @@ ghost use Rattle.str_indices.specs.Text.{size};
 ghost use Rattle.text_summary.specs.Changes.{IsReplaced};
 ghost use Rattle.text_summary.specs.Pieces.{joined, joined_size};
 ghost use Rattle.text_summary.specs.Summaries.{summary_of};
-ghost use Rattle.text_rope.specs.Blocks.{max_rows};
+ghost use Rattle.text_rope.specs.Blocks.{max_rows, AreSome};
 ghost use Rattle.text_rope.specs.Shapes.{DifferByAtMost, IsBlockOf, IsForkOf, fewest};
 ghost use Rattle.text_rope.specs.Looks.{IsLookAt};
 ghost use Rattle.text_rope.specs.Shifts.{IsChangedIn, IsOneChanged};
@@ -77,10 +77,12 @@ pub(crate) enum Look<'a> {
 
 impl Side {
     /// The summary of its text.
+    #[tactic(auto, using(crate::proofs::lemmas::Rows::few_some))]
     pub(crate) fn summary(&self) -> &Summary
         ensures summary { result.now ≡ summary_of (joined self.now.texts) }
         ensures some { 0 < length self.now.texts }
         ensures short { joined_size self.now.texts < 2 ^ 63 }
+        ensures each { AreSome self.now.texts }
         ensures few { length self.now.texts ≤ joined_size self.now.texts }
     {
         let _node = &self.node;
@@ -88,6 +90,7 @@ impl Side {
     }
 
     /// How many levels of forks it has.
+    #[tactic(auto, using(crate::proofs::lemmas::Rows::few_some))]
     pub(crate) fn height(&self) -> usize
         ensures height { result ≡ self.now.height }
         ensures low { self.now.height < length self.now.texts }
@@ -151,7 +154,7 @@ impl Side {
             IsOneChanged self.old.texts self.new.texts from to (chars more.now) shift.new) }
         ensures full { OnOk result (least ≤ shift.new.own.len) }
         ensures height { self.new.height ≡ self.old.height }
-        ensures few { length self.new.texts ≤ joined_size self.new.texts }
+        ensures each { AreSome self.new.texts }
         ensures not_boundary { result ≡ Err NotBoundary
             → ¬ (IsBoundary (joined self.old.texts) from × IsBoundary (joined self.old.texts) to) }
         ensures err { OnErr result (self.new.texts ≡ self.old.texts) }
@@ -199,8 +202,7 @@ impl Fork {
         ensures changed { OnOk result (IsOneChanged (self.old.left.texts ++ self.old.right.texts)
             (self.new.left.texts ++ self.new.right.texts) from to (chars more.now) shift.new) }
         ensures full { OnOk result (least ≤ shift.new.own.len) }
-        ensures few { length (self.new.left.texts ++ self.new.right.texts)
-            ≤ joined_size (self.new.left.texts ++ self.new.right.texts) }
+        ensures each { AreSome (self.new.left.texts ++ self.new.right.texts) }
         ensures not_boundary { result ≡ Err NotBoundary
             → ¬ (IsBoundary (joined (self.old.left.texts ++ self.old.right.texts)) from
             × IsBoundary (joined (self.old.left.texts ++ self.old.right.texts)) to) }

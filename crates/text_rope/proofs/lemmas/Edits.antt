@@ -4,7 +4,7 @@ use Rattle.text_rope.proofs.lemmas.Forks.{joined_size-append}
 use Rattle.text_rope.proofs.lemmas.Places.{text_of_place}
 use Rattle.text_rope.proofs.lemmas.RowEnds.{cut_twice, size-row}
 use Rattle.text_rope.specs.Chunks.{IsPartAt}
-use Rattle.text_rope.specs.Edits.{IsInserted, IsRemoved, IsCutAt}
+use Rattle.text_rope.specs.Edits.{IsCutAt}
 use Rattle.text_rope.specs.RowEnds.{IsRowOf, IsRowEnd}
 
 -- where the row starts, and where it ends
@@ -230,31 +230,6 @@ pub narrowed_parts : (whole new head tail more text : Text) (start from to end :
 narrowed_parts whole new head tail more text start from to end a b order is replaced =
     narrowed whole new more text from to start end (widened_of whole head tail more text start from to end a b order is) replaced
 
--- nothing exchanged for a text is that text put in
-pub inserted_of : (old new : Text) (at : ℕ) (text : Text) → IsReplaced old new at at text → IsInserted old new at text
-inserted_of old new at text r =
-    let none : r.middle ≡ [] = none_of r.middle (omega (arith, r.start, r.end)) in
-    record {
-      front = r.front;
-      back = r.back;
-      was = r.was ∙ ap (λ m. r.front ++ (m ++ r.back)) none;
-      place = r.start;
-      is = r.is;
-    }
-
--- a part exchanged for nothing is taken out
-pub removed_of : (old new : Text) (from to : ℕ) (text : Text) → text ≡ [] → IsReplaced old new from to text
-    → IsRemoved old new from to
-removed_of old new from to text none r = record {
-  front = r.front;
-  middle = r.middle;
-  back = r.back;
-  was = r.was;
-  start = r.start;
-  end = r.end;
-  is = r.is ∙ ap (λ t. r.front ++ (t ++ r.back)) none;
-}
-
 -- all of it exchanged for nothing
 pub replaced_all : (old : Text) (from to : ℕ) (text : Text) → text ≡ [] → from ≤ to → to ≤ size old
     → to - from ≡ size old → IsReplaced old [] from to text
@@ -285,8 +260,8 @@ put_before old new text r =
     r.is ∙ ap (λ f. f ++ (text ++ r.back)) front ∙ ap (λ b. text ++ b) (sym rest)
 
 -- what is before a place, with the rest taken out, and what is from it on, taken from a copy
-pub cut_of : (whole copy front back : Text) (at len : ℕ) → copy ≡ whole → len ≡ size whole → IsRemoved whole front at len
-    → IsRemoved copy back 0 at → IsCutAt whole front back at
+pub cut_of : (whole copy front back : Text) (at len : ℕ) → copy ≡ whole → len ≡ size whole → IsReplaced whole front at len []
+    → IsReplaced copy back 0 at [] → IsCutAt whole front back at
 cut_of whole copy front back at len same len_is a b =
     let no_back : a.back ≡ [] = none_of a.back (omega (arith, ap size a.was, size-append a.front (a.middle ++ a.back), size-append a.middle a.back, a.end, len_is)) in
     let no_front : b.front ≡ [] = none_of b.front b.start in

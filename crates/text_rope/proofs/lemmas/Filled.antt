@@ -7,17 +7,9 @@ use Rattle.text_rope.specs.Shifts.{IsOneChanged}
 use Rattle.text_rope.specs.declared.row.Unplaced.{Unplaced}
 use Rattle.text_rope.specs.declared.shifts.Shift.{Shift}
 use Rattle.text_rope.proofs.lemmas.Forks.{joined_size-append}
-use Rattle.text_rope.proofs.lemmas.RowEnds.{last_size}
-
--- the first of them, and the last
-full_front : (xs ys : List Text) → AreFull (xs ++ ys) → AreFull xs
-full_front [] ys full = All-nil IsFull
-full_front (x ∷ xs) ys full =
-    All-cons IsFull x xs (All-head IsFull x (xs ++ ys) full) (full_front xs ys (All-tail IsFull x (xs ++ ys) full))
-
-full_back : (xs ys : List Text) → AreFull (xs ++ ys) → AreFull ys
-full_back [] ys full = full
-full_back (x ∷ xs) ys full = full_back xs ys (All-tail IsFull x (xs ++ ys) full)
+use Rattle.text_rope.proofs.lemmas.RowEnds.{last_size, no_front, no_back}
+use Rattle.text_rope.proofs.lemmas.Rows.{all_front, all_back}
+use Rattle.text_rope.specs.Blocks.{AreSome}
 
 -- how many bytes they have
 full_bytes : (rows : List Text) → AreFull rows → min_piece * length rows ≤ joined_size rows
@@ -61,42 +53,20 @@ alone_back old front (x ∷ xs) one split part =
     let none = no_bytes front (omega (arith, one, ap length split, length-append front (x ∷ xs))) in
     absurd (omega (arith, none, part))
 
--- none before the beginning, and none behind the end
-none_front : (old front back : List Text) → IsFilled old → length old ≤ joined_size old → old ≡ front ++ back
-    → joined_size front ≡ 0 → front ≡ []
-none_front old [] back filled few split none = refl
-none_front old (x ∷ xs) back (inl full) few split none =
-    absurd (omega (arith, full_bytes (x ∷ xs) (full_front (x ∷ xs) back (subst AreFull split full)), none))
-none_front old (x ∷ xs) back (inr one) few split none =
-    let lengths = length-append (x ∷ xs) back in
-    let rest = no_bytes back (omega (arith, one, ap length split, lengths)) in
-    absurd (omega (arith, rest, none, few, ap length split, lengths, ap joined_size split, joined_size-append (x ∷ xs) back))
-
-none_back : (old front back : List Text) → IsFilled old → length old ≤ joined_size old → old ≡ front ++ back
-    → joined_size back ≡ 0 → back ≡ []
-none_back old front [] filled few split none = refl
-none_back old front (x ∷ xs) (inl full) few split none =
-    absurd (omega (arith, full_bytes (x ∷ xs) (full_back front (x ∷ xs) (subst AreFull split full)), none))
-none_back old front (x ∷ xs) (inr one) few split none =
-    let lengths = length-append front (x ∷ xs) in
-    let rest = no_bytes front (omega (arith, one, ap length split, lengths)) in
-    absurd (omega (arith, rest, none, few, ap length split, lengths, ap joined_size split, joined_size-append front (x ∷ xs)))
-
 -- rows exchanged for full ones, or all for one that may be short
-pub filled_exchanged : (old new rows : List Text) (from to : ℕ) → IsFilled old → length old ≤ joined_size old
+pub filled_exchanged : (old new rows : List Text) (from to : ℕ) → IsFilled old → AreSome old
     → AreExchanged old new from to rows → from < to
     → AreFull rows ⊎ ((from ≡ 0) × ((to ≡ joined_size old) × (length rows ≤ 1))) → IsFilled new
-filled_exchanged old new rows from to filled few ex some (inr all) =
-    let front = none_front old ex.front ex.first.back filled few ex.first.split (omega (arith, ex.first.place, all.0)) in
-    let back = none_back old ex.last.front ex.back filled few ex.last.split
-    (omega (arith, last_size old ex.back to ex.last, all.1.0)) in
+filled_exchanged old new rows from to filled each ex some (inr all) =
+    let front = no_front old ex.front from ex.first each all.0 in
+    let back = no_back old ex.back to ex.last each all.1.0 in
     let lengths = length-append ex.front (rows ++ ex.back) in
     inr (omega (arith, ap length ex.is, lengths, length-append rows ex.back, ap length front, ap length back, all.1.1))
-filled_exchanged old new rows from to (inl full) few ex some (inl own) =
-    let front = full_front ex.front ex.first.back (subst AreFull ex.first.split full) in
-    let back = full_back ex.last.front ex.back (subst AreFull ex.last.split full) in
+filled_exchanged old new rows from to (inl full) each ex some (inl own) =
+    let front = all_front IsFull ex.front ex.first.back (subst AreFull ex.first.split full) in
+    let back = all_back IsFull ex.last.front ex.back (subst AreFull ex.last.split full) in
     inl (subst AreFull (sym ex.is) (full_both ex.front (rows ++ ex.back) front (full_both rows ex.back own back)))
-filled_exchanged old new rows from to (inr one) few ex some (inl own) =
+filled_exchanged old new rows from to (inr one) each ex some (inl own) =
     let size_is = last_size old ex.back to ex.last in
     let front = alone_front old ex.front ex.first.back one ex.first.split (omega (arith, ex.first.place, some, size_is)) in
     let back = alone_back old ex.last.front ex.back one ex.last.split (omega (arith, ex.last.place, some)) in
@@ -127,8 +97,8 @@ filled_changed old new from to least text shift (inr one) c (inl same) full =
 filled_changed old new from to least text shift (inl all) c (inl same) full =
     let whole = subst AreFull c.was all in
     let own : IsFull c.own = omega (arith, full, same, ap (λ s. s.len) c.shift_is.own) in
-    let back = All-cons IsFull c.own c.back own (All-tail IsFull c.row c.back (full_back c.front (c.row ∷ c.back) whole)) in
-    inl (subst AreFull (sym c.is) (full_both c.front (c.own ∷ c.back) (full_front c.front (c.row ∷ c.back) whole) back))
+    let back = All-cons IsFull c.own c.back own (All-tail IsFull c.row c.back (all_back IsFull c.front (c.row ∷ c.back) whole)) in
+    inl (subst AreFull (sym c.is) (full_both c.front (c.own ∷ c.back) (all_front IsFull c.front (c.row ∷ c.back) whole) back))
 
 -- or none, after a refusal
 pub filled_if : {A : Type 0} (old new : List Text) (from to least : ℕ) (text : Text) (shift : Shift) (result : Result A Unplaced)
@@ -142,7 +112,7 @@ filled_if old new from to least text shift (Err e) filled c which full same = su
 pub full_row : (texts : List Text) (row : Text) (start end : ℕ) → IsFilled texts → IsRowOf texts row start end
     → size row < joined_size texts → min_piece ≤ size row
 full_row texts row start end (inl full) is part =
-    All-head IsFull row is.back (full_back is.front (row ∷ is.back) (subst AreFull is.parts full))
+    All-head IsFull row is.back (all_back IsFull is.front (row ∷ is.back) (subst AreFull is.parts full))
 full_row texts row start end (inr one) is part =
     let lengths = length-append is.front (row ∷ is.back) in
     let front = no_bytes is.front (omega (arith, one, ap length is.parts, lengths)) in

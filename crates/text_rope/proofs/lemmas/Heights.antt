@@ -141,7 +141,7 @@ takes_both a b n m old new of_a of_b costs =
 -- a change in place that was tried first, and two changes of one text
 takes_of : (h a b bytes more : ℕ) (old middle new : WorkState) → IsHeightOf h bytes → a ≤ h → b ≤ h
     → Costs old middle (1 * (a + 3) + 64 * (0 / min_piece)) (1 + 3 * (0 / min_piece))
-    → Costs middle new (60 * (b + 3) + 64 * (more / min_piece)) (240 + 3 * (more / min_piece)) → TakesLog 61 241 bytes more old new
+    → Costs middle new (53 * (b + 3) + 64 * (more / min_piece)) (240 + 3 * (more / min_piece)) → TakesLog 54 241 bytes more old new
 takes_of h a b bytes more old middle new is a_low b_low first then = record {
   height = h;
   is = is;
@@ -154,7 +154,7 @@ takes_of h a b bytes more old middle new is a_low b_low first then = record {
 }
 
 pub takes_further : (bytes more : ℕ) (old middle new : WorkState) → TakesLog 1 1 bytes 0 old middle
-    → TakesLog 60 240 bytes more middle new → TakesLog 61 241 bytes more old new
+    → TakesLog 53 240 bytes more middle new → TakesLog 54 241 bytes more old new
 takes_further bytes more old middle new a b = elim (cases_lt a.height b.height) [
   | inl less ↦ takes_of b.height a.height b.height bytes more old middle new b.is (omega (arith, less)) (omega arith) a.costs b.costs
   | inr not_less ↦
@@ -162,8 +162,8 @@ takes_further bytes more old middle new a b = elim (cases_lt a.height b.height) 
 ]
 
 twice_of : (h a b bytes : ℕ) (old middle new : WorkState) → IsHeightOf h bytes → a ≤ h → b ≤ h
-    → Costs old middle (60 * (a + 3) + 64 * (0 / min_piece)) (240 + 3 * (0 / min_piece))
-    → Costs middle new (60 * (b + 3) + 64 * (0 / min_piece)) (240 + 3 * (0 / min_piece)) → TakesLog 120 480 bytes 0 old new
+    → Costs old middle (53 * (a + 3) + 64 * (0 / min_piece)) (240 + 3 * (0 / min_piece))
+    → Costs middle new (53 * (b + 3) + 64 * (0 / min_piece)) (240 + 3 * (0 / min_piece)) → TakesLog 106 480 bytes 0 old new
 twice_of h a b bytes old middle new is a_low b_low first then = record {
   height = h;
   is = is;
@@ -175,8 +175,8 @@ twice_of h a b bytes old middle new is a_low b_low first then = record {
   };
 }
 
-pub takes_twice : (bytes : ℕ) (old middle new : WorkState) → TakesLog 60 240 bytes 0 old middle → TakesLog 60 240 bytes 0 middle new
-    → TakesLog 120 480 bytes 0 old new
+pub takes_twice : (bytes : ℕ) (old middle new : WorkState) → TakesLog 53 240 bytes 0 old middle → TakesLog 53 240 bytes 0 middle new
+    → TakesLog 106 480 bytes 0 old new
 takes_twice bytes old middle new a b = elim (cases_lt a.height b.height) [
   | inl less ↦ twice_of b.height a.height b.height bytes old middle new b.is (omega (arith, less)) (omega arith) a.costs b.costs
   | inr not_less ↦
@@ -184,8 +184,8 @@ takes_twice bytes old middle new a b = elim (cases_lt a.height b.height) [
 ]
 
 -- the cost of a change of a text is one of a longer text, with more that comes in
-pub takes_wider : (n m more most : ℕ) (old new : WorkState) → n ≤ m → more ≤ most → TakesLog 61 241 n more old new
-    → TakesLog 61 241 m most old new
+pub takes_wider : (n m more most : ℕ) (old new : WorkState) → n ≤ m → more ≤ most → TakesLog 54 241 n more old new
+    → TakesLog 54 241 m most old new
 takes_wider n m more most old new le within takes = record {
   height = takes.height;
   is = height_wider takes.height n m takes.is le;
@@ -198,7 +198,7 @@ takes_wider n m more most old new le within takes = record {
 }
 
 -- and so is that of a join
-pub takes_join : (m most : ℕ) (old new : WorkState) → TakesLog 6 16 m 0 old new → TakesLog 61 241 m most old new
+pub takes_join : (m most : ℕ) (old new : WorkState) → TakesLog 6 16 m 0 old new → TakesLog 54 241 m most old new
 takes_join m most old new takes = record {
   height = takes.height;
   is = takes.is;

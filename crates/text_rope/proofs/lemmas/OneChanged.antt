@@ -1,7 +1,6 @@
 -- Some rows of which one has changed.
-use Rattle.text_rope.proofs.lemmas.Common.{◌≡◌, ◌≢◌, ℕ, suc, inl, inr, cases_lt, take-append-drop, ◌+◌, ◌-◌, ◌^◌, ◌<◌, ◌≤◌, List, [], ◌∷◌, ◌++◌, length, take, drop, sym, ap, ◌∙◌, arith, append_assoc, length-append, Text, size, size-append, size-some, IsBoundary, boundary_upto, boundary_right, joined, joined_size, joined-append, piece_at, IsReplaced, size-replaced, summary_of, Summary, IsShift, Seen}
-use Rattle.std.proofs.lemmas.Grind.{get_or-set_at}
-use Rattle.std.proofs.lemmas.List.{take-set, drop-set, length-set, get_or-set_other}
+use Rattle.text_rope.proofs.lemmas.Common.{◌≡◌, ◌≢◌, ℕ, suc, take-append-drop, ◌+◌, ◌-◌, ◌^◌, ◌<◌, ◌≤◌, List, [], ◌∷◌, ◌++◌, length, take, drop, sym, ap, ◌∙◌, arith, append_assoc, length-append, Text, size, size-append, IsBoundary, boundary_upto, boundary_right, joined, joined_size, joined-append, piece_at, IsReplaced, size-replaced, summary_of, Summary, IsShift, Seen}
+use Rattle.std.proofs.lemmas.List.{take-set, drop-set}
 use Rattle.std.specs.Prelude.{slice_set, Result, Ok, Err, OnOk, OnErr}
 use Rattle.text_summary.proofs.lemmas.Callers.{drop-piece}
 use Rattle.text_rope.specs.Blocks.{AreSome}
@@ -11,13 +10,6 @@ use Rattle.text_rope.specs.declared.row.Unplaced.{Unplaced}
 use Rattle.text_rope.specs.declared.shifts.Shift.{Shift}
 use Rattle.text_rope.proofs.lemmas.Forks.{joined_size-append}
 
--- rows that are not empty have as many bytes
-pub few_some : (rows : List Text) → AreSome rows → length rows ≤ joined_size rows
-few_some [] each = omega arith
-few_some (row ∷ rows) each =
-    let rest = few_some rows (λ i before. each (suc i) (omega (arith, before))) in
-    omega (arith, size-append row (joined rows), size-some row (each 0 (omega arith)), rest)
-
 -- a row in the place of another
 set-round : (rows : List Text) (i : ℕ) (own : Text) → i < length rows
     → slice_set rows i own ≡ take i rows ++ own ∷ drop (suc i) rows
@@ -25,31 +17,6 @@ set-round rows i own inside =
     let next : i + 1 ≡ suc i = omega arith in
     sym (take-append-drop i (slice_set rows i own)) ∙ ap (λ t. t ++ drop i (slice_set rows i own)) (take-set rows i own)
     ∙ ap (λ d. take i rows ++ d) (drop-set rows i own inside) ∙ ap (λ n. take i rows ++ own ∷ drop n rows) next
-
--- none of them is empty then
-pub set_some : (rows : List Text) (i : ℕ) (own : Text) → own ≢ [] → AreSome rows → AreSome (slice_set rows i own)
-set_some rows i own some each j inside =
-    let before : j < length rows = omega (arith, inside, length-set rows i own) in
-    elim (cases_lt j i) [
-      | inl earlier ↦ λ none. each j before (sym (get_or-set_other rows i j own [] (λ same. omega (arith, same, earlier))) ∙ none)
-      | inr from ↦
-          elim (cases_lt i j) [
-            | inl later ↦ λ none. each j before (sym (get_or-set_other rows i j own [] (λ same. omega (arith, same, later))) ∙ none)
-            | inr upto ↦
-                let same : j ≡ i = omega (arith, from, upto) in
-                λ none. some (sym (get_or-set_at rows i j own [] same (omega (arith, same, before))) ∙ none)
-          ]
-    ]
-
--- one more that is not empty
-pub each_more : (rows : List Text) (i : ℕ) (row : Text) → row ≡ piece_at rows i → row ≢ []
-    → ((j : ℕ) → j < i → piece_at rows j ≢ []) → (j : ℕ) → j < i + 1 → piece_at rows j ≢ []
-each_more rows i row own some each j before = elim (cases_lt j i) [
-  | inl earlier ↦ each j earlier
-  | inr last ↦
-      let same : j ≡ i = omega (arith, last, before) in
-      λ none. some (own ∙ ap (piece_at rows) (sym same) ∙ none)
-]
 
 -- one row, by its place
 pub changed_at : (rows : List Text) (i start from to : ℕ) (own text : Text) (shift : Shift) → i < length rows
@@ -181,9 +148,8 @@ changed_in old new from to text shift whole c order whole_is short room =
 pub side_changed : (old new : Seen) (from to : ℕ) (text : Text) (shift : Shift) (whole after : Summary)
     → IsSide old whole → IsOneChanged old.texts new.texts from to text shift → from ≤ to → new.height ≡ old.height
     → after ≡ summary_of (joined new.texts)
-    → joined_size old.texts + size text < 2 ^ 63 + (to - from) → length new.texts ≤ joined_size new.texts
-    → IsSide new after
-side_changed old new from to text shift whole after side c order height after_is room few =
+    → joined_size old.texts + size text < 2 ^ 63 + (to - from) → AreSome new.texts → IsSide new after
+side_changed old new from to text shift whole after side c order height after_is room each =
     let sizes = size-replaced (joined old.texts) (joined new.texts) from to text
     (replaced_whole old.texts new.texts from to text shift c order) in
     let many : length new.texts ≡ length old.texts = omega (
@@ -197,7 +163,7 @@ side_changed old new from to text shift whole after side c order height after_is
       summary_is = after_is;
       some = omega (arith, many, side.some);
       short = omega (arith, sizes, room);
-      few = few;
+      each = each;
       low = omega (arith, many, height, side.low);
       many = rw (many, height) side.many;
     }

@@ -1,6 +1,8 @@
 -- The ends of the rows of two trees, one after the other, and a part that is exchanged in one of them.
-use Rattle.text_rope.proofs.lemmas.Common.{◌≡◌, ℕ, zero, suc, ◌+◌, ◌-◌, ◌<◌, ◌≤◌, List, [], ◌∷◌, ◌++◌, length, take, drop, refl, sym, ap, ◌∙◌, arith, append_assoc, append-nil, add-one, Text, size, size-append, joined, joined_size, joined-append, take-append-drop, parts_of, same_cut, IsReplaced}
+use Rattle.text_rope.proofs.lemmas.Common.{◌≡◌, ℕ, zero, suc, ◌+◌, ◌-◌, ◌<◌, ◌≤◌, List, [], ◌∷◌, ◌++◌, length, take, drop, refl, sym, ap, ◌∙◌, subst, arith, append_assoc, append-nil, add-one, Text, size, size-append, joined, joined_size, joined-append, joined-take, piece_at, cases_lt, inl, inr, take-append-drop, parts_of, same_cut, IsReplaced}
 use Rattle.text_rope.proofs.lemmas.Forks.{joined_size-append}
+use Rattle.text_rope.proofs.lemmas.Rows.{all_front, all_back, none_some}
+use Rattle.text_rope.specs.Blocks.{HasBytes, AreSome}
 use Rattle.text_rope.specs.RowEnds.{AreExchanged, AreFirst, AreLast, IsRowEnd}
 
 -- the bytes of a row and of those after it
@@ -73,8 +75,23 @@ next_end (x ∷ xs) (f ∷ fs) bs (suc i) p split place before =
       omega (arith, inner.1, size-row x (take (suc i) xs), size-row x (take i xs), before),
     )
 
+next_size : (xs : List Text) (i : ℕ) → i < length xs → joined_size (take (i + 1) xs) ≡ joined_size (take i xs) + size (piece_at xs i)
+next_size xs i inside = ap size (joined-take xs i inside) ∙ size-append (joined (take i xs)) (piece_at xs i)
+
 pub next_row : (xs : List Text) (i p : ℕ) → IsRowEnd xs p → joined_size (take i xs) < p → joined_size (take (i + 1) xs) ≤ p
 next_row xs i p at before = rw add-one ((next_end xs at.front at.back i p at.split at.place before).1)
+
+-- the row in which a place is, or at the end of which it is, starts there, or ends there
+pub starts_at : (xs : List Text) (i p : ℕ) → IsRowEnd xs p → i < length xs → joined_size (take i xs) ≤ p
+    → p < joined_size (take i xs) + size (piece_at xs i) → joined_size (take i xs) ≡ p
+starts_at xs i p at inside after before = elim (cases_lt (joined_size (take i xs)) p) [
+  | inl less ↦ absurd (omega (arith, next_row xs i p at less, next_size xs i inside, before))
+  | inr not_less ↦ omega (arith, not_less, after)
+]
+
+pub ends_at : (xs : List Text) (i p : ℕ) → IsRowEnd xs p → i < length xs → joined_size (take i xs) < p
+    → p ≤ joined_size (take i xs) + size (piece_at xs i) → joined_size (take (i + 1) xs) ≡ p
+ends_at xs i p at inside before within = omega (arith, next_row xs i p at before, next_size xs i inside, within)
 
 -- no row ends past the last
 pub row_end_le : (xs : List Text) (p : ℕ) → IsRowEnd xs p → p ≤ joined_size xs
@@ -86,19 +103,6 @@ first_take own i at place = record { back = drop i own; split = sym (take-append
 
 pub last_drop : (own : List Text) (i at : ℕ) → joined_size (take i own) ≡ at → AreLast own (drop i own) at
 last_drop own i at place = record { front = take i own; split = sym (take-append-drop i own); place = place }
-
--- none, or all
-pub first_none : (own : List Text) (at : ℕ) → at ≡ 0 → AreFirst own [] at
-first_none own at is = record { back = own; split = refl; place = sym is }
-
-pub first_all : (own : List Text) (at : ℕ) → at ≡ joined_size own → AreFirst own own at
-first_all own at is = record { back = []; split = sym (append-nil own); place = sym is }
-
-pub last_none : (own : List Text) (at : ℕ) → at ≡ joined_size own → AreLast own [] at
-last_none own at is = record { front = own; split = sym (append-nil own); place = sym is }
-
-pub last_all : (own : List Text) (at : ℕ) → at ≡ 0 → AreLast own own at
-last_all own at is = record { front = []; split = refl; place = sym is }
 
 -- those of two trees, by those of one
 pub first_left : (xs ys front : List Text) (at : ℕ) → AreFirst xs front at → AreFirst (xs ++ ys) front at
@@ -204,4 +208,61 @@ exchanged_right xs ys new whole rows from to first last ex first_is last_is is =
   first = first_right xs ys ex.front first from ex.first first_is;
   last = last_right xs ys ex.back last to ex.last last_is;
   is = is ∙ ap (λ r. xs ++ r) ex.is ∙ sym (append_assoc xs ex.front (rows ++ ex.back));
+}
+
+-- no row is before the beginning, and none behind the end
+pub no_front : (old front : List Text) (at : ℕ) → AreFirst old front at → AreSome old → at ≡ 0 → front ≡ []
+no_front old front at is each none =
+    none_some front (all_front HasBytes front is.back (subst AreSome is.split each)) (omega (arith, is.place, none))
+
+pub no_back : (old back : List Text) (at : ℕ) → AreLast old back at → AreSome old → at ≡ joined_size old → back ≡ []
+no_back old back at is each all =
+    none_some back (all_back HasBytes is.front back (subst AreSome is.split each)) (omega (arith, last_size old back at is, all))
+
+-- so the rows that come in there are the first, or the last
+exchanged_first : (old new rows : List Text) (to : ℕ) (ex : AreExchanged old new 0 to rows) → AreSome old → new ≡ rows ++ ex.back
+exchanged_first old new rows to ex each = ex.is ∙ ap (λ f. f ++ (rows ++ ex.back)) (no_front old ex.front 0 ex.first each refl)
+
+exchanged_last : (old new rows : List Text) (from : ℕ) (ex : AreExchanged old new from (joined_size old) rows) → AreSome old
+    → new ≡ ex.front ++ rows
+exchanged_last old new rows from ex each =
+    ex.is ∙ ap (λ b. ex.front ++ (rows ++ b)) (no_back old ex.back (joined_size old) ex.last each refl) ∙ ap (λ r. ex.front ++ r) (append-nil rows)
+
+-- all rows
+pub exchanged_all : (old rows : List Text) → AreExchanged old rows 0 (joined_size old) rows
+exchanged_all old rows = record {
+  front = [];
+  back = [];
+  first = record { back = old; split = refl; place = refl };
+  last = record { front = old; split = sym (append-nil old); place = refl };
+  is = sym (append-nil rows);
+}
+
+-- the last rows of a tree and the first of the next
+pub exchanged_across : (xs ys front back rows more whole all : List Text) (from to j : ℕ)
+    → AreExchanged xs front from (joined_size xs) rows → AreExchanged ys back 0 j more → joined_size xs + j ≡ to
+    → AreSome (xs ++ ys) → whole ≡ front ++ back → all ≡ rows ++ more → AreExchanged (xs ++ ys) whole from to all
+exchanged_across xs ys front back rows more whole all from to j ex ey to_is each is all_is =
+    let first = exchanged_last xs front rows from ex (all_front HasBytes xs ys each) in
+    let last = exchanged_first ys back more j ey (all_back HasBytes xs ys each) in
+    let assoc : (ex.front ++ rows) ++ (more ++ ey.back) ≡ ex.front ++ ((rows ++ more) ++ ey.back) = simp append_assoc in
+    record {
+      front = ex.front;
+      back = ey.back;
+      first = first_left xs ys ex.front from ex.first;
+      last = last_right xs ys ey.back to j ey.last to_is;
+      is = is ∙ ap (λ f. f ++ back) first ∙ ap (λ b. (ex.front ++ rows) ++ b) last ∙ assoc
+          ∙ ap (λ r. ex.front ++ (r ++ ey.back)) (sym all_is);
+    }
+
+-- by the rows before a part, and those behind it
+pub exchanged_between : (old front back rows whole : List Text) (from to : ℕ) → AreExchanged old front from (joined_size old) []
+    → AreExchanged old back 0 to [] → AreSome old → whole ≡ (front ++ rows) ++ back → AreExchanged old whole from to rows
+exchanged_between old front back rows whole from to ex ey each is = record {
+  front = ex.front;
+  back = ey.back;
+  first = ex.first;
+  last = ey.last;
+  is = is ∙ ap (λ f. (f ++ rows) ++ back) (exchanged_last old front [] from ex each ∙ append-nil ex.front)
+      ∙ ap (λ b. (ex.front ++ rows) ++ b) (exchanged_first old back [] to ey each) ∙ append_assoc ex.front rows ey.back;
 }

@@ -1,5 +1,6 @@
-use Rattle.text_rope.proofs.lemmas.{◌≡◌, each_more, few_some, ◌+◌, ◌++◌, ◌∙◌, ap, sym, arith, take, [], size, size-append, summary_of, joined, joined-take, joined_size-take, piece_at, get_or_default, take_all}
-use Rattle.text_rope.specs.Blocks.{AreSome}
+use Rattle.text_rope.proofs.lemmas.{◌≡◌, ◌+◌, ◌++◌, ◌∙◌, ap, sym, arith, take, [], size, size-append, summary_of, joined, joined-take, joined_size-take, piece_at, get_or_default, take_all}
+use Rattle.std.proofs.lemmas.List.Elements.{All-more}
+use Rattle.text_rope.specs.Blocks.{HasBytes}
 use Rattle.text_rope.proofs.block.summary_of_rows.Goals as goal
 
 pub joined-whole-requires : goal.joined-whole-requires
@@ -27,16 +28,14 @@ loop-row-preserved c =
     record {
       whole = c.joined-whole.ensures (joined (take i rows)) c.row-item.result c.loop-row.invariant.whole c.summary.ensures.summary
           ∙ ap (λ r. summary_of (joined (take i rows) ++ r)) own ∙ ap summary_of (sym more);
-      each = each_more rows i c.row-item.result own c.summary.ensures.some c.loop-row.invariant.each;
+      each = All-more HasBytes rows i [] c.loop-row-test.true c.loop-row.invariant.each (λ none. c.summary.ensures.some (own ∙ none));
     }
 
 pub returns : goal.returns
 returns c =
     let rows = c.args.rows.now in
-    let each : AreSome rows = λ i inside. c.loop-row.invariant.each i (omega (arith, inside, c.loop-row-test.false)) in
     let all : take c.loop-row.row-index rows ≡ rows = take_all c.loop-row.row-index rows c.loop-row-test.false in
     record {
       summary = rw all at c.loop-row.invariant.whole;
-      each = each;
-      few = few_some rows each;
+      each = rw all at c.loop-row.invariant.each;
     }

@@ -1,4 +1,5 @@
-use Rattle.text_rope.proofs.lemmas.{◌≡◌, ◌-◌, ◌++◌, ◌∙◌, ap, arith, length-append, Text, joined_size, exchanged_bytes, row_end_left, row_end_right, first_left, last_right, last_size, exchanged_left, exchanged_right}
+use Rattle.text_rope.proofs.lemmas.{◌≡◌, ◌-◌, [], ◌++◌, ◌∙◌, refl, sym, ap, arith, append-nil, length, length-append, Text, joined_size, exchanged_bytes, row_end_all, row_end_le, row_end_left, row_end_none, row_end_right, exchanged_across, exchanged_all, exchanged_left, exchanged_right}
+use Rattle.text_rope.specs.Blocks.{AreSome}
 use Rattle.text_rope.specs.RowEnds.{AreExchanged, IsRowEnd}
 use Rattle.text_rope.specs.States.{texts_of}
 use Rattle.text_rope.proofs.changes.+replaced_few.Goals as goal
@@ -8,14 +9,14 @@ replaced_few-requires t c =
     let fork = c.in-Sides.ensures.look in
     let left = c.in-Sides.left.now.texts in
     let right = c.in-Sides.right.now.texts in
-    let len = ap (λ s. s.len) c.summary.ensures.summary in
+    let len = ap (λ s. s.len) c.summary-2.ensures.summary in
     let start : IsRowEnd (left ++ right) c.args.from = rw fork.texts at c.requires.start in
     let end : IsRowEnd (left ++ right) c.args.to = rw fork.texts at c.requires.end in (
       grind (arith, length-append {A = Text}, fork.texts, fork.some_right),
       (
-        c.requires.order,
+        c.requires.some,
         (
-          row_end_left left right c.args.from start (omega (arith, len, c.requires.order)),
+          row_end_left left right c.args.from start (omega (arith, len, c.requires.some)),
           (row_end_left left right c.args.to end (omega (arith, len)), omega (arith, fork.size_is, c.requires.short)),
         ),
       ),
@@ -26,17 +27,17 @@ replaced_few-requires-then-middle-from t c =
     let fork = c.in-Sides.ensures.look in
     let left = c.in-Sides.left.now.texts in
     let right = c.in-Sides.right.now.texts in
-    let middle = c.summary.result.now.len in
-    let len = ap (λ s. s.len) c.summary.ensures.summary in
+    let middle = c.summary-2.result.now.len in
+    let len = ap (λ s. s.len) c.summary-2.ensures.summary in
     let start : IsRowEnd (left ++ right) c.args.from = rw fork.texts at c.requires.start in
     let end : IsRowEnd (left ++ right) c.args.to = rw fork.texts at c.requires.end in (
       grind (arith, length-append {A = Text}, fork.texts, fork.some_left),
       (
-        omega (arith, c.requires.order),
+        omega (arith, c.requires.some),
         (
           row_end_right left right c.args.from (c.args.from - middle) start (omega (arith, len)),
           (
-            row_end_right left right c.args.to (c.args.to - middle) end (omega (arith, len, c.requires.order)),
+            row_end_right left right c.args.to (c.args.to - middle) end (omega (arith, len, c.requires.some)),
             omega (arith, fork.size_is, c.requires.short),
           ),
         ),
@@ -46,106 +47,174 @@ replaced_few-requires-then-middle-from t c =
 pub joined-requires : goal.joined-requires
 joined-requires t c =
     let left = c.in-Sides.left.now.texts in
-    let front = texts_of c.in_ok-front-in-Sides.front in
+    let front = texts_of c.in_ok-front.front in
     record {
       short = omega (
         arith,
-        exchanged_bytes left front c.args.rows.items c.args.from c.args.to c.in_ok-front-in-Sides.ensures.replaced,
-        ap (λ side. joined_size side.texts) c.in_ok-back-in-Sides.ensures,
+        exchanged_bytes left front c.args.rows.items c.args.from c.args.to c.in_ok-front.ensures.replaced,
+        ap (λ side. joined_size side.texts) c.in_ok-back.ensures,
         c.in-Sides.ensures.look.size_is,
         c.requires.short,
-        c.requires.order,
+        c.requires.some,
       );
     }
 
 pub joined-requires-then-middle-from : goal.joined-requires-then-middle-from
 joined-requires-then-middle-from t c =
     let right = c.in-Sides.right.now.texts in
-    let back = texts_of c.in_ok-back-in-Sides-2.back in
-    let middle = c.summary.result.now.len in
+    let back = texts_of c.in_ok-back-2.back in
+    let middle = c.summary-2.result.now.len in
     record {
       short = omega (
         arith,
-        exchanged_bytes right back c.args.rows.items (c.args.from - middle) (c.args.to - middle) c.in_ok-back-in-Sides-2.ensures.replaced,
-        ap (λ side. joined_size side.texts) c.in_ok-front-in-Sides-2.ensures,
+        exchanged_bytes right back c.args.rows.items (c.args.from - middle) (c.args.to - middle) c.in_ok-back-2.ensures.replaced,
+        ap (λ side. joined_size side.texts) c.in_ok-front-2.ensures,
         c.in-Sides.ensures.look.size_is,
         c.requires.short,
-        c.requires.order,
+        c.requires.some,
         c.if-middle-from.true,
       );
     }
 
-pub front_of-requires : goal.front_of-requires
-front_of-requires t c =
+pub replaced_few-requires-then-from-eq0-2 : goal.replaced_few-requires-then-from-eq0-2
+replaced_few-requires-then-from-eq0-2 t c =
     let fork = c.in-Sides.ensures.look in
     let left = c.in-Sides.left.now.texts in
     let right = c.in-Sides.right.now.texts in
-    let len = ap (λ s. s.len) c.summary.ensures.summary in
-    let start : IsRowEnd (left ++ right) c.args.from = rw fork.texts at c.requires.start in
-    row_end_left left right c.args.from start (omega (arith, len))
-
-pub back_of-requires : goal.back_of-requires
-back_of-requires t c =
-    let fork = c.in-Sides.ensures.look in
-    let left = c.in-Sides.left.now.texts in
-    let right = c.in-Sides.right.now.texts in
-    let middle = c.summary.result.now.len in
-    let len = ap (λ s. s.len) c.summary.ensures.summary in
-    let end : IsRowEnd (left ++ right) c.args.to = rw fork.texts at c.requires.end in
-    row_end_right left right c.args.to (c.args.to - middle) end (omega (arith, len))
-
-pub around-requires : goal.around-requires
-around-requires t c =
-    let right = c.in-Sides.right.now.texts in
-    let back = texts_of c.in_ok-back-in-Sides-3.back in
-    let middle = c.summary.result.now.len in
-    let len = ap (λ s. s.len) c.summary.ensures.summary in
-    omega (
-      arith,
-      c.in-Sides.ensures.look.size_is,
-      c.in_ok-front-in-Sides-3.ensures.rows.place,
-      last_size right back (c.args.to - middle) c.in_ok-back-in-Sides-3.ensures.rows,
-      len,
-      c.requires.short,
-      c.requires.order,
+    let middle = c.summary-2.result.now.len in
+    let len = ap (λ s. s.len) c.summary-2.ensures.summary in
+    let end : IsRowEnd (left ++ right) c.args.to = rw fork.texts at c.requires.end in (
+      grind (arith, length-append {A = Text}, fork.texts, fork.some_left),
+      (
+        omega (arith, c.if-to-middle.false),
+        (
+          row_end_none right,
+          (row_end_right left right c.args.to (c.args.to - middle) end (omega (arith, len, c.if-to-middle.false)), omega (arith, fork.size_is, len, c.requires.short, c.if-to-middle.false)),
+        ),
+      ),
     )
 
-pub returns-in_ok-joined-in-Sides-clause-replaced : goal.returns-in_ok-joined-in-Sides-clause-replaced
-returns-in_ok-joined-in-Sides-clause-replaced t c =
+pub replaced_few-requires-2 : goal.replaced_few-requires-2
+replaced_few-requires-2 t c =
+    let fork = c.in-Sides.ensures.look in
     let left = c.in-Sides.left.now.texts in
     let right = c.in-Sides.right.now.texts in
-    let front = texts_of c.in_ok-front-in-Sides.front in
-    let whole = texts_of c.in_ok-joined-in-Sides.field-0 in
-    let is : whole ≡ front ++ right = c.in_ok-joined-in-Sides.ensures.rows ∙ ap (λ side. front ++ side.texts) c.in_ok-back-in-Sides.ensures in
-    rw c.in-Sides.ensures.look.texts (exchanged_left left right front whole c.args.rows.items c.args.from c.args.to
-    c.in_ok-front-in-Sides.ensures.replaced is)
+    let len = ap (λ s. s.len) c.summary-2.ensures.summary in
+    let start : IsRowEnd (left ++ right) c.args.from = rw fork.texts at c.requires.start in (
+      grind (arith, length-append {A = Text}, fork.texts, fork.some_right),
+      (
+        omega (arith, c.if-middle-from.false),
+        (
+          row_end_left left right c.args.from start (omega (arith, len, c.if-middle-from.false)),
+          (rw len (row_end_all left), omega (arith, fork.size_is, len, c.requires.short, row_end_le c.args.side.now.texts c.args.to c.requires.end)),
+        ),
+      ),
+    )
 
-pub returns-in_ok-joined-in-Sides-2-clause-replaced : goal.returns-in_ok-joined-in-Sides-2-clause-replaced
-returns-in_ok-joined-in-Sides-2-clause-replaced t c =
+pub replaced_few-requires-3 : goal.replaced_few-requires-3
+replaced_few-requires-3 t c =
+    let fork = c.in-Sides.ensures.look in
     let left = c.in-Sides.left.now.texts in
     let right = c.in-Sides.right.now.texts in
-    let back = texts_of c.in_ok-back-in-Sides-2.back in
-    let whole = texts_of c.in_ok-joined-in-Sides-2.field-0 in
-    let middle = c.summary.result.now.len in
-    let len = ap (λ s. s.len) c.summary.ensures.summary in
-    let is : whole ≡ left ++ back = c.in_ok-joined-in-Sides-2.ensures.rows ∙ ap (λ side. side.texts ++ back) c.in_ok-front-in-Sides-2.ensures in
-    rw c.in-Sides.ensures.look.texts (exchanged_right left right back whole c.args.rows.items (c.args.from - middle) (c.args.to - middle)
-    c.args.from c.args.to c.in_ok-back-in-Sides-2.ensures.replaced (omega (arith, len)) (omega (arith, len, c.requires.order)) is)
+    let middle = c.summary-2.result.now.len in
+    let len = ap (λ s. s.len) c.summary-2.ensures.summary in
+    let end : IsRowEnd (left ++ right) c.args.to = rw fork.texts at c.requires.end in (
+      grind (arith, length-append {A = Text}, fork.texts, fork.some_left),
+      (
+        omega (arith, c.if-to-middle.false),
+        (
+          row_end_none right,
+          (row_end_right left right c.args.to (c.args.to - middle) end (omega (arith, len, c.if-to-middle.false)), omega (arith, fork.size_is, c.summary.ensures.short, ap joined_size c.new.ensures.items, ap length c.new.ensures.items)),
+        ),
+      ),
+    )
 
-pub returns-in_ok-around-in-Sides-clause-replaced : goal.returns-in_ok-around-in-Sides-clause-replaced
-returns-in_ok-around-in-Sides-clause-replaced t c =
+pub joined-requires-2 : goal.joined-requires-2
+joined-requires-2 t c =
     let left = c.in-Sides.left.now.texts in
     let right = c.in-Sides.right.now.texts in
-    let front = texts_of c.in_ok-front-in-Sides-3.front in
-    let back = texts_of c.in_ok-back-in-Sides-3.back in
-    let middle = c.summary.result.now.len in
-    let len = ap (λ s. s.len) c.summary.ensures.summary in
-    let all : AreExchanged (left ++ right) (texts_of c.in_ok-around-in-Sides.field-0) c.args.from c.args.to c.args.rows.items =
+    let middle = c.summary-2.result.now.len in
     record {
-      front = front;
-      back = back;
-      first = first_left left right front c.args.from c.in_ok-front-in-Sides-3.ensures.rows;
-      last = last_right left right back c.args.to (c.args.to - middle) c.in_ok-back-in-Sides-3.ensures.rows (omega (arith, len));
-      is = c.in_ok-around-in-Sides.ensures.rows;
-    } in
-    rw c.in-Sides.ensures.look.texts all
+      short = omega (
+        arith,
+        exchanged_bytes left (texts_of c.in_ok-front-3.front) c.args.rows.items c.args.from middle c.in_ok-front-3.ensures.replaced,
+        exchanged_bytes right (texts_of c.in_ok-back-3.back) c.new.result.items 0 (c.args.to - middle) c.in_ok-back-3.ensures.replaced,
+        ap joined_size c.new.ensures.items,
+        ap (λ s. s.len) c.summary-2.ensures.summary,
+        c.in-Sides.ensures.look.size_is,
+        c.requires.short,
+        c.requires.some,
+        c.if-to-middle.false,
+      );
+    }
+
+pub returns-then-to-whole-clause-replaced : goal.returns-then-to-whole-clause-replaced
+returns-then-to-whole-clause-replaced t c =
+    let texts = c.args.side.now.texts in
+    let to : c.args.to ≡ joined_size texts = c.if-to-whole.true ∙ ap (λ s. s.len) c.summary.ensures.summary in
+    rw (c.in_ok-few_of.ensures.rows, c.if-from-eq0.true, to) (exchanged_all texts c.args.rows.items)
+
+pub returns-then-to-middle-clause-replaced : goal.returns-then-to-middle-clause-replaced
+returns-then-to-middle-clause-replaced t c =
+    let left = c.in-Sides.left.now.texts in
+    let right = c.in-Sides.right.now.texts in
+    let front = texts_of c.in_ok-front.front in
+    let whole = texts_of c.in_ok-joined.field-0 in
+    let is : whole ≡ front ++ right = c.in_ok-joined.ensures.rows ∙ ap (λ side. front ++ side.texts) c.in_ok-back.ensures in
+    rw c.in-Sides.ensures.look.texts (exchanged_left left right front whole c.args.rows.items c.args.from c.args.to
+    c.in_ok-front.ensures.replaced is)
+
+pub returns-then-middle-from-clause-replaced : goal.returns-then-middle-from-clause-replaced
+returns-then-middle-from-clause-replaced t c =
+    let left = c.in-Sides.left.now.texts in
+    let right = c.in-Sides.right.now.texts in
+    let back = texts_of c.in_ok-back-2.back in
+    let whole = texts_of c.in_ok-joined-2.field-0 in
+    let middle = c.summary-2.result.now.len in
+    let len = ap (λ s. s.len) c.summary-2.ensures.summary in
+    let is : whole ≡ left ++ back = c.in_ok-joined-2.ensures.rows ∙ ap (λ side. side.texts ++ back) c.in_ok-front-2.ensures in
+    rw c.in-Sides.ensures.look.texts (exchanged_right left right back whole c.args.rows.items (c.args.from - middle) (c.args.to - middle)
+    c.args.from c.args.to c.in_ok-back-2.ensures.replaced (omega (arith, len, c.if-middle-from.true)) (omega (arith, len, c.if-to-middle.false)) is)
+
+pub returns-then-from-eq0-2-clause-replaced : goal.returns-then-from-eq0-2-clause-replaced
+returns-then-from-eq0-2-clause-replaced t c =
+    let fork = c.in-Sides.ensures.look in
+    let left = c.in-Sides.left.now.texts in
+    let right = c.in-Sides.right.now.texts in
+    let back = texts_of c.in_ok-replaced_few.field-0 in
+    let rows = c.args.rows.items in
+    let len = ap (λ s. s.len) c.summary-2.ensures.summary in
+    let each : AreSome (left ++ right) = rw fork.texts at c.summary.ensures.each in
+    rw (fork.texts, c.if-from-eq0-2.true) (exchanged_across left right [] back [] rows back rows 0 c.args.to (c.args.to - c.summary-2.result.now.len)
+    (exchanged_all left []) c.in_ok-replaced_few.ensures.replaced (omega (arith, len, c.if-to-middle.false)) each refl refl)
+
+pub returns-then-to-whole-2-clause-replaced : goal.returns-then-to-whole-2-clause-replaced
+returns-then-to-whole-2-clause-replaced t c =
+    let fork = c.in-Sides.ensures.look in
+    let left = c.in-Sides.left.now.texts in
+    let right = c.in-Sides.right.now.texts in
+    let front = texts_of c.in_ok-front-3.front in
+    let rows = c.args.rows.items in
+    let len = ap (λ s. s.len) c.summary-2.ensures.summary in
+    let each : AreSome (left ++ right) = rw fork.texts at c.summary.ensures.each in
+    let first : AreExchanged left front c.args.from (joined_size left) rows = rw len at c.in_ok-front-3.ensures.replaced in
+    rw fork.texts (exchanged_across left right front [] rows [] front rows c.args.from c.args.to (joined_size right) first
+    (exchanged_all right []) (omega (arith, fork.size_is, ap (λ s. s.len) c.summary.ensures.summary, c.if-to-whole-2.true)) each
+    (sym (append-nil front)) (sym (append-nil rows)))
+
+pub returns-clause-replaced : goal.returns-clause-replaced
+returns-clause-replaced t c =
+    let fork = c.in-Sides.ensures.look in
+    let left = c.in-Sides.left.now.texts in
+    let right = c.in-Sides.right.now.texts in
+    let front = texts_of c.in_ok-front-3.front in
+    let back = texts_of c.in_ok-back-3.back in
+    let whole = texts_of c.in_ok-joined-3.field-0 in
+    let rows = c.args.rows.items in
+    let middle = c.summary-2.result.now.len in
+    let len = ap (λ s. s.len) c.summary-2.ensures.summary in
+    let each : AreSome (left ++ right) = rw fork.texts at c.summary.ensures.each in
+    let first : AreExchanged left front c.args.from (joined_size left) rows = rw len at c.in_ok-front-3.ensures.replaced in
+    let last : AreExchanged right back 0 (c.args.to - middle) [] = rw c.new.ensures.items at c.in_ok-back-3.ensures.replaced in
+    rw fork.texts (exchanged_across left right front back rows [] whole rows c.args.from c.args.to (c.args.to - middle) first last
+    (omega (arith, len, c.if-to-middle.false)) each c.in_ok-joined-3.ensures.rows (sym (append-nil rows)))

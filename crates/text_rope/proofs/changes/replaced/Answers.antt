@@ -1,21 +1,112 @@
-use Rattle.text_rope.proofs.lemmas.{arith, last_size}
+use Rattle.std.specs.Prelude.{min}
+use Rattle.text_rope.proofs.lemmas.{ℕ, ◌≡◌, ◌≤◌, ◌+◌, ◌-◌, ◌*◌, ◌++◌, [], ◌∙◌, inl, inr, refl, ap, arith, length, IsJoinedHeight, joined_size, joined_size-append, row_end_le, exchanged_between, exchanged_bytes}
+use Rattle.text_rope.specs.RowEnds.{AreExchanged}
 use Rattle.text_rope.specs.States.{texts_of}
+use Rattle.text_rope.specs.Work.{WorkState, Costs, height_of}
 use Rattle.text_rope.proofs.changes.replaced.Goals as goal
 
-pub around-requires : goal.around-requires
-around-requires c = omega (
+-- what is before and behind, the rows between, and two joins: by the heights of the first three, of the joined one and of the last
+sum_of : (h n f o g b : ℕ) (old front own joined back new : WorkState) → f ≤ h + 1 → o ≤ n → b ≤ h + 1 → IsJoinedHeight f o g
+    → Costs old front (6 * f + 16 * h + 6) (48 + 16 * min h 2 + 16 * min f 1) → Costs front own (32 * n + 5) (2 * n + 16)
+    → Costs own joined (6 * ((f - o) + (o - f)) + 3) (16 * (1 - min f o))
+    → Costs joined back (6 * b + 16 * h + 6) (48 + 16 * min h 2 + 16 * min b 1)
+    → Costs back new (6 * ((g - b) + (b - g)) + 3) (16 * (1 - min g b)) → Costs old new (50 * h + 44 * n + 47) (2 * n + 240)
+sum_of h n f o g b old front own joined back new f_low o_low b_low height first rows join last all = record {
+  nodes_at_most = omega (
+    arith,
+    f_low,
+    o_low,
+    b_low,
+    height.not_lower,
+    height.at_most_one_higher,
+    first.nodes_at_most,
+    rows.nodes_at_most,
+    join.nodes_at_most,
+    last.nodes_at_most,
+    all.nodes_at_most,
+  );
+  rows_at_most = omega (arith, first.rows_at_most, rows.rows_at_most, join.rows_at_most, last.rows_at_most, all.rows_at_most);
+  nodes_kept = omega (arith, first.nodes_kept, rows.nodes_kept, join.nodes_kept, last.nodes_kept, all.nodes_kept);
+  rows_kept = omega (arith, first.rows_kept, rows.rows_kept, join.rows_kept, last.rows_kept, all.rows_kept);
+}
+
+pub replaced_few-requires-2-clause-some : goal.replaced_few-requires-2-clause-some
+replaced_few-requires-2-clause-some c = omega (
   arith,
-  c.in_ok-front.ensures.rows.place,
-  last_size c.args.side.now.texts (texts_of c.in_ok-back.back) c.args.to c.in_ok-back.ensures.rows,
-  c.requires.short,
-  c.requires.order,
+  c.requires.some,
+  row_end_le c.args.side.now.texts c.args.to c.requires.end,
+  ap (λ s. s.len) c.summary.ensures.summary,
 )
 
+pub tree_of-requires : goal.tree_of-requires
+tree_of-requires c = omega (arith, c.requires.short, row_end_le c.args.side.now.texts c.args.to c.requires.end)
+
+pub joined-requires : goal.joined-requires
+joined-requires c =
+    let texts = c.args.side.now.texts in
+    record {
+      short = omega (
+        arith,
+        exchanged_bytes texts (texts_of c.in_ok-front.front) c.new.result.items c.args.from c.summary.result.now.len c.in_ok-front.ensures.replaced,
+        ap joined_size c.new.ensures.items,
+        ap (λ s. s.len) c.summary.ensures.summary,
+        ap joined_size c.in_ok-own.ensures.rows,
+        row_end_le texts c.args.to c.requires.end,
+        c.requires.short,
+        c.requires.some,
+      );
+    }
+
+pub joined-requires-2 : goal.joined-requires-2
+joined-requires-2 c =
+    let texts = c.args.side.now.texts in
+    let front = texts_of c.in_ok-front.front in
+    let own = texts_of c.in_ok-own.own in
+    record {
+      short = omega (
+        arith,
+        exchanged_bytes texts front c.new.result.items c.args.from c.summary.result.now.len c.in_ok-front.ensures.replaced,
+        exchanged_bytes texts (texts_of c.in_ok-back.back) c.new-2.result.items 0 c.args.to c.in_ok-back.ensures.replaced,
+        ap joined_size c.new.ensures.items,
+        ap joined_size c.new-2.ensures.items,
+        ap (λ s. s.len) c.summary.ensures.summary,
+        ap joined_size c.in_ok-front-2.ensures.rows,
+        joined_size-append front own,
+        ap joined_size c.in_ok-own.ensures.rows,
+        row_end_le texts c.args.to c.requires.end,
+        c.requires.short,
+        c.requires.some,
+      );
+    }
+
 pub returns-clause-replaced : goal.returns-clause-replaced
-returns-clause-replaced c = record {
-  front = texts_of c.in_ok-front.front;
-  back = texts_of c.in_ok-back.back;
-  first = c.in_ok-front.ensures.rows;
-  last = c.in_ok-back.ensures.rows;
-  is = c.in_ok-around.ensures.rows;
-}
+returns-clause-replaced c =
+    let texts = c.args.side.now.texts in
+    let front = texts_of c.in_ok-front.front in
+    let back = texts_of c.in_ok-back.back in
+    let rows = c.args.rows.items in
+    let whole = texts_of c.in_ok-joined.field-0 in
+    let first : AreExchanged texts front c.args.from (joined_size texts) [] =
+    rw (ap (λ s. s.len) c.summary.ensures.summary, c.new.ensures.items) at c.in_ok-front.ensures.replaced in
+    let last : AreExchanged texts back 0 c.args.to [] = rw c.new-2.ensures.items at c.in_ok-back.ensures.replaced in
+    let is : whole ≡ (front ++ rows) ++ back =
+    c.in_ok-joined.ensures.rows ∙ ap (λ f. f ++ back) (c.in_ok-front-2.ensures.rows ∙ ap (λ r. front ++ r) c.in_ok-own.ensures.rows) in
+    exchanged_between texts front back rows whole c.args.from c.args.to first last c.summary.ensures.each is
+
+pub returns-clause-work : goal.returns-clause-work
+returns-clause-work c =
+    sum_of c.args.side.now.height (length c.args.rows.items) (height_of c.in_ok-front.front) (height_of c.in_ok-own.own)
+    (height_of c.in_ok-front-2.front) (height_of c.in_ok-back.back) c.args.work.now c.replaced_few-2.new.work c.tree_of.new.work
+    c.joined.new.work c.replaced_few-3.new.work c.joined-2.new.work c.in_ok-front.ensures.low c.in_ok-own.ensures.low
+    c.in_ok-back.ensures.low c.in_ok-front-2.ensures.height
+    (c.in_ok-front.ensures.edge (inr (ap (λ s. s.len) c.summary.ensures.summary))) c.in_ok-own.ensures.work c.joined.ensures.work
+    (c.in_ok-back.ensures.edge (inl refl)) c.joined-2.ensures.work
+
+pub returns-in_err-joined-clause-work : goal.returns-in_err-joined-clause-work
+returns-in_err-joined-clause-work c =
+    sum_of c.args.side.now.height (length c.args.rows.items) (height_of c.in_ok-front.front) (height_of c.in_ok-own.own)
+    (height_of c.in_ok-front-2.front) (height_of c.in_ok-back.back) c.args.work.now c.replaced_few-2.new.work c.tree_of.new.work
+    c.joined.new.work c.replaced_few-3.new.work c.joined-2.new.work c.in_ok-front.ensures.low c.in_ok-own.ensures.low
+    c.in_ok-back.ensures.low c.in_ok-front-2.ensures.height
+    (c.in_ok-front.ensures.edge (inr (ap (λ s. s.len) c.summary.ensures.summary))) c.in_ok-own.ensures.work c.joined.ensures.work
+    (c.in_ok-back.ensures.edge (inl refl)) c.joined-2.ensures.work

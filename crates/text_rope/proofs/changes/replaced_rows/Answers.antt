@@ -1,14 +1,49 @@
-use Rattle.text_rope.proofs.lemmas.{◌≡◌, ◌-◌, ◌++◌, ◌∙◌, take, drop, ap, arith, append_assoc, take-append-drop, joined_size, joined_size-append, row_end_right, first_take, last_drop, last_right}
+use Rattle.text_rope.proofs.lemmas.{ℕ, ◌≡◌, ◌+◌, ◌-◌, ◌<◌, ◌≤◌, ◌++◌, ◌∙◌, List, take, drop, length, ap, arith, append_assoc, take-append-drop, Text, joined_size, joined_size-append, piece_at, size, starts_at, ends_at, row_end_le, row_end_right, first_take, last_drop, last_right}
 use Rattle.text_rope.specs.RowEnds.{AreLast, IsRowEnd}
 use Rattle.text_rope.proofs.changes.replaced_rows.Goals as goal
 
-pub rows_before-requires-2 : goal.rows_before-requires-2
-rows_before-requires-2 c =
+-- the bytes of the rows before two places, at each of which one ends
+rows_between : (own rest : List Text) (i j from to : ℕ) → rest ≡ drop i own → from < to → IsRowEnd own from → IsRowEnd own to
+    → i < length own → joined_size (take i own) ≤ from → from < joined_size (take i own) + size (piece_at own i)
+    → j < length rest → joined_size (take j rest) < to - from → to - from ≤ joined_size (take j rest) + size (piece_at rest j)
+    → (joined_size (take i own) ≡ from) × (joined_size (take (j + 1) rest) ≡ to - from)
+rows_between own rest i j from to rest_is order start end in_own after before in_rest less within =
+    let place = starts_at own i from start in_own after before in
+    let parts : IsRowEnd (take i own ++ drop i own) to = rw (take-append-drop i own) end in
+    let ends : IsRowEnd rest (to - from) = rw rest_is (row_end_right (take i own) (drop i own) to (to - from) parts (omega (arith, place, order))) in
+    (place, ends_at rest j (to - from) ends in_rest less within)
+
+pub row_up_to-requires-clause-within : goal.row_up_to-requires-clause-within
+row_up_to-requires-clause-within c = omega (arith, row_end_le c.args.own.now c.args.to c.requires.end, c.requires.some)
+
+pub row_up_to-requires-2-clause-within : goal.row_up_to-requires-2-clause-within
+row_up_to-requires-2-clause-within c =
     let own = c.args.own.now in
-    let i = c.rows_before.result in
-    let parts : IsRowEnd (take i own ++ drop i own) c.args.to = rw (take-append-drop i own) c.requires.end in
-    rw c.split_at.ensures.back (row_end_right (take i own) (drop i own) c.args.to (c.args.to - c.args.from) parts
-    (omega (arith, c.rows_before.ensures.place, c.requires.order)))
+    let i = c.row_up_to.result.row in
+    omega (
+      arith,
+      c.row_up_to.ensures.start,
+      c.row_up_to.ensures.before,
+      ap joined_size c.split_at.ensures.back,
+      ap joined_size (take-append-drop i own),
+      joined_size-append (take i own) (drop i own),
+      row_end_le own c.args.to c.requires.end,
+      c.requires.some,
+    )
+
+pub row_up_to-requires-2-clause-short : goal.row_up_to-requires-2-clause-short
+row_up_to-requires-2-clause-short c =
+    let own = c.args.own.now in
+    let i = c.row_up_to.result.row in
+    omega (
+      arith,
+      c.row_up_to.ensures.start,
+      c.row_up_to.ensures.before,
+      ap joined_size c.split_at.ensures.back,
+      ap joined_size (take-append-drop i own),
+      joined_size-append (take i own) (drop i own),
+      c.requires.short_own,
+    )
 
 pub few_of-requires-clause-short : goal.few_of-requires-clause-short
 few_of-requires-clause-short c =
@@ -17,11 +52,16 @@ few_of-requires-clause-short c =
     let front = c.split_at.result.0.now in
     let rest = c.split_at.result.1.now in
     let back = c.split_at-2.result.1.now in
-    let i = c.rows_before.result in
-    let j = c.rows_before-2.result in
+    let i = c.row_up_to.result.row in
+    let j = c.row_up_to-2.result.row + 1 in
     let items : c.push_shared-2.new.rows.items ≡ (front ++ rows) ++ back =
     c.in_ok-push_shared-2.ensures.rows ∙ ap (λ x. x ++ back) (c.in_ok-append.ensures.items
     ∙ ap (λ x. x ++ rows) (c.in_ok-push_shared.ensures.rows ∙ ap (λ x. x ++ front) c.in_ok-all.ensures.items)) in
+    let told = c.row_up_to.ensures in
+    let after = c.row_up_to-2.ensures in
+    let both = rows_between own rest i c.row_up_to-2.result.row c.args.from c.args.to c.split_at.ensures.back c.requires.some
+    c.requires.start c.requires.end told.row (omega (arith, told.start, told.before)) (omega (arith, told.start, told.within))
+    after.row (omega (arith, after.start, after.before, c.requires.some)) (omega (arith, after.start, after.within)) in
     omega (
       arith,
       ap joined_size items,
@@ -34,6 +74,8 @@ few_of-requires-clause-short c =
       joined_size-append (take i own) (drop i own),
       ap joined_size (take-append-drop j rest),
       joined_size-append (take j rest) (drop j rest),
+      both.0,
+      both.1,
       c.requires.short,
     )
 
@@ -44,19 +86,24 @@ returns-clause-replaced c =
     let front = c.split_at.result.0.now in
     let rest = c.split_at.result.1.now in
     let back = c.split_at-2.result.1.now in
-    let i = c.rows_before.result in
-    let j = c.rows_before-2.result in
+    let i = c.row_up_to.result.row in
+    let j = c.row_up_to-2.result.row + 1 in
     let items : c.push_shared-2.new.rows.items ≡ (front ++ rows) ++ back =
     c.in_ok-push_shared-2.ensures.rows ∙ ap (λ x. x ++ back) (c.in_ok-append.ensures.items
     ∙ ap (λ x. x ++ rows) (c.in_ok-push_shared.ensures.rows ∙ ap (λ x. x ++ front) c.in_ok-all.ensures.items)) in
-    let end : joined_size (take j (drop i own)) ≡ c.args.to - c.args.from = rw c.split_at.ensures.back at c.rows_before-2.ensures.place in
+    let told = c.row_up_to.ensures in
+    let after = c.row_up_to-2.ensures in
+    let both = rows_between own rest i c.row_up_to-2.result.row c.args.from c.args.to c.split_at.ensures.back c.requires.some
+    c.requires.start c.requires.end told.row (omega (arith, told.start, told.before)) (omega (arith, told.start, told.within))
+    after.row (omega (arith, after.start, after.before, c.requires.some)) (omega (arith, after.start, after.within)) in
+    let end : joined_size (take j (drop i own)) ≡ c.args.to - c.args.from = rw c.split_at.ensures.back at both.1 in
     let last : AreLast (take i own ++ drop i own) (drop j (drop i own)) c.args.to =
     last_right (take i own) (drop i own) (drop j (drop i own)) c.args.to (c.args.to - c.args.from)
-    (last_drop (drop i own) j (c.args.to - c.args.from) end) (omega (arith, c.rows_before.ensures.place, c.requires.order)) in
+    (last_drop (drop i own) j (c.args.to - c.args.from) end) (omega (arith, both.0, c.requires.some)) in
     record {
       front = take i own;
       back = drop j (drop i own);
-      first = first_take own i c.args.from c.rows_before.ensures.place;
+      first = first_take own i c.args.from both.0;
       last = rw (take-append-drop i own) at last;
       is = c.in_ok-few_of.ensures.rows ∙ items ∙ ap (λ f. (f ++ rows) ++ back) c.split_at.ensures.front
           ∙ ap (λ b. (take i own ++ rows) ++ b) (c.split_at-2.ensures.back ∙ ap (λ r. drop j r) c.split_at.ensures.back)

@@ -4,7 +4,7 @@ use Rattle.text_rope.proofs.edits.exchanged.Goals as goal
 pub returns-in-Some-clause-work : goal.returns-in-Some-clause-work
 returns-in-Some-clause-work c =
     let side = c.in-Some.side.now in
-    takes_log side.height (length side.texts) (joined_size c.args.tree.now) 60 240 (length c.args.more.now) c.args.work.now
+    takes_log side.height (length side.texts) (joined_size c.args.tree.now) 53 240 (length c.args.more.now) c.args.work.now
     c.exchanged_in.new.work c.height-height.ensures.many
     (omega (arith, ap joined_size c.in-Some.ensures.rows, c.summary-summary.ensures.few)) (record {
       nodes_at_most = omega (arith, c.exchanged_in.ensures.work.nodes_at_most);

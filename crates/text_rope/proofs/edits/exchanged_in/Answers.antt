@@ -44,7 +44,7 @@ of-requires c =
     let texts = c.args.side.now.texts in
     let len : length c.as_str.result.now ≡ length (string_bytes c.in_ok-text.text) = ap length c.as_str.ensures.value in
     let filled = c.widened-patch.ensures.filled in
-    filled_exchanged texts (texts_of c.in_ok-root.root) rows patch.start patch.end c.requires.filled c.summary-few.ensures.few
+    filled_exchanged texts (texts_of c.in_ok-root.root) rows patch.start patch.end c.requires.filled c.summary-each.ensures.each
     c.in_ok-root.ensures.replaced c.widened-patch.ensures.patch.some
     (which rows (length c.as_str.result.now) patch.start patch.end (joined_size texts) told.full told.one told.none
     (rw (len, c.in_ok-text.ensures.len) filled))

@@ -1,4 +1,6 @@
 use Rattle.text_rope.proofs.lemmas.{Seen, ◌≡◌, ◌++◌, refl, ◌∙◌, sym, ap, arith, chars, length-append, Text, joined_size, joined_size-append, right_if, boundaries_left, boundaries_right, changed_in, side_changed}
+use Rattle.std.proofs.lemmas.List.Elements.{All-append}
+use Rattle.text_rope.specs.Blocks.{HasBytes}
 use Rattle.text_rope.specs.Shifts.{IsOneChanged}
 use Rattle.text_rope.specs.Views.{IsSide, IsFork, seen}
 use Rattle.text_rope.proofs.tree.+replace_in_place.Goals as goal
@@ -40,23 +42,23 @@ Fork::replace_in_place-returns-then-to-middle-clause-not_boundary t c refused bo
     c.replace_in_place.ensures.not_boundary refused
     (boundaries_left left right c.args.from c.args.to (omega (arith, len, c.if-to-middle.true)) c.requires.1.1.1.1.0 both)
 
-pub Fork::replace_in_place-returns-then-to-middle-clause-few : goal.Fork::replace_in_place-returns-then-to-middle-clause-few
-Fork::replace_in_place-returns-then-to-middle-clause-few t c =
+pub Fork::replace_in_place-returns-then-to-middle-clause-each : goal.Fork::replace_in_place-returns-then-to-middle-clause-each
+Fork::replace_in_place-returns-then-to-middle-clause-each t c =
     let left = c.replace_in_place.new.self.texts in
     let right = c.args.self.now.right.texts in
-    omega (arith, joined_size-append left right, length-append left right, c.replace_in_place.ensures.few, c.summary-right.ensures.few)
+    All-append HasBytes left right c.replace_in_place.ensures.each c.summary-right.ensures.each
 
-pub Fork::replace_in_place-returns-then-middle-from-clause-few : goal.Fork::replace_in_place-returns-then-middle-from-clause-few
-Fork::replace_in_place-returns-then-middle-from-clause-few t c =
+pub Fork::replace_in_place-returns-then-middle-from-clause-each : goal.Fork::replace_in_place-returns-then-middle-from-clause-each
+Fork::replace_in_place-returns-then-middle-from-clause-each t c =
     let left = c.args.self.now.left.texts in
     let right = c.replace_in_place-then-middle-from.new.self.texts in
-    omega (arith, joined_size-append left right, length-append left right, c.replace_in_place-then-middle-from.ensures.few, c.summary.ensures.few)
+    All-append HasBytes left right c.summary.ensures.each c.replace_in_place-then-middle-from.ensures.each
 
-pub Fork::replace_in_place-returns-else-middle-from-clause-few : goal.Fork::replace_in_place-returns-else-middle-from-clause-few
-Fork::replace_in_place-returns-else-middle-from-clause-few t c =
+pub Fork::replace_in_place-returns-else-middle-from-clause-each : goal.Fork::replace_in_place-returns-else-middle-from-clause-each
+Fork::replace_in_place-returns-else-middle-from-clause-each t c =
     let left = c.args.self.now.left.texts in
     let right = c.args.self.now.right.texts in
-    omega (arith, joined_size-append left right, length-append left right, c.summary.ensures.few, c.summary-right.ensures.few)
+    All-append HasBytes left right c.summary.ensures.each c.summary-right.ensures.each
 
 pub Fork::replace_in_place-returns-then-middle-from-clause-changed : goal.Fork::replace_in_place-returns-then-middle-from-clause-changed
 Fork::replace_in_place-returns-then-middle-from-clause-changed t c =
@@ -118,7 +120,7 @@ Side::replace_in_place-invariant_of-self-2 t c =
           rw w.in-Some.ensures.value at w.in_ok-replace_in_place-in-Some.ensures.changed in
           rw w.self-inside-is (side_changed old new c.args.from c.args.to (chars c.args.more.now) w.replace_in_place.new.shift
           c.self.inside.summary c.summary_after-self-inside.result side changed r.0 refl (rw w.self-inside-is at told) (omega (arith, ap joined_size is, r.1.1.1))
-          w.in_ok-replace_in_place-in-Some.ensures.few)
+          w.in_ok-replace_in_place-in-Some.ensures.each)
       | Side::replace_in_place-in-Fork+in-Some-get_mut+in_ok-replace_in_place-in-Some-get_mut w ↦
           let fork = w.in-Fork.fork.value in
           let after = w.replace_in_place-in-Some-get_mut.new.self in
@@ -133,7 +135,7 @@ Side::replace_in_place-invariant_of-self-2 t c =
           let changed : IsOneChanged old.texts new.texts c.args.from c.args.to (chars c.args.more.now) shift = rw here at ensured.changed in
           rw w.self-inside-is (
             side_changed old new c.args.from c.args.to (chars c.args.more.now) shift c.self.inside.summary c.summary_after-self-inside.result
-                sound.0 changed r.0 (rw here at ensured.height) (rw w.self-inside-is at told) (omega (arith, ap joined_size is, r.1.1.1)) ensured.few,
+                sound.0 changed r.0 (rw here at ensured.height) (rw w.self-inside-is at told) (omega (arith, ap joined_size is, r.1.1.1)) ensured.each,
             ensured.sound,
           )
     ]

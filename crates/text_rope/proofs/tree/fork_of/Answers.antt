@@ -19,7 +19,7 @@ invariant_of-result c =
       is_side left right c.joined-summary.result (c.max-height.result + 1)
           (c.joined-summary.ensures (joined left.texts) (joined right.texts) c.summary.ensures.summary c.summary-2.ensures.summary)
           c.requires.short height c.requires.balanced c.height.ensures.low c.height-2.ensures.low c.height.ensures.many
-          c.height-2.ensures.many c.summary.ensures.few c.summary-2.ensures.few,
+          c.height-2.ensures.many c.summary.ensures.each c.summary-2.ensures.each,
       record {
         height_is = height;
         balanced = c.requires.balanced;

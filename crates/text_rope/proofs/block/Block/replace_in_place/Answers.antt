@@ -1,12 +1,14 @@
-use Rattle.text_rope.proofs.lemmas.{◌≡◌, ◌≢◌, ◌<◌, ◌-◌, ◌∙◌, [], sym, chars, length, take, joined, joined_size, piece_at, get_or_default, IsBoundary, IsReplaced, IsShift, changed_if, some_after, boundaries_at, few_some, set_some}
-use Rattle.std.specs.Prelude.{slice_set, OnOk}
+use Rattle.text_rope.proofs.lemmas.{◌≡◌, ◌≢◌, ◌<◌, ◌-◌, ◌∙◌, [], sym, chars, length, take, joined, joined_size, piece_at, get_or_default, IsBoundary, IsReplaced, IsShift, changed_if, some_after, boundaries_at}
+use Rattle.std.specs.Prelude.{OnOk}
+use Rattle.std.proofs.lemmas.List.Elements.{All-set}
+use Rattle.text_rope.specs.Blocks.{HasBytes}
 use Rattle.text_rope.proofs.block.Block.replace_in_place.Goals as goal
 
-pub returns-then-from-place-clause-few : goal.returns-then-from-place-clause-few
-returns-then-from-place-clause-few c = few_some c.args.self.now (rw c.self.view_is at c.self.invariant.each)
+pub returns-then-from-place-clause-each : goal.returns-then-from-place-clause-each
+returns-then-from-place-clause-each c = rw c.self.view_is at c.self.invariant.each
 
-pub returns-clause-few : goal.returns-clause-few
-returns-clause-few c =
+pub returns-clause-each : goal.returns-clause-each
+returns-clause-each c =
     let rows = c.self.inside.rows.items in
     let i = c.row_up_to-place.result.row in
     let row = c.index_mut.result.now in
@@ -14,8 +16,8 @@ returns-clause-few c =
     let told = c.replace_in_place.ensures in
     let inside : i < length rows = rw c.as_slice.ensures.value at c.row_up_to-place.ensures.row in
     let here : row ≡ piece_at rows i = c.index_mut.ensures.value ∙ get_or_default rows i row [] inside in
-    let some : row ≢ [] = λ none. c.self.invariant.each i inside (sym here ∙ none) in
-    few_some (slice_set rows i own) (set_some rows i own (some_after row own c.replace_in_place.new.shift c.replace_in_place.result told.shift told.err some) c.self.invariant.each)
+    let some : row ≢ [] = λ none. c.self.invariant.each i [] inside (sym here ∙ none) in
+    All-set HasBytes rows i own (some_after row own c.replace_in_place.new.shift c.replace_in_place.result told.shift told.err some) c.self.invariant.each
 
 pub returns-clause-changed : goal.returns-clause-changed
 returns-clause-changed c =

@@ -52,5 +52,5 @@ returns-in-Err-NoRoom-clause-work c =
     let new = c.exchange_beside-in-Err-NoRoom.new.work in
     let first : TakesLog 1 1 n 0 c.args.work.now middle = rw c.self.view_is at c.replace_in_place.ensures.work in
     let same = ap joined c.in-Err-NoRoom.ensures.err ∙ c.self.view_is in
-    let then : TakesLog 60 240 n more middle new = rw same at c.exchange_beside-in-Err-NoRoom.ensures.work in
+    let then : TakesLog 53 240 n more middle new = rw same at c.exchange_beside-in-Err-NoRoom.ensures.work in
     takes_further n more c.args.work.now middle new first then
