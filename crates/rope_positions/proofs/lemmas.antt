@@ -1,5 +1,4 @@
 pub mod Common
-pub mod Asking
 pub mod Characters
 pub mod Answering
 pub mod Changing
@@ -10,7 +9,6 @@ pub mod Pieces
 pub mod OnLines
 pub mod Plain
 pub use Common.*
-pub use Asking.*
 pub use Characters.*
 pub use Answering.*
 pub use Changing.*

@@ -1,4 +1,3 @@
 pub mod Characters
-pub mod Costs
 pub mod Plain
 pub mod Changes

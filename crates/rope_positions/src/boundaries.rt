@@ -4,7 +4,7 @@ ghost use Rattle.str_indices.specs.Relations.{IsBoundary};
 ghost use Rattle.str_indices.specs.Schemes.{weighed};
 ghost use Rattle.text_summary.specs.Pieces.{joined};
 ghost use Rattle.position_mapper.specs.Encodings.{units_of};
-ghost use Rattle.rope_positions.specs.Costs.{Asks};
+ghost use Rattle.text_rope.specs.Looks.{Asks};
 
 use position_mapper::Encoding;
 use text_rope::{Scheme, View, from_in};

@@ -5,7 +5,7 @@ ghost use Rattle.str_indices.specs.Text.{Text, size};
 ghost use Rattle.text_summary.specs.Pieces.{joined};
 ghost use Rattle.text_rope.specs.Chunks.{IsChunkAt};
 ghost use Rattle.rope_positions.specs.Characters.{IsCharacterAt};
-ghost use Rattle.rope_positions.specs.Costs.{Asks};
+ghost use Rattle.text_rope.specs.Looks.{Asks};
 
 use text_rope::{Chunk, View, chunk_in};
 

@@ -7,7 +7,7 @@ ghost use Rattle.str_indices.specs.declared.Scheme.TheVariants.{Crlf};
 ghost use Rattle.text_summary.specs.Pieces.{joined, joined_size};
 ghost use Rattle.text_rope.specs.Chunks.{IsChunkAt};
 ghost use Rattle.rope_positions.specs.Characters.{IsBackOf};
-ghost use Rattle.rope_positions.specs.Costs.{Asks};
+ghost use Rattle.text_rope.specs.Looks.{Asks};
 
 use text_rope::{Found, Scheme, View, chunk_in, found_in, to_in};
 

@@ -10,7 +10,7 @@ ghost use Rattle.position_mapper.specs.Lines.{line_end};
 ghost use Rattle.position_mapper.specs.Positions.{byte_at, byte_range_at, exact_byte_at, position_at};
 ghost use Rattle.text_rope.specs.Chunks.{IsChunkAt};
 ghost use Rattle.text_rope.specs.States.{RowsState};
-ghost use Rattle.rope_positions.specs.Costs.{Asks};
+ghost use Rattle.text_rope.specs.Looks.{Asks};
 
 use crate::boundaries::units_before_boundary_in;
 use crate::breaks::is_crlf_middle_in;

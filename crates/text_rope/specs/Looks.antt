@@ -1,5 +1,9 @@
--- What a look at a tree shows.
+-- What a look at a tree shows, and how many looks questions take.
+--     IsLookAt whole look         the rows of its one block, or both sides of its fork
+--     Asks questions old new      a view after some questions, by what it was before
+use Rattle.std.specs.Prelude.{ℕ, ◌≡◌, ◌+◌, ◌-◌, ◌*◌, ◌^◌, ◌≤◌, length}
 use Rattle.text_rope.specs.Shapes.{Seen, IsBlockOf, IsForkOf}
+use Rattle.text_rope.specs.States.{RowsState}
 use Rattle.text_rope.specs.declared.tree.Look.{Look}
 use Rattle.text_rope.specs.declared.tree.Look.TheVariants.{Rows, Sides}
 
@@ -7,3 +11,12 @@ use Rattle.text_rope.specs.declared.tree.Look.TheVariants.{Rows, Sides}
 abbrev pub IsLookAt : Seen → Look → Type 0
 IsLookAt whole (Rows rows) = IsBlockOf whole rows.now
 IsLookAt whole (Sides left right) = IsForkOf whole left.now right.now
+
+-- no more questions than this: of the looks that each takes, 2 to the power of them is at most the square of one more than the
+-- rows, each reads one row at most, and the text is kept
+pub record Asks (questions : ℕ) (old new : RowsState) : Type 0 where
+  pub texts : new.texts ≡ old.texts
+  pub looks : 2 ^ (new.looks - old.looks) ≤ ((length old.texts + 1) * (length old.texts + 1)) ^ questions
+  pub looks_kept : old.looks ≤ new.looks
+  pub reads : new.reads ≤ old.reads + questions
+  pub reads_kept : old.reads ≤ new.reads

@@ -7,6 +7,7 @@ ghost use Rattle.text_summary.specs.Pieces.{joined, joined_size};
 ghost use Rattle.text_summary.specs.Summaries.{summary_of};
 ghost use Rattle.text_rope.specs.Chunks.{IsChunkAt, IsLocated, IsRound};
 ghost use Rattle.text_rope.specs.Rows.{max_piece};
+ghost use Rattle.text_rope.specs.Looks.{Asks};
 ghost use Rattle.text_rope.specs.States.{RowsState};
 
 use crate::queries::{place_at, place_of};
@@ -48,11 +49,7 @@ pub fn chunk_in<'a>(v: &mut View<'a>, at: usize) -> Option<Chunk<'a>>
     ensures chunk { IfSome result (λ chunk. IsChunkAt (joined v.old.texts) (chars chunk.text.now) chunk.start at) }
     ensures piece { IfSome result (λ chunk. size (chars chunk.text.now) ≤ max_piece) }
     ensures some { IsSome result ↔ (at < joined_size v.old.texts) }
-    ensures texts { v.new.texts ≡ v.old.texts }
-    ensures looks { 2 ^ (v.new.looks - v.old.looks) ≤ (length v.old.texts + 1) * (length v.old.texts + 1) }
-    ensures looks_kept { v.old.looks ≤ v.new.looks }
-    ensures reads { v.new.reads ≤ v.old.reads + 1 }
-    ensures reads_kept { v.old.reads ≤ v.new.reads }
+    ensures cost { Asks 1 v.old v.new }
 {
     match located_in(v, Scheme::Lf, at) {
         Some(located) => Some(located.chunk),
@@ -62,17 +59,14 @@ pub fn chunk_in<'a>(v: &mut View<'a>, at: usize) -> Option<Chunk<'a>>
 
 /// The row that a byte is in, where it starts, and what is counted in a scheme before it, none from the end of the text
 /// on; in as many looks and reads at most.
+#[tactic(auto, using(crate::proofs::lemmas::Asking::power_one))]
 pub fn located_in<'a>(v: &mut View<'a>, s: Scheme, at: usize) -> Option<Located<'a>>
     ensures located { IfSome result (λ l.
         IsLocated s (joined v.old.texts) (chars l.chunk.text.now) l.chunk.start l.before at) }
     ensures own { IfSome result (λ l. l.own ≡ summary_of (chars l.chunk.text.now)) }
     ensures piece { IfSome result (λ l. size (chars l.chunk.text.now) ≤ max_piece) }
     ensures some { IsSome result ↔ (at < joined_size v.old.texts) }
-    ensures texts { v.new.texts ≡ v.old.texts }
-    ensures looks { 2 ^ (v.new.looks - v.old.looks) ≤ (length v.old.texts + 1) * (length v.old.texts + 1) }
-    ensures looks_kept { v.old.looks ≤ v.new.looks }
-    ensures reads { v.new.reads ≤ v.old.reads + 1 }
-    ensures reads_kept { v.old.reads ≤ v.new.reads }
+    ensures cost { Asks 1 v.old v.new }
 {
     let Some(side) = v.root() else {
         return None;
@@ -107,17 +101,14 @@ fn lent(row: &Row, before: Front) -> Located<'_>
 /// The byte index in the text after the first `k` of them, its length where it has fewer, with the row round it: so what
 /// stands there is read without another way down. A break that ends there has its last byte in the row. As many looks and
 /// reads at most.
+#[tactic(auto, using(crate::proofs::lemmas::Asking::power_one))]
 pub fn found_in<'a>(v: &mut View<'a>, s: Scheme, k: usize) -> Found<'a>
     ensures byte { result.byte ≡ to_byte_idx s (joined v.old.texts) k }
     ensures chunk { IsRound (joined v.old.texts) (chars result.chunk.text.now) result.chunk.start result.byte }
     ensures empty { chars result.chunk.text.now ≡ [] ↔ ((k ≡ 0) ⊎ (count s (joined v.old.texts) < k)) }
     ensures inside { IsLineScheme s → 0 < k → k ≤ count s (joined v.old.texts) → result.chunk.start < result.byte }
     ensures piece { size (chars result.chunk.text.now) ≤ max_piece }
-    ensures texts { v.new.texts ≡ v.old.texts }
-    ensures looks { 2 ^ (v.new.looks - v.old.looks) ≤ (length v.old.texts + 1) * (length v.old.texts + 1) }
-    ensures looks_kept { v.old.looks ≤ v.new.looks }
-    ensures reads { v.new.reads ≤ v.old.reads + 1 }
-    ensures reads_kept { v.old.reads ≤ v.new.reads }
+    ensures cost { Asks 1 v.old v.new }
 {
     let Some(side) = v.root() else {
         return found_empty(0);

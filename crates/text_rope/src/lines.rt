@@ -8,6 +8,7 @@ ghost use Rattle.str_indices.specs.declared.Scheme.TheVariants.{Lf};
 ghost use Rattle.text_summary.specs.Pieces.{joined};
 ghost use Rattle.text_rope.specs.Chunks.{IsRound};
 ghost use Rattle.text_rope.specs.Lines.{line_end, IsBreakLen};
+ghost use Rattle.text_rope.specs.Looks.{Asks};
 ghost use Rattle.text_rope.specs.States.{RowsState};
 
 use crate::chunks::{Chunk, Found, chunk_in, found_in};
@@ -34,11 +35,7 @@ pub fn line_in(v: &mut View, s: Scheme, k: usize) -> Line
     ensures start { result.start ≡ to_byte_idx s (joined v.old.texts) k }
     ensures end { result.end ≡ line_end s (joined v.old.texts) k }
     ensures next { result.next ≡ to_byte_idx s (joined v.old.texts) (k + 1) }
-    ensures texts { v.new.texts ≡ v.old.texts }
-    ensures looks { 2 ^ (v.new.looks - v.old.looks) ≤ ((length v.old.texts + 1) * (length v.old.texts + 1)) ^ 3 }
-    ensures looks_kept { v.old.looks ≤ v.new.looks }
-    ensures reads { v.new.reads ≤ v.old.reads + 3 }
-    ensures reads_kept { v.old.reads ≤ v.new.reads }
+    ensures cost { Asks 3 v.old v.new }
 {
     let start = to_in(v, s, k);
     if count_in(v, s) <= k {
@@ -72,11 +69,7 @@ fn break_len_in(v: &mut View, s: Scheme, chunk: &Chunk<'_>, next: usize) -> usiz
     requires boundary { IsBoundary (joined v.old.texts) next }
     requires above { chunk.now.start < next }
     ensures len { IsBreakLen s (joined v.old.texts) next result }
-    ensures texts { v.new.texts ≡ v.old.texts }
-    ensures looks { 2 ^ (v.new.looks - v.old.looks) ≤ (length v.old.texts + 1) * (length v.old.texts + 1) }
-    ensures looks_kept { v.old.looks ≤ v.new.looks }
-    ensures reads { v.new.reads ≤ v.old.reads + 1 }
-    ensures reads_kept { v.old.reads ≤ v.new.reads }
+    ensures cost { Asks 1 v.old v.new }
 {
     let Some(last) = last_before(chunk.text, next - chunk.start) else {
         return 0;
@@ -95,15 +88,12 @@ fn pairs_returns(s: Scheme) -> bool
 }
 
 /// Whether CR ends at a boundary, which a piece has in it or at an end.
+#[tactic(auto, using(crate::proofs::lemmas::Asking::power_one))]
 fn is_after_return_in(v: &mut View, chunk: &Chunk<'_>, at: usize) -> bool
     requires chunk { IsRound (joined v.old.texts) (chars chunk.now.text.now) chunk.now.start at }
     requires boundary { IsBoundary (joined v.old.texts) at }
     ensures after { IsTrue result ↔ IsEndOf (joined v.old.texts) carriage_return at }
-    ensures texts { v.new.texts ≡ v.old.texts }
-    ensures looks { 2 ^ (v.new.looks - v.old.looks) ≤ (length v.old.texts + 1) * (length v.old.texts + 1) }
-    ensures looks_kept { v.old.looks ≤ v.new.looks }
-    ensures reads { v.new.reads ≤ v.old.reads + 1 }
-    ensures reads_kept { v.old.reads ≤ v.new.reads }
+    ensures cost { Asks 1 v.old v.new }
 {
     if let Some(last) = last_before(chunk.text, at - chunk.start) {
         return last == '\r';

@@ -6,6 +6,7 @@ ghost use Rattle.str_indices.specs.Text.{Text};
 ghost use Rattle.text_summary.specs.Fronts.{IsFront};
 ghost use Rattle.text_summary.specs.Pieces.{joined, joined_size};
 ghost use Rattle.text_rope.specs.Places.{IsPlaceAt, IsPlaceOf, StandsBefore, Reaches};
+ghost use Rattle.text_rope.specs.Looks.{Asks};
 ghost use Rattle.text_rope.specs.States.{RowsState};
 
 use crate::row::Row;
@@ -32,13 +33,10 @@ pub fn count_in(v: &mut View, s: Scheme) -> usize
 
 /// How many of them the text has up to a byte index, in a number of looks that is logarithmic in the number of rows,
 /// and one read at most.
+#[tactic(auto, using(crate::proofs::lemmas::Asking::power_one))]
 pub fn from_in(v: &mut View, s: Scheme, b: usize) -> usize
     ensures answer { result ≡ from_byte_idx s (joined v.old.texts) b }
-    ensures texts { v.new.texts ≡ v.old.texts }
-    ensures looks { 2 ^ (v.new.looks - v.old.looks) ≤ (length v.old.texts + 1) * (length v.old.texts + 1) }
-    ensures looks_kept { v.old.looks ≤ v.new.looks }
-    ensures reads { v.new.reads ≤ v.old.reads + 1 }
-    ensures reads_kept { v.old.reads ≤ v.new.reads }
+    ensures cost { Asks 1 v.old v.new }
 {
     let Some(side) = v.root() else {
         return 0;
@@ -57,13 +55,10 @@ pub fn from_in(v: &mut View, s: Scheme, b: usize) -> usize
 
 /// The byte index in the text after the first `k` of them, its length where it has fewer; in as many looks and reads at
 /// most as `from_in`.
+#[tactic(auto, using(crate::proofs::lemmas::Asking::power_one))]
 pub fn to_in(v: &mut View, s: Scheme, k: usize) -> usize
     ensures answer { result ≡ to_byte_idx s (joined v.old.texts) k }
-    ensures texts { v.new.texts ≡ v.old.texts }
-    ensures looks { 2 ^ (v.new.looks - v.old.looks) ≤ (length v.old.texts + 1) * (length v.old.texts + 1) }
-    ensures looks_kept { v.old.looks ≤ v.new.looks }
-    ensures reads { v.new.reads ≤ v.old.reads + 1 }
-    ensures reads_kept { v.old.reads ≤ v.new.reads }
+    ensures cost { Asks 1 v.old v.new }
 {
     let Some(side) = v.root() else {
         return 0;
@@ -82,13 +77,10 @@ pub fn to_in(v: &mut View, s: Scheme, k: usize) -> usize
 
 /// Whether a byte index is between characters, or at the beginning or end of the text; in as many looks and reads at most
 /// as `from_in`.
+#[tactic(auto, using(crate::proofs::lemmas::Asking::power_one))]
 pub fn is_boundary_in(v: &mut View, at: usize) -> bool
     ensures answer { IsTrue result ↔ IsBoundary (joined v.old.texts) at }
-    ensures texts { v.new.texts ≡ v.old.texts }
-    ensures looks { 2 ^ (v.new.looks - v.old.looks) ≤ (length v.old.texts + 1) * (length v.old.texts + 1) }
-    ensures looks_kept { v.old.looks ≤ v.new.looks }
-    ensures reads { v.new.reads ≤ v.old.reads + 1 }
-    ensures reads_kept { v.old.reads ≤ v.new.reads }
+    ensures cost { Asks 1 v.old v.new }
 {
     let Some(side) = v.root() else {
         return at == 0;

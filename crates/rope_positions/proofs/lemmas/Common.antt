@@ -11,7 +11,9 @@ pub use Rattle.str_indices.specs.Text.{Text, size, line_feed, carriage_return, c
 pub use Rattle.str_indices.specs.declared.Scheme.TheVariants.{Chars, Crlf, Utf16}
 pub use Rattle.text_summary.specs.Pieces.{joined, joined_size}
 pub use Rattle.text_rope.specs.Chunks.{IsChunkAt}
+pub use Rattle.text_rope.specs.Looks.{Asks}
 pub use Rattle.text_rope.specs.States.{RowsState}
+pub use Rattle.text_rope.proofs.lemmas.Callers.{none_asked, asked_after, asked_within}
 pub use Rattle.position_mapper.proofs.lemmas.Callers.{crlf_is_not_utf16, weighed_bytes, boundary_of_bytes, line_end_past, break_of_line, units_of_position, byte_of_units, place_of_least, units_at_place, exact_by_units, not_exact_by_units, IsBoundary-byte_at, byte_at-le, IsBoundary-line_end, byte_range_in_order, byte_range_at_boundaries}
 pub use Rattle.position_mapper.specs.Encodings.{units_of}
 pub use Rattle.position_mapper.specs.Lines.{line_end}
@@ -19,4 +21,3 @@ pub use Rattle.position_mapper.specs.Positions.{position_at, byte_at, exact_byte
 pub use Rattle.position_mapper.specs.declared.Position.{Position}
 pub use Rattle.position_mapper.specs.declared.encodings.Encoding.{Encoding}
 pub use Rattle.rope_positions.specs.Characters.{IsCharacterAt}
-pub use Rattle.rope_positions.specs.Costs.{Asks}

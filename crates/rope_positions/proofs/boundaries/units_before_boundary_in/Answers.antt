@@ -1,4 +1,4 @@
-use Rattle.rope_positions.proofs.lemmas.{◌∙◌, sym, joined, characters_weighed, weighed_none, bytes_weighed, units_of, none_asked, one_asked, asked_within, arith}
+use Rattle.rope_positions.proofs.lemmas.{◌∙◌, sym, joined, characters_weighed, weighed_none, bytes_weighed, units_of, none_asked, asked_within, arith}
 use Rattle.rope_positions.proofs.boundaries.units_before_boundary_in.Goals as goal
 
 pub returns-then-byte-eq0-clause-units : goal.returns-then-byte-eq0-clause-units
@@ -16,8 +16,7 @@ pub returns-in-Utf8-clause-cost : goal.returns-in-Utf8-clause-cost
 returns-in-Utf8-clause-cost c = asked_within (omega arith) (none_asked c.args.v.now)
 
 pub returns-in-Utf16-clause-cost : goal.returns-in-Utf16-clause-cost
-returns-in-Utf16-clause-cost c =
-    let from = c.from_in.ensures in one_asked _ _ from.texts from.looks from.looks_kept from.reads from.reads_kept
+returns-in-Utf16-clause-cost c = c.from_in.ensures.cost
 
 pub returns-in-Utf32-clause-units : goal.returns-in-Utf32-clause-units
 returns-in-Utf32-clause-units c = rw c.in-Utf32.is
@@ -25,4 +24,4 @@ returns-in-Utf32-clause-units c = rw c.in-Utf32.is
 
 pub returns-in-Utf32-clause-cost : goal.returns-in-Utf32-clause-cost
 returns-in-Utf32-clause-cost c = let from = c.from_in-in-Utf32.ensures in
-    one_asked _ _ from.texts from.looks from.looks_kept from.reads from.reads_kept
+    from.cost

@@ -1,5 +1,5 @@
 use Rattle.std.proofs.Common.{true≢false}
-use Rattle.rope_positions.proofs.lemmas.{◌≡◌, ◌-◌, ◌∙◌, sym, chars, arith, joined, IsChunkAt, middle_of_characters, characters_of_middle, one_asked, asked_after}
+use Rattle.rope_positions.proofs.lemmas.{◌≡◌, ◌-◌, ◌∙◌, sym, chars, arith, joined, IsChunkAt, middle_of_characters, characters_of_middle, asked_after, asked_within}
 use Rattle.rope_positions.proofs.breaks.is_crlf_middle_in.Goals as goal
 
 pub returns-then-not-has_character-clause-middle : goal.returns-then-not-has_character-clause-middle
@@ -33,7 +33,7 @@ returns-then-chunk-at-clause-middle c =
 pub returns-clause-middle : goal.returns-clause-middle
 returns-clause-middle c =
     let cs = joined c.args.v.now.texts in
-    let texts : c.chunk_in.new.v.texts ≡ c.args.v.now.texts = c.chunk_in.ensures.texts in
+    let texts : c.chunk_in.new.v.texts ≡ c.args.v.now.texts = c.chunk_in.ensures.cost.texts in
     let feed = (c.has_character.ensures cs c.in-Some.ensures.chunk).0 c.if-not-has_character.false in
     let return = rw texts at c.begins_in.ensures.begins in (
       λ is. middle_of_characters cs c.args.at (omega (arith, c.if-at-eq0.false)) feed (return.0 is),
@@ -42,4 +42,13 @@ returns-clause-middle c =
 
 pub returns-clause-cost : goal.returns-clause-cost
 returns-clause-cost c = let asked = c.chunk_in.ensures in
-    asked_after (one_asked _ _ asked.texts asked.looks asked.looks_kept asked.reads asked.reads_kept) c.begins_in.ensures.cost
+    asked_after asked.cost c.begins_in.ensures.cost
+
+pub returns-in_default-clause-cost : goal.returns-in_default-clause-cost
+returns-in_default-clause-cost c = asked_within (omega arith) c.chunk_in.ensures.cost
+
+pub returns-then-not-has_character-clause-cost : goal.returns-then-not-has_character-clause-cost
+returns-then-not-has_character-clause-cost c = asked_within (omega arith) c.chunk_in.ensures.cost
+
+pub returns-then-chunk-at-clause-cost : goal.returns-then-chunk-at-clause-cost
+returns-then-chunk-at-clause-cost c = asked_within (omega arith) c.chunk_in.ensures.cost

@@ -1,6 +1,6 @@
 use Rattle.std.proofs.lemmas.Bool.Decides.{nat_tests}
 use Rattle.str_indices.proofs.lemmas.Callers.{IsBoundary-to_byte_idx}
-use Rattle.rope_positions.proofs.lemmas.{◌<◌, sym, subst, arith, chars, size, joined, Crlf, IsBoundary, size-chars, one_asked, asked_after, asked_within, boundary_in_round, chunk_of_round, rest_of_chunk}
+use Rattle.rope_positions.proofs.lemmas.{◌<◌, sym, subst, arith, chars, size, joined, Crlf, IsBoundary, size-chars, asked_after, asked_within, boundary_in_round, chunk_of_round, rest_of_chunk}
 use Rattle.rope_positions.proofs.line_starts.line_in.Goals as goal
 
 pub returns-then-line-eq0-clause-cost : goal.returns-then-line-eq0-clause-cost
@@ -19,12 +19,10 @@ pub rest_in-requires-then-is_empty : goal.rest_in-requires-then-is_empty
 rest_in-requires-then-is_empty c =
     let cs = joined c.args.v.now.texts in
     let found = c.found_in-byte.ensures in
-    rw found.texts (subst (IsBoundary cs) (sym found.byte) (IsBoundary-to_byte_idx Crlf cs c.args.line))
+    rw found.cost.texts (subst (IsBoundary cs) (sym found.byte) (IsBoundary-to_byte_idx Crlf cs c.args.line))
 
 pub returns-then-is_empty-clause-cost : goal.returns-then-is_empty-clause-cost
-returns-then-is_empty-clause-cost c = let asked = c.found_in-byte.ensures in
-    asked_after (one_asked _ _ asked.texts asked.looks asked.looks_kept asked.reads asked.reads_kept)
-    c.rest_in-then-is_empty.ensures.cost
+returns-then-is_empty-clause-cost c = asked_after c.found_in-byte.ensures.cost c.rest_in-then-is_empty.ensures.cost
 
 pub returns-clause-rest : goal.returns-clause-rest
 returns-clause-rest c =
@@ -39,3 +37,6 @@ returns-clause-rest c =
 
 pub returns-clause-len : goal.returns-clause-len
 returns-clause-len c = sym (size-chars c.from_byte-rest.result.now c.from_byte-rest.utf8)
+
+pub returns-clause-cost : goal.returns-clause-cost
+returns-clause-cost c = asked_within (omega arith) c.found_in-byte.ensures.cost

@@ -1,9 +1,9 @@
-use Rattle.rope_positions.proofs.lemmas.{sym, joined, size-chars, one_asked, boundary_in_chunk, rest_of_chunk}
+use Rattle.rope_positions.proofs.lemmas.{sym, joined, size-chars, boundary_in_chunk, rest_of_chunk}
 use Rattle.rope_positions.proofs.line_starts.rest_in.Goals as goal
 
 pub returns-in_err-chunk-clause-cost : goal.returns-in_err-chunk-clause-cost
 returns-in_err-chunk-clause-cost c = let asked = c.chunk_in.ensures in
-    one_asked _ _ asked.texts asked.looks asked.looks_kept asked.reads asked.reads_kept
+    asked.cost
 
 pub from_byte-rest-requires : goal.from_byte-rest-requires
 from_byte-rest-requires c = record {
@@ -19,4 +19,4 @@ returns-clause-len c = sym (size-chars c.from_byte-rest.result.now c.from_byte-r
 
 pub returns-clause-cost : goal.returns-clause-cost
 returns-clause-cost c = let asked = c.chunk_in.ensures in
-    one_asked _ _ asked.texts asked.looks asked.looks_kept asked.reads asked.reads_kept
+    asked.cost

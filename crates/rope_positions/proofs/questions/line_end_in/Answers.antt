@@ -1,5 +1,5 @@
 use Rattle.std.proofs.Common.{true≢false}
-use Rattle.rope_positions.proofs.lemmas.{subst, IsBoundary, IsBoundary-line_end, ◌≡◌, ◌∙◌, ap, sym, arith, inl, inr, joined, line_end_past, break_of_line, none_asked, one_asked, asked_after, asked_within}
+use Rattle.rope_positions.proofs.lemmas.{subst, IsBoundary, IsBoundary-line_end, ◌≡◌, ◌∙◌, ap, sym, arith, inl, inr, joined, line_end_past, break_of_line, none_asked, asked_after, asked_within}
 use Rattle.rope_positions.proofs.questions.line_end_in.Goals as goal
 
 pub returns-then-count_in-line-clause-answer : goal.returns-then-count_in-line-clause-answer
@@ -32,7 +32,7 @@ pub returns-then-is_crlf_middle_in-clause-answer : goal.returns-then-is_crlf_mid
 returns-then-is_crlf_middle_in-clause-answer c =
     let next = rw c.count_in.ensures.state at c.to_in-next.ensures.answer in
     let texts : c.to_in-next.new.v.texts ≡ c.args.v.now.texts =
-    c.to_in-next.ensures.texts ∙ ap (λ s. s.texts) c.count_in.ensures.state in
+    c.to_in-next.ensures.cost.texts ∙ ap (λ s. s.texts) c.count_in.ensures.state in
     let middle = rw (texts, next) at (c.is_crlf_middle_in.ensures.middle.0 c.if-is_crlf_middle_in.true) in
     elim (break_of_line (joined c.args.v.now.texts) c.args.line
     (omega (arith, c.count_in.ensures.answer, c.if-count_in-line.false))) [
@@ -44,7 +44,7 @@ pub returns-else-is_crlf_middle_in-clause-answer : goal.returns-else-is_crlf_mid
 returns-else-is_crlf_middle_in-clause-answer c =
     let next = rw c.count_in.ensures.state at c.to_in-next.ensures.answer in
     let texts : c.to_in-next.new.v.texts ≡ c.args.v.now.texts =
-    c.to_in-next.ensures.texts ∙ ap (λ s. s.texts) c.count_in.ensures.state in
+    c.to_in-next.ensures.cost.texts ∙ ap (λ s. s.texts) c.count_in.ensures.state in
     let told = rw (texts, next) at c.is_crlf_middle_in.ensures.middle in
     elim (break_of_line (joined c.args.v.now.texts) c.args.line
     (omega (arith, c.count_in.ensures.answer, c.if-count_in-line.false))) [
@@ -56,13 +56,13 @@ pub returns-then-is_crlf_middle_in-clause-cost : goal.returns-then-is_crlf_middl
 returns-then-is_crlf_middle_in-clause-cost c =
     let to = c.to_in-next.ensures in
     rw (sym c.count_in.ensures.state) (asked_after
-    (one_asked _ _ to.texts to.looks to.looks_kept to.reads to.reads_kept) c.is_crlf_middle_in.ensures.cost)
+    to.cost c.is_crlf_middle_in.ensures.cost)
 
 pub returns-else-is_crlf_middle_in-clause-cost : goal.returns-else-is_crlf_middle_in-clause-cost
 returns-else-is_crlf_middle_in-clause-cost c =
     let to = c.to_in-next.ensures in
     rw (sym c.count_in.ensures.state) (asked_after
-    (one_asked _ _ to.texts to.looks to.looks_kept to.reads to.reads_kept) c.is_crlf_middle_in.ensures.cost)
+    to.cost c.is_crlf_middle_in.ensures.cost)
 
 pub returns-else-is_crlf_middle_in-clause-boundary : goal.returns-else-is_crlf_middle_in-clause-boundary
 returns-else-is_crlf_middle_in-clause-boundary c = subst (IsBoundary (joined c.args.v.now.texts))

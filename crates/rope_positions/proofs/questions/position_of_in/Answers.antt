@@ -1,4 +1,4 @@
-use Rattle.rope_positions.proofs.lemmas.{refl, ◌≡◌, ◌++◌, ◌+◌, ◌-◌, ◌∙◌, inl, inr, min, ap, sym, arith, cases_lt, chars, size, joined, joined_size, inside_or_last, lost_within, line_made, line_le_size, position_in_piece, position_in_none, position_over, units_over, units_before_piece, units_over_le, position_at, from_byte_idx, weighed, to_byte_idx, Crlf, units_of, one_asked, asked_after, asked_within}
+use Rattle.rope_positions.proofs.lemmas.{refl, ◌≡◌, ◌++◌, ◌+◌, ◌-◌, ◌∙◌, inl, inr, min, ap, sym, arith, cases_lt, chars, size, joined, joined_size, inside_or_last, lost_within, line_made, line_le_size, position_in_piece, position_in_none, position_over, units_over, units_before_piece, units_over_le, position_at, from_byte_idx, weighed, to_byte_idx, Crlf, units_of, asked_after, asked_within}
 use Rattle.rope_positions.proofs.questions.position_of_in.Goals as goal
 use Rattle.rope_positions.proofs.questions.position_of_in.Goals.{then-own-gt0-via-then-own-gt0, then-own-gt0-via-else-own-gt0+then-start-eq0}
 
@@ -13,7 +13,7 @@ returns-in_default-clause-answer c =
 
 pub returns-in_default-clause-cost : goal.returns-in_default-clause-cost
 returns-in_default-clause-cost c = let asked = c.located_in.ensures in
-    asked_within (omega arith) (one_asked _ _ asked.texts asked.looks asked.looks_kept asked.reads asked.reads_kept)
+    asked_within (omega arith) asked.cost
 
 pub overflow_sub-line : goal.overflow_sub-line
 overflow_sub-line c =
@@ -70,7 +70,7 @@ returns-then-own-gt0-clause-answer c =
 
 pub returns-then-own-gt0-clause-cost : goal.returns-then-own-gt0-clause-cost
 returns-then-own-gt0-clause-cost c = let asked = c.located_in.ensures in
-    asked_within (omega arith) (one_asked _ _ asked.texts asked.looks asked.looks_kept asked.reads asked.reads_kept)
+    asked_within (omega arith) asked.cost
 
 pub position_on-requires : goal.position_on-requires
 position_on-requires c =
@@ -87,18 +87,18 @@ position_on-requires c =
     let last = inside_or_last cs chunk _ _ _ byte o is at place in
     let line = line_made e cs chunk _ _ _ byte o is place last c.breaks_at_seam-lost.result
     (c.breaks_at_seam-lost.ensures is.front is.before_is) in
-    let texts = c.located_in.ensures.texts in
+    let texts = c.located_in.ensures.cost.texts in
     record { line = rw c.position_in-own.ensures line ∙ sym (ap (λ ts. from_byte_idx Crlf (joined ts) byte) texts) }
 
 pub returns-then-lost-gt0-clause-cost : goal.returns-then-lost-gt0-clause-cost
 returns-then-lost-gt0-clause-cost c = let asked = c.located_in.ensures in
     asked_within (omega arith) (asked_after
-    (one_asked _ _ asked.texts asked.looks asked.looks_kept asked.reads asked.reads_kept) c.position_on.ensures.cost)
+    asked.cost c.position_on.ensures.cost)
 
 pub returns-clause-cost : goal.returns-clause-cost
 returns-clause-cost c = let asked = c.located_in.ensures in
     asked_within (omega arith) (asked_after (asked_after
-    (one_asked _ _ asked.texts asked.looks asked.looks_kept asked.reads asked.reads_kept)
+    asked.cost
     c.units_before_boundary_in-before_piece.ensures.cost) c.units_before_line_in-before_line.ensures.cost)
 
 pub overflow_add-result : goal.overflow_add-result
@@ -120,7 +120,7 @@ overflow_add-result c =
     let earlier : (position_at e chunk o).line ≡ 0 = omega (arith, ap (λ p. p.line) own, c.if-own-gt0.false) in
     let le = units_over_le e cs chunk _ _ _ byte o is place last earlier
     (omega (arith, lost_is, c.if-lost-gt0.false)) (from_byte_idx Crlf cs byte) _ refl refl in
-    let piece_texts = c.located_in.ensures.texts in
+    let piece_texts = c.located_in.ensures.cost.texts in
     let before_piece = c.units_before_boundary_in-before_piece.ensures.units
     ∙ ap (λ ts. weighed (units_of e) (joined ts) located.chunk.start) piece_texts
     ∙ units_before_piece e cs chunk _ _ _ byte o is place last in
@@ -152,12 +152,12 @@ overflow_sub-result c =
     (line_made e cs chunk _ _ _ byte o is place last c.breaks_at_seam-lost.result lost_is) in
     let earlier : (position_at e chunk o).line ≡ 0 = omega (arith, ap (λ p. p.line) own, c.if-own-gt0.false) in
     let line = located.before.total - c.breaks_at_seam-lost.result + c.position_in-own.result.line in
-    let texts = c.units_before_boundary_in-before_piece.ensures.cost.texts ∙ c.located_in.ensures.texts in
+    let texts = c.units_before_boundary_in-before_piece.ensures.cost.texts ∙ c.located_in.ensures.cost.texts in
     let before = c.units_before_line_in-before_line.ensures.units
     ∙ ap (λ ts. weighed (units_of e) (joined ts) (to_byte_idx Crlf (joined ts) line)) texts in
     let over = units_over e cs chunk _ _ _ byte o is place last earlier
     (omega (arith, lost_is, c.if-lost-gt0.false)) line c.units_before_line_in-before_line.result line_is before in
-    let piece_texts = c.located_in.ensures.texts in
+    let piece_texts = c.located_in.ensures.cost.texts in
     let before_piece = c.units_before_boundary_in-before_piece.ensures.units
     ∙ ap (λ ts. weighed (units_of e) (joined ts) located.chunk.start) piece_texts
     ∙ units_before_piece e cs chunk _ _ _ byte o is place last in
@@ -183,10 +183,10 @@ returns-clause-answer c =
     (line_made e cs chunk _ _ _ byte o is place last c.breaks_at_seam-lost.result lost_is) in
     let earlier : (position_at e chunk o).line ≡ 0 = omega (arith, ap (λ p. p.line) own, c.if-own-gt0.false) in
     let line = located.before.total - c.breaks_at_seam-lost.result + c.position_in-own.result.line in
-    let texts = c.units_before_boundary_in-before_piece.ensures.cost.texts ∙ c.located_in.ensures.texts in
+    let texts = c.units_before_boundary_in-before_piece.ensures.cost.texts ∙ c.located_in.ensures.cost.texts in
     let before = c.units_before_line_in-before_line.ensures.units
     ∙ ap (λ ts. weighed (units_of e) (joined ts) (to_byte_idx Crlf (joined ts) line)) texts in
-    let piece_texts = c.located_in.ensures.texts in
+    let piece_texts = c.located_in.ensures.cost.texts in
     let before_piece = c.units_before_boundary_in-before_piece.ensures.units
     ∙ ap (λ ts. weighed (units_of e) (joined ts) located.chunk.start) piece_texts
     ∙ units_before_piece e cs chunk _ _ _ byte o is place last in
@@ -202,7 +202,7 @@ pub units_before_boundary_in-before_piece-requires : goal.units_before_boundary_
 units_before_boundary_in-before_piece-requires c =
     let is = c.in-Some.ensures.located in
     record {
-      boundary = rw c.located_in.ensures.texts (record {
+      boundary = rw c.located_in.ensures.cost.texts (record {
         front = is.front;
         back = chars c.in-Some.located.chunk.text.now ++ is.back;
         split = is.parts;

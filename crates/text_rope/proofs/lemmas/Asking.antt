@@ -1,28 +1,19 @@
 -- What questions cost together.
+use Rattle.std.proofs.Common.{pow-add}
 use Rattle.std.proofs.Math.Nat.{one-mul, pow-zero, pow-suc, pow-le-pow_right}
-use Rattle.rope_positions.proofs.lemmas.Common.{◌≡◌, ℕ, ◌+◌, ◌-◌, ◌*◌, ◌^◌, ◌<◌, ◌≤◌, length, refl, sym, ◌∙◌, ap, arith, pow-add, mul-le-mul, RowsState, Asks}
+use Rattle.text_rope.proofs.lemmas.Common.{◌≡◌, ℕ, ◌+◌, ◌-◌, ◌*◌, ◌^◌, ◌<◌, ◌≤◌, length, refl, sym, ◌∙◌, ap, arith, mul-le-mul}
+use Rattle.text_rope.specs.Looks.{Asks}
+use Rattle.text_rope.specs.States.{RowsState}
 
 -- none and one of equal factors
 power_none : (m : ℕ) → m ^ 0 ≡ 1
 power_none m = pow-zero m
 
-power_one : (m : ℕ) → m ^ 1 ≡ m
+pub power_one : (m : ℕ) → m ^ 1 ≡ m
 power_one m = pow-suc m 0 ∙ ap (λ n. n * m) (pow-zero m) ∙ one-mul m
 
 sub_same : (n : ℕ) → n - n ≡ 0
 sub_same n = omega arith
-
--- one question
-pub one_asked : (old new : RowsState) → new.texts ≡ old.texts
-    → 2 ^ (new.looks - old.looks) ≤ (length old.texts + 1) * (length old.texts + 1) → old.looks ≤ new.looks
-    → new.reads ≤ old.reads + 1 → old.reads ≤ new.reads → Asks 1 old new
-one_asked old new texts looks looks_kept reads reads_kept = let m = (length old.texts + 1) * (length old.texts + 1) in record {
-  texts = texts;
-  looks = omega (arith, looks, power_one m);
-  looks_kept = looks_kept;
-  reads = reads;
-  reads_kept = reads_kept;
-}
 
 -- none
 pub none_asked : (state : RowsState) → Asks 0 state state
