@@ -16,7 +16,7 @@ use crate::piece::Piece;
 use byte_chunk::Counter;
 use std::alloc::{AllocError, Global};
 use std::marker::Model;
-use text_summary::{Exchange, exchanged, joined};
+use text_summary::{Change, exchanged, joined};
 
 /// How many pieces a run has when it is made. One that has twice as many is cut before it grows.
 const RUN: usize = 64;
@@ -80,7 +80,7 @@ impl Run {
         requires short { joined_size own.now < 2 ^ 63 }
         ensures { IsRun result own.now }
     {
-        let exchange = Exchange {
+        let change = Change {
             ends_cr: ends_before(own, at),
             starts_lf: starts_from(own, at + swap.come),
             out: swap.out,
@@ -91,7 +91,7 @@ impl Run {
         let ends_cr = ends_before(own, count);
         Run {
             pieces: count,
-            whole: exchanged(self.whole, exchange, starts_lf, ends_cr),
+            whole: exchanged(self.whole, change, starts_lf, ends_cr),
         }
     }
 

@@ -15,7 +15,7 @@ use crate::shifts::Shift;
 use std::alloc::{AllocError, Global};
 use std::marker::Model;
 use std::sync::Arc;
-use text_summary::{Change, Scheme, Summary, changed};
+use text_summary::{Scheme, Summary, changed};
 
 /// How many bytes a row has at most.
 pub const MAX_PIECE: usize = 1024;
@@ -198,17 +198,17 @@ impl Row {
         ensures room { result ≢ Err NotBoundary }
     {
         let out = self.summary();
-        let changed = self.summary_after(from, to, more, *own);
+        let after = changed(self.text(), out, from, to, more, *own);
         let Ok(text) = Arc::make_mut(&mut self.text) else {
             return Err(Unplaced::NoRoom);
         };
         let _text = text.as_str();
-        if !has_memory(text, changed.len) {
+        if !has_memory(text, after.len) {
             return Err(Unplaced::NoRoom);
         }
         exchange(text, from, to, more);
-        self.counts = Counts::of(changed);
-        *shift = Shift { out, own: changed };
+        self.counts = Counts::of(after);
+        *shift = Shift { out, own: after };
         Ok(())
     }
 
@@ -221,21 +221,6 @@ impl Row {
         let len = self.summary().len;
         let kept = len - out;
         more <= MAX_PIECE - kept && least <= kept + more
-    }
-
-    /// The summary that it has after what is between two boundaries is exchanged for a text. Of its own text it reads the
-    /// part that goes out, and the characters beside that.
-    fn summary_after(&self, from: usize, to: usize, more: &str, own: Summary) -> Summary
-        requires order { from ≤ to }
-        requires start { IsBoundary self.now from }
-        requires end { IsBoundary self.now to }
-        requires own { own ≡ summary_of (chars more.now) }
-        requires short { size self.now + length more.now ≤ max_piece + (to - from) }
-        ensures summary { (new : Text) → IsReplaced self.now new from to (chars more.now) → result ≡ summary_of new }
-        ensures len { result.len + (to - from) ≡ size self.now + length more.now }
-    {
-        let change = Change::of(self.text(), from, to, own);
-        changed(self.summary(), change)
     }
 }
 

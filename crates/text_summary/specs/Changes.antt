@@ -1,16 +1,13 @@
 -- A part of a text that is exchanged for another text.
 --     IsReplaced old new from to text    new is old with what is between two byte indices exchanged for the text
 --     IsChange a m b t change            what is known of m between a and b, and of t that comes in for m
---     IsExchangeOf a m b t exchange      the same without where m starts
 --     FitsIn whole change                the change is of a text with that summary, and no text is too long
---     FitsExchange whole exchange        the same of an exchange
 use Rattle.std.specs.Prelude.{ℕ, ◌≡◌, ◌+◌, ◌^◌, ◌<◌, ◌++◌}
 use Rattle.str_indices.specs.Text.{Text, size}
 use Rattle.str_indices.specs.Joins.{starts_with_feed, ends_in_return}
 use Rattle.text_summary.specs.Summaries.{summary_of}
 use Rattle.text_summary.specs.declared.summaries.Summary.{Summary}
 use Rattle.text_summary.specs.declared.changes.Change.{Change}
-use Rattle.text_summary.specs.declared.changes.Exchange.{Exchange}
 
 -- what is between two byte indices, each between characters, is exchanged for a text
 pub record IsReplaced (old new : Text) (from to : ℕ) (text : Text) : Type 0 where
@@ -24,18 +21,10 @@ pub record IsReplaced (old new : Text) (from to : ℕ) (text : Text) : Type 0 wh
 
 -- what is known of a part m between a and b, and of a text t that comes in for it
 pub record IsChange (a m b t : Text) (change : Change) : Type 0 where
-  pub start : change.start ≡ size a
   pub ends_cr : change.ends_cr ≡ ends_in_return a
   pub starts_lf : change.starts_lf ≡ starts_with_feed b
   pub out : change.out ≡ summary_of m
   pub own : change.own ≡ summary_of t
-
--- the same without where the part starts
-pub record IsExchangeOf (a m b t : Text) (exchange : Exchange) : Type 0 where
-  pub ends_cr : exchange.ends_cr ≡ ends_in_return a
-  pub starts_lf : exchange.starts_lf ≡ starts_with_feed b
-  pub out : exchange.out ≡ summary_of m
-  pub own : exchange.own ≡ summary_of t
 
 -- it is known of a text with that summary, and neither that text nor the one after the change is too long
 pub record FitsIn (whole : Summary) (change : Change) : Type 0 where
@@ -45,16 +34,5 @@ pub record FitsIn (whole : Summary) (change : Change) : Type 0 where
   pub t : Text
   pub whole_is : whole ≡ summary_of (a ++ (m ++ b))
   pub change_is : IsChange a m b t change
-  pub short_old : size (a ++ (m ++ b)) < 2 ^ 63
-  pub short_new : size (a ++ (t ++ b)) < 2 ^ 63
-
--- the same of an exchange
-pub record FitsExchange (whole : Summary) (exchange : Exchange) : Type 0 where
-  pub a : Text
-  pub m : Text
-  pub b : Text
-  pub t : Text
-  pub whole_is : whole ≡ summary_of (a ++ (m ++ b))
-  pub exchange_is : IsExchangeOf a m b t exchange
   pub short_old : size (a ++ (m ++ b)) < 2 ^ 63
   pub short_new : size (a ++ (t ++ b)) < 2 ^ 63

@@ -11,7 +11,7 @@ mod seams;
 mod splits;
 mod summaries;
 
-pub use changes::{Change, Exchange, changed, exchanged};
+pub use changes::{Change, changed, exchanged};
 pub use fronts::{Front, Look};
 pub use seams::{joined, lost_at_seam};
 pub use splits::halves;

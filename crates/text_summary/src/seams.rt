@@ -1,6 +1,6 @@
 //! Two texts, one after the other: a CR before an LF makes one break of two.
-ghost use Rattle.std.specs.Prelude.{◌≡◌, ◌≤◌, ◌++◌};
-ghost use Rattle.str_indices.specs.Text.{Text};
+ghost use Rattle.std.specs.Prelude.{◌≡◌, ◌≢◌, ◌≤◌, [], ◌++◌};
+ghost use Rattle.str_indices.specs.Text.{Text, size};
 ghost use Rattle.str_indices.specs.Joins.{starts_with_feed, ends_in_return, seam_loss};
 ghost use Rattle.text_summary.specs.Summaries.{summary_of, AreSummaries};
 
@@ -32,30 +32,23 @@ pub fn joined(front: Summary, after: Summary) -> Summary
         lf: front.lf + after.lf,
         crlf: front.crlf - lost + after.crlf,
         lines: front.lines - lost + after.lines,
-        starts_lf: joined_starts_lf(front, after.starts_lf),
-        ends_cr: joined_ends_cr(front.ends_cr, after),
+        starts_lf: joined_starts_lf(front.len, front.starts_lf, after.starts_lf),
+        ends_cr: joined_ends_cr(front.ends_cr, after.len, after.ends_cr),
     }
 }
 
-/// Whether two texts, one after the other, start with LF, by the summary of the first and the start of the second.
-pub(crate) fn joined_starts_lf(front: Summary, starts_lf: bool) -> bool
-    ensures { (a b : Text) → front ≡ summary_of a → starts_lf ≡ starts_with_feed b →
+/// Whether two texts, one after the other, start with LF: as the first where it has bytes, and else as the second.
+pub(crate) fn joined_starts_lf(len: usize, first: bool, second: bool) -> bool
+    ensures { (a b : Text) → len ≡ size a → (a ≢ [] → first ≡ starts_with_feed a) → second ≡ starts_with_feed b →
         result ≡ starts_with_feed (a ++ b) }
 {
-    if front.len == 0 {
-        starts_lf
-    } else {
-        front.starts_lf
-    }
+    if len == 0 { second } else { first }
 }
 
-/// Whether two texts, one after the other, end in CR, by the end of the first and the summary of the second.
-pub(crate) fn joined_ends_cr(ends_cr: bool, after: Summary) -> bool
-    ensures { (a b : Text) → ends_cr ≡ ends_in_return a → after ≡ summary_of b → result ≡ ends_in_return (a ++ b) }
+/// Whether two texts, one after the other, end in CR: as the second where it has bytes, and else as the first.
+pub(crate) fn joined_ends_cr(first: bool, len: usize, second: bool) -> bool
+    ensures { (a b : Text) → first ≡ ends_in_return a → len ≡ size b → (b ≢ [] → second ≡ ends_in_return b) →
+        result ≡ ends_in_return (a ++ b) }
 {
-    if after.len == 0 {
-        ends_cr
-    } else {
-        after.ends_cr
-    }
+    if len == 0 { first } else { second }
 }

@@ -15,7 +15,7 @@ pub use Rattle.text_summary.proofs.lemmas.Callers.{replaced_bytes, size-replaced
 pub use Rattle.text_summary.specs.Fronts.{IsFront, IsLook}
 pub use Rattle.text_summary.specs.declared.fronts.Front.{Front}
 pub use Rattle.text_summary.specs.declared.fronts.Look.{Look}
-pub use Rattle.text_summary.specs.Changes.{IsReplaced, IsChange, FitsIn}
+pub use Rattle.text_summary.specs.Changes.{IsReplaced}
 pub use Rattle.text_summary.specs.Pieces.{joined, joined_size, piece_at}
 pub use Rattle.text_summary.specs.Summaries.{summary_of, count_of}
 pub use Rattle.text_summary.specs.declared.summaries.Summary.{Summary}

@@ -1,6 +1,6 @@
 -- A text with a part of it exchanged for another text.
 use Rattle.text_summary.proofs.lemmas.Common.{◌≡◌, ℕ, ◌+◌, ◌-◌, ◌≤◌, List, [], ◌++◌, take, drop, arith, sym, ◌∙◌, ap, append_assoc, length-take-le, chars, IsUtf8, IsUtf8-take, Text, size, size-append, size-chars, chars-append, IsBoundary, IsCharBoundary-from_boundary, take-append-drop, IsReplaced}
-use Rattle.text_summary.proofs.lemmas.Boundaries.{parts_of, same_cut}
+use Rattle.text_summary.proofs.lemmas.Boundaries.{parts_of, same_cut, same_parts}
 
 -- the bytes of a text with those between two boundaries exchanged
 pub replaced_bytes : (bytes more whole : List ℕ) → IsUtf8 bytes → IsUtf8 more → (from to : ℕ) → from ≤ to
@@ -35,6 +35,14 @@ replaced_bytes bytes more whole utf8 utf8_more from to order start end is =
           ∙ ap (λ r. r ++ (chars more ++ chars (drop to bytes))) front.front
           ∙ ap (λ r. parts.front ++ (chars more ++ r)) back.back;
     }
+
+-- there is one text in which the same is exchanged for the same
+pub same_replaced : (old new other : Text) (from to : ℕ) (text : Text) → IsReplaced old new from to text
+    → IsReplaced old other from to text → new ≡ other
+same_replaced old new other from to text r o =
+    let same = same_parts r.front r.middle r.back o.front o.middle o.back (sym r.was ∙ o.was) (r.start ∙ sym o.start)
+    (omega (arith, r.start, r.end, o.start, o.end)) in
+    r.is ∙ ap (λ x. x ++ (text ++ r.back)) same.front ∙ ap (λ x. o.front ++ (text ++ x)) same.back ∙ sym o.is
 
 -- it has the bytes of what is left and of what came in
 pub size-replaced : (old new : Text) (from to : ℕ) (text : Text) → IsReplaced old new from to text

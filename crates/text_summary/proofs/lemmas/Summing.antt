@@ -1,5 +1,5 @@
 -- The numbers of texts, one after the other, by those of each.
-use Rattle.text_summary.proofs.lemmas.Common.{◌≡◌, ◌≢◌, ℕ, ◌+◌, ◌-◌, ◌<◌, ◌≤◌, Bool, [], ◌∷◌, ◌++◌, refl, arith, sym, ◌∙◌, ap, len_utf8_bounds, Text, size, Scheme, Chars, Utf16, Lf, Crlf, Lines, count, seam_loss, starts_with_feed, ends_in_return, size-append, size-cons, is_joined, count-le-size, summary_of, count_of, AreSummaries, IsExchangeOf, FitsExchange, Exchange, Summary}
+use Rattle.text_summary.proofs.lemmas.Common.{◌≡◌, ◌≢◌, ℕ, ◌+◌, ◌-◌, ◌<◌, ◌≤◌, Bool, [], ◌∷◌, ◌++◌, refl, arith, sym, ◌∙◌, ap, len_utf8_bounds, Text, size, Scheme, Chars, Utf16, Lf, Crlf, Lines, count, seam_loss, starts_with_feed, ends_in_return, size-append, size-cons, is_joined, count-le-size, summary_of, count_of, AreSummaries, IsChange, FitsIn, Change, Summary}
 
 -- a text of no bytes is empty
 pub none_of : (a : Text) → size a ≡ 0 → a ≡ []
@@ -88,16 +88,31 @@ exchange_of s a m b t =
       is = omega (arith, old, new);
     }
 
--- the same by what is known of the exchange
-pub exchanged : (s : Scheme) (whole : Summary) (exchange : Exchange) (fits : FitsExchange whole exchange)
-    → IsExchange (count_of whole s) (count_of exchange.out s) (count_of exchange.own s)
+-- the same by what is known of the change
+pub exchanged : (s : Scheme) (whole : Summary) (change : Change) (fits : FitsIn whole change)
+    → IsExchange (count_of whole s) (count_of change.out s) (count_of change.own s)
     (lost_round s fits.a fits.m fits.b) (lost_round s fits.a fits.t fits.b) (size (fits.a ++ (fits.m ++ fits.b)))
     (size (fits.a ++ (fits.t ++ fits.b))) (count s (fits.a ++ (fits.t ++ fits.b)))
-exchanged s whole exchange fits =
+exchanged s whole change fits =
     let old = ap (λ w. count_of w s) fits.whole_is ∙ count_of-summary s (fits.a ++ (fits.m ++ fits.b)) in
-    let out = ap (λ w. count_of w s) fits.exchange_is.out ∙ count_of-summary s fits.m in
-    let own = ap (λ w. count_of w s) fits.exchange_is.own ∙ count_of-summary s fits.t in
+    let out = ap (λ w. count_of w s) fits.change_is.out ∙ count_of-summary s fits.m in
+    let own = ap (λ w. count_of w s) fits.change_is.own ∙ count_of-summary s fits.t in
     rw (old, out, own) (exchange_of s fits.a fits.m fits.b fits.t)
+
+-- what both seams round a part take, whatever the texts are
+abbrev pub IsLost : Scheme → Change → Summary → ℕ → Type 0
+IsLost s change part lost = (a m b : Text) → change.ends_cr ≡ ends_in_return a → part ≡ summary_of m
+    → change.starts_lf ≡ starts_with_feed b → lost ≡ lost_round s a m b
+
+-- and by what they took before and take then
+pub exchanged_by : (s : Scheme) (whole : Summary) (change : Change) (fits : FitsIn whole change) (gained lost : ℕ)
+    → IsLost s change change.out gained → IsLost s change change.own lost
+    → IsExchange (count_of whole s) (count_of change.out s) (count_of change.own s) gained lost
+    (size (fits.a ++ (fits.m ++ fits.b))) (size (fits.a ++ (fits.t ++ fits.b))) (count s (fits.a ++ (fits.t ++ fits.b)))
+exchanged_by s whole change fits gained lost gained_is lost_is =
+    let is = fits.change_is in
+    rw (gained_is fits.a fits.m fits.b is.ends_cr is.out is.starts_lf, lost_is fits.a fits.t fits.b is.ends_cr is.own is.starts_lf)
+    (exchanged s whole change fits)
 
 -- and the sum of two summaries
 pub added : (s : Scheme) (front after : Summary) (are : AreSummaries front after)
@@ -127,20 +142,20 @@ joined_numbers front after a b lost starts ends front_is after_is lost_is starts
     starts_is ends_is)
 
 -- and each number of a text of which a part is exchanged, such a difference
-pub exchanged_numbers : (whole : Summary) (exchange : Exchange) (a m b t : Text) (gained lost : ℕ) (starts ends : Bool)
-    → whole ≡ summary_of (a ++ (m ++ b)) → IsExchangeOf a m b t exchange → gained ≡ lost_round Crlf a m b
+pub exchanged_numbers : (whole : Summary) (change : Change) (a m b t : Text) (gained lost : ℕ) (starts ends : Bool)
+    → whole ≡ summary_of (a ++ (m ++ b)) → IsChange a m b t change → gained ≡ lost_round Crlf a m b
     → lost ≡ lost_round Crlf a t b → starts ≡ starts_with_feed (a ++ (t ++ b)) → ends ≡ ends_in_return (a ++ (t ++ b))
     → ◌≡◌ {A = Summary} (record {
-      len = whole.len - exchange.out.len + exchange.own.len;
-      chars = whole.chars - exchange.out.chars + exchange.own.chars;
-      utf16 = whole.utf16 - exchange.out.utf16 + exchange.own.utf16;
-      lf = whole.lf - exchange.out.lf + exchange.own.lf;
-      crlf = whole.crlf + gained - exchange.out.crlf + exchange.own.crlf - lost;
-      lines = whole.lines + gained - exchange.out.lines + exchange.own.lines - lost;
+      len = whole.len - change.out.len + change.own.len;
+      chars = whole.chars - change.out.chars + change.own.chars;
+      utf16 = whole.utf16 - change.out.utf16 + change.own.utf16;
+      lf = whole.lf - change.out.lf + change.own.lf;
+      crlf = whole.crlf + gained - change.out.crlf + change.own.crlf - lost;
+      lines = whole.lines + gained - change.out.lines + change.own.lines - lost;
       starts_lf = starts;
       ends_cr = ends;
     }) (summary_of (a ++ (t ++ b)))
-exchanged_numbers whole exchange a m b t gained lost starts ends whole_is is gained_is lost_is starts_is ends_is =
+exchanged_numbers whole change a m b t gained lost starts ends whole_is is gained_is lost_is starts_is ends_is =
     let len : size (a ++ (m ++ b)) - size m + size t ≡ size (a ++ (t ++ b)) =
     omega (arith, size-append a (m ++ b), size-append m b, size-append a (t ++ b), size-append t b) in
     rw (whole_is, is.out, is.own, gained_is, lost_is) (same_fields len (omega (arith, (exchange_of Chars a m b t).is))

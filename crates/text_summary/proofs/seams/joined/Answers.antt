@@ -41,5 +41,6 @@ returns c a b front_is after_is =
     let ends = ap (λ s. s.ends_cr) front_is in
     let starts = ap (λ s. s.starts_lf) after_is in
     joined_numbers c.args.front c.args.after a b c.lost_at_seam-lost.result c.joined_starts_lf.result c.joined_ends_cr.result
-    front_is after_is (c.lost_at_seam-lost.ensures.loss a b ends starts) (c.joined_starts_lf.ensures a b front_is starts)
-    (c.joined_ends_cr.ensures a b ends after_is)
+    front_is after_is (c.lost_at_seam-lost.ensures.loss a b ends starts)
+    (c.joined_starts_lf.ensures a b (ap (λ s. s.len) front_is) (λ some. ap (λ s. s.starts_lf) front_is) starts)
+    (c.joined_ends_cr.ensures a b ends (ap (λ s. s.len) after_is) (λ some. ap (λ s. s.ends_cr) after_is))
