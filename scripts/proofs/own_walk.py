@@ -1,13 +1,13 @@
 #!/usr/bin/env python3
 """Shows that each public function has its answer from the function that it calls, and from no walk of its own.
 
-A public function of str_indices calls its kernel, and a query of piece_text or of text_rope the function over a view. Each
-edit of a file refusals/own-walk/CRATE.edits takes the answer out of the contract of one function of that crate that is
-called so: the clause keeps its name and says nothing. The edit names the public function too. With that edit, the public
-function and all that it calls are checked: it alone must be refused, at the goal of its own answer. A function with a
-walk of its own would still be proved. Where an answer in the proof of the function that is called fits the clause alone,
-the edit says it so that it fits the struck one too. Of each module one edit is tried at once. The last line printed is
-'N passed, M failed'.
+A public function of str_indices calls its kernel. A question of piece_text, text_rope or text_index calls a function over a
+view. Each edit of a file refusals/own-walk/CRATE.edits names a public function of that crate and a clause of it, and strikes
+the answer out of the contract of the function that is called: the clause there keeps its name and says nothing. Then the
+public function and all that it calls are checked. A public function with a walk of its own would still be proved. An answer
+in the proof of the called function may prove the clause as it was, and not the struck one: the edit then writes another
+answer in its place. Edits of several files are tried at once, one edit of each file. The check must refuse each public
+function at the clause that its edit names, and nothing else. The last line printed is 'N passed, M failed'.
 """
 import pathlib
 import sys

@@ -176,14 +176,14 @@ str_rope_status str_rope_insert(str_rope *rope, size_t at, const char *text,
                                 size_t len);
 
 /* Takes out what is between two boundaries, from `from` up to `to`. May answer
- * STR_ROPE_NOT_ORDERED, STR_ROPE_NOT_BOUNDARY and, where the two differ,
- * STR_ROPE_NO_MEMORY. */
+ * STR_ROPE_NOT_ORDERED, STR_ROPE_NOT_BOUNDARY and, where something goes and
+ * something stays, STR_ROPE_NO_MEMORY. */
 str_rope_status str_rope_remove(str_rope *rope, size_t from, size_t to);
 
 /* Exchanges what is between two boundaries, from `from` up to `to`, for a
  * text. May answer STR_ROPE_NOT_ORDERED, STR_ROPE_NOT_BOUNDARY,
- * STR_ROPE_TOO_LONG, STR_ROPE_NOT_UTF8 and, where something goes or comes,
- * STR_ROPE_NO_MEMORY. */
+ * STR_ROPE_TOO_LONG, STR_ROPE_NOT_UTF8 and, where something comes, or where
+ * something goes and something stays, STR_ROPE_NO_MEMORY. */
 str_rope_status str_rope_replace(str_rope *rope, size_t from, size_t to,
                                  const char *text, size_t len);
 
