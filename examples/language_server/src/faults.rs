@@ -4,7 +4,7 @@ use std::fmt;
 use std::num::TryFromIntError;
 
 /// Why a message is refused: a code of JSON-RPC or of the protocol, and a sentence for people.
-#[derive(Debug)]
+#[derive(Clone, Debug)]
 pub struct Fault {
     code: i32,
     sentence: String,
@@ -32,6 +32,10 @@ impl Fault {
 
     pub fn not_initialized() -> Fault {
         Fault::new(-32002, "the server is not initialized")
+    }
+
+    pub fn no_memory() -> Fault {
+        Fault::from(str_rope::Error::NoMemory)
     }
 
     /// A request about a document whose text the server does not know: the protocol's `RequestFailed`.

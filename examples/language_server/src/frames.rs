@@ -30,10 +30,21 @@ pub struct Frames<R> {
     buffer: Vec<u8>,
     /// Where in it the next frame begins, or is looked for.
     at: usize,
-    /// Where the body begins that was answered last; it ends at `at`.
+    /// Where the body begins that was answered or refused last; it ends at `at`.
     body: usize,
+    /// How far it was told what is refused.
+    told: usize,
     /// Whether what is there was refused, so that the next frame has to be looked for.
     is_lost: bool,
+}
+
+/// What is no frame.
+pub struct Refused<'a> {
+    pub fault: Fault,
+    /// No frame came since something was refused before it.
+    pub was_lost: bool,
+    /// What was read of its body.
+    pub bytes: &'a [u8],
 }
 
 /// A line of a header, as far as it was read.
@@ -62,36 +73,35 @@ impl<R: BufRead> Frames<R> {
             buffer: Vec::new(),
             at: 0,
             body: 0,
+            told: 0,
             is_lost: false,
         }
     }
 
     /// The body of the next frame, or why there is none; `None` where the input ends before the frame does.
-    pub fn next(&mut self) -> io::Result<Option<Result<&[u8], Fault>>> {
-        loop {
-            self.forget();
-            if self.is_lost && !self.find()? {
-                return Ok(None);
-            }
-            match self.frame()? {
-                None => return Ok(None),
-                Some(Ok(())) => {
-                    self.is_lost = false;
-                    return Ok(Some(Ok(&self.buffer[self.body..self.at])));
-                }
-                Some(Err(fault)) => {
-                    if !mem::replace(&mut self.is_lost, true) {
-                        return Ok(Some(Err(fault)));
-                    }
-                }
-            }
-        }
+    pub fn next(&mut self) -> io::Result<Option<Result<&[u8], Refused<'_>>>> {
+        self.forget();
+        let found = if self.is_lost { self.find()? } else { Some(Ok(())) };
+        let taken = match found {
+            Some(Ok(())) => self.frame()?,
+            _ => found,
+        };
+        let was_lost = mem::replace(&mut self.is_lost, !matches!(taken, Some(Ok(()))));
+        Ok(taken.map(|taken| {
+            let bytes = &self.buffer[self.body..self.at];
+            taken
+                .map(|()| bytes)
+                .map_err(|fault| Refused { fault, was_lost, bytes })
+        }))
     }
 
     /// The body that was answered last is no message, so its length may be wrong: the next frame is looked for in it too.
-    pub fn reject(&mut self) {
+    /// Answers the part of it before a frame inside it.
+    pub fn reject(&mut self) -> &[u8] {
+        self.told = frame_in(&self.buffer, self.body).map_or(self.at, |inside| inside.min(self.at));
         self.at = self.body;
         self.is_lost = true;
+        &self.buffer[self.body..self.told]
     }
 
     /// Goes past the next frame, or past what refuses it; `None` where the input ends in it.
@@ -100,21 +110,32 @@ impl<R: BufRead> Frames<R> {
             None => return Ok(None),
             Some(Ok(header)) => header,
             Some(Err(fault)) => {
-                // The same header is not found again.
-                self.at += 1;
+                self.pass_header();
                 return Ok(Some(Err(fault)));
             }
         };
         let Some(len) = header.len else {
-            self.at += 1;
+            self.pass_header();
             return Ok(Some(Err(Fault::invalid_request("a header has no Content-Length"))));
         };
+        let end = header.end + len;
+        let missing = end.saturating_sub(self.buffer.len());
+        if self.buffer.try_reserve_exact(missing + KEPT).is_err() {
+            self.pass_header();
+            return Ok(Some(Err(Fault::no_memory())));
+        }
         self.body = header.end;
-        let body = self.read_body(header.end + len)?;
+        let body = self.read_body(end)?;
         if header.is_other_text && matches!(body, Some(Ok(()))) {
             return Ok(Some(Err(Fault::invalid_request("a body is not said to be UTF-8"))));
         }
         Ok(body)
+    }
+
+    /// Goes into a header that is refused, so that it is not found again.
+    fn pass_header(&mut self) {
+        self.at += 1;
+        self.body = self.at;
     }
 
     /// The next header, as soon as it is whole or refused.
@@ -180,17 +201,24 @@ impl<R: BufRead> Frames<R> {
         Ok(Some(Ok(())))
     }
 
-    /// Looks for the next line that begins a frame, and goes there; whether there is one.
-    fn find(&mut self) -> io::Result<bool> {
+    /// Looks for the next line that begins a frame, and goes there. What it goes past is refused, where more than the end
+    /// of a message may be in it.
+    fn find(&mut self) -> io::Result<Option<Result<(), Fault>>> {
         loop {
-            if let Some(found) = frame_in(&self.buffer, self.at) {
-                self.at = found;
-                return Ok(true);
+            let found = frame_in(&self.buffer, self.at);
+            let to = found.unwrap_or(self.at.max(self.buffer.len().saturating_sub(LONGEST_LENGTH)));
+            let from = self.told.clamp(self.at, to);
+            let has_object = self.buffer[from..to].contains(&b'{');
+            (self.at, self.body) = (to, to);
+            if has_object {
+                return Ok(Some(Err(Fault::parse_error("a message has no frame"))));
             }
-            self.at = self.at.max(self.buffer.len().saturating_sub(LONGEST_LENGTH));
+            if found.is_some() {
+                return Ok(Some(Ok(())));
+            }
             self.forget();
             if !self.fill()? {
-                return Ok(false);
+                return Ok(None);
             }
         }
     }
@@ -214,7 +242,8 @@ impl<R: BufRead> Frames<R> {
         if self.at >= self.buffer.len() / 2 {
             self.buffer.drain(..self.at);
             self.buffer.shrink_to(KEPT);
-            self.at = 0;
+            self.told = self.told.saturating_sub(self.at);
+            (self.at, self.body) = (0, 0);
         }
     }
 }

@@ -21,6 +21,27 @@ pub fn read(body: &[u8]) -> Result<Value, Unreadable> {
     })
 }
 
+/// The documents that a refused body is about, as its bytes say; `None` where not all of them can be read.
+pub fn uris(body: &[u8]) -> Option<Vec<String>> {
+    let has_one_message = values(body, b"\"method\"").count() <= 1;
+    let uris: Option<Vec<String>> = values(body, b"\"uri\"").map(string).collect();
+    uris.filter(|uris| has_one_message && !uris.is_empty())
+}
+
+/// What stands after each member of a name. A quote inside a string has a backslash before it, so no text has such a name.
+fn values<'a>(body: &'a [u8], name: &'a [u8]) -> impl Iterator<Item = &'a [u8]> {
+    let is_name = move |at: &usize| body[*at..].starts_with(name);
+    (0..body.len()).filter(is_name).filter_map(move |at| {
+        let value = body[at + name.len()..].trim_ascii_start();
+        value.strip_prefix(b":")
+    })
+}
+
+/// The string at the beginning of some bytes.
+fn string(bytes: &[u8]) -> Option<String> {
+    serde_json::Deserializer::from_slice(bytes).into_iter().next()?.ok()
+}
+
 /// The body with the escape of U+FFFD for each escape of a lone surrogate.
 fn with_replacements(body: &[u8]) -> Vec<u8> {
     let mut replaced = body.to_vec();

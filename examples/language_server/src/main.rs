@@ -12,7 +12,7 @@ mod protocol;
 mod server;
 mod warnings;
 
-use frames::Frames;
+use frames::{Frames, Refused};
 use server::Server;
 use std::io::{self, stdin, stdout, BufWriter};
 use std::process::ExitCode;
@@ -21,15 +21,19 @@ fn main() -> io::Result<ExitCode> {
     let (mut frames, mut output) = (Frames::new(stdin().lock()), BufWriter::new(stdout().lock()));
     let mut server = Server::default();
     while let Some(frame) = frames.next()? {
-        let is_message = match frame {
+        let taken = match frame {
             Ok(body) => server.take(body),
-            Err(fault) => {
-                server.refuse(fault);
-                true
+            Err(refused) => {
+                server.refuse(refused);
+                Ok(())
             }
         };
-        if !is_message {
-            frames.reject();
+        if let Err(fault) = taken {
+            server.refuse(Refused {
+                fault,
+                was_lost: false,
+                bytes: frames.reject(),
+            });
         }
         for answer in server.outgoing() {
             frames::write(&mut output, &answer)?;

@@ -2,6 +2,7 @@
 use crate::calls::{call, notification, response, Call};
 use crate::documents::{Document, Text};
 use crate::faults::Fault;
+use crate::frames::Refused;
 use crate::json::{self, Unreadable};
 use crate::protocol;
 use serde_json::{json, Value};
@@ -44,32 +45,48 @@ impl Server {
         }
     }
 
-    /// Takes a body; whether it is a message.
-    pub fn take(&mut self, body: &[u8]) -> bool {
+    /// Takes a body, unless it is no message.
+    pub fn take(&mut self, body: &[u8]) -> Result<(), Fault> {
         match json::read(body) {
             Ok(Value::Array(batch)) => self.take_batch(&batch),
             Ok(message) => {
                 let answer = self.answer(&message);
                 self.outbox.extend(answer);
             }
-            Err(unreadable) => {
-                let is_meant = unreadable.meant.is_some();
-                self.take_unreadable(unreadable);
-                return is_meant;
+            Err(Unreadable { fault, meant: None }) => return Err(fault),
+            Err(Unreadable {
+                fault,
+                meant: Some(meant),
+            }) => {
+                self.outbox.push(response(&meant["id"], Err(fault.clone())));
+                self.lose_meant(&meant, &fault);
             }
         }
-        true
+        Ok(())
     }
 
-    /// Takes what is no frame, or no message.
-    pub fn refuse(&mut self, fault: Fault) {
+    /// Takes what is no frame, or no message. It may have been a change of the documents that its bytes name, or of any.
+    pub fn refuse(&mut self, refused: Refused<'_>) {
+        if !refused.was_lost {
+            self.respond_to_none(refused.fault.clone());
+        }
+        if self.phase == Phase::Initialized {
+            let uris = json::uris(refused.bytes).filter(|uris| uris.iter().all(|uri| self.documents.contains_key(uri)));
+            match uris {
+                Some(uris) => uris.iter().for_each(|uri| self.lose(uri, &refused.fault)),
+                None => self.lose_all(&refused.fault),
+            }
+        }
+    }
+
+    fn respond_to_none(&mut self, fault: Fault) {
         self.outbox.push(response(&Value::Null, Err(fault)));
     }
 
     /// Takes a batch of JSON-RPC: its responses are sent as one.
     fn take_batch(&mut self, batch: &[Value]) {
         if batch.is_empty() {
-            return self.refuse(Fault::invalid_request("a batch is empty"));
+            return self.respond_to_none(Fault::invalid_request("a batch is empty"));
         }
         let responses: Vec<Value> = batch.iter().filter_map(|message| self.answer(message)).collect();
         if !responses.is_empty() {
@@ -77,20 +94,21 @@ impl Server {
         }
     }
 
-    /// Takes a message that is refused for a lone surrogate, or for more. A document that it would change is out of step.
-    fn take_unreadable(&mut self, unreadable: Unreadable) {
-        let meant = unreadable.meant.unwrap_or_default();
-        self.outbox.push(response(&meant["id"], Err(unreadable.fault)));
-        let Ok(uri) = protocol::uri(&meant["params"]) else {
+    /// A message is refused: the document that it would change is out of step, or each, where it does not say which.
+    fn lose_meant(&mut self, message: &Value, fault: &Fault) {
+        if let Value::Array(batch) = message {
+            return batch.iter().for_each(|one| self.lose_meant(one, fault));
+        }
+        let method = message["method"].as_str();
+        let may_change = matches!(method, None | Some("textDocument/didOpen" | "textDocument/didChange"));
+        if self.phase != Phase::Initialized || !may_change {
             return;
-        };
-        let is_lost = match meant["method"].as_str() {
-            Some("textDocument/didOpen") => self.phase == Phase::Initialized,
-            Some("textDocument/didChange") => self.documents.contains_key(uri),
-            _ => false,
-        };
-        if is_lost {
-            self.lose(uri, &Fault::parse_error("its text is no Unicode text"));
+        }
+        match protocol::uri(&message["params"]) {
+            Err(_) if method.is_some() => self.lose_all(fault),
+            Ok(uri) if method == Some("textDocument/didOpen") => self.lose(uri, fault),
+            Ok(uri) if self.documents.contains_key(uri) => self.lose(uri, fault),
+            _ => {}
         }
     }
 
@@ -100,11 +118,23 @@ impl Server {
             return None;
         }
         match call(message) {
-            Call::Request { id, method, params } => Some(response(id, self.request(method, params))),
-            Call::Invalid { id, fault } => Some(response(&id, Err(fault))),
+            Call::Request { id, method, params } => {
+                let result = self.request(method, params);
+                if let Err(fault) = &result {
+                    self.lose_meant(message, fault);
+                }
+                Some(response(id, result))
+            }
+            Call::Invalid { id, fault } => {
+                self.lose_meant(message, &fault);
+                Some(response(&id, Err(fault)))
+            }
             Call::Response => None,
             Call::Notification { method, params } => {
-                self.notified(method, params);
+                if let Err(fault) = self.notified(method, params) {
+                    self.tell("window/logMessage", 1, format!("{method}: {fault}"));
+                    self.lose_meant(message, &fault);
+                }
                 None
             }
         }
@@ -126,8 +156,8 @@ impl Server {
 
     /// Takes a notification, which has no response: where it is refused, the client's log is told. A request is answered
     /// before the next message is read, so there is nothing to do for `$/cancelRequest`.
-    fn notified(&mut self, method: &str, params: &Value) {
-        let taken = match (&self.phase, method) {
+    fn notified(&mut self, method: &str, params: &Value) -> Result<(), Fault> {
+        match (&self.phase, method) {
             (_, "exit") => {
                 self.phase = Phase::Exited(self.phase == Phase::ShutDown);
                 Ok(())
@@ -136,9 +166,6 @@ impl Server {
             (Phase::Initialized, "textDocument/didChange") => self.change(params),
             (Phase::Initialized, "textDocument/didClose") => self.close(params),
             _ => Ok(()),
-        };
-        if let Err(fault) = taken {
-            self.tell("window/logMessage", 1, format!("{method}: {fault}"));
         }
     }
 
@@ -231,6 +258,12 @@ impl Server {
                 json!({ "uri": uri, "diagnostics": [] }),
             );
         }
+    }
+
+    /// Every document is out of step from now on.
+    fn lose_all(&mut self, fault: &Fault) {
+        let uris: Vec<String> = self.documents.keys().cloned().collect();
+        uris.iter().for_each(|uri| self.lose(uri, fault));
     }
 
     fn tell_of_loss(&mut self, uri: &str, fault: &Fault) {

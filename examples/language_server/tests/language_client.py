@@ -1,5 +1,7 @@
 """A client of a language server, for a script that speaks with one by hand."""
 import json
+import pathlib
+import re
 import subprocess
 
 
@@ -70,9 +72,8 @@ class Client:
     def change(self, uri, changes, version=None):
         """Sends changes, each a start and an end by line and offset, or None twice for the whole text, and a text."""
         self.version += 1
-        document = {"uri": uri, "version": self.version if version is None else version}
-        events = [event(*change) for change in changes]
-        return self.notify("textDocument/didChange", {"textDocument": document, "contentChanges": events})
+        message = changed(uri, [event(*change) for change in changes], self.version if version is None else version)
+        return self.notify(message["method"], message["params"])
 
     def ask(self, uri):
         """The response to the question what the server has of a document."""
@@ -82,6 +83,11 @@ class Client:
         """What the server has of a document, or the code of the error."""
         answer = self.ask(uri)
         return answer["result"]["text"] if "result" in answer else answer["error"]["code"]
+
+    def server_memory(self, name):
+        """The server's memory, in bytes, by its name in /proc."""
+        status = pathlib.Path(f"/proc/{self.server.pid}/status").read_text(encoding="utf-8")
+        return int(re.search(rf"{name}:\s+(\d+) kB", status)[1]) << 10
 
     def end(self, method):
         """Sends a last notification, or none, and answers the server's exit status."""
@@ -102,6 +108,12 @@ def event(start, end, text):
         return {"text": text}
     places = [{"line": line, "character": character} for line, character in [start, end]]
     return {"range": {"start": places[0], "end": places[1]}, "text": text}
+
+
+def changed(uri, events, version):
+    """The message that tells changes of a document."""
+    params = {"textDocument": {"uri": uri, "version": version}, "contentChanges": events}
+    return {"method": "textDocument/didChange", "params": params}
 
 
 def opened(uri, text):

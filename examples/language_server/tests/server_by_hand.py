@@ -3,23 +3,22 @@
 The codes of errors are those of JSON-RPC 2.0 and of the Language Server Protocol 3.17.
 """
 import json
-import pathlib
 import random
-import re
+import resource
 
-from language_client import Client, frame
+from language_client import Client, changed, event, frame
+from wrong_client import REFUSED, TOO_LONG
 
 URI = "file:///a"
+OTHER = "file:///b"
 PARSE_ERROR, INVALID_REQUEST, NO_METHOD, INVALID_PARAMS = -32700, -32600, -32601, -32602
 NOT_INITIALIZED, OUT_OF_STEP = -32002, -32803
-# more than the server takes
-TOO_LONG = 257 << 20
 # the memory by which a server may grow over a hundred thousand changes, in kB, where each text that comes goes again
 GROWTH = 1 << 10
 
 
 def methods(told):
-    return [message.get("method") for message in told]
+    return [message.get("method") for message in told if isinstance(message, dict)]
 
 
 def try_encodings(program, tally):
@@ -140,16 +139,75 @@ WRONG = [
 ]
 
 
+# of those, what can be no change of a document: whole messages
+KEPT = ["a message that is a number", "an empty batch", "a message of JSON-RPC 1.0", "a message with no method",
+        "a method that is a number", "params that are a string", "an id that is an object"]
+
+
 def try_wrong(program, tally):
-    """Each wrong thing gets one error, and the request after it an answer, from a document that is still there."""
+    """Each wrong thing gets one error. Where it may be a part of a change, the document is out of step, and told so."""
     with Client(program) as client:
         client.initialize({})
-        client.open(URI, "kept")
         for what, data, code in WRONG:
+            client.open(URI, "kept")
             client.write(data)
-            codes = [message.get("error", {}).get("code") for message in client.said()]
+            said = client.said()
+            codes = [message["error"]["code"] for message in said if "error" in message]
+            text, heard = client.text(URI), methods(said).count("window/showMessage")
+            right = (text, heard) == (("kept", 0) if what in KEPT else (OUT_OF_STEP, 1))
+            tally.result(codes == [code] and right, f"{what}: {codes}, {heard} messages, and then {text!r}")
+
+
+def try_refused_changes(program, tally):
+    """A change in a body that is refused: its document is out of step, and another one where it does not say which."""
+    for what, refused in REFUSED.items():
+        with Client(program) as client:
+            client.initialize({})
+            client.open(URI, "hello")
+            client.open(OTHER, "other")
+            client.write(refused(body(changed(URI, [event((0, 0), (0, 0), "X")], 2))))
+            heard = methods(client.said()).count("window/showMessage")
+            later = client.change(URI, [((0, 0), (0, 0), ">")], 3)
+            texts = client.text(URI), client.text(OTHER)
+            expected = (2, (OUT_OF_STEP, OUT_OF_STEP)) if what == "a body that is too long" else (1, (OUT_OF_STEP, "other"))
+            tally.result((heard, texts) == expected and later == [], f"a change with {what}: {heard} messages, then {texts}")
+            client.change(URI, [(None, None, ">Xhello")], 4)
             text = client.text(URI)
-            tally.result(codes == [code] and text == "kept", f"{what}: {codes}, and then {text!r}")
+            tally.result(text == ">Xhello", f"a change with {what}, and a whole text: {text!r}")
+
+
+def try_changes_of_none(program, tally):
+    """Whole messages that are refused, each of which may have been a change."""
+    right = changed(URI, [event((0, 0), (0, 0), "X")], 2)
+    other = {"method": "textDocument/hover", "params": {"textDocument": {"uri": "\ud83d"}}}
+    for what, data in [
+        ("a request", body({"id": 1, **right})), ("one in a batch", json.dumps([{"jsonrpc": "1.0", **right}]).encode()),
+        ("one in a batch with half a pair", json.dumps([{"jsonrpc": "2.0", **one} for one in [other, right]]).encode()),
+        ("no uri", body({"method": right["method"], "params": {}})), ("a method that is none", body({**right, "method": 7})),
+    ]:
+        with Client(program) as client:
+            client.initialize({})
+            client.open(URI, "hello")
+            client.write(frame(data))
+            heard = methods(client.said()).count("window/showMessage")
+            text = client.text(URI)
+            tally.result(heard == 1 and text == OUT_OF_STEP, f"a change that is refused, {what}: {heard} messages, then {text}")
+
+
+def try_no_memory(program, tally):
+    """Memory is refused for a body, or for the text that is made of it: the document is out of step."""
+    for what, len_bytes, room in [("a body", 64 << 20, 16 << 20), ("a text", 64 << 20, 160 << 20)]:
+        with Client(program) as client:
+            client.initialize({})
+            client.open(URI, "hello")
+            size = client.server_memory("VmSize") + room
+            resource.prlimit(client.server.pid, resource.RLIMIT_AS, (size, resource.RLIM_INFINITY))
+            heard = methods(client.change(URI, [((0, 0), (0, 0), "x" * len_bytes)])).count("window/showMessage")
+            text = client.text(URI)
+            client.change(URI, [(None, None, "again")])
+            texts = text, client.text(URI)
+            right = heard == 1 and texts == (OUT_OF_STEP, "again")
+            tally.result(right, f"memory is refused for {what}: {heard} messages, then {texts}")
 
 
 def try_surrogates(program, tally):
@@ -216,12 +274,6 @@ def try_life(program, tally):
         tally.result(client.end(None) == 1, "a body that the end of the input cuts off is not executed")
 
 
-def memory(process):
-    """The memory of a process, in kB."""
-    status = pathlib.Path(f"/proc/{process.pid}/status").read_text(encoding="utf-8")
-    return int(re.search(r"VmRSS:\s+(\d+) kB", status)[1])
-
-
 def come_and_go(client, numbers):
     """Fifty thousand changes, by which a text comes into a line and goes again."""
     for _ in range(50):
@@ -229,7 +281,7 @@ def come_and_go(client, numbers):
         client.change(URI, [
             change for line in lines for change in [((line, 3), (line, 3), "x\n🐸 "), ((line, 3), (line + 1, 3), "")]
         ])
-    return memory(client.server)
+    return client.server_memory("VmRSS") >> 10
 
 
 def try_memory(program, tally):
@@ -245,7 +297,8 @@ def try_memory(program, tally):
 
 
 TRIED = [
-    try_encodings, try_changes, try_out_of_step, try_lone_return, try_wrong, try_surrogates, try_batches, try_life, try_memory,
+    try_encodings, try_changes, try_out_of_step, try_lone_return, try_wrong, try_refused_changes, try_changes_of_none,
+    try_no_memory, try_surrogates, try_batches, try_life, try_memory,
 ]
 
 

@@ -1,9 +1,10 @@
 """A client of a language server that speaks wrongly, by random numbers, between right messages.
 
-Beside each document stands the text that the server must have, by the model of positions in Python, or that it is out of
-step. Every right request must be answered as that says, whatever stands before it: frames that are cut, lengths that are
-wrong, junk, changes that no client in step sends, old versions, thousands of changes in a message. The server must not
-end, nor be silent for a minute, and its memory must stay below a bound.
+Beside each document stands the client's text, by the model of positions in Python. Every right request must be answered
+from it, or by the error that the document is out of step: never from another text, whatever stands before it: frames that
+are cut, lengths that are wrong, junk, changes in bodies that are refused, changes that no client in step sends, old
+versions, thousands of changes in a message. The server must not end, nor be silent for a minute, and its memory must stay
+below a bound.
 """
 import json
 import pathlib
@@ -14,7 +15,7 @@ import subprocess
 import threading
 import time
 
-from language_client import event, frame, opened
+from language_client import changed, event, frame, opened
 from position_model import Lines
 
 # no answer takes so long, in seconds
@@ -34,19 +35,51 @@ JUNK = [
 ]
 
 
+IN_STEP, DOUBTFUL, LOST = range(3)
+# more bytes than the server takes in a body
+TOO_LONG = 257 << 20
+
+
+def with_member(body, member):
+    return body[:-1] + b", " + member + b"}"
+
+
+# by name, what makes a frame that is refused of a message's body
+REFUSED = {
+    "a byte that is not UTF-8": lambda body: frame(with_member(body, b"\"x\": \"\xff\"")),
+    "a TAB in a string": lambda body: frame(with_member(body, b"\"x\": \"\t\"")),
+    "no jsonrpc": lambda body: frame(body.replace(b"\"jsonrpc\": \"2.0\", ", b"", 1)),
+    "a member nested 200 deep": lambda body: frame(with_member(body, b"\"x\": " + b"[" * 200 + b"]" * 200)),
+    "a number out of range": lambda body: frame(with_member(body, b"\"x\": 1e999")),
+    "a length that is one too small": lambda body: frame(body).replace(b"%d" % len(body), b"%d" % (len(body) - 1), 1),
+    "a body that is said to be Latin 1": lambda body: frame(body, b"Content-Type: a; charset=latin1\r\n"),
+    "a body that is too long": lambda body: b"Content-Length: %d\r\n\r\n" % TOO_LONG + body,
+    "half of a surrogate pair": lambda body: frame(with_member(body, b"\"x\": \"\\ud83d\"")),
+}
+
+
 class Document:
-    """What the server must have of a document: nothing, or its text; none where it is out of step. And its last version."""
+    """The client's text of a document, its last version, and whether the server may be in step with it.
+
+    It is doubtful after what may have been a change of any document: then the answer is the text or the error.
+    """
 
     def __init__(self):
         self.is_open = False
-        self.text = None
+        self.text = ""
         self.version = 0
+        self.state = IN_STEP
 
     def expected(self):
-        """The text that a request is answered with, or the code of the error."""
+        """What a request may be answered with: the text, or the code of an error."""
         if not self.is_open:
-            return NO_DOCUMENT
-        return OUT_OF_STEP if self.text is None else self.text
+            return [NO_DOCUMENT]
+        return [[self.text], [self.text, OUT_OF_STEP], [OUT_OF_STEP]][self.state]
+
+    def warnings(self):
+        """What the server may have told of it last."""
+        right = warnings_of(self.text) if self.is_open else []
+        return [[right], [right, []], [[]]][self.state if self.is_open else IN_STEP]
 
 
 def units(text):
@@ -74,7 +107,7 @@ class WrongClient:
         # by the number of each request that is not answered yet, what it must be answered with
         self.wanted = {}
         self.warnings = {}
-        self.counts = dict.fromkeys(["answers", "wrong messages", "changes", "refused changes", "errors"], 0)
+        self.counts = dict.fromkeys(["answers", "wrong messages", "changes", "refused changes", "texts", "errors"], 0)
         self.wrong = []
 
     def read(self):
@@ -99,29 +132,27 @@ class WrongClient:
         self.send(self.asked(method, params, expected))
 
     def asked(self, method, params, expected):
-        """A request, whose answer must be the expected one."""
+        """A request, whose answer must be one of those expected."""
         self.number += 1
         self.wanted[self.number] = expected
         return {"jsonrpc": "2.0", "id": self.number, "method": method, "params": params}
 
     # right messages
 
-    def ask_for_text(self):
-        uri = self.random.choice(URIS)
+    def ask_for_text(self, uri=None):
+        uri = uri or self.random.choice(URIS)
         self.request("pauskern/text", {"textDocument": {"uri": uri}}, self.documents[uri].expected())
 
     def ask_for_hover(self):
         uri = self.random.choice(URIS)
         document = self.documents[uri]
         place = {"line": self.random.randrange(30), "character": self.random.randrange(30)}
-        expected = document.expected()
-        if isinstance(expected, str):
-            byte = Lines(expected).byte((place["line"], place["character"]), 16)
-            expected = f"byte {byte}\n"
+        byte = Lines(document.text).byte((place["line"], place["character"]), 16)
+        expected = [f"byte {byte}\n" if isinstance(one, str) else one for one in document.expected()]
         self.request("textDocument/hover", {"textDocument": {"uri": uri}, "position": place}, expected)
 
     def ask_for_nothing(self):
-        self.request(self.random.choice(["$/x", "textDocument/rename", "é", ""]), {}, NO_METHOD)
+        self.request(self.random.choice(["$/x", "textDocument/rename", "é", ""]), {}, [NO_METHOD])
 
     def ask_in_a_batch(self):
         uri = self.random.choice(URIS)
@@ -138,7 +169,7 @@ class WrongClient:
     def open(self):
         uri = self.random.choice(URIS)
         document = self.documents[uri]
-        document.is_open, document.text, document.version = True, self.random_text(200), 1
+        document.is_open, document.text, document.version, document.state = True, self.random_text(200), 1, IN_STEP
         self.send({"method": "textDocument/didOpen", "params": opened(uri, document.text)})
 
     def close(self):
@@ -167,23 +198,33 @@ class WrongClient:
 
     def changed(self, uri, events, version):
         self.counts["changes"] += len(events)
-        params = {"textDocument": {"uri": uri, "version": version}, "contentChanges": events}
-        self.send({"method": "textDocument/didChange", "params": params})
+        self.send(changed(uri, events, version))
 
-    def change(self):
-        """Some right changes. Where the document is out of step, ranges are refused."""
-        uri = self.random.choice(URIS)
-        document = self.documents[uri]
-        if not document.is_open:
-            return
+    def right_changes(self, document):
+        """Some right changes of a document. Where the server is out of step, it refuses ranges, and takes a whole text."""
         document.version += self.random.choice([1, 1, 1, 5])
-        text, is_known, events = document.text or "", document.text is not None, []
+        events = []
         for _ in range(self.random.choice([1, 1, 1, 2, 5, 20])):
-            one, text = self.right_change(text)
+            one, document.text = self.right_change(document.text)
             events.append(one)
-            is_known = is_known or "range" not in one
-        self.changed(uri, events, document.version)
-        document.text = text if is_known else None
+        return events
+
+    def change(self, uri=None):
+        uri = uri or self.random.choice(URIS)
+        document = self.documents[uri]
+        if document.is_open:
+            events = self.right_changes(document)
+            if any("range" not in one for one in events):
+                document.state = IN_STEP
+            self.changed(uri, events, document.version)
+
+    def heal(self):
+        """A whole text for each document that may be out of step."""
+        for uri, document in self.documents.items():
+            if document.is_open and document.state != IN_STEP:
+                document.version += 1
+                document.state = IN_STEP
+                self.changed(uri, [event(None, None, document.text)], document.version)
 
     def many_changes(self):
         """Thousands of changes that leave the text as it was."""
@@ -207,7 +248,7 @@ class WrongClient:
         if self.random.randrange(4) == 0:
             events, version = [event((0, 0), (0, 0), "x")], self.random.choice([document.version - 2, -5, None, "7", 1.5])
             document.version -= 1
-        document.text = None
+        document.state = LOST
         self.changed(uri, events, version)
 
     def refused_events(self, document):
@@ -217,7 +258,7 @@ class WrongClient:
             {"range": 7, "text": "x"}, {"range": {"start": {"line": -1, "character": 0}}, "text": "x"}, {"text": 7}, {}, 7, None,
             {"range": {"start": {"line": 0, "character": 0}, "end": {"line": 2**70, "character": 0}}, "text": "x"},
         ])
-        right = self.right_change(document.text or "")[0]
+        right = self.right_change(document.text)[0]
         return self.random.choice([[one], [right, one], [right, one, event((0, 0), (0, 0), "y")]])
 
     def half_a_pair(self):
@@ -225,25 +266,58 @@ class WrongClient:
         document = self.documents[uri]
         if document.is_open:
             document.version += 1
-            document.text = None
+            document.state = LOST
             self.changed(uri, [event((0, 0), (0, 0), "\ud83d")], document.version)
 
+    def doubt(self):
+        """What is sent may be a change of any document."""
+        for document in self.documents.values():
+            document.state = max(document.state, DOUBTFUL)
+
+    def refused_body(self):
+        """A right change in a body that is refused, and a change and a question after it."""
+        uri = self.random.choice(URIS)
+        document = self.documents[uri]
+        if not document.is_open:
+            return
+        name, refused = self.random.choice(list(REFUSED.items()))
+        if name == "a body that is too long":
+            self.doubt()
+        self.counts["refused changes"] += 1
+        events = self.right_changes(document)
+        document.state = LOST
+        self.write(refused(json.dumps({"jsonrpc": "2.0", **changed(uri, events, document.version)}).encode()))
+        self.change(uri)
+        self.ask_for_text(uri)
+
     def cut_frame(self):
-        """A right frame with a part of it cut out, or a length that is wrong."""
-        message = {"jsonrpc": "2.0", "id": "cut", "method": "x", "params": {"text": self.random_text(20)}}
-        whole = frame(json.dumps(message).encode())
+        """A right change's frame with a part of it cut out, or a length that is wrong, or with another cut one after it."""
+        uri = self.random.choice(URIS)
+        document = self.documents[uri]
+        message = {"id": "cut", "method": "x", "params": {"text": self.random_text(20)}}
+        if document.is_open:
+            message = changed(uri, self.right_changes(document), document.version)
+        whole = frame(json.dumps({"jsonrpc": "2.0", **message}).encode())
         at = self.random.randrange(len(whole))
         cut = self.random.randrange(1, 30)
-        broken = [whole[:at], whole[:at] + whole[at + cut:], whole.replace(b": ", b": 1", 1), whole + whole[:at]]
-        self.write(self.random.choice(broken))
+        self.doubt()
+        self.write(self.random.choice([
+            whole[:at], whole[:at] + whole[at + cut:], whole.replace(b": ", b": 1", 1), whole[:at] + whole[at + 1:],
+        ]))
+        self.change(uri)
+        self.ask_for_text(uri)
 
     def junk(self):
         pieces = [self.random.choice(JUNK) for _ in range(self.random.randrange(1, 12))]
         if self.random.randrange(8) == 0:
             pieces.append(bytes(self.random.randrange(256) for _ in range(self.random.randrange(6000))))
+        self.doubt()
         self.write(b"".join(pieces))
+        self.change()
+        self.ask_for_text()
 
     def wrong_json(self):
+        self.doubt()
         self.write(frame(self.random.choice([
             b"", b"{", b"nil", b"\xff", b"[" * 5000, b"{}", b"[]", b"7", b"null", b"\"x\"", b"[1, [2]]", b'{"jsonrpc": "2.0"}',
             b'{"jsonrpc": "2.0", "id": [], "method": "x"}', b'{"jsonrpc": "2.0", "method": 7}',
@@ -252,8 +326,8 @@ class WrongClient:
         ])))
 
     RIGHT = [ask_for_text, ask_for_text, ask_for_hover, ask_for_nothing, ask_in_a_batch, open, open, close,
-             change, change, change, change]
-    WRONG = [wrong_change, half_a_pair, cut_frame, cut_frame, junk, junk, junk, wrong_json]
+             change, change, change, change, heal]
+    WRONG = [wrong_change, half_a_pair, refused_body, refused_body, cut_frame, cut_frame, junk, junk, wrong_json]
 
     def step(self):
         if self.random.randrange(100) == 0:
@@ -285,14 +359,15 @@ class WrongClient:
         result = message.get("result") or {}
         answer = message["error"]["code"] if "error" in message else result.get("text")
         if "contents" in result:
-            answer = result["contents"]["value"][: len(expected)] if isinstance(expected, str) else result
+            answer = result["contents"]["value"].partition("\n")[0] + "\n"
         self.counts["answers"] += 1
-        if answer != expected:
+        self.counts["texts"] += isinstance(answer, str)
+        if answer not in expected:
             self.wrong.append(f"expected {expected!r}, answered {answer!r}")
 
     def settle(self):
         """Waits for the answers to all right requests; whether they came."""
-        self.request("pauskern/nothing", None, NO_METHOD)
+        self.request("pauskern/nothing", None, [NO_METHOD])
         while self.wanted:
             try:
                 message = self.came.get(timeout=PATIENCE)
@@ -307,8 +382,7 @@ class WrongClient:
 
     def compare_warnings(self):
         for uri, document in self.documents.items():
-            expected = warnings_of(document.text) if document.is_open and document.text is not None else []
-            if self.warnings.get(uri, []) != expected:
+            if self.warnings.get(uri, []) not in document.warnings():
                 self.wrong.append(f"warnings of {document.text!r}: {self.warnings.get(uri)}")
         return not self.wrong
 
@@ -319,14 +393,14 @@ class WrongClient:
 
     def run(self, seconds):
         """Speaks for so long, and ends the server as a right client does; what was wrong, and the server's exit status."""
-        self.request("initialize", {"capabilities": {}}, None)
+        self.request("initialize", {"capabilities": {}}, [None])
         over = time.monotonic() + seconds
         while self.settle() and time.monotonic() < over:
             for _ in range(50):
                 self.step()
         memory = self.memory() if self.server.poll() is None else 0
         if not self.wrong:
-            self.request("shutdown", None, None)
+            self.request("shutdown", None, [None])
             self.send({"method": "exit"})
             self.server.stdin.close()
         else:
@@ -339,7 +413,7 @@ def try_wrong_client(program, seed, seconds, tally):
     memory, status = client.run(seconds)
     for line in client.wrong[:3]:
         print(line[:1000])
-    for what in ["answers", "changes", "refused changes"]:
+    for what in ["answers", "texts", "changes", "refused changes"]:
         number = 0 if client.wrong else client.counts[what]
         tally.enough(f"{what} of wrong_client.py", number, f"a client that speaks wrongly: {what}")
     counts = ", ".join(f"{number} {what}" for what, number in client.counts.items())
