@@ -27,7 +27,7 @@ impl Document {
         let version = protocol::version(item)?;
         let text = Text::of(encoding, protocol::string(item, "text")?)?;
         Ok(Document {
-            version: Some(version),
+            version,
             text: Some(text),
         })
     }
@@ -36,20 +36,29 @@ impl Document {
     pub fn change(&mut self, encoding: Encoding, params: &Value) -> Result<(), Fault> {
         let text = self.text.take();
         let changes = protocol::changes(params)?;
-        self.go_to(protocol::version(&params["textDocument"])?)?;
+        let version = protocol::version(&params["textDocument"]);
+        if changes.iter().any(|change| change.range.is_none()) {
+            self.version = version.unwrap_or_default();
+        } else if let Some(version) = version? {
+            self.go_to(version)?;
+        }
         self.text = Some(changed(text, encoding, &changes)?);
+        Ok(())
+    }
+
+    /// Takes the text that a client saved, which has no version.
+    pub fn save(&mut self, encoding: Encoding, text: &str) -> Result<(), Fault> {
+        self.text = Some(Text::of(encoding, text)?);
+        self.version = None;
         Ok(())
     }
 
     /// Takes a version, which must not be older than the last one. The protocol has it increase after each change; but
     /// Neovim 0.7 sends changes that waited under the version of those before them.
     fn go_to(&mut self, version: i64) -> Result<(), Fault> {
-        match self.version {
+        match self.version.replace(version) {
             Some(last) if version < last => Err(Fault::old_version(version, last)),
-            _ => {
-                self.version = Some(version);
-                Ok(())
-            }
+            _ => Ok(()),
         }
     }
 
@@ -68,7 +77,11 @@ impl Document {
             Some(text) => text.warnings.to_json()?,
             None => json!([]),
         };
-        Ok(json!({ "uri": uri, "version": self.version, "diagnostics": warnings }))
+        let mut params = json!({ "uri": uri, "diagnostics": warnings });
+        if let Some(version) = self.version {
+            params["version"] = json!(version);
+        }
+        Ok(params)
     }
 }
 
@@ -106,6 +119,10 @@ impl Text {
         self.rope.change_exact(encoding, range, change.text)?;
         self.warnings.changed(&self.rope, encoding, range, lines_before)?;
         Ok(())
+    }
+
+    pub fn is(&self, text: &str) -> bool {
+        self.rope == *text
     }
 
     /// Whether a CR stands without an LF: the protocol takes it for a line break, and some editors do not.

@@ -40,10 +40,7 @@ impl Fault {
 
     /// A request about a document whose text the server does not know: the protocol's `RequestFailed`.
     pub fn out_of_step() -> Fault {
-        Fault::new(
-            -32803,
-            "the document is out of step: open it again, or send its whole text",
-        )
+        Fault::new(-32803, "the document is out of step: save it, or send its whole text")
     }
 
     pub fn old_version(version: i64, last: i64) -> Fault {

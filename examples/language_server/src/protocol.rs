@@ -63,9 +63,12 @@ pub fn range(value: &Value) -> Result<Range, Fault> {
     Ok(Range { start, end })
 }
 
-/// The version of a document.
-pub fn version(document: &Value) -> Result<i64, Fault> {
-    document["version"].as_i64().ok_or_else(|| Fault::invalid("version"))
+/// The version of a document, where it has one.
+pub fn version(document: &Value) -> Result<Option<i64>, Fault> {
+    match &document["version"] {
+        Value::Null => Ok(None),
+        version => version.as_i64().map(Some).ok_or_else(|| Fault::invalid("version")),
+    }
 }
 
 /// The changes of a `textDocument/didChange`.

@@ -164,6 +164,7 @@ impl Server {
             }
             (Phase::Initialized, "textDocument/didOpen") => self.open(params),
             (Phase::Initialized, "textDocument/didChange") => self.change(params),
+            (Phase::Initialized, "textDocument/didSave") => self.save(params),
             (Phase::Initialized, "textDocument/didClose") => self.close(params),
             _ => Ok(()),
         }
@@ -176,7 +177,7 @@ impl Server {
             "capabilities": {
                 "positionEncoding": protocol::name_of(self.encoding),
                 // Documents are opened and closed, and 2 is: changes come by ranges.
-                "textDocumentSync": { "openClose": true, "change": 2 },
+                "textDocumentSync": { "openClose": true, "change": 2, "save": { "includeText": true } },
                 "hoverProvider": true,
             },
             "serverInfo": { "name": env!("CARGO_PKG_NAME"), "version": env!("CARGO_PKG_VERSION") },
@@ -214,6 +215,30 @@ impl Server {
             // It was told already.
             Err(_) => return Ok(()),
         }
+        self.publish(uri)
+    }
+
+    /// Takes the text that a client saved: where it is another than the server's, the client is told.
+    fn save(&mut self, params: &Value) -> Result<(), Fault> {
+        let uri = protocol::uri(params)?;
+        let document = self.documents.get_mut(uri);
+        let document = document.ok_or_else(|| Fault::invalid("open document"))?;
+        let Some(text) = params["text"].as_str() else {
+            return Ok(());
+        };
+        let (was_in_step, had_returns) = (document.is_in_step(), document.text().is_ok_and(Text::has_lone_return));
+        if document.text().is_ok_and(|kept| kept.is(text)) {
+            return Ok(());
+        }
+        if let Err(fault) = document.save(self.encoding, text) {
+            self.lose(uri, &fault);
+            return Ok(());
+        }
+        if was_in_step {
+            let sentence = format!("{uri} was saved with another text than its changes made. The saved one is taken.");
+            self.tell("window/showMessage", 2, sentence);
+        }
+        self.tell_of_lone_returns(uri, had_returns);
         self.publish(uri)
     }
 
@@ -267,7 +292,7 @@ impl Server {
     }
 
     fn tell_of_loss(&mut self, uri: &str, fault: &Fault) {
-        let sentence = format!("{uri} is out of step, since {fault}. Open it again, or send its whole text.");
+        let sentence = format!("{uri} is out of step, since {fault}. Save it, or send its whole text.");
         self.tell("window/showMessage", 1, sentence);
     }
 

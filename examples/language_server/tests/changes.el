@@ -125,6 +125,13 @@
     (setf (alist-get 'after_return changes-found)
           (cond ((not answer) "refused") ((string= text answer) "in step") (t "another text")))))
 
+(defun changes-save ()
+  "A save mends that, since the server takes the text that was saved.  It tells of the CR again."
+  (let ((told (alist-get 'told changes-found)))
+    (save-buffer)
+    (changes-compare-text)
+    (setf (alist-get 'told changes-found) told)))
+
 (defun changes-run ()
   (find-file (changes-get 'file))
   (text-mode)
@@ -139,6 +146,7 @@
       (changes-compare 2)))
   (changes-compare 10)
   (changes-return-alone)
+  (changes-save)
   (changes-stop))
 
 (defun changes-stop ()
@@ -158,6 +166,7 @@
       undo-limit 100000000
       undo-strong-limit 100000000
       inhibit-message t
+      make-backup-files nil
       eglot-server-programs (list (cons 'text-mode (list (changes-get 'program)))))
 (prefer-coding-system 'utf-8)
 (random (format "%s" (changes-get 'seed)))

@@ -55,7 +55,7 @@ end
 -- The text of the buffer, as the editor writes it to a file and sends it to a server.
 local function buffer_text()
   local line_break = vim.bo.fileformat == "dos" and "\r\n" or "\n"
-  return table.concat(vim.api.nvim_buf_get_lines(0, 0, -1, true), line_break) .. line_break
+  return table.concat(vim.api.nvim_buf_get_lines(0, 0, -1, true), line_break) .. (vim.bo.eol and line_break or "")
 end
 
 local function ask(method, params)
@@ -233,6 +233,14 @@ local function return_alone()
   found.after_return = answer and (answer.text == buffer_text() and "in step" or "another text") or "refused"
 end
 
+-- A save mends that, since the server takes the text that was saved. It tells of the CR again.
+local function save()
+  local told = found.told
+  vim.cmd("silent write")
+  compare_text()
+  found.told = told
+end
+
 -- The run.
 
 local function capabilities()
@@ -308,6 +316,7 @@ local function run()
   end
   compare(20)
   return_alone()
+  save()
   stop()
 end
 

@@ -75,6 +75,11 @@ class Client:
         message = changed(uri, [event(*change) for change in changes], self.version if version is None else version)
         return self.notify(message["method"], message["params"])
 
+    def save(self, uri, text):
+        """Tells that a document was saved, with its text or None."""
+        included = {} if text is None else {"text": text}
+        return self.notify("textDocument/didSave", {"textDocument": {"uri": uri}, **included})
+
     def ask(self, uri):
         """The response to the question what the server has of a document."""
         return self.request("pauskern/text", {"textDocument": {"uri": uri}})

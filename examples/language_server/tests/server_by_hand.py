@@ -83,6 +83,39 @@ def try_out_of_step(program, tally):
             tally.result(texts == ["Whole", "again"], f"{what}: in step again by a whole text, and by opening: {texts}")
 
 
+def try_healing(program, tally):
+    """By what a document is in step again, and what the client hears: a whole text of any version, and a save."""
+    for what, version in [("an older version", -7), ("no version", None), ("a version that is none", "x")]:
+        with Client(program) as client:
+            client.initialize({})
+            client.open(URI, "one")
+            client.notify(**changed(URI, [event((9, 0), (9, 0), "x")], 5))
+            client.notify(**changed(URI, [event(None, None, "whole")], version))
+            client.notify(**changed(URI, [event((0, 0), (0, 1), "W")], None))
+            text = client.text(URI)
+            tally.result(text == "Whole", f"a whole text of {what}, and a change of none: {text!r}")
+    with Client(program) as client:
+        capabilities = client.initialize({})["capabilities"]["textDocumentSync"]
+        tally.result(capabilities["save"] == {"includeText": True}, "the server wants the texts of saves")
+        client.open(URI, "one")
+        for what, saved, expected in [("the same text", "one", []), ("no text", None, []), ("another text", "two", [
+            "window/showMessage", "textDocument/publishDiagnostics",
+        ])]:
+            heard = methods(client.save(URI, saved))
+            text = client.text(URI)
+            tally.result(heard == expected and text == (saved or "one"), f"a save with {what}: {heard}, and then {text!r}")
+        client.change(URI, [((9, 0), (9, 0), "x")])
+        client.save(URI, None)
+        lost = client.text(URI)
+        heard = methods(client.save(URI, "three"))
+        client.change(URI, [((0, 0), (0, 1), "T")])
+        texts = lost, client.text(URI)
+        right = heard == ["textDocument/publishDiagnostics"] and texts == (OUT_OF_STEP, "Three")
+        tally.result(right, f"a save of what is out of step, without a text and with one, and a change: {texts}")
+        client.save(OTHER, "other")
+        tally.result(client.text(OTHER) == INVALID_PARAMS, "a save opens no document")
+
+
 def try_lone_return(program, tally):
     """The limit: an editor that takes a CR alone for no line break means other lines, and its client is told so once."""
     with Client(program) as client:
@@ -297,8 +330,8 @@ def try_memory(program, tally):
 
 
 TRIED = [
-    try_encodings, try_changes, try_out_of_step, try_lone_return, try_wrong, try_refused_changes, try_changes_of_none,
-    try_no_memory, try_surrogates, try_batches, try_life, try_memory,
+    try_encodings, try_changes, try_out_of_step, try_healing, try_lone_return, try_wrong, try_refused_changes,
+    try_changes_of_none, try_no_memory, try_surrogates, try_batches, try_life, try_memory,
 ]
 
 

@@ -3,11 +3,11 @@
 
 By hand, by server_by_hand.py: what the server and its client agree on, and what it does with changes, with what is no
 message, and with messages that it cannot serve. By wrong_client.py: 20 seconds of random messages, right and wrong, where
-each right one must be answered, and never from a text that the client has not. In a headless Neovim, by changes.lua, in each position encoding, with line
-breaks of LF and of CR LF: some hundred random edits, with undo, redo and a paste of megabytes; and so in Emacs with eglot,
-by changes.el. The server must have the editor's text, and tell of places and of blanks at the end of lines
-what the editor knows. Where cargo, the crate serde_json, Neovim or Emacs is missing, what needs it is left out. The last
-line printed is 'N passed, M failed', with what is left out.
+each right one must be answered, and never from a text that the client does not have. In a headless Neovim, by changes.lua,
+in each position encoding, with line breaks of LF and of CR LF: some hundred random edits, with undo, redo and a paste of
+megabytes; and so in Emacs with eglot, by changes.el. The server must have the editor's text, and tell of places and of
+blanks at the end of lines what the editor knows. Where cargo, the crate serde_json, Neovim or Emacs is missing, what needs
+it is left out. The last line printed is 'N passed, M failed', with what is left out.
 """
 import json
 import os
@@ -29,7 +29,7 @@ from wrong_client import try_wrong_client  # noqa: E402
 
 CHANGES, CHANGES_IN_EMACS = (ROOT / "examples/language_server/tests" / name for name in ("changes.lua", "changes.el"))
 # how many results there are of what is tried without an editor, in Neovim and in Emacs
-BY_HAND = 103
+BY_HAND = 112
 IN_EDITOR = 40
 IN_EMACS = 10
 # how long a client speaks wrongly, and the seed of its random numbers
@@ -169,7 +169,7 @@ def try_emacs_run(program, line_break, seed, folder):
 
 
 def try_limit(found, name, whole):
-    """After a CR alone an editor is out of step, unless it sends whole texts; the server has told of the CR."""
+    """After a CR alone an editor is out of step, unless it sends whole texts, until it saves; the server has told of it."""
     told, after = found.get("told"), found.get("after_return")
     right = told == 1 and (after == "in step") == whole and after
     tally.result(bool(right), f"{name}: a CR alone is told {told} times, and a change after it: {after}")

@@ -68,6 +68,8 @@ class Document:
         self.is_open = False
         self.text = ""
         self.version = 0
+        # the last version that the server took, where that is known
+        self.taken = None
         self.state = IN_STEP
 
     def expected(self):
@@ -94,6 +96,11 @@ def warnings_of(text):
         if blanks:
             found.append((line, units(content[: blanks.start()]), units(content)))
     return found[:1000]
+
+
+def is_whole(events):
+    """Whether the text after some changes is known whatever it was before."""
+    return any("range" not in one for one in events)
 
 
 class WrongClient:
@@ -169,7 +176,8 @@ class WrongClient:
     def open(self):
         uri = self.random.choice(URIS)
         document = self.documents[uri]
-        document.is_open, document.text, document.version, document.state = True, self.random_text(200), 1, IN_STEP
+        document.is_open, document.text, document.state = True, self.random_text(200), IN_STEP
+        document.version = document.taken = 1
         self.send({"method": "textDocument/didOpen", "params": opened(uri, document.text)})
 
     def close(self):
@@ -214,17 +222,29 @@ class WrongClient:
         document = self.documents[uri]
         if document.is_open:
             events = self.right_changes(document)
-            if any("range" not in one for one in events):
+            version = self.random.choice([document.version, document.version, None])
+            if is_whole(events):
                 document.state = IN_STEP
-            self.changed(uri, events, document.version)
+            if document.state == IN_STEP and (version or is_whole(events)):
+                document.taken = version
+            self.changed(uri, events, version)
 
     def heal(self):
-        """A whole text for each document that may be out of step."""
+        """A save for each document that may be out of step, or a whole text, of any version."""
         for uri, document in self.documents.items():
             if document.is_open and document.state != IN_STEP:
-                document.version += 1
                 document.state = IN_STEP
-                self.changed(uri, [event(None, None, document.text)], document.version)
+                if self.random.randrange(2) == 0:
+                    self.save(uri)
+                else:
+                    document.version = document.taken = self.random.randrange(20)
+                    self.changed(uri, [event(None, None, document.text)], document.version)
+
+    def save(self, uri=None):
+        uri = uri or self.random.choice(URIS)
+        document = self.documents[uri]
+        document.state, document.taken = IN_STEP, None
+        self.send({"method": "textDocument/didSave", "params": {"textDocument": {"uri": uri}, "text": document.text}})
 
     def many_changes(self):
         """Thousands of changes that leave the text as it was."""
@@ -246,7 +266,8 @@ class WrongClient:
         self.counts["refused changes"] += 1
         events, version = self.refused_events(document), document.version
         if self.random.randrange(4) == 0:
-            events, version = [event((0, 0), (0, 0), "x")], self.random.choice([document.version - 2, -5, None, "7", 1.5])
+            old = [document.taken - 1, -5] if document.state == IN_STEP and document.taken is not None else []
+            events, version = [event((0, 0), (0, 0), "x")], self.random.choice([*old, "7", 1.5])
             document.version -= 1
         document.state = LOST
         self.changed(uri, events, version)
@@ -284,6 +305,8 @@ class WrongClient:
         if name == "a body that is too long":
             self.doubt()
         self.counts["refused changes"] += 1
+        # after what is refused, the server finds a frame by its length, and reads no other line before that one
+        self.ask_for_nothing()
         events = self.right_changes(document)
         document.state = LOST
         self.write(refused(json.dumps({"jsonrpc": "2.0", **changed(uri, events, document.version)}).encode()))
@@ -295,12 +318,15 @@ class WrongClient:
         uri = self.random.choice(URIS)
         document = self.documents[uri]
         message = {"id": "cut", "method": "x", "params": {"text": self.random_text(20)}}
+        self.doubt()
         if document.is_open:
-            message = changed(uri, self.right_changes(document), document.version)
+            events = self.right_changes(document)
+            message = changed(uri, events, document.version)
+            # a cut in the header may leave the frame as right as it was
+            document.state = DOUBTFUL if is_whole(events) else document.state
         whole = frame(json.dumps({"jsonrpc": "2.0", **message}).encode())
         at = self.random.randrange(len(whole))
         cut = self.random.randrange(1, 30)
-        self.doubt()
         self.write(self.random.choice([
             whole[:at], whole[:at] + whole[at + cut:], whole.replace(b": ", b": 1", 1), whole[:at] + whole[at + 1:],
         ]))
@@ -326,7 +352,7 @@ class WrongClient:
         ])))
 
     RIGHT = [ask_for_text, ask_for_text, ask_for_hover, ask_for_nothing, ask_in_a_batch, open, open, close,
-             change, change, change, change, heal]
+             change, change, change, change, heal, save]
     WRONG = [wrong_change, half_a_pair, refused_body, refused_body, cut_frame, cut_frame, junk, junk, wrong_json]
 
     def step(self):
