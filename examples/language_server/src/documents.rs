@@ -3,7 +3,10 @@ use crate::faults::Fault;
 use crate::protocol::{self, Change};
 use crate::warnings::{number_of_lines, Warnings};
 use serde_json::{json, Value};
-use str_rope::{Encoding, Position, Rope, Scheme};
+use str_rope::{Encoding, Error, Position, Rope, Scheme};
+
+/// The greatest number of the protocol.
+const GREATEST: usize = i32::MAX as usize;
 
 /// A document that a client has open.
 pub struct Document {
@@ -115,10 +118,35 @@ impl Text {
     /// Applies a change that has a range. It is refused where a position names no place: then the client has another text.
     fn change(&mut self, encoding: Encoding, change: &Change<'_>) -> Result<(), Fault> {
         let range = change.range.ok_or_else(|| Fault::invalid("range"))?;
+        if pair(range.end) < pair(range.start) {
+            return Err(Error::NotOrdered.into());
+        }
+        let place = |position| self.place(encoding, position).ok_or(Error::NotBoundary);
+        let (from, to) = (place(range.start)?, place(range.end)?);
+        let line = |byte| self.rope.position_of(encoding, byte).line;
+        let lines = line(from)..line(to) + 1;
         let lines_before = number_of_lines(&self.rope);
-        self.rope.change_exact(encoding, range, change.text)?;
-        self.warnings.changed(&self.rope, encoding, range, lines_before)?;
+        self.rope.replace(from..to, change.text)?;
+        self.warnings.changed(&self.rope, encoding, lines, lines_before)?;
         Ok(())
+    }
+
+    /// The byte that a position means, where it names a place. Beside those of the rope, these do:
+    ///
+    /// - the beginning of the line after the last one, and the greatest position, are the text's end;
+    /// - an offset past the end of a line is the line's end, by the protocol. A text with a CR that stands alone is not read
+    ///   so, since there the offset may be that of a client that counts other lines.
+    fn place(&self, encoding: Encoding, position: Position) -> Option<usize> {
+        let lines = number_of_lines(&self.rope);
+        if [(lines, 0), (GREATEST, GREATEST)].contains(&pair(position)) {
+            return Some(self.rope.len_bytes());
+        }
+        let end = self.rope.line_end(position.line);
+        let is_past_end = position.character > self.rope.position_of(encoding, end).character;
+        if position.line < lines && is_past_end && !self.has_lone_return() {
+            return Some(end);
+        }
+        self.rope.exact_byte_of(encoding, position)
     }
 
     pub fn is(&self, text: &str) -> bool {
@@ -138,6 +166,10 @@ impl Text {
         let value = format!("byte {byte}\nchar {char}\nUTF-16 code unit {unit}\nline {line}");
         json!({ "contents": { "kind": "plaintext", "value": value } })
     }
+}
+
+fn pair(position: Position) -> (usize, usize) {
+    (position.line, position.character)
 }
 
 impl std::fmt::Display for Text {

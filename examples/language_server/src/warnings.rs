@@ -32,12 +32,18 @@ impl Warnings {
         })
     }
 
-    /// Takes in that a range of the text was exchanged for another, by which it came to have other lines: how many they
-    /// were before.
+    /// Takes in that a part of some lines was exchanged for another text, by which the text came to have other lines: how
+    /// many they were before.
     ///
-    /// The lines before the range's first, and those after its last, have the content that they had.
-    pub fn changed(&mut self, rope: &Rope, encoding: Encoding, range: Range, lines_before: usize) -> Result<(), Error> {
-        let (first, next) = (range.start.line, range.end.line + 1);
+    /// The lines before those, and the lines after them, have the content that they had.
+    pub fn changed(
+        &mut self,
+        rope: &Rope,
+        encoding: Encoding,
+        lines: ops::Range<usize>,
+        lines_before: usize,
+    ) -> Result<(), Error> {
+        let (first, next) = (lines.start, lines.end);
         let next_now = (number_of_lines(rope) + next).saturating_sub(lines_before).max(first);
         let read = blanks_in(rope, encoding, first..next_now)?;
         let from = self.blanks.partition_point(|one| one.line < first);
@@ -208,7 +214,8 @@ mod tests {
                 };
                 let lines = number_of_lines(&rope);
                 rope.change_exact(encoding, range, &numbers.text(24)).unwrap();
-                kept.changed(&rope, encoding, range, lines).unwrap();
+                kept.changed(&rope, encoding, range.start.line..range.end.line + 1, lines)
+                    .unwrap();
                 assert_eq!(kept, Warnings::of(&rope, encoding).unwrap(), "{:?}", rope.to_string());
                 if rope.len_bytes() > 4_000 {
                     rope = numbers.text(400).parse().unwrap();

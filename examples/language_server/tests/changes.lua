@@ -17,7 +17,7 @@ local PIECES = {
   "\u{10FFFF}", "\u{FFFD}", "\u{85}", "\u{2028}", "\u{2029}", "\u{B}", "\u{C}", "\u{FEFF}",
 }
 
-local found = { edits = 0, changes = 0, texts = 0, hovers = 0, warnings = 0, told = 0, after_return = "", wrong = {} }
+local found = { ends = 0, edits = 0, changes = 0, texts = 0, hovers = 0, warnings = 0, told = 0, after_return = "", wrong = {} }
 local client
 
 -- Tells what is wrong, in ASCII, since a part of a text may begin or end inside a char.
@@ -52,9 +52,13 @@ local function random_place()
   return row, vim.str_byteindex(line, random(0, (vim.str_utfindex(line))))
 end
 
+local function line_break()
+  return vim.bo.fileformat == "dos" and "\r\n" or "\n"
+end
+
 -- The text of the buffer, as the editor writes it to a file and sends it to a server.
 local function buffer_text()
-  local line_break = vim.bo.fileformat == "dos" and "\r\n" or "\n"
+  local line_break = line_break()
   return table.concat(vim.api.nvim_buf_get_lines(0, 0, -1, true), line_break) .. (vim.bo.eol and line_break or "")
 end
 
@@ -241,6 +245,67 @@ local function save()
   found.told = told
 end
 
+-- The end of a text.
+
+-- What changes the end, and what leaves nothing of the text.
+local END_COMMANDS = {
+  "normal! Goz", "undo", "normal! Gdd", "undo", "$d", "undo", "normal! ggJ", "undo", "normal! ggddp", "undo", "%sort", "undo",
+  "normal! ggdG", "undo", "normal! ggdGiabc", "undo", "normal! GA!", "normal! ggdd", "normal! dd", "normal! dd", "normal! ix",
+  "undo", "normal! Gyyp", "2,3d", "%sort!", "normal! Gddp", "normal! GddP", "call append('$', ['x ', ''])", "1,2move $",
+  "$put =range(3)", "undo", "$copy $", "%join", "earlier 99f", "later 99f", "undo 0", "redo", "%d", "normal! Goz",
+}
+
+-- Neovim tells changes as if each line ended in a break, also where the file's last line has none, and deletes the one line
+-- that a buffer always has. So the server may have a break more or less at the end.
+local function compare_end(what)
+  local answer, text = ask("pauskern/text", {}), buffer_text()
+  local told = answer and answer.text
+  local has_other_end = told and (told == text .. line_break() or told .. line_break() == text) and not job.whole
+  if told ~= text and not has_other_end then
+    wrong("text after " .. what, text, told)
+  end
+  compare_warnings()
+  found.ends = found.ends + 1
+end
+
+local function edit_end(what, change)
+  vim.cmd("let &undolevels = &undolevels")
+  change()
+  compare_end(what)
+end
+
+-- Edits a file of a few lines, or of none, whose last line may have no break.
+local function ends(name, text)
+  local file = assert(io.open(job.file .. name, "wb"))
+  file:write((text:gsub("\n", line_break())))
+  file:close()
+  vim.cmd("edit " .. vim.fn.fnameescape(job.file .. name))
+  vim.lsp.buf_attach_client(0, client.id)
+  for _, words in ipairs(END_COMMANDS) do
+    edit_end(words, function()
+      vim.cmd("silent! " .. words)
+    end)
+  end
+  for count = 1, 100 do
+    -- A command of lines that are not there does nothing.
+    edit_end("random edit " .. count .. " of " .. name, function()
+      pcall(({ normal, command, undo, redo })[random(4)])
+    end)
+  end
+  edit_end("undo to the beginning", function()
+    vim.cmd("undo 0")
+  end)
+  save()
+end
+
+local function try_ends()
+  vim.o.hidden = true
+  for name, text in pairs({ ["1"] = "b \na\nc\t", ["2"] = "b \na\nc\n", ["3"] = "", ["4"] = "one", ["5"] = "\n\n" }) do
+    ends(name, text)
+  end
+  vim.cmd("edit " .. vim.fn.fnameescape(job.file))
+end
+
 -- The run.
 
 local function capabilities()
@@ -315,6 +380,7 @@ local function run()
     end
   end
   compare(20)
+  try_ends()
   return_alone()
   save()
   stop()

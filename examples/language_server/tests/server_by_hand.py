@@ -55,8 +55,9 @@ def try_changes(program, tally):
 # changes of "one\n🐸 two" that no client in step sends, with their version, which follows 1
 OUT = [
     ("the second of three ends before it starts", [((0, 0), (0, 0), "x"), ((1, 1), (0, 0), "z"), ((0, 0), (0, 0), "y")], 2),
-    ("a range past the end of its line", [((0, 4), (0, 4), "x")], 2),
-    ("a range past the last line", [((2, 0), (2, 0), "x")], 2),
+    ("a range past the last line", [((2, 1), (2, 1), "x")], 2),
+    ("a range two lines past the last one", [((0, 0), (3, 0), "x")], 2),
+    ("a range past its line's end, which ends before it starts", [((0, 5), (0, 4), "x")], 2),
     ("a range inside a char", [((1, 1), (1, 2), "x")], 2),
     ("an older version", [((0, 0), (0, 1), "x")], 0),
     ("a version that is none", [((0, 0), (0, 1), "x")], "2"),
@@ -81,6 +82,32 @@ def try_out_of_step(program, tally):
             client.open(URI, "again")
             texts.append(client.text(URI))
             tally.result(texts == ["Whole", "again"], f"{what}: in step again by a whole text, and by opening: {texts}")
+
+
+GREATEST = 2**31 - 1
+
+# a text, a change by positions past an end, and the text after it, or that the document is out of step
+ENDS = [
+    ("one\ntwo", (1, 0), (2, 0), "2", "one\n2"), ("one\ntwo", (2, 0), (2, 0), "!", "one\ntwo!"), ("", (0, 0), (1, 0), "x", "x"),
+    ("one\n", (0, 0), (2, 0), "x", "x"), ("one\ntwo", (0, 1), (GREATEST, GREATEST), "", "o"),
+    ("one\ntwo", (GREATEST, GREATEST), (GREATEST, GREATEST), "!", "one\ntwo!"), ("a\rb", (0, 0), (2, 0), "x", "x"),
+    ("one\r\ntwo", (0, 9), (1, 0), "-", "one-two"), ("one\ntwo \n", (1, 1), (1, GREATEST), "", "one\nt\n"),
+    ("🐸\n\n", (0, 3), (1, 5), " ", "🐸 \n"), ("one", (0, GREATEST), (0, GREATEST), "!", "one!"),
+    ("a\rb", (0, 2), (0, 2), "x", OUT_OF_STEP), ("a\r\nb\r", (0, 3), (0, 3), "x", OUT_OF_STEP),
+    ("one", (0, 0), (1, 1), "x", OUT_OF_STEP), ("one", (0, 0), (GREATEST, 0), "x", OUT_OF_STEP),
+    ("🐸", (0, 1), (0, 9), "x", OUT_OF_STEP),
+]
+
+
+def try_ends(program, tally):
+    """What is past the end of a text or of a line."""
+    with Client(program) as client:
+        client.initialize({})
+        for text, start, end, put, expected in ENDS:
+            client.open(URI, text)
+            client.change(URI, [(start, end, put)])
+            answer = client.text(URI)
+            tally.result(answer == expected, f"{put!r} from {start} to {end} of {text!r}: {answer!r}")
 
 
 def try_healing(program, tally):
@@ -127,7 +154,7 @@ def try_lone_return(program, tally):
         text = client.text(URI)
         right = text == "a\rx\nc" and heard == ["textDocument/publishDiagnostics"]
         tally.result(right, f"line 1 is after the CR, also for an editor that means the line after the LF: {text!r}")
-        client.change(URI, [((3, 0), (3, 0), "y")])
+        client.change(URI, [((3, 1), (3, 1), "y")])
         tally.result(client.text(URI) == OUT_OF_STEP, "a line that only the other has is out of step")
 
 
@@ -330,7 +357,7 @@ def try_memory(program, tally):
 
 
 TRIED = [
-    try_encodings, try_changes, try_out_of_step, try_healing, try_lone_return, try_wrong, try_refused_changes,
+    try_encodings, try_changes, try_out_of_step, try_ends, try_healing, try_lone_return, try_wrong, try_refused_changes,
     try_changes_of_none, try_no_memory, try_surrogates, try_batches, try_life, try_memory,
 ]
 

@@ -5,9 +5,10 @@ By hand, by server_by_hand.py: what the server and its client agree on, and what
 message, and with messages that it cannot serve. By wrong_client.py: 20 seconds of random messages, right and wrong, where
 each right one must be answered, and never from a text that the client does not have. In a headless Neovim, by changes.lua,
 in each position encoding, with line breaks of LF and of CR LF: some hundred random edits, with undo, redo and a paste of
-megabytes; and so in Emacs with eglot, by changes.el. The server must have the editor's text, and tell of places and of
-blanks at the end of lines what the editor knows. Where cargo, the crate serde_json, Neovim or Emacs is missing, what needs
-it is left out. The last line printed is 'N passed, M failed', with what is left out.
+megabytes, and edits at the end of texts; and so in Emacs with eglot, by changes.el, but for those at the end. The server must
+have the editor's text, and tell of places and of blanks at the end of lines what the editor knows. Where cargo, the crate
+serde_json, Neovim or Emacs is missing, what needs it is left out. The last line printed is 'N passed, M failed', with what
+is left out.
 """
 import json
 import os
@@ -29,8 +30,8 @@ from wrong_client import try_wrong_client  # noqa: E402
 
 CHANGES, CHANGES_IN_EMACS = (ROOT / "examples/language_server/tests" / name for name in ("changes.lua", "changes.el"))
 # how many results there are of what is tried without an editor, in Neovim and in Emacs
-BY_HAND = 112
-IN_EDITOR = 40
+BY_HAND = 130
+IN_EDITOR = 48
 IN_EMACS = 10
 # how long a client speaks wrongly, and the seed of its random numbers
 WRONG_SECONDS = 20
@@ -113,7 +114,7 @@ def try_run(program, run, seed, folder):
     found = edit(program, run, seed, folder)
     for line in found["wrong"][:3]:
         print(line[:1000])
-    for what in ["edits", "texts", "hovers"]:
+    for what in ["edits", "texts", "hovers", "ends"]:
         number = 0 if found["wrong"] else found[what]
         tally.enough(f"{what} of changes.lua", number, f"{run.name()}: {what}")
     try_limit(found, run.name(), run.whole)

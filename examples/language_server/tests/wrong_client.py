@@ -27,6 +27,9 @@ LONGEST = 3000
 OUT_OF_STEP, NO_DOCUMENT, NO_METHOD = -32803, -32602, -32601
 PIECES = ["a", "word", " ", "  ", "\t", "é", "せ", "🐸", "\n", "\r\n", "\r", "\u2028", "\"", "\\", "\0"]
 BLANKS = re.compile("[ \t]+$")
+LONE_RETURN = re.compile(b"\r(?!\n)")
+# the greatest number of the protocol
+GREATEST = 2**31 - 1
 JUNK = [
     b"\r\n", b"\n", b"x: y\r\n", b"Content-Length: ", b"Content-Length: 7\r\n", b"Content-Length: 30\r\n\r\n",
     b"Content-Length: -1\r\n\r\n", b"Content-Length: 99999999999999999999\r\n\r\n", b"Content-Length: 100000000\r\n\r\n",
@@ -199,10 +202,21 @@ class WrongClient:
             return event(None, None, whole := self.random_text(200)), whole
         lines = Lines(text)
         start, end = sorted([self.place(lines), self.place(lines)])
-        if self.random.randrange(2) == 0:
-            end = start
         put = self.random_text(20)
-        return event(start, end, put), lines.changed(start, end, 16, put)
+        if start == end or self.random.randrange(2) == 0:
+            said = self.said(lines, start)
+            return event(said, said, put), lines.changed(start, start, 16, put)
+        return event(self.said(lines, start), self.said(lines, end), put), lines.changed(start, end, 16, put)
+
+    def said(self, lines, place):
+        """A place as a client may say it: an end of a line, or of the text, also by a position past it."""
+        byte = lines.byte(place, 16)
+        ways = [place, place]
+        if byte == len(lines.data):
+            ways += [(len(lines.lines), 0), (GREATEST, GREATEST)]
+        if byte == lines.end(place[0]) and not LONE_RETURN.search(lines.data):
+            ways += [(place[0], place[1] + self.random.randrange(1, LONGEST))]
+        return self.random.choice(ways)
 
     def changed(self, uri, events, version):
         self.counts["changes"] += len(events)
@@ -274,8 +288,8 @@ class WrongClient:
 
     def refused_events(self, document):
         one = self.random.choice([
-            event((0, 1), (0, 0), "x"), event((9, 0), (2, 7), "x"), event((0, 0), (0, LONGEST * 9), "x"),
-            event((LONGEST * 9, 0), (LONGEST * 9, 0), "x"),
+            event((0, 1), (0, 0), "x"), event((9, 0), (2, 7), "x"), event((0, 0), (LONGEST * 9, GREATEST), "x"),
+            event((LONGEST * 9, 0), (LONGEST * 9, 0), "x"), event((0, 0), (GREATEST, 0), "x"),
             {"range": 7, "text": "x"}, {"range": {"start": {"line": -1, "character": 0}}, "text": "x"}, {"text": 7}, {}, 7, None,
             {"range": {"start": {"line": 0, "character": 0}, "end": {"line": 2**70, "character": 0}}, "text": "x"},
         ])
