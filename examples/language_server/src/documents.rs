@@ -134,17 +134,21 @@ impl Text {
     /// The byte that a position means, where it names a place. Beside those of the rope, these do:
     ///
     /// - the beginning of the line after the last one, and the greatest position, are the text's end;
-    /// - an offset past the end of a line is the line's end, by the protocol. A text with a CR that stands alone is not read
-    ///   so, since there the offset may be that of a client that counts other lines.
+    /// - an offset past the end of a line is the line's end, by the protocol; but the first one is between CR and LF, where
+    ///   the line ends in these, since only a client that takes the CR for a part of the line names it. A text with a CR that
+    ///   stands alone is not read so, since there the offset may be that of a client that counts other lines.
     fn place(&self, encoding: Encoding, position: Position) -> Option<usize> {
         let lines = number_of_lines(&self.rope);
         if [(lines, 0), (GREATEST, GREATEST)].contains(&pair(position)) {
             return Some(self.rope.len_bytes());
         }
         let end = self.rope.line_end(position.line);
-        let is_past_end = position.character > self.rope.position_of(encoding, end).character;
-        if position.line < lines && is_past_end && !self.has_lone_return() {
-            return Some(end);
+        let past_end = position
+            .character
+            .saturating_sub(self.rope.position_of(encoding, end).character);
+        if position.line < lines && past_end > 0 && !self.has_lone_return() {
+            let next = self.rope.to_byte_idx(Scheme::Crlf, position.line + 1);
+            return Some(if past_end == 1 && next == end + 2 { end + 1 } else { end });
         }
         self.rope.exact_byte_of(encoding, position)
     }

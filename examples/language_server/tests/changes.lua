@@ -52,14 +52,14 @@ local function random_place()
   return row, vim.str_byteindex(line, random(0, (vim.str_utfindex(line))))
 end
 
-local function line_break()
-  return vim.bo.fileformat == "dos" and "\r\n" or "\n"
+local function line_break(fileformat)
+  return fileformat == "dos" and "\r\n" or "\n"
 end
 
 -- The text of the buffer, as the editor writes it to a file and sends it to a server.
 local function buffer_text()
-  local line_break = line_break()
-  return table.concat(vim.api.nvim_buf_get_lines(0, 0, -1, true), line_break) .. (vim.bo.eol and line_break or "")
+  local ends = line_break(vim.bo.fileformat)
+  return table.concat(vim.api.nvim_buf_get_lines(0, 0, -1, true), ends) .. (vim.bo.eol and ends or "")
 end
 
 local function ask(method, params)
@@ -259,8 +259,8 @@ local END_COMMANDS = {
 -- that a buffer always has. So the server may have a break more or less at the end.
 local function compare_end(what)
   local answer, text = ask("pauskern/text", {}), buffer_text()
-  local told = answer and answer.text
-  local has_other_end = told and (told == text .. line_break() or told .. line_break() == text) and not job.whole
+  local told, ends = answer and answer.text, line_break(vim.bo.fileformat)
+  local has_other_end = told and (told == text .. ends or told .. ends == text) and not job.whole
   if told ~= text and not has_other_end then
     wrong("text after " .. what, text, told)
   end
@@ -274,18 +274,23 @@ local function edit_end(what, change)
   compare_end(what)
 end
 
--- Edits a file of a few lines, or of none, whose last line may have no break.
-local function ends(name, text)
+-- Opens another file, and edits it by commands.
+local function edit_other(name, text, commands)
   local file = assert(io.open(job.file .. name, "wb"))
-  file:write((text:gsub("\n", line_break())))
+  file:write(text)
   file:close()
   vim.cmd("edit " .. vim.fn.fnameescape(job.file .. name))
   vim.lsp.buf_attach_client(0, client.id)
-  for _, words in ipairs(END_COMMANDS) do
+  for _, words in ipairs(commands) do
     edit_end(words, function()
       vim.cmd("silent! " .. words)
     end)
   end
+end
+
+-- Edits a file of a few lines, or of none, whose last line may have no break.
+local function ends(name, text)
+  edit_other(name, (text:gsub("\n", line_break(found.fileformat))), END_COMMANDS)
   for count = 1, 100 do
     -- A command of lines that are not there does nothing.
     edit_end("random edit " .. count .. " of " .. name, function()
@@ -300,9 +305,11 @@ end
 
 local function try_ends()
   vim.o.hidden = true
-  for name, text in pairs({ ["1"] = "b \na\nc\t", ["2"] = "b \na\nc\n", ["3"] = "", ["4"] = "one", ["5"] = "\n\n" }) do
+  for name, text in ipairs({ "b \na\nc\t", "b \na\nc\n", "", "one", "\n\n" }) do
     ends(name, text)
   end
+  -- In a file with both breaks the editor takes a CR for the last char of its line.
+  edit_other("6", "b\r\na\nc\r\n", { "1s/\\r$//", "undo", "%s/\\r$//", "undo", "3normal! $x", "undo" })
   vim.cmd("edit " .. vim.fn.fnameescape(job.file))
 end
 

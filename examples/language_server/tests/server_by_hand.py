@@ -95,7 +95,9 @@ ENDS = [
     ("🐸\n\n", (0, 3), (1, 5), " ", "🐸 \n"), ("one", (0, GREATEST), (0, GREATEST), "!", "one!"),
     ("a\rb", (0, 2), (0, 2), "x", OUT_OF_STEP), ("a\r\nb\r", (0, 3), (0, 3), "x", OUT_OF_STEP),
     ("one", (0, 0), (1, 1), "x", OUT_OF_STEP), ("one", (0, 0), (GREATEST, 0), "x", OUT_OF_STEP),
-    ("🐸", (0, 1), (0, 9), "x", OUT_OF_STEP),
+    ("🐸", (0, 1), (0, 9), "x", OUT_OF_STEP), ("a\r\nb", (0, 1), (0, 2), "", "a\nb"), ("a\r\nb", (0, 2), (1, 0), "", "a\rb"),
+    ("a\r\nb", (0, 2), (0, 2), "x", "a\rx\nb"), ("a\r\nb", (0, 3), (0, 3), "x", "ax\r\nb"),
+    ("a\nb", (0, 2), (0, 2), "x", "ax\nb"),
 ]
 
 

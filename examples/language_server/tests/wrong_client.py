@@ -101,6 +101,11 @@ def warnings_of(text):
     return found[:1000]
 
 
+def is_between(data, byte):
+    """Whether a byte is the LF of a CR LF."""
+    return byte > 0 and data[byte - 1:byte + 1] == b"\r\n"
+
+
 def is_whole(events):
     """Whether the text after some changes is known whatever it was before."""
     return any("range" not in one for one in events)
@@ -174,7 +179,9 @@ class WrongClient:
         self.write(frame(json.dumps(asked).encode()))
 
     def random_text(self, most):
-        return "".join(self.random.choice(PIECES) for _ in range(self.random.randrange(most)))
+        """Some pieces; three of four texts have no CR that stands alone."""
+        text = "".join(self.random.choice(PIECES) for _ in range(self.random.randrange(most)))
+        return text if self.random.randrange(4) == 0 else LONE_RETURN.sub(b"", text.encode()).decode()
 
     def open(self):
         uri = self.random.choice(URIS)
@@ -188,35 +195,39 @@ class WrongClient:
         self.documents[uri].is_open = False
         self.send({"method": "textDocument/didClose", "params": {"textDocument": {"uri": uri}}})
 
-    def place(self, lines):
-        """A place of a text, as a position."""
-        data = lines.data
+    def place(self, data):
+        """A place of a text: a byte where a char begins; between CR and LF, where no CR stands alone."""
         byte = self.random.randrange(len(data) + 1)
         while byte < len(data) and data[byte] & 0xC0 == 0x80:
             byte += 1
-        return lines.position(byte, 16)
+        return byte - (is_between(data, byte) and bool(LONE_RETURN.search(data)))
 
     def right_change(self, text):
         """A random change that names places, and the text after it."""
         if self.random.randrange(12) == 0 or len(text) > LONGEST:
             return event(None, None, whole := self.random_text(200)), whole
         lines = Lines(text)
-        start, end = sorted([self.place(lines), self.place(lines)])
+        data = lines.data
+        start, end = sorted([self.place(data), self.place(data)])
+        if self.random.randrange(2) == 0:
+            end = start
+        said = self.random.choice(self.ways(lines, end))
+        # where both are one place they are said alike, so that the end is not said before the start
+        start_said = said if start == end else self.ways(lines, start)[0]
         put = self.random_text(20)
-        if start == end or self.random.randrange(2) == 0:
-            said = self.said(lines, start)
-            return event(said, said, put), lines.changed(start, start, 16, put)
-        return event(self.said(lines, start), self.said(lines, end), put), lines.changed(start, end, 16, put)
+        return event(start_said, said, put), (data[:start] + put.encode() + data[end:]).decode()
 
-    def said(self, lines, place):
-        """A place as a client may say it: an end of a line, or of the text, also by a position past it."""
-        byte = lines.byte(place, 16)
+    def ways(self, lines, byte):
+        """How a client may say a place: an end of a line, or of the text, also by a position past it."""
+        line, character = place = lines.position(byte, 16)
+        if is_between(lines.data, byte):
+            return [(line, character + 1)]
         ways = [place, place]
         if byte == len(lines.data):
             ways += [(len(lines.lines), 0), (GREATEST, GREATEST)]
-        if byte == lines.end(place[0]) and not LONE_RETURN.search(lines.data):
-            ways += [(place[0], place[1] + self.random.randrange(1, LONGEST))]
-        return self.random.choice(ways)
+        if byte == lines.end(line) and not LONE_RETURN.search(lines.data):
+            ways += [(line, character + self.random.randrange(2, LONGEST))]
+        return ways
 
     def changed(self, uri, events, version):
         self.counts["changes"] += len(events)
