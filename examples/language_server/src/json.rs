@@ -13,8 +13,14 @@ pub struct Unreadable {
     pub meant: Option<Value>,
 }
 
-/// The message of a body.
+/// The message of a body. Where memory is refused for a text in it, the program ends; so that is asked for first.
 pub fn read(body: &[u8]) -> Result<Value, Unreadable> {
+    if Vec::<u8>::new().try_reserve_exact(2 * body.len()).is_err() {
+        return Err(Unreadable {
+            fault: Fault::no_memory(),
+            meant: None,
+        });
+    }
     serde_json::from_slice(body).map_err(|error| Unreadable {
         fault: Fault::parse_error(format!("a body is no JSON: {error}")),
         meant: serde_json::from_slice(&with_replacements(body)).ok(),

@@ -257,14 +257,14 @@ def try_changes_of_none(program, tally):
 
 
 def try_no_memory(program, tally):
-    """Memory is refused for a body, or for the text that is made of it: the document is out of step."""
-    for what, len_bytes, room in [("a body", 64 << 20, 16 << 20), ("a text", 64 << 20, 160 << 20)]:
+    """Memory is refused for a body of 64 MB, for its message, or for the rope: the document is out of step."""
+    for what, room in [("a body", 16 << 20), ("a message", 100 << 20), ("a rope", 224 << 20)]:
         with Client(program) as client:
             client.initialize({})
             client.open(URI, "hello")
             size = client.server_memory("VmSize") + room
             resource.prlimit(client.server.pid, resource.RLIMIT_AS, (size, resource.RLIM_INFINITY))
-            heard = methods(client.change(URI, [((0, 0), (0, 0), "x" * len_bytes)])).count("window/showMessage")
+            heard = methods(client.change(URI, [((0, 0), (0, 0), "x" * (64 << 20))])).count("window/showMessage")
             text = client.text(URI)
             client.change(URI, [(None, None, "again")])
             texts = text, client.text(URI)

@@ -30,7 +30,7 @@ from wrong_client import try_wrong_client  # noqa: E402
 
 CHANGES, CHANGES_IN_EMACS = (ROOT / "examples/language_server/tests" / name for name in ("changes.lua", "changes.el"))
 # how many results there are of what is tried without an editor, in Neovim and in Emacs
-BY_HAND = 135
+BY_HAND = 136
 IN_EDITOR = 48
 IN_EMACS = 10
 # how long a client speaks wrongly, and the seed of its random numbers

@@ -350,7 +350,7 @@ class WrongClient:
             # a cut in the header may leave the frame as right as it was
             document.state = DOUBTFUL if is_whole(events) else document.state
         whole = frame(json.dumps({"jsonrpc": "2.0", **message}).encode())
-        at = self.random.randrange(len(whole))
+        at = self.random.randrange(1, len(whole))
         cut = self.random.randrange(1, 30)
         self.write(self.random.choice([
             whole[:at], whole[:at] + whole[at + cut:], whole.replace(b": ", b": 1", 1), whole[:at] + whole[at + 1:],
