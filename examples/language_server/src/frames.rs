@@ -17,6 +17,9 @@ pub const MOST_BODY: usize = 256 << 20;
 /// So much memory is kept for what comes, and more only as long as it is used.
 const KEPT: usize = 1 << 20;
 
+/// No more bytes than these come at once.
+const MOST_READ: usize = 64 << 10;
+
 /// The field that each header has.
 const LENGTH: &str = "Content-Length";
 
@@ -120,7 +123,7 @@ impl<R: BufRead> Frames<R> {
         };
         let end = header.end + len;
         let missing = end.saturating_sub(self.buffer.len());
-        if self.buffer.try_reserve_exact(missing + KEPT).is_err() {
+        if missing > 0 && self.buffer.try_reserve_exact(missing + MOST_READ).is_err() {
             self.pass_header();
             return Ok(Some(Err(Fault::no_memory())));
         }

@@ -13,7 +13,7 @@ pub struct Unreadable {
     pub meant: Option<Value>,
 }
 
-/// The message of a body. Where memory is refused for a text in it, the program ends; so that is asked for first.
+/// The message of a body. Where memory is refused for a text in it, the program ends, so it is asked for first.
 pub fn read(body: &[u8]) -> Result<Value, Unreadable> {
     if Vec::<u8>::new().try_reserve_exact(2 * body.len()).is_err() {
         return Err(Unreadable {
