@@ -41,12 +41,12 @@ pub struct Frames<R> {
     is_lost: bool,
 }
 
-/// What is no frame.
+/// Bytes that are no frame.
 pub struct Refused<'a> {
     pub fault: Fault,
     /// No frame came since something was refused before it.
     pub was_lost: bool,
-    /// What was read of its body.
+    /// The bytes of its body, as far as they were read.
     pub bytes: &'a [u8],
 }
 
@@ -204,8 +204,8 @@ impl<R: BufRead> Frames<R> {
         Ok(Some(Ok(())))
     }
 
-    /// Looks for the next line that begins a frame, and goes there. What it goes past is refused, where more than the end
-    /// of a message may be in it.
+    /// Looks for the next line that begins a frame, and goes there. It refuses the bytes before that line where they have a
+    /// `{`, since a message may begin with it.
     fn find(&mut self) -> io::Result<Option<Result<(), Fault>>> {
         loop {
             let found = frame_in(&self.buffer, self.at);

@@ -34,7 +34,8 @@ pub fn uris(body: &[u8]) -> Option<Vec<String>> {
     uris.filter(|uris| has_one_message && !uris.is_empty())
 }
 
-/// What stands after each member of a name. A quote inside a string has a backslash before it, so no text has such a name.
+/// The bytes after the colon of each member called `name`, which has its quotes. JSON puts a backslash before a quote inside a
+/// string, so no string has that name in it.
 fn values<'a>(body: &'a [u8], name: &'a [u8]) -> impl Iterator<Item = &'a [u8]> {
     let is_name = move |at: &usize| body[*at..].starts_with(name);
     (0..body.len()).filter(is_name).filter_map(move |at| {
