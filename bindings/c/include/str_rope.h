@@ -51,13 +51,15 @@
  *
  * What a call costs, where the text has n pieces, each of at most
  * STR_ROPE_MAX_PIECE bytes, and of 509 or more where there are several: a
- * question visits at most twice the logarithm to base 2 of n + 1, and reads the
- * text of one; one about positions asks up to 16 such questions. A read goes down
- * to its first piece, and from there over those that it writes out. A change
- * takes a number of steps of that order too. It copies the text that is put in,
- * and three pieces at most that stand round it. Where a text shares its pieces
- * with a snapshot, it makes the way to them anew as well. To take out all of a
- * text takes no memory.
+ * question looks at no more nodes of the tree than twice the logarithm to base
+ * 2 of n + 1, and reads the text of one piece at most; one about positions asks
+ * up to 16 such questions. A read goes down the tree once for each block of up
+ * to 32 pieces. A change takes a number of steps of that order too, and more
+ * with the length of what is put in. It copies the text that is put in, and
+ * three pieces at most that stand round it, a cut as many for each part. Where
+ * one piece has no room for it, or the text shares its pieces with a snapshot,
+ * it makes the way to them anew as well. To take out all of a text takes no
+ * memory.
  */
 #ifndef STR_ROPE_H
 #define STR_ROPE_H
