@@ -4,6 +4,7 @@
 --     texts_under root     the same where it is lent
 use Rattle.std.specs.Prelude.{ℕ, List, [], Option, Some, None}
 use Rattle.std.specs.Borrow.{Bor}
+use Rattle.std.specs.Option.{option_copied}
 use Rattle.str_indices.specs.Text.{Text}
 use Rattle.text_rope.specs.Shapes.{Seen}
 
@@ -20,5 +21,4 @@ texts_of (Some side) = side.texts
 
 -- the same where it is lent
 abbrev pub texts_under : Option (Bor Seen) → List Text
-texts_under None = []
-texts_under (Some side) = side.now.texts
+texts_under root = texts_of (option_copied root)

@@ -4,8 +4,8 @@ ghost use Rattle.text_summary.specs.Pieces.{joined_size};
 ghost use Rattle.text_rope.specs.Blocks.{max_rows};
 ghost use Rattle.text_rope.specs.RowEnds.{AreExchanged, IsRowEnd};
 ghost use Rattle.text_rope.specs.Shapes.{IsJoinedHeight};
-ghost use Rattle.text_rope.specs.States.{texts_of};
-ghost use Rattle.text_rope.specs.Work.{WorkState, Costs, TakesLog, IsHeightOf, height_of, height_or};
+ghost use Rattle.text_rope.specs.States.{texts_of, texts_under};
+ghost use Rattle.text_rope.specs.Work.{WorkState, Costs, TakesLog, IsHeightOf, height_of, height_or, height_under};
 
 use crate::block::{MAX_ROWS, push_shared, row_up_to};
 use crate::joins::join;
@@ -38,9 +38,9 @@ pub(crate) fn replaced(
     }
     let front = replaced_few(work, alloc, side, from, side.summary().len, Vec::new(alloc))?;
     let own = tree_of(work, alloc, rows)?;
-    let front = joined(work, alloc, front, own)?;
+    let front = joined(work, alloc, front.as_ref(), own.as_ref())?;
     let back = replaced_few(work, alloc, side, 0, to, Vec::new(alloc))?;
-    Ok(joined(work, alloc, front, back)?)
+    Ok(joined(work, alloc, front.as_ref(), back.as_ref())?)
 }
 
 /// The same for no more rows than a block has. They go into a block that stays, where one does: into the first that they
@@ -68,35 +68,34 @@ fn replaced_few(
 {
     let whole = side.summary().len;
     if from == 0 && to == whole {
-        return Ok(few_of(work, alloc, rows)?);
+        return few_of(work, alloc, rows);
     }
     let (left, right) = match work.look(side) {
-        Look::Rows(own) => return Ok(replaced_rows(work, alloc, own, from, to, rows)?),
+        Look::Rows(own) => return replaced_rows(work, alloc, own, from, to, rows),
         Look::Sides(left, right) => (left, right),
     };
     let middle = left.summary().len;
     if to <= middle {
         let front = replaced_few(work, alloc, left, from, to, rows)?;
-        let back = right.share()?;
-        return Ok(joined(work, alloc, front, Some(back))?);
+        return joined(work, alloc, front.as_ref(), Some(right));
     }
     if middle <= from {
-        let front = left.share()?;
         let back = replaced_few(work, alloc, right, from - middle, to - middle, rows)?;
-        return Ok(joined(work, alloc, Some(front), back)?);
+        return joined(work, alloc, Some(left), back.as_ref());
     }
     if from == 0 {
-        return Ok(replaced_few(work, alloc, right, 0, to - middle, rows)?);
+        return replaced_few(work, alloc, right, 0, to - middle, rows);
     }
     let front = replaced_few(work, alloc, left, from, middle, rows)?;
     if to == whole {
         return Ok(front);
     }
     let back = replaced_few(work, alloc, right, 0, to - middle, Vec::new(alloc))?;
-    Ok(joined(work, alloc, front, back)?)
+    joined(work, alloc, front.as_ref(), back.as_ref())
 }
 
 /// The same of the rows of one block.
+#[inline(never)]
 fn replaced_rows(
     work: &mut Work,
     alloc: Global,
@@ -126,31 +125,33 @@ fn replaced_rows(
 }
 
 /// One tree of two that may have no rows.
+#[inline(never)]
 pub(crate) fn joined(
     work: &mut Work,
     alloc: Global,
-    front: Option<Side>,
-    back: Option<Side>,
+    front: Option<&Side>,
+    back: Option<&Side>,
 ) -> Result<Option<Side>, AllocError>
-    requires short { joined_size (texts_of front) + joined_size (texts_of back) < 2 ^ 63 }
-    ensures rows { IfOk result (λ whole. texts_of whole ≡ texts_of front ++ texts_of back) }
-    ensures height { IfOk result (λ whole. IsJoinedHeight (height_of front) (height_of back) (height_of whole)) }
+    requires short { joined_size (texts_under front) + joined_size (texts_under back) < 2 ^ 63 }
+    ensures rows { IfOk result (λ whole. texts_of whole ≡ texts_under front.entry ++ texts_under back.entry) }
+    ensures height { IfOk result (λ whole. IsJoinedHeight (height_under front.entry) (height_under back.entry) (height_of whole)) }
     ensures work { Costs work.old work.new
-        (6 * ((height_of front - height_of back) + (height_of back - height_of front)) + 3)
-        (16 * (1 - min (height_of front) (height_of back))) }
+        (6 * ((height_under front.entry - height_under back.entry) + (height_under back.entry - height_under front.entry)) + 3)
+        (16 * (1 - min (height_under front.entry) (height_under back.entry))) }
 {
     match (front, back) {
         (Some(left), Some(right)) => Ok(Some(join(work, alloc, left, right)?)),
-        (Some(left), None) => Ok(Some(left)),
-        (None, back) => Ok(back),
+        (Some(side), None) => Ok(Some(side.share()?)),
+        (None, Some(side)) => Ok(Some(side.share()?)),
+        (None, None) => Ok(None),
     }
 }
 
 /// The height of a tree that may have no rows.
-pub(crate) fn height_of(root: &Option<Side>) -> usize
-    ensures height { result ≡ height_of root.now }
-    ensures low { IsHeightOf (height_of root.now) (joined_size (texts_of root.now)) }
-    ensures most { height_of root.now ≤ 126 }
+pub(crate) fn height_of(root: Option<&Side>) -> usize
+    ensures height { result ≡ height_under root.entry }
+    ensures low { IsHeightOf (height_under root.entry) (joined_size (texts_under root.entry)) }
+    ensures most { height_under root.entry ≤ 126 }
 {
     match root {
         None => 0,
@@ -174,8 +175,7 @@ pub(crate) fn appended(
     ensures rows { IfOk result (λ tree. tree ≡ front.now ++ back.now) }
     ensures work { TakesLog 6 16 (joined_size front.now + joined_size back.now) 0 work.old work.new }
 {
-    let front = front.share()?.into_root();
-    let back = back.share()?.into_root();
-    let _heights = (height_of(&front), height_of(&back));
+    let (front, back) = (front.root(), back.root());
+    let _heights = (height_of(front), height_of(back));
     Ok(Tree::of(joined(work, alloc, front, back)?))
 }

@@ -11,8 +11,8 @@ ghost use Rattle.text_rope.specs.Work.{WorkState, Costs, TakesLog};
 
 use crate::changes::replaced;
 use crate::iter::{between, rest_in};
-use crate::loads::{rows_of, tree_from};
-use crate::row::MIN_PIECE;
+use crate::loads::{rows_in, tree_from};
+use crate::row::{MIN_PIECE, memory_for};
 use crate::tree::{Side, Tree};
 use crate::work::Work;
 use std::alloc::{AllocError, Global};
@@ -91,7 +91,7 @@ fn exchanged_in(
         ..
     } = patch;
     let text = text_of(alloc, before, head, more, tail, behind)?;
-    let rows = rows_of(alloc, text.as_str())?;
+    let rows = rows_in(alloc, text)?;
     let root = replaced(work, alloc, side, patch.start, patch.end, rows)?;
     Ok(Tree::of(root))
 }
@@ -199,7 +199,7 @@ fn text_of(
         ≡ (length before.now + length head.now) + (length more.now + (length tail.now + length behind.now))) }
 {
     let around = before.len() + head.len() + tail.len() + behind.len();
-    let mut text = String::with_capacity(alloc, around + more.len())?;
+    let mut text = String::with_capacity(alloc, memory_for(around + more.len()))?;
     text.push_str(before)?;
     text.push_str(head)?;
     text.push_str(more)?;

@@ -1,5 +1,5 @@
 //! A text in rows, and rows in a tree.
-ghost use Rattle.std.specs.Prelude.{◌≡◌, ◌≢◌, ◌+◌, ◌-◌, ◌*◌, ◌/◌, ◌^◌, ◌<◌, ◌≤◌, ◌++◌, [], chars, length, IfOk, OnOk};
+ghost use Rattle.std.specs.Prelude.{◌≡◌, ◌≢◌, ◌+◌, ◌-◌, ◌*◌, ◌/◌, ◌^◌, ◌<◌, ◌≤◌, ◌++◌, [], chars, length, string_bytes, IfOk, OnOk};
 ghost use Rattle.str_indices.specs.Text.{size};
 ghost use Rattle.text_summary.specs.Pieces.{joined, joined_size};
 ghost use Rattle.text_rope.specs.Blocks.{max_rows};
@@ -54,6 +54,24 @@ pub(crate) fn rows_of(alloc: Global, text: &str) -> Result<Vec<Row>, AllocError>
     Ok(rows)
 }
 
+/// The rows of a text, which keep its memory where it is one row.
+pub(crate) fn rows_in(alloc: Global, text: String) -> Result<Vec<Row>, AllocError>
+    requires { length (string_bytes text) < 2 ^ 63 }
+    ensures text { IfOk result (λ rows. joined rows.items ≡ chars (string_bytes text)) }
+    ensures few { IfOk result (λ rows. min_piece * length rows.items ≤ length (string_bytes text) + min_piece) }
+    ensures full { min_piece ≤ length (string_bytes text) → IfOk result (λ rows. AreFull rows.items) }
+    ensures one { length (string_bytes text) ≤ max_piece → IfOk result (λ rows. length rows.items ≤ 1) }
+    ensures none { length (string_bytes text) ≡ 0 → IfOk result (λ rows. length rows.items ≡ 0) }
+{
+    let whole = text.as_str();
+    if whole.is_empty() || MAX_PIECE < whole.len() {
+        return Ok(rows_of(alloc, whole)?);
+    }
+    let mut only = Vec::with_capacity(alloc, 1)?;
+    only.push(Row::keeping(alloc, text)?)?;
+    Ok(only)
+}
+
 /// The first row of a text, and what is behind it.
 fn first_row(text: &str) -> (&str, &str)
     requires some { 0 < length text.now }
@@ -97,6 +115,7 @@ pub(crate) fn tree_of(
 }
 
 /// A tree of no more rows than two blocks have: of none, one or two.
+#[inline(never)]
 pub(crate) fn few_of(
     work: &mut Work,
     alloc: Global,
@@ -119,7 +138,7 @@ pub(crate) fn few_of(
     let back = rows.split_off(all / 2)?;
     let left = block_of(work, alloc, rows)?;
     let right = block_of(work, alloc, back)?;
-    Ok(Some(join(work, alloc, left, right)?))
+    Ok(Some(join(work, alloc, &left, &right)?))
 }
 
 /// A tree of the last rows of some, which are taken off.
@@ -144,7 +163,8 @@ fn built(
     let half = half_of(many);
     let right = built(work, alloc, rows, half)?;
     let left = built(work, alloc, rows, many - half)?;
-    let _heights = (height_of(&left), height_of(&right));
+    let (left, right) = (left.as_ref(), right.as_ref());
+    let _heights = (height_of(left), height_of(right));
     Ok(joined(work, alloc, left, right)?)
 }
 

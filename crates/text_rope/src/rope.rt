@@ -8,7 +8,7 @@ ghost use Rattle.text_summary.specs.Pieces.{joined};
 ghost use Rattle.text_rope.specs.Chunks.{IsChunkAt, ChunksState, IsCopied, IsRead};
 ghost use Rattle.text_rope.specs.Edits.{IsCutAt};
 ghost use Rattle.text_rope.specs.Lines.{line_end};
-ghost use Rattle.text_rope.specs.Rows.{max_piece, min_piece};
+ghost use Rattle.text_rope.specs.Rows.{max_piece, min_piece, IsFilled};
 ghost use Rattle.text_rope.specs.States.{RowsState};
 ghost use Rattle.text_rope.specs.Work.{WorkState, TakesLog};
 ghost use Rattle.text_rope.specs.declared.refusals.Refusal.TheVariants.{NotOrdered, NotBoundary, TooLong, NoMemory};
@@ -116,6 +116,7 @@ impl Rope {
     /// Each row has `MIN_PIECE` bytes or more where there are several, so a text of n bytes has at most n / `MIN_PIECE` + 1 rows.
     pub fn view(&self) -> View<'_>
         ensures text { joined result.texts ≡ self.now }
+        ensures filled { IsFilled result.texts }
         ensures few { min_piece * length result.texts ≤ size self.now + min_piece }
         ensures looks { result.looks ≡ 0 }
         ensures reads { result.reads ≡ 0 }
@@ -387,7 +388,7 @@ impl Rope {
         ensures ok { IfOk result (λ back. IsCutAt self.old self.new back at) }
         ensures err { OnErr result (self.new ≡ self.old) }
         ensures inside { IsErr result → (0 < at) × (at < size self.old) }
-        ensures work { TakesLog 106 480 (size self.old) 0 work.old work.new }
+        ensures work { TakesLog 107 481 (size self.old) 0 work.old work.new }
     {
         let len = self.len();
         if at == len {
@@ -404,8 +405,22 @@ impl Rope {
             alloc: self.alloc,
         };
         back.rewrite(work, 0, at, "")?;
-        self.rewrite(work, at, len, "")?;
+        self.take_end(work, at)?;
         Ok(back)
+    }
+
+    /// Takes out what is from a boundary on: in place where one row has it and no node on the way is shared.
+    fn take_end(&mut self, work: &mut Work, at: usize) -> Result<(), AllocError>
+        requires { IsBoundary self.old at }
+        ensures ok { OnOk result (IsReplaced self.old self.new at (size self.old) []) }
+        ensures err { OnErr result (self.new ≡ self.old) }
+        ensures work { TakesLog 54 241 (size self.old) 0 work.old work.new }
+    {
+        let len = self.len();
+        match self.tree.replace_in_place(work, at, len, "") {
+            Ok(()) => Ok(()),
+            Err(_) => Ok(self.rewrite(work, at, len, "")?),
+        }
     }
 
     /// Exchanges what is between two byte indices, each between characters, for a text: in place where no node on the way is

@@ -65,22 +65,20 @@ impl Row {
         requires short { size (chars text.now) ≤ max_piece }
         ensures { IfOk result (λ row. row ≡ chars text.now) }
     {
-        Row::with_summary(alloc, text, Summary::of(text))
+        let mut copy = String::with_capacity(alloc, memory_for(text.len()))?;
+        copy.push_str(text)?;
+        Row::keeping(alloc, copy)
     }
 
-    /// The row of a text whose summary is known: a copy of it.
-    fn with_summary(alloc: Global, text: &str, summary: Summary) -> Result<Row, AllocError>
-        requires some { chars text.now ≢ [] }
-        requires short { size (chars text.now) ≤ max_piece }
-        requires summary { summary ≡ summary_of (chars text.now) }
-        ensures { IfOk result (λ row. row ≡ chars text.now) }
+    /// The row of a text, in the memory that it has.
+    pub(crate) fn keeping(alloc: Global, text: String) -> Result<Row, AllocError>
+        requires some { chars (string_bytes text) ≢ [] }
+        requires short { size (chars (string_bytes text)) ≤ max_piece }
+        ensures { IfOk result (λ row. row ≡ chars (string_bytes text)) }
     {
-        let mut copy = String::with_capacity(alloc, memory_for(summary.len))?;
-        copy.push_str(text)?;
-        Ok(Row {
-            text: Arc::new(alloc, copy)?,
-            counts: Counts::of(summary),
-        })
+        let counts = Counts::of(Summary::of(text.as_str()));
+        let text = Arc::new(alloc, text)?;
+        Ok(Row { text, counts })
     }
 
     /// The same row once more. Copies no text.
@@ -224,11 +222,13 @@ impl Row {
     }
 }
 
-/// How many bytes of memory a row of so many bytes gets: up to a step more, as far as the longest row needs it.
-fn memory_for(len: usize) -> usize
-    requires { len ≤ max_piece }
+/// How many bytes of memory a text of `len` bytes gets: up to a step more, as far as the longest row needs it.
+pub(crate) fn memory_for(len: usize) -> usize
     ensures { len ≤ result }
 {
+    if MAX_PIECE < len {
+        return len;
+    }
     ((len / STEP + 1) * STEP).min(MAX_PIECE)
 }
 

@@ -313,15 +313,7 @@ impl Tree {
         Tree { root }
     }
 
-    /// The tree; none where there are no rows.
-    pub(crate) fn into_root(self) -> Option<Side>
-        ensures rows { texts_of result ≡ self }
-        ensures filled { IsFilled self }
-    {
-        self.root
-    }
-
-    /// It lent.
+    /// The tree lent; none where there are no rows.
     pub(crate) fn root(&self) -> Option<&Side>
         ensures rows { texts_under result ≡ self.now }
         ensures filled { IsFilled self.now }

@@ -163,7 +163,7 @@ takes_further bytes more old middle new a b = elim (cases_lt a.height b.height) 
 
 twice_of : (h a b bytes : ℕ) (old middle new : WorkState) → IsHeightOf h bytes → a ≤ h → b ≤ h
     → Costs old middle (53 * (a + 3) + 64 * (0 / min_piece)) (240 + 3 * (0 / min_piece))
-    → Costs middle new (53 * (b + 3) + 64 * (0 / min_piece)) (240 + 3 * (0 / min_piece)) → TakesLog 106 480 bytes 0 old new
+    → Costs middle new (54 * (b + 3) + 64 * (0 / min_piece)) (241 + 3 * (0 / min_piece)) → TakesLog 107 481 bytes 0 old new
 twice_of h a b bytes old middle new is a_low b_low first then = record {
   height = h;
   is = is;
@@ -175,8 +175,8 @@ twice_of h a b bytes old middle new is a_low b_low first then = record {
   };
 }
 
-pub takes_twice : (bytes : ℕ) (old middle new : WorkState) → TakesLog 53 240 bytes 0 old middle → TakesLog 53 240 bytes 0 middle new
-    → TakesLog 106 480 bytes 0 old new
+pub takes_twice : (bytes : ℕ) (old middle new : WorkState) → TakesLog 53 240 bytes 0 old middle → TakesLog 54 241 bytes 0 middle new
+    → TakesLog 107 481 bytes 0 old new
 takes_twice bytes old middle new a b = elim (cases_lt a.height b.height) [
   | inl less ↦ twice_of b.height a.height b.height bytes old middle new b.is (omega (arith, less)) (omega arith) a.costs b.costs
   | inr not_less ↦

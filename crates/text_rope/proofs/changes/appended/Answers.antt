@@ -1,5 +1,6 @@
 use Rattle.std.specs.Prelude.{Option, min}
-use Rattle.text_rope.proofs.lemmas.{◌≡◌, ◌+◌, ◌-◌, ◌*◌, ◌∙◌, List, Text, joined_size, Seen, takes_both}
+use Rattle.std.specs.Option.{option_copied}
+use Rattle.text_rope.proofs.lemmas.{◌≡◌, ◌+◌, ◌-◌, ◌*◌, List, Text, joined_size, Seen, takes_both}
 use Rattle.text_rope.specs.States.{texts_of}
 use Rattle.text_rope.specs.Work.{WorkState, Costs, IsHeightOf, TakesLog, height_of}
 use Rattle.text_rope.proofs.changes.appended.Goals as goal
@@ -16,12 +17,12 @@ join_of_both front back xs ys old new front_is back_is low low_back costs =
 
 pub returns-in_err-joined-clause-work : goal.returns-in_err-joined-clause-work
 returns-in_err-joined-clause-work c =
-    join_of_both c.into_root-front.result c.into_root-back.result c.args.front.now c.args.back.now c.args.work.now c.joined.new.work
-    (c.into_root-front.ensures.rows ∙ c.in_ok-share.ensures.ok) (c.into_root-back.ensures.rows ∙ c.in_ok-share-2.ensures.ok)
+    join_of_both (option_copied c.root-front.result) (option_copied c.root-back.result) c.args.front.now c.args.back.now c.args.work.now c.joined.new.work
+    c.root-front.ensures.rows c.root-back.ensures.rows
     c.height_of.ensures.low c.height_of-2.ensures.low c.joined.ensures.work
 
 pub returns-clause-work : goal.returns-clause-work
 returns-clause-work c =
-    join_of_both c.into_root-front.result c.into_root-back.result c.args.front.now c.args.back.now c.args.work.now c.joined.new.work
-    (c.into_root-front.ensures.rows ∙ c.in_ok-share.ensures.ok) (c.into_root-back.ensures.rows ∙ c.in_ok-share-2.ensures.ok)
+    join_of_both (option_copied c.root-front.result) (option_copied c.root-back.result) c.args.front.now c.args.back.now c.args.work.now c.joined.new.work
+    c.root-front.ensures.rows c.root-back.ensures.rows
     c.height_of.ensures.low c.height_of-2.ensures.low c.joined.ensures.work

@@ -49,6 +49,8 @@ joined-requires c =
         arith,
         exchanged_bytes texts (texts_of c.in_ok-front.front) c.new.result.items c.args.from c.summary.result.now.len c.in_ok-front.ensures.replaced,
         ap joined_size c.new.ensures.items,
+        ap (λ root. joined_size (texts_of root)) c.as_ref.ensures.value,
+        ap (λ root. joined_size (texts_of root)) c.as_ref-2.ensures.value,
         ap (λ s. s.len) c.summary.ensures.summary,
         ap joined_size c.in_ok-own.ensures.rows,
         row_end_le texts c.args.to c.requires.end,
@@ -70,7 +72,9 @@ joined-requires-2 c =
         ap joined_size c.new.ensures.items,
         ap joined_size c.new-2.ensures.items,
         ap (λ s. s.len) c.summary.ensures.summary,
-        ap joined_size c.in_ok-front-2.ensures.rows,
+        ap (λ root. joined_size (texts_of root)) c.as_ref-3.ensures.value,
+        ap (λ root. joined_size (texts_of root)) c.as_ref-4.ensures.value,
+        ap joined_size (rw (c.as_ref.ensures.value, c.as_ref-2.ensures.value) at c.in_ok-front-2.ensures.rows),
         joined_size-append front own,
         ap joined_size c.in_ok-own.ensures.rows,
         row_end_le texts c.args.to c.requires.end,
@@ -90,7 +94,8 @@ returns-clause-replaced c =
     rw (ap (λ s. s.len) c.summary.ensures.summary, c.new.ensures.items) at c.in_ok-front.ensures.replaced in
     let last : AreExchanged texts back 0 c.args.to [] = rw c.new-2.ensures.items at c.in_ok-back.ensures.replaced in
     let is : whole ≡ (front ++ rows) ++ back =
-    c.in_ok-joined.ensures.rows ∙ ap (λ f. f ++ back) (c.in_ok-front-2.ensures.rows ∙ ap (λ r. front ++ r) c.in_ok-own.ensures.rows) in
+    (rw (c.as_ref-3.ensures.value, c.as_ref-4.ensures.value) at c.in_ok-joined.ensures.rows)
+    ∙ ap (λ f. f ++ back) ((rw (c.as_ref.ensures.value, c.as_ref-2.ensures.value) at c.in_ok-front-2.ensures.rows) ∙ ap (λ r. front ++ r) c.in_ok-own.ensures.rows) in
     exchanged_between texts front back rows whole c.args.from c.args.to first last c.summary.ensures.each is
 
 pub returns-clause-work : goal.returns-clause-work
@@ -98,15 +103,17 @@ returns-clause-work c =
     sum_of c.args.side.now.height (length c.args.rows.items) (height_of c.in_ok-front.front) (height_of c.in_ok-own.own)
     (height_of c.in_ok-front-2.front) (height_of c.in_ok-back.back) c.args.work.now c.replaced_few-2.new.work c.tree_of.new.work
     c.joined.new.work c.replaced_few-3.new.work c.joined-2.new.work c.in_ok-front.ensures.low c.in_ok-own.ensures.low
-    c.in_ok-back.ensures.low c.in_ok-front-2.ensures.height
-    (c.in_ok-front.ensures.edge (inr (ap (λ s. s.len) c.summary.ensures.summary))) c.in_ok-own.ensures.work c.joined.ensures.work
-    (c.in_ok-back.ensures.edge (inl refl)) c.joined-2.ensures.work
+    c.in_ok-back.ensures.low (rw (c.as_ref.ensures.value, c.as_ref-2.ensures.value) at c.in_ok-front-2.ensures.height)
+    (c.in_ok-front.ensures.edge (inr (ap (λ s. s.len) c.summary.ensures.summary))) c.in_ok-own.ensures.work
+    (rw (c.as_ref.ensures.value, c.as_ref-2.ensures.value) at c.joined.ensures.work)
+    (c.in_ok-back.ensures.edge (inl refl)) (rw (c.as_ref-3.ensures.value, c.as_ref-4.ensures.value) at c.joined-2.ensures.work)
 
 pub returns-in_err-joined-clause-work : goal.returns-in_err-joined-clause-work
 returns-in_err-joined-clause-work c =
     sum_of c.args.side.now.height (length c.args.rows.items) (height_of c.in_ok-front.front) (height_of c.in_ok-own.own)
     (height_of c.in_ok-front-2.front) (height_of c.in_ok-back.back) c.args.work.now c.replaced_few-2.new.work c.tree_of.new.work
     c.joined.new.work c.replaced_few-3.new.work c.joined-2.new.work c.in_ok-front.ensures.low c.in_ok-own.ensures.low
-    c.in_ok-back.ensures.low c.in_ok-front-2.ensures.height
-    (c.in_ok-front.ensures.edge (inr (ap (λ s. s.len) c.summary.ensures.summary))) c.in_ok-own.ensures.work c.joined.ensures.work
-    (c.in_ok-back.ensures.edge (inl refl)) c.joined-2.ensures.work
+    c.in_ok-back.ensures.low (rw (c.as_ref.ensures.value, c.as_ref-2.ensures.value) at c.in_ok-front-2.ensures.height)
+    (c.in_ok-front.ensures.edge (inr (ap (λ s. s.len) c.summary.ensures.summary))) c.in_ok-own.ensures.work
+    (rw (c.as_ref.ensures.value, c.as_ref-2.ensures.value) at c.joined.ensures.work)
+    (c.in_ok-back.ensures.edge (inl refl)) (rw (c.as_ref-3.ensures.value, c.as_ref-4.ensures.value) at c.joined-2.ensures.work)

@@ -28,7 +28,7 @@ replaced-requires-clause-short c =
       p.head.end,
       p.tail.start,
       p.tail.end,
-      ap size (c.in_ok-rows.ensures.text ∙ ap chars c.as_str.ensures.value ∙ c.in_ok-text.ensures.text),
+      ap size (c.in_ok-rows.ensures.text ∙ c.in_ok-text.ensures.text),
       size-append head (more ++ tail),
       size-append more tail,
       size-chars c.args.more.now c.utf8.more,
@@ -42,12 +42,11 @@ of-requires c =
     let rows = c.in_ok-rows.rows.items in
     let told = c.in_ok-rows.ensures in
     let texts = c.args.side.now.texts in
-    let len : length c.as_str.result.now ≡ length (string_bytes c.in_ok-text.text) = ap length c.as_str.ensures.value in
     let filled = c.widened-patch.ensures.filled in
     filled_exchanged texts (texts_of c.in_ok-root.root) rows patch.start patch.end c.requires.filled c.summary-each.ensures.each
     c.in_ok-root.ensures.replaced c.widened-patch.ensures.patch.some
-    (which rows (length c.as_str.result.now) patch.start patch.end (joined_size texts) told.full told.one told.none
-    (rw (len, c.in_ok-text.ensures.len) filled))
+    (which rows (length (string_bytes c.in_ok-text.text)) patch.start patch.end (joined_size texts) told.full told.one told.none
+    (rw c.in_ok-text.ensures.len filled))
 
 pub returns-clause-replaced : goal.returns-clause-replaced
 returns-clause-replaced c =
@@ -56,7 +55,7 @@ returns-clause-replaced c =
     let head = chars patch.before.now ++ chars patch.head.now in
     let tail = chars patch.tail.now ++ chars patch.behind.now in
     let more = chars c.args.more.now in
-    let text = c.in_ok-rows.ensures.text ∙ ap chars c.as_str.ensures.value ∙ c.in_ok-text.ensures.text in
+    let text = c.in_ok-rows.ensures.text ∙ c.in_ok-text.ensures.text in
     let texts = c.args.side.now.texts in
     let root = texts_of c.in_ok-root.root in
     rw c.of.ensures (narrowed_parts (joined texts) (joined root) head tail more (joined c.in_ok-rows.rows.items) patch.start c.args.from

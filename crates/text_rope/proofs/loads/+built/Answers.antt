@@ -38,6 +38,8 @@ joined-requires t c = record {
     ap joined_size c.in_ok-right.ensures.rows,
     joined_size-append c.built.new.rows.items (texts_of c.in_ok-right.right),
     ap joined_size c.in_ok-left.ensures.rows,
+    ap (λ root. joined_size (texts_of root)) c.as_ref-left.ensures.value,
+    ap (λ root. joined_size (texts_of root)) c.as_ref-right.ensures.value,
     joined_size-append c.built-2.new.rows.items (texts_of c.in_ok-left.left),
     c.requires.short,
   );
