@@ -34,7 +34,8 @@ pub fn apply(rope: &mut Rope, encoding: Encoding, change: Change<'_>) -> Result<
     ensures too_long { IsErrOf result TooLong ↔ IsSomeAnd (part_at encoding rope.old change.entry.range) (λ part.
         2 ^ 63 + (part.end - part.start) ≤ size rope.old + length change.entry.text.now) }
     ensures no_memory { IsErrOf result NoMemory → IsSomeAnd (part_at encoding rope.old change.entry.range) (λ part.
-        (part.start < part.end) ⊎ (chars change.entry.text.now ≢ [])) }
+        (chars change.entry.text.now ≢ [])
+        ⊎ ((part.start < part.end) × (part.end - part.start < size rope.old))) }
     ensures not_boundary { ¬ (IsErrOf result NotBoundary) }
 {
     let Some(part) = part_of(rope, encoding, change.range) else {

@@ -28,7 +28,8 @@ pub fn apply_exact(rope: &mut Rope, encoding: Encoding, change: Change<'_>) -> R
     ensures too_long { IsErrOf result TooLong ↔ IsSomeAnd (exact_part_at encoding rope.old change.entry.range) (λ part.
         2 ^ 63 + (part.end - part.start) ≤ size rope.old + length change.entry.text.now) }
     ensures no_memory { IsErrOf result NoMemory → IsSomeAnd (exact_part_at encoding rope.old change.entry.range) (λ part.
-        (part.start < part.end) ⊎ (chars change.entry.text.now ≢ [])) }
+        (chars change.entry.text.now ≢ [])
+        ⊎ ((part.start < part.end) × (part.end - part.start < size rope.old))) }
 {
     if !is_ordered(change.range) {
         return Err(Refusal::NotOrdered);

@@ -41,7 +41,7 @@ pub extern "C" fn str_rope_change_exact(
         × IsSomeAnd (exact_part_at (encoding_of encoding) rope.old.text (Some range)) (λ part.
         2 ^ 63 + (part.end - part.start) ≤ size rope.old.text + length text.now)) }
     ensures no_memory { result ≡ no_memory → IsSomeAnd (exact_part_at (encoding_of encoding) rope.old.text (Some range)) (λ part.
-        (part.start < part.end) ⊎ (chars text.now ≢ [])) }
+        (chars text.now ≢ []) ⊎ ((part.start < part.end) × (part.end - part.start < size rope.old.text))) }
     ensures known { result ≤ not_utf8 }
 {
     match str::from_utf8(text) {
@@ -66,7 +66,7 @@ fn changed(
     ensures too_long { IsErrOf result TooLong ↔ IsSomeAnd (exact_part_at encoding rope.old.text (Some range)) (λ part.
         2 ^ 63 + (part.end - part.start) ≤ size rope.old.text + length text.now) }
     ensures no_memory { IsErrOf result NoMemory → IsSomeAnd (exact_part_at encoding rope.old.text (Some range)) (λ part.
-        (part.start < part.end) ⊎ (chars text.now ≢ [])) }
+        (chars text.now ≢ []) ⊎ ((part.start < part.end) × (part.end - part.start < size rope.old.text))) }
 {
     let change = Change {
         range: Some(range),

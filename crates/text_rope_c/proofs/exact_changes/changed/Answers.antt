@@ -55,5 +55,15 @@ pub returns-in-Some-clause-no_memory : goal.returns-in-Some-clause-no_memory
 returns-in-Some-clause-no_memory c =
     let text = chars c.args.text.now in
     subst (λ whole. IsErrOf c.apply_exact-answer.result NoMemory → IsSomeAnd (exact_part_at c.args.encoding whole (Some c.args.range))
-    (λ part. (part.start < part.end) ⊎ (text ≢ []))) (c.deref_mut.ensures.value ∙ c.in-Some.ensures.some)
+    (λ part. (text ≢ []) ⊎ ((part.start < part.end) × (part.end - part.start < size whole)))) (c.deref_mut.ensures.value ∙ c.in-Some.ensures.some)
     c.apply_exact-answer.ensures.no_memory
+
+pub returns-in_err-apply_exact-in-None-clause-no_memory : goal.returns-in_err-apply_exact-in-None-clause-no_memory
+returns-in_err-apply_exact-in-None-clause-no_memory c =
+    let text = chars c.args.text.now in
+    let part = λ (whole : Text). IsSomeAnd (exact_part_at c.args.encoding whole (Some c.args.range)) (λ part.
+    (text ≢ []) ⊎ ((part.start < part.end) × (part.end - part.start < size whole))) in
+    subst (λ r. IsErrOf r NoMemory → part c.args.rope.now.text) (c.in_err-apply_exact-in-None.was
+    ∙ refused_by c.from_residual.result c.in_err-apply_exact-in-None.field-0.0 c.from_residual.ensures.1)
+    (subst (λ whole. IsErrOf c.apply_exact.result NoMemory → part whole) (c.new-whole.ensures ∙ sym c.in-None.ensures.none)
+    c.apply_exact.ensures.no_memory)

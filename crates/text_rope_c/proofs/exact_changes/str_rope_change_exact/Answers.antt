@@ -48,7 +48,7 @@ returns-in-Ok-clause-no_memory c = λ is.
     let r = c.changed.result in
     let same : c.in-Ok.text.now ≡ c.args.text.now = search rules in
     let refused = λ (e : Encoding) (bytes : List ℕ). IsErrOf r NoMemory → IsSomeAnd (exact_part_at e old (Some c.args.range))
-    (λ part. (part.start < part.end) ⊎ (chars bytes ≢ [])) in
+    (λ part. (chars bytes ≢ []) ⊎ ((part.start < part.end) × (part.end - part.start < size old))) in
     subst (λ e. refused e c.args.text.now) c.encoding_at.ensures
     (subst (λ bytes. refused c.encoding_at.result bytes) same c.changed.ensures.no_memory)
     (is_no_memory r (sym c.status_at.ensures ∙ is))
