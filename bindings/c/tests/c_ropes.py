@@ -1,8 +1,9 @@
 """Tries the rope for C: worked answers, random changes beside a plain model, and memory that is refused.
 
 All as C, and what does not wrap the allocator as C++ too; all once more with sanitizers and under valgrind, where these are
-there, which must report nothing. A program in C++ builds a long text by a small class, and one in C makes one of 100 MB by
-small changes, and takes it out again, on a small stack. Each function is exchanged for each other one of its shape.
+there, which must report nothing. A program in C++ builds a long text by a small class. On a small stack, one in C makes a
+text of 100 MB by small changes and takes it out again, and changes a high tree. Each function is exchanged for each other one of
+its shape.
 `test_c.py --large` takes texts of 100 MB in all programs.
 """
 import subprocess
@@ -19,7 +20,7 @@ SMALL_STACK = TESTS / "small_stack.c"
 SIZES = {"usual": (["200000", "10000"], 50000), "large": (["100000000", "100000"], 5000000)}
 FEW = ["20000", "300"]
 # on a stack of so many KiB a program makes a text of so many bytes
-STACK, BYTES = 128, "100000000"
+STACK, BYTES = 96, "100000000"
 
 
 def programs(archive, folder, size):

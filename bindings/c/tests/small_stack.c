@@ -1,8 +1,10 @@
 /*
- * A long text that is made by small inserts and taken out again until nothing
- * is left, at random places: what a call needs of the stack does not grow with
- * the text. small_stack BYTES says how long the text becomes; c_ropes.py runs it
- * with a stack of 128 KiB. The last line printed is 'N passed, M failed'.
+ * What a call needs of the stack does not grow with the text. A long text is
+ * made by small inserts and taken out again until nothing is left, at random
+ * places. Then a rope is appended to itself by its snapshots, until its tree
+ * has some fifty levels, and cut, joined and changed. small_stack BYTES says
+ * how long the first text becomes; c_ropes.py runs it with a stack of 96 KiB.
+ * The last line printed is 'N passed, M failed'.
  */
 #include <stdint.h>
 #include <stdio.h>
@@ -10,7 +12,7 @@
 
 #include <str_rope.h>
 
-enum { WORD = 14, LONGEST = 60, CHECKPOINTS = 10 };
+enum { WORD = 14, LONGEST = 60, CHECKPOINTS = 10, DOUBLINGS = 58, CHANGES = 300 };
 
 /* Each byte of it is a char, so that each byte index is a boundary. */
 static const char word[WORD + 1] = "word of text\r\n";
@@ -77,12 +79,49 @@ static void take(str_rope *rope, size_t bytes)
     checkpoint(rope, 0);
 }
 
+/* All of a text, once more. */
+static void append_to_itself(str_rope *rope)
+{
+    str_rope copy = STR_ROPE_EMPTY;
+    same(str_rope_snapshot(rope, &copy) == STR_ROPE_OK && str_rope_append(rope, &copy) == STR_ROPE_OK, "append",
+         str_rope_len(rope));
+    str_rope_free(&copy);
+}
+
+/* Takes the end of a text off at a place, and puts it on again. */
+static void cut_and_join(str_rope *rope, size_t at)
+{
+    str_rope rest = STR_ROPE_EMPTY;
+    same(str_rope_split_off(rope, at, &rest) == STR_ROPE_OK, "split_off", at);
+    same(str_rope_len(rope) == at && str_rope_count(rope, STR_ROPE_CHARS) == at, "len", at);
+    same(str_rope_append(rope, &rest) == STR_ROPE_OK, "append", at);
+    str_rope_free(&rest);
+}
+
+/* A high tree: some 2^62 bytes, in nodes that stand in it many times. */
+static void double_up(str_rope *rope)
+{
+    size_t words_in = 1;
+    same(str_rope_assign(rope, word, WORD) == STR_ROPE_OK, "assign", 0);
+    for (int i = 0; i < DOUBLINGS && failed == 0; i++, words_in *= 2)
+        append_to_itself(rope);
+    for (int i = 0; i < CHANGES && failed == 0; i++, words_in++) {
+        size_t at = WORD * pick(words_in + 1);
+        same(str_rope_insert(rope, at, word, WORD) == STR_ROPE_OK, "insert", at);
+        cut_and_join(rope, 1 + pick(WORD * words_in));
+        same(str_rope_to_byte_idx(rope, STR_ROPE_CRLF, at / WORD) == at, "to_byte_idx", at);
+    }
+    same(str_rope_count(rope, STR_ROPE_LF) == words_in, "count", words_in);
+    checkpoint(rope, WORD * words_in);
+}
+
 int main(int number, char **words)
 {
     size_t bytes = number > 1 ? (size_t)atoll(words[1]) : 1000000;
     str_rope rope = STR_ROPE_EMPTY;
     make(&rope, bytes);
     take(&rope, bytes);
+    double_up(&rope);
     str_rope_free(&rope);
     printf("%d passed, %d failed\n", passed, failed);
     return failed != 0;
