@@ -3,9 +3,12 @@
 Where something was left out for want of a tool, the last line is 'N passed, M failed, K skipped'. A sum of nothing is a
 failure. scripts/least.txt has the least number of what is tried, of each script and of each table and folder of tests.
 """
+import os
 import pathlib
 import re
-from typing import Optional, Tuple
+import shutil
+import subprocess
+from typing import Optional, Sequence, Tuple
 
 LEAST = pathlib.Path(__file__).resolve().parents[1] / "least.txt"
 SUMS = re.compile(r"([0-9]+) passed, ([0-9]+) failed(?:, ([0-9]+) skipped)?")
@@ -46,6 +49,22 @@ class Tally:
         """Tells and counts results that are left out, with the reason."""
         self.skipped += number
         print(f"skipped {number}: {line}", flush=True)
+
+    def by_pytest(self, files: Sequence[pathlib.Path], number: int) -> None:
+        """Counts the tests of files, which the command pytest runs; where it is missing, that number is left out."""
+        if not shutil.which("pytest"):
+            self.leave_out(number, "pytest is not on the path (Debian's package python3-pytest)")
+            return
+        command = ["pytest", "--quiet", "-rs", "-p", "no:cacheprovider", *map(str, files)]
+        paths = dict(os.environ, PYTHONPATH=str(LEAST.parent / "lib"))
+        done = subprocess.run(command, cwd=LEAST.parents[1], env=paths, stdout=subprocess.PIPE, text=True)
+        print(done.stdout)
+        sums = done.stdout.splitlines()[-1] if done.stdout else ""
+        found = {what: int(number) for number, what in re.findall("([0-9]+) (passed|failed|error)", sums)}
+        self.passed += found.get("passed", 0)
+        self.failed += found.get("failed", 0) + found.get("error", 0) or int(done.returncode != 0)
+        for skipped, why in re.findall(r"^SKIPPED \[([0-9]+)\] \S+ (.*)", done.stdout, re.MULTILINE):
+            self.leave_out(int(skipped), why)
 
     def end(self) -> int:
         """The last line; the answer is the script's exit status."""

@@ -20,22 +20,15 @@ sys.path[:0] = [str(ROOT / "scripts/lib"), str(ROOT / "scripts/proofs")]
 import tally  # noqa: E402
 
 
-def by_pytest() -> int:
+def main() -> int:
     counted = tally.Tally()
-    if not shutil.which("pytest"):
-        counted.leave_out(tally.least("unit_tests.py"), "pytest is not on the path (Debian's package python3-pytest)")
-        return counted.end()
-    done = subprocess.run(["pytest", "--quiet", "-p", "no:cacheprovider", __file__], cwd=ROOT, stdout=subprocess.PIPE, text=True)
-    print(done.stdout)
-    found = {what: int(number) for number, what in re.findall("([0-9]+) (passed|failed|error)", done.stdout.splitlines()[-1])}
-    counted.passed = found.get("passed", 0)
-    counted.failed = found.get("failed", 0) + found.get("error", 0) or int(done.returncode != 0)
+    counted.by_pytest([pathlib.Path(__file__)], tally.least("unit_tests.py"))
     return counted.end()
 
 
 if __name__ == "__main__":
     # before the imports: the Python that runs this file may have no pytest, and that of the command has it
-    sys.exit(by_pytest())
+    sys.exit(main())
 
 import kept  # noqa: E402
 import parts  # noqa: E402

@@ -1,72 +1,99 @@
 //! One open document: its text as a rope, or that the server does not know it.
+use crate::blanks::{blanks_in, number_of_lines, Warnings};
 use crate::faults::Fault;
-use crate::protocol::{self, Change};
-use crate::warnings::{number_of_lines, Warnings};
+use crate::protocol::{self, Change, Changed, Fold, Object, Opened, Place, Span};
+use serde::{Serialize, Serializer};
 use serde_json::{json, Value};
+use std::mem;
 use str_rope::{Encoding, Error, Position, Rope, Scheme};
 
 /// The greatest number of the protocol.
-const GREATEST: usize = i32::MAX as usize;
+const GREATEST: u32 = i32::MAX as u32;
+
+/// At most so many edits are answered at once, and so many folding ranges.
+const MOST_EDITS: usize = 10_000;
+const MOST_FOLDS: usize = 5_000;
 
 /// A document that a client has open.
+#[derive(Default)]
 pub struct Document {
     /// The last version that the client told, if it told one.
-    version: Option<i64>,
+    pub version: Option<i64>,
     /// None, where the document is out of step: no answer is given from a text that may be another than the client's.
     text: Option<Text>,
+    /// Whether the client was told that it is out of step.
+    is_told: bool,
+    /// Whether the text is another since the client was told of it last.
+    pub is_changed: bool,
+    /// The warnings that the client has.
+    warnings: Vec<Span>,
+    /// Whether the client was told that a CR stands alone.
+    has_return: bool,
 }
 
 impl Document {
-    /// A document whose text the server does not know.
-    pub fn out_of_step() -> Document {
-        Document {
-            version: None,
-            text: None,
-        }
-    }
-
-    /// The document that a client opens, which is a `TextDocumentItem`.
-    pub fn opened(encoding: Encoding, item: &Value) -> Result<Document, Fault> {
-        let version = protocol::version(item)?;
-        let text = Text::of(encoding, protocol::string(item, "text")?)?;
-        Ok(Document {
-            version,
-            text: Some(text),
-        })
+    /// Takes the document that a client opens.
+    pub fn open(&mut self, encoding: Encoding, opened: &Opened<'_>) -> Result<(), Fault> {
+        let version = protocol::version(opened.text_document.version)?;
+        self.put(Text::of(encoding, &opened.text_document.text)?, version);
+        Ok(())
     }
 
     /// Applies the changes of a `textDocument/didChange`: all of them, or the document is out of step.
-    pub fn change(&mut self, encoding: Encoding, params: &Value) -> Result<(), Fault> {
+    pub fn change(&mut self, encoding: Encoding, changed: &Changed<'_>) -> Result<(), Fault> {
         let text = self.text.take();
-        let changes = protocol::changes(params)?;
-        let version = protocol::version(&params["textDocument"]);
-        if changes.iter().any(|change| change.range.is_none()) {
-            self.version = version.unwrap_or_default();
-        } else if let Some(version) = version? {
-            self.go_to(version)?;
+        let version = protocol::version(changed.text_document.version);
+        let changes = &changed.content_changes;
+        let whole = changes.iter().rposition(|change| change.range.is_none());
+        let (mut text, rest, version) = match whole {
+            Some(at) => (
+                Text::of(encoding, &changes[at].text)?,
+                &changes[at + 1..],
+                version.unwrap_or_default(),
+            ),
+            None => (
+                text.ok_or_else(Fault::out_of_step)?,
+                &changes[..],
+                self.next_version(version?)?,
+            ),
+        };
+        for change in rest {
+            text.change(change)?;
         }
-        self.text = Some(changed(text, encoding, &changes)?);
+        self.put(text, version);
         Ok(())
     }
 
-    /// Takes the text that a client saved, which has no version.
-    pub fn save(&mut self, encoding: Encoding, text: &str) -> Result<(), Fault> {
-        self.text = Some(Text::of(encoding, text)?);
-        self.version = None;
-        Ok(())
+    /// Takes the text that a client saved, which has no version. Whether the server had another one.
+    pub fn save(&mut self, encoding: Encoding, text: &str) -> Result<bool, Fault> {
+        let had = self.text.take();
+        if let Some(had) = had.filter(|had| had.rope == *text) {
+            self.text = Some(had);
+            return Ok(false);
+        }
+        let was_in_step = !self.is_told;
+        self.put(Text::of(encoding, text)?, None);
+        Ok(was_in_step)
     }
 
-    /// Takes a version, which must not be older than the last one. The protocol has it increase after each change; but
-    /// Neovim 0.7 sends changes that waited under the version of those before them.
-    fn go_to(&mut self, version: i64) -> Result<(), Fault> {
-        match self.version.replace(version) {
-            Some(last) if version < last => Err(Fault::old_version(version, last)),
-            _ => Ok(()),
+    fn put(&mut self, text: Text, version: Option<i64>) {
+        (self.text, self.version) = (Some(text), version);
+        (self.is_changed, self.is_told) = (true, false);
+    }
+
+    /// The version after a change: not older than the last one. The protocol has it increase after each change; but Neovim
+    /// 0.7 sends changes that waited under the version of those before them.
+    fn next_version(&self, version: Option<i64>) -> Result<Option<i64>, Fault> {
+        match (version, self.version) {
+            (Some(version), Some(last)) if version < last => Err(Fault::old_version(version, last)),
+            _ => Ok(version.or(self.version)),
         }
     }
 
-    pub fn is_in_step(&self) -> bool {
-        self.text.is_some()
+    /// The document is out of step from now on. Whether the client has to be told.
+    pub fn lose(&mut self) -> bool {
+        (self.text, self.is_changed) = (None, true);
+        !mem::replace(&mut self.is_told, true)
     }
 
     /// The text, or the error of each request about it.
@@ -74,61 +101,61 @@ impl Document {
         self.text.as_ref().ok_or_else(Fault::out_of_step)
     }
 
-    /// The parameters of a `textDocument/publishDiagnostics`: none, where the document is out of step.
-    pub fn warnings(&self, uri: &str) -> Result<Value, Fault> {
-        let warnings = match &self.text {
-            Some(text) => text.warnings.to_json()?,
-            None => json!([]),
+    /// The warnings, where the client has others.
+    pub fn new_warnings(&mut self) -> Result<Option<&[Span]>, Fault> {
+        let warnings = match &mut self.text {
+            Some(text) => text.warnings.first(&text.rope, text.encoding)?,
+            None => &[],
         };
-        let mut params = json!({ "uri": uri, "diagnostics": warnings });
-        if let Some(version) = self.version {
-            params["version"] = json!(version);
+        if self.warnings == warnings {
+            return Ok(None);
         }
-        Ok(params)
+        self.warnings = warnings.to_vec();
+        Ok(Some(&self.warnings))
     }
-}
 
-/// A text after changes, each of which is meant in the text that the one before it left. Where one has no range, those
-/// before it leave nothing.
-fn changed(text: Option<Text>, encoding: Encoding, changes: &[Change<'_>]) -> Result<Text, Fault> {
-    let whole = changes.iter().rposition(|change| change.range.is_none());
-    let (mut text, rest) = match whole {
-        Some(at) => (Text::of(encoding, changes[at].text)?, &changes[at + 1..]),
-        None => (text.ok_or_else(Fault::out_of_step)?, changes),
-    };
-    for change in rest {
-        text.change(encoding, change)?;
+    /// Whether the text has come to have a CR that stands alone.
+    pub fn has_new_return(&mut self) -> bool {
+        let has = self.text.as_ref().is_some_and(Text::has_lone_return);
+        let had = mem::replace(&mut self.has_return, has);
+        has && !had
     }
-    Ok(text)
+
+    /// Whether the client has warnings of it.
+    pub fn has_warnings(&self) -> bool {
+        !self.warnings.is_empty()
+    }
 }
 
 /// The text of a document, with its warnings.
 pub struct Text {
     rope: Rope,
+    encoding: Encoding,
     warnings: Warnings,
 }
 
 impl Text {
     fn of(encoding: Encoding, text: &str) -> Result<Text, Fault> {
-        let rope = text.parse()?;
-        let warnings = Warnings::of(&rope, encoding)?;
-        Ok(Text { rope, warnings })
+        Ok(Text {
+            rope: text.parse()?,
+            encoding,
+            warnings: Warnings::default(),
+        })
     }
 
     /// Applies a change that has a range. It is refused where a position names no place: then the client has another text.
-    fn change(&mut self, encoding: Encoding, change: &Change<'_>) -> Result<(), Fault> {
+    fn change(&mut self, change: &Change<'_>) -> Result<(), Fault> {
         let range = change.range.ok_or_else(|| Fault::invalid("range"))?;
-        if pair(range.end) < pair(range.start) {
+        if range.end < range.start {
             return Err(Error::NotOrdered.into());
         }
-        let place = |position| self.place(encoding, position).ok_or(Error::NotBoundary);
+        let place = |place: Object<Place>| self.place(place.position()).ok_or(Error::NotBoundary);
         let (from, to) = (place(range.start)?, place(range.end)?);
-        let line = |byte| self.rope.position_of(encoding, byte).line;
+        let line = |byte| self.rope.position_of(self.encoding, byte).line;
         let lines = line(from)..line(to) + 1;
         let lines_before = number_of_lines(&self.rope);
-        self.rope.replace(from..to, change.text)?;
-        self.warnings.changed(&self.rope, encoding, lines, lines_before)?;
-        Ok(())
+        self.rope.replace(from..to, &change.text)?;
+        self.warnings.changed(&self.rope, self.encoding, lines, lines_before)
     }
 
     /// The byte that a position means, where it names a place. Beside those of the rope, these do:
@@ -137,47 +164,79 @@ impl Text {
     /// - an offset past the end of a line is the line's end, by the protocol; but the first one is between CR and LF, where
     ///   the line ends in these, since only a client that takes the CR for a part of the line names it. A text with a CR that
     ///   stands alone is not read so, since there the offset may be that of a client that counts other lines.
-    fn place(&self, encoding: Encoding, position: Position) -> Option<usize> {
+    fn place(&self, position: Position) -> Option<usize> {
         let lines = number_of_lines(&self.rope);
-        if [(lines, 0), (GREATEST, GREATEST)].contains(&pair(position)) {
+        let greatest = Position::from_u32(GREATEST, GREATEST);
+        if position == greatest || (position.line, position.character) == (lines, 0) {
             return Some(self.rope.len_bytes());
         }
         let end = self.rope.line_end(position.line);
         let past_end = position
             .character
-            .saturating_sub(self.rope.position_of(encoding, end).character);
+            .saturating_sub(self.rope.position_of(self.encoding, end).character);
         if position.line < lines && past_end > 0 && !self.has_lone_return() {
             let next = self.rope.to_byte_idx(Scheme::Crlf, position.line + 1);
             return Some(if past_end == 1 && next == end + 2 { end + 1 } else { end });
         }
-        self.rope.exact_byte_of(encoding, position)
-    }
-
-    pub fn is(&self, text: &str) -> bool {
-        self.rope == *text
+        self.rope.exact_byte_of(self.encoding, position)
     }
 
     /// Whether a CR stands without an LF: the protocol takes it for a line break, and some editors do not.
-    pub fn has_lone_return(&self) -> bool {
+    fn has_lone_return(&self) -> bool {
         self.rope.count(Scheme::Lf) < self.rope.count(Scheme::Crlf)
     }
 
-    /// What a place is by each index, as a `Hover`.
-    pub fn hover(&self, encoding: Encoding, position: Position) -> Value {
-        let byte = self.rope.byte_of(encoding, position);
+    /// What a place is by each index, and the range of its char, as a `Hover`.
+    pub fn hover(&self, place: Place) -> Result<Value, Fault> {
+        let byte = self.rope.byte_of(self.encoding, place.position());
         let index = |scheme| self.rope.from_byte_idx(scheme, byte);
         let (char, unit, line) = (index(Scheme::Chars), index(Scheme::Utf16), index(Scheme::Crlf));
         let value = format!("byte {byte}\nchar {char}\nUTF-16 code unit {unit}\nline {line}");
-        json!({ "contents": { "kind": "plaintext", "value": value } })
+        let range = Span::of(&self.rope, self.encoding, byte..self.rope.char_to_byte(char + 1))?;
+        Ok(json!({ "contents": { "kind": "plaintext", "value": value }, "range": range }))
+    }
+
+    /// The blanks at the end of all lines, or of those that a range touches.
+    pub fn blanks(&self, range: Option<Span>) -> Result<Vec<Span>, Fault> {
+        let all = 0..number_of_lines(&self.rope);
+        let lines = range.map_or(all.clone(), |range| range.lines());
+        let lines = lines.start.min(all.end)..lines.end.min(all.end);
+        blanks_in(&self.rope, self.encoding, lines, usize::MAX, MOST_EDITS)
+    }
+
+    /// The runs of two lines or more that are not blank.
+    pub fn folds(&self) -> Result<Vec<Fold>, Fault> {
+        let text = self.rope.text_in(..)?;
+        let lines = text
+            .split('\n')
+            .flat_map(|line| line.strip_suffix('\r').unwrap_or(line).split('\r'));
+        let mut start_line = None;
+        let mut folds = Vec::new();
+        for (line, content) in lines.chain([""]).enumerate() {
+            let is_blank = content.trim_ascii().is_empty();
+            match start_line {
+                None if !is_blank => start_line = Some(line),
+                Some(start) if is_blank => {
+                    let end = line - 1;
+                    folds.extend((start < end).then_some(Fold {
+                        start_line: start,
+                        end_line: end,
+                    }));
+                    start_line = None;
+                }
+                _ => {}
+            }
+            if folds.len() == MOST_FOLDS {
+                break;
+            }
+        }
+        Ok(folds)
     }
 }
 
-fn pair(position: Position) -> (usize, usize) {
-    (position.line, position.character)
-}
-
-impl std::fmt::Display for Text {
-    fn fmt(&self, f: &mut std::fmt::Formatter<'_>) -> std::fmt::Result {
-        self.rope.fmt(f)
+/// Written as a JSON string, chunk by chunk.
+impl Serialize for Text {
+    fn serialize<S: Serializer>(&self, serializer: S) -> Result<S::Ok, S::Error> {
+        serializer.collect_str(&self.rope)
     }
 }

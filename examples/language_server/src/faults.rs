@@ -1,13 +1,13 @@
 //! Why a message is refused.
-use serde_json::{json, Value};
+use serde::Serialize;
 use std::fmt;
 use std::num::TryFromIntError;
 
-/// Why a message is refused: a code of JSON-RPC or of the protocol, and a sentence for people.
-#[derive(Clone, Debug)]
+/// Why a message is refused, as the error of a response: a code of JSON-RPC or of the protocol, and a sentence for people.
+#[derive(Clone, Debug, Serialize)]
 pub struct Fault {
     code: i32,
-    sentence: String,
+    message: String,
 }
 
 impl Fault {
@@ -34,6 +34,10 @@ impl Fault {
         Fault::new(-32002, "the server is not initialized")
     }
 
+    pub fn internal(sentence: impl Into<String>) -> Fault {
+        Fault::new(-32603, sentence)
+    }
+
     pub fn no_memory() -> Fault {
         Fault::from(str_rope::Error::NoMemory)
     }
@@ -48,26 +52,21 @@ impl Fault {
     }
 
     fn new(code: i32, sentence: impl Into<String>) -> Fault {
-        let sentence = sentence.into();
-        Fault { code, sentence }
-    }
-
-    /// The error of a response.
-    pub fn to_json(&self) -> Value {
-        json!({ "code": self.code, "message": self.sentence })
+        let message = sentence.into();
+        Fault { code, message }
     }
 }
 
 impl fmt::Display for Fault {
     fn fmt(&self, f: &mut fmt::Formatter<'_>) -> fmt::Result {
-        f.write_str(&self.sentence)
+        f.write_str(&self.message)
     }
 }
 
 impl From<str_rope::Error> for Fault {
     fn from(error: str_rope::Error) -> Fault {
         match error {
-            str_rope::Error::NoMemory => Fault::new(-32603, error.to_string()),
+            str_rope::Error::NoMemory => Fault::internal(error.to_string()),
             _ => Fault::new(-32602, error.to_string()),
         }
     }
@@ -75,6 +74,6 @@ impl From<str_rope::Error> for Fault {
 
 impl From<TryFromIntError> for Fault {
     fn from(_: TryFromIntError) -> Fault {
-        Fault::new(-32603, "a position is past what the protocol can say")
+        Fault::internal("a position is past what the protocol can say")
     }
 }

@@ -4,7 +4,7 @@
 //! `Content-Length: 12`, since a line break in a string is escaped. So such a line begins a frame wherever it stands, also
 //! inside a body whose length was told too long.
 use crate::faults::Fault;
-use serde_json::Value;
+use crate::system;
 use std::io::{self, BufRead, ErrorKind, Write};
 use std::mem;
 
@@ -79,6 +79,11 @@ impl<R: BufRead> Frames<R> {
             told: 0,
             is_lost: false,
         }
+    }
+
+    /// Whether nothing is there that could be served.
+    pub fn is_idle(&self) -> bool {
+        (self.is_lost || self.at == self.buffer.len()) && !system::has_input()
     }
 
     /// The body of the next frame, or why there is none; `None` where the input ends before the frame does.
@@ -310,9 +315,8 @@ fn length_before(line: &[u8]) -> Option<usize> {
     length(value).map(|_| line.len() - at)
 }
 
-/// Sends a message.
-pub fn write(output: &mut impl Write, message: &Value) -> io::Result<()> {
-    let content = message.to_string();
-    write!(output, "{LENGTH}: {}\r\n\r\n{content}", content.len())?;
-    output.flush()
+/// Writes a frame.
+pub fn write(output: &mut impl Write, body: &[u8]) -> io::Result<()> {
+    write!(output, "{LENGTH}: {}\r\n\r\n", body.len())?;
+    output.write_all(body)
 }

@@ -1,26 +1,61 @@
 //! A small language server over a rope. It speaks the Language Server Protocol 3.17 on standard input and output.
 //!
-//! It keeps each open document as a rope and applies the client's changes to it, warns of blanks at the end of a line,
-//! and tells in a hover which byte, char, UTF-16 code unit and line a place is. Where a change cannot be what the client
-//! means, it answers nothing about that document until it has the whole text again.
-mod calls;
+//! It keeps each open document as a rope and applies the client's changes to it, warns of blanks at the end of a line and
+//! takes them out, and tells in a hover which byte, char, UTF-16 code unit and line a place is. Where a change cannot be
+//! what the client means, it answers nothing about that document until it has the whole text again.
+mod blanks;
 mod documents;
 mod faults;
 mod frames;
-mod json;
+mod messages;
 mod protocol;
 mod server;
-mod warnings;
+mod system;
 
 use frames::{Frames, Refused};
 use server::Server;
-use std::io::{self, stdin, stdout, BufWriter};
+use std::env;
+use std::io::{self, stdin, stdout, BufWriter, Write};
 use std::process::ExitCode;
 
+const HELP: &str = "\
+usage: language_server [--stdio | --version | --help]
+A language server that keeps texts as ropes, and warns of blanks at the end of lines. An editor starts it: it speaks the
+Language Server Protocol 3.17 on standard input and output.
+";
+
 fn main() -> io::Result<ExitCode> {
+    let words: Vec<_> = env::args_os().skip(1).collect();
+    match words.iter().map(|word| word.to_str()).collect::<Vec<_>>()[..] {
+        [] | [Some("--stdio")] => return serve(),
+        [Some("--version")] => println!("{} {}", env!("CARGO_PKG_NAME"), env!("CARGO_PKG_VERSION")),
+        [Some("--help")] => print!("{HELP}"),
+        _ => {
+            eprint!("{HELP}");
+            return Ok(ExitCode::from(2));
+        }
+    }
+    Ok(ExitCode::SUCCESS)
+}
+
+fn serve() -> io::Result<ExitCode> {
     let (mut frames, mut output) = (Frames::new(stdin().lock()), BufWriter::new(stdout().lock()));
     let mut server = Server::default();
-    while let Some(frame) = frames.next()? {
+    loop {
+        if frames.is_idle() {
+            server.rest();
+        }
+        for message in server.outgoing() {
+            frames::write(&mut output, &message)?;
+        }
+        output.flush()?;
+        if let Some(code) = server.exit_code() {
+            return Ok(code);
+        }
+        let Some(frame) = frames.next()? else {
+            // The client went away without a word.
+            return Ok(ExitCode::FAILURE);
+        };
         let taken = match frame {
             Ok(body) => server.take(body),
             Err(refused) => {
@@ -35,13 +70,5 @@ fn main() -> io::Result<ExitCode> {
                 bytes: frames.reject(),
             });
         }
-        for answer in server.outgoing() {
-            frames::write(&mut output, &answer)?;
-        }
-        if let Some(code) = server.exit_code() {
-            return Ok(code);
-        }
     }
-    // The client went away without a word.
-    Ok(ExitCode::FAILURE)
 }

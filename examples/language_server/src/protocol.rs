@@ -1,15 +1,14 @@
 //! What the protocol has as JSON.
 use crate::faults::Fault;
-use serde_json::{json, Value};
-use std::num::TryFromIntError;
-use str_rope::{Encoding, Position, Range};
-
-/// A change of a text: one of the protocol's `contentChanges`.
-pub struct Change<'a> {
-    /// None, where the text is the whole one.
-    pub range: Option<Range>,
-    pub text: &'a str,
-}
+use crate::messages::Raw;
+use serde::de::value::MapAccessDeserializer;
+use serde::de::{MapAccess, Visitor};
+use serde::{Deserialize, Deserializer, Serialize};
+use std::borrow::Cow;
+use std::fmt;
+use std::marker::PhantomData;
+use std::ops::{self, Deref, DerefMut};
+use str_rope::{Encoding, Position, Rope};
 
 /// The encodings that the server has, each with the protocol's name.
 const ENCODINGS: [(&str, Encoding); 3] = [
@@ -18,14 +17,256 @@ const ENCODINGS: [(&str, Encoding); 3] = [
     ("utf-32", Encoding::Utf32),
 ];
 
+/// A JSON object. Serde takes an array of its members too, and this does not.
+#[derive(Clone, Copy, Debug, Default, PartialEq, PartialOrd, Serialize)]
+#[serde(transparent)]
+pub struct Object<T>(T);
+
+struct Members<T>(PhantomData<T>);
+
+impl<'de, T: Deserialize<'de>> Deserialize<'de> for Object<T> {
+    fn deserialize<D: Deserializer<'de>>(value: D) -> Result<Object<T>, D::Error> {
+        value.deserialize_map(Members(PhantomData)).map(Object)
+    }
+}
+
+impl<'de, T: Deserialize<'de>> Visitor<'de> for Members<T> {
+    type Value = T;
+
+    fn expecting(&self, f: &mut fmt::Formatter<'_>) -> fmt::Result {
+        f.write_str("an object")
+    }
+
+    fn visit_map<A: MapAccess<'de>>(self, members: A) -> Result<T, A::Error> {
+        T::deserialize(MapAccessDeserializer::new(members))
+    }
+}
+
+impl<T> Deref for Object<T> {
+    type Target = T;
+
+    fn deref(&self) -> &T {
+        &self.0
+    }
+}
+
+impl<T> DerefMut for Object<T> {
+    fn deref_mut(&mut self) -> &mut T {
+        &mut self.0
+    }
+}
+
+/// A `Position`, in the protocol's numbers.
+#[derive(Clone, Copy, Debug, PartialEq, PartialOrd, Deserialize, Serialize)]
+pub struct Place {
+    pub line: u32,
+    pub character: u32,
+}
+
+/// A `Range`.
+#[derive(Clone, Copy, Debug, PartialEq, Deserialize, Serialize)]
+pub struct Span {
+    pub start: Object<Place>,
+    pub end: Object<Place>,
+}
+
+impl Place {
+    fn of(rope: &Rope, encoding: Encoding, byte: usize) -> Result<Object<Place>, Fault> {
+        let (line, character) = rope.position_of(encoding, byte).to_u32()?;
+        Ok(Object(Place { line, character }))
+    }
+
+    pub fn position(self) -> Position {
+        Position::from_u32(self.line, self.character)
+    }
+}
+
+impl Span {
+    /// What some bytes of a text are.
+    pub fn of(rope: &Rope, encoding: Encoding, bytes: ops::Range<usize>) -> Result<Span, Fault> {
+        let (start, end) = (
+            Place::of(rope, encoding, bytes.start)?,
+            Place::of(rope, encoding, bytes.end)?,
+        );
+        Ok(Span { start, end })
+    }
+
+    /// The lines that it touches.
+    pub fn lines(self) -> ops::Range<usize> {
+        self.start.position().line..self.end.position().line + 1
+    }
+
+    /// The same, where what was a line came to be another one.
+    pub fn moved(mut self, line: usize, now: usize) -> Result<Span, Fault> {
+        for place in [&mut self.start, &mut self.end] {
+            place.line = u32::try_from(place.position().line - line + now)?;
+        }
+        Ok(self)
+    }
+}
+
+#[derive(Deserialize)]
+#[serde(rename_all = "camelCase")]
+pub struct Initialize<'a> {
+    pub process_id: Option<u32>,
+    #[serde(borrow, default)]
+    pub capabilities: Object<Capabilities<'a>>,
+}
+
+#[derive(Default, Deserialize)]
+pub struct Capabilities<'a> {
+    #[serde(borrow)]
+    general: Option<Object<General<'a>>>,
+}
+
+#[derive(Deserialize)]
+#[serde(rename_all = "camelCase")]
+struct General<'a> {
+    #[serde(borrow)]
+    position_encodings: Option<Vec<Raw<'a>>>,
+}
+
+/// The parameters of each message about a document.
+#[derive(Deserialize)]
+#[serde(rename_all = "camelCase")]
+struct About<'a> {
+    #[serde(borrow)]
+    text_document: Object<Identifier<'a>>,
+}
+
+#[derive(Deserialize)]
+struct Identifier<'a> {
+    #[serde(borrow)]
+    uri: Cow<'a, str>,
+}
+
+#[derive(Deserialize)]
+#[serde(rename_all = "camelCase")]
+pub struct Opened<'a> {
+    #[serde(borrow)]
+    pub text_document: Object<Item<'a>>,
+}
+
+#[derive(Deserialize)]
+pub struct Item<'a> {
+    #[serde(borrow)]
+    pub version: Raw<'a>,
+    #[serde(borrow)]
+    pub text: Cow<'a, str>,
+}
+
+#[derive(Deserialize)]
+#[serde(rename_all = "camelCase")]
+pub struct Changed<'a> {
+    #[serde(borrow)]
+    pub text_document: Object<Versioned<'a>>,
+    #[serde(borrow)]
+    pub content_changes: Vec<Object<Change<'a>>>,
+}
+
+#[derive(Deserialize)]
+pub struct Versioned<'a> {
+    #[serde(borrow)]
+    pub version: Raw<'a>,
+}
+
+/// A change of a text.
+#[derive(Deserialize)]
+pub struct Change<'a> {
+    /// None, where the text is the whole one.
+    pub range: Option<Object<Span>>,
+    #[serde(borrow)]
+    pub text: Cow<'a, str>,
+}
+
+#[derive(Deserialize)]
+pub struct Saved<'a> {
+    #[serde(borrow)]
+    pub text: Option<Cow<'a, str>>,
+}
+
+#[derive(Deserialize)]
+pub struct At {
+    pub position: Object<Place>,
+}
+
+#[derive(Deserialize)]
+pub struct In {
+    pub range: Object<Span>,
+}
+
+#[derive(Deserialize)]
+pub struct Wanted<'a> {
+    #[serde(borrow)]
+    context: Object<Context<'a>>,
+}
+
+#[derive(Deserialize)]
+struct Context<'a> {
+    #[serde(borrow)]
+    only: Option<Vec<Raw<'a>>>,
+}
+
+impl Wanted<'_> {
+    /// Whether the client wants code actions of a kind, which has its quotes.
+    pub fn wants(&self, kind: &str) -> bool {
+        let only = self.context.only.as_ref();
+        only.map_or(true, |only| only.iter().flatten().any(|one| one.get() == kind))
+    }
+}
+
+/// The parameters of a message.
+pub fn read<'a, T: Deserialize<'a>>(params: Raw<'a>) -> Result<T, Fault> {
+    let params = params.ok_or_else(|| Fault::invalid("params"))?;
+    let read: Object<T> = serde_json::from_str(params.get()).map_err(|_| Fault::invalid("params"))?;
+    Ok(read.0)
+}
+
+/// The document that a message is about.
+pub fn uri(params: Raw<'_>) -> Result<Cow<'_, str>, Fault> {
+    Ok(read::<About>(params)?.text_document.0.uri)
+}
+
+/// The documents that a refused body is about, as its bytes say; `None` where not all of them can be read.
+pub fn uris(body: &[u8]) -> Option<Vec<String>> {
+    let has_one_message = values(body, b"\"method\"").count() <= 1;
+    let uris: Option<Vec<String>> = values(body, b"\"uri\"").map(string).collect();
+    uris.filter(|uris| has_one_message && !uris.is_empty())
+}
+
+/// The bytes after the colon of each member called `name`, which has its quotes. JSON puts a backslash before a quote inside a
+/// string, so no string has that name in it.
+fn values<'a>(body: &'a [u8], name: &'a [u8]) -> impl Iterator<Item = &'a [u8]> {
+    let is_name = move |at: &usize| body[*at..].starts_with(name);
+    (0..body.len()).filter(is_name).filter_map(move |at| {
+        let value = body[at + name.len()..].trim_ascii_start();
+        value.strip_prefix(b":")
+    })
+}
+
+/// The string at the beginning of some bytes.
+fn string(bytes: &[u8]) -> Option<String> {
+    serde_json::Deserializer::from_slice(bytes).into_iter().next()?.ok()
+}
+
+/// The version of a document, where it has one.
+pub fn version(version: Raw<'_>) -> Result<Option<i64>, Fault> {
+    let number = version.map(|number| serde_json::from_str(number.get()));
+    number.transpose().map_err(|_| Fault::invalid("version"))
+}
+
 /// The first encoding of a client's list that the server has, or the protocol's default.
-pub fn negotiated(client_capabilities: &Value) -> Encoding {
-    let list = client_capabilities
-        .pointer("/general/positionEncodings")
-        .and_then(Value::as_array);
-    let has = |name: &Value| ENCODINGS.iter().find(|row| name == row.0);
+pub fn negotiated(capabilities: &Capabilities<'_>) -> Encoding {
+    let list = capabilities
+        .general
+        .iter()
+        .flat_map(|general| general.position_encodings.iter().flatten());
+    let has = |name: &Raw| {
+        ENCODINGS
+            .iter()
+            .find(|row| name.is_some_and(|name| name.get().trim_matches('"') == row.0))
+    };
     list.into_iter()
-        .flatten()
         .find_map(has)
         .map_or_else(Encoding::default, |row| row.1)
 }
@@ -37,61 +278,38 @@ pub fn name_of(encoding: Encoding) -> &'static str {
         .map_or("utf-16", |row| row.0)
 }
 
-/// A member of an object that is a string.
-pub fn string<'a>(object: &'a Value, name: &str) -> Result<&'a str, Fault> {
-    object[name].as_str().ok_or_else(|| Fault::invalid(name))
+#[derive(Serialize)]
+pub struct Diagnostics<'a> {
+    pub uri: &'a str,
+    #[serde(skip_serializing_if = "Option::is_none")]
+    pub version: Option<i64>,
+    pub diagnostics: Vec<Diagnostic>,
 }
 
-/// The document that a message is about.
-pub fn uri(params: &Value) -> Result<&str, Fault> {
-    string(&params["textDocument"], "uri")
+#[derive(Serialize)]
+pub struct Diagnostic {
+    pub range: Span,
+    pub severity: u8,
+    pub source: &'static str,
+    pub message: &'static str,
 }
 
-/// A member of an object that is one of the protocol's numbers.
-fn number(object: &Value, name: &str) -> Result<u32, Fault> {
-    let number = object[name].as_u64().and_then(|number| u32::try_from(number).ok());
-    number.ok_or_else(|| Fault::invalid(name))
+#[derive(Serialize)]
+#[serde(rename_all = "camelCase")]
+pub struct TextEdit {
+    pub range: Span,
+    pub new_text: &'static str,
 }
 
-pub fn position(value: &Value) -> Result<Position, Fault> {
-    Ok(Position::from_u32(number(value, "line")?, number(value, "character")?))
+/// What the server has of a document.
+#[derive(Serialize)]
+pub struct Whole<T> {
+    pub text: T,
 }
 
-pub fn range(value: &Value) -> Result<Range, Fault> {
-    let start = position(&value["start"])?;
-    let end = position(&value["end"])?;
-    Ok(Range { start, end })
-}
-
-/// The version of a document, where it has one.
-pub fn version(document: &Value) -> Result<Option<i64>, Fault> {
-    match &document["version"] {
-        Value::Null => Ok(None),
-        version => version.as_i64().map(Some).ok_or_else(|| Fault::invalid("version")),
-    }
-}
-
-/// The changes of a `textDocument/didChange`.
-pub fn changes(params: &Value) -> Result<Vec<Change<'_>>, Fault> {
-    let list = params["contentChanges"].as_array();
-    let list = list.ok_or_else(|| Fault::invalid("contentChanges"))?;
-    list.iter().map(change).collect()
-}
-
-fn change(event: &Value) -> Result<Change<'_>, Fault> {
-    let text = string(event, "text")?;
-    let range = match &event["range"] {
-        Value::Null => None,
-        places => Some(range(places)?),
-    };
-    Ok(Change { range, text })
-}
-
-fn position_to_json(position: Position) -> Result<Value, TryFromIntError> {
-    let (line, character) = position.to_u32()?;
-    Ok(json!({ "line": line, "character": character }))
-}
-
-pub fn range_to_json(range: Range) -> Result<Value, TryFromIntError> {
-    Ok(json!({ "start": position_to_json(range.start)?, "end": position_to_json(range.end)? }))
+#[derive(Serialize)]
+#[serde(rename_all = "camelCase")]
+pub struct Fold {
+    pub start_line: usize,
+    pub end_line: usize,
 }

@@ -1,12 +1,15 @@
 //! The server: which message does what.
-use crate::calls::{call, notification, response, Call};
 use crate::documents::{Document, Text};
 use crate::faults::Fault;
 use crate::frames::Refused;
-use crate::json::{self, Unreadable};
-use crate::protocol;
+use crate::messages::{self, answer, notification, response, Answer, Kind, Raw};
+use crate::protocol::{
+    self, At, Changed, Diagnostic, Diagnostics, In, Initialize, Saved, Span, TextEdit, Wanted, Whole,
+};
+use crate::system;
 use serde_json::{json, Value};
 use std::collections::HashMap;
+use std::mem;
 use std::process::ExitCode;
 use str_rope::Encoding;
 
@@ -16,8 +19,10 @@ pub struct Server {
     /// The encoding of positions, on which the server and its client agree when the server is initialized.
     encoding: Encoding,
     phase: Phase,
-    /// What is to be sent to the client.
-    outbox: Vec<Value>,
+    /// Whether a document was closed, and its memory not given back.
+    has_closed: bool,
+    /// The bodies that are to be sent to the client.
+    outbox: Vec<Vec<u8>>,
 }
 
 /// How far the server is in its life.
@@ -32,7 +37,7 @@ enum Phase {
 
 impl Server {
     /// What is to be sent to the client since this was asked last.
-    pub fn outgoing(&mut self) -> std::vec::Drain<'_, Value> {
+    pub fn outgoing(&mut self) -> std::vec::Drain<'_, Vec<u8>> {
         self.outbox.drain(..)
     }
 
@@ -47,108 +52,96 @@ impl Server {
 
     /// Takes a body, unless it is no message.
     pub fn take(&mut self, body: &[u8]) -> Result<(), Fault> {
-        match json::read(body) {
-            Ok(Value::Array(batch)) => self.take_batch(&batch),
-            Ok(message) => {
-                let answer = self.answer(&message);
-                self.outbox.extend(answer);
+        let call = messages::read(body)?;
+        let method = call.method.as_deref();
+        match (call.kind, method) {
+            (Kind::Request { id }, Some(method)) => {
+                self.rest();
+                let result = self.request(method, call.params);
+                self.outbox.push(response(id, &result));
+                if let Err(fault) = result {
+                    self.lose_meant(Some(method), call.params, &fault);
+                }
             }
-            Err(Unreadable { fault, meant: None }) => return Err(fault),
-            Err(Unreadable {
-                fault,
-                meant: Some(meant),
-            }) => {
-                self.outbox.push(response(&meant["id"], Err(fault.clone())));
-                self.lose_meant(&meant, &fault);
+            (Kind::Notification, Some(method)) => {
+                if let Err(fault) = self.notified(method, call.params) {
+                    self.tell("window/logMessage", 1, format!("{method}: {fault}"));
+                    self.lose_meant(Some(method), call.params, &fault);
+                }
             }
+            (Kind::Invalid { id, fault }, _) => {
+                self.lose_meant(method, call.params, &fault);
+                self.outbox.push(response(id, &Err(fault)));
+            }
+            _ => {}
         }
         Ok(())
     }
 
     /// Takes what is no frame, or no message. It may have been a change of the documents that its bytes name, or of any.
     pub fn refuse(&mut self, refused: Refused<'_>) {
-        if !refused.was_lost {
-            self.respond_to_none(refused.fault.clone());
-        }
+        let fault = refused.fault;
         if self.phase == Phase::Initialized {
-            let uris = json::uris(refused.bytes).filter(|uris| uris.iter().all(|uri| self.documents.contains_key(uri)));
+            let uris =
+                protocol::uris(refused.bytes).filter(|uris| uris.iter().all(|uri| self.documents.contains_key(uri)));
             match uris {
-                Some(uris) => uris.iter().for_each(|uri| self.lose(uri, &refused.fault)),
-                None => self.lose_all(&refused.fault),
+                Some(uris) => uris.iter().for_each(|uri| self.lose(uri, &fault)),
+                None => self.lose_all(&fault),
             }
         }
-    }
-
-    fn respond_to_none(&mut self, fault: Fault) {
-        self.outbox.push(response(&Value::Null, Err(fault)));
-    }
-
-    /// Takes a batch of JSON-RPC: its responses are sent as one.
-    fn take_batch(&mut self, batch: &[Value]) {
-        if batch.is_empty() {
-            return self.respond_to_none(Fault::invalid_request("a batch is empty"));
-        }
-        let responses: Vec<Value> = batch.iter().filter_map(|message| self.answer(message)).collect();
-        if !responses.is_empty() {
-            self.outbox.push(Value::Array(responses));
+        if !refused.was_lost {
+            self.outbox.push(response(None, &Err(fault)));
         }
     }
 
-    /// A message is refused: the document that it would change is out of step, or each, where it does not say which.
-    fn lose_meant(&mut self, message: &Value, fault: &Fault) {
-        if let Value::Array(batch) = message {
-            return batch.iter().for_each(|one| self.lose_meant(one, fault));
-        }
-        let method = message["method"].as_str();
-        let may_change = matches!(method, None | Some("textDocument/didOpen" | "textDocument/didChange"));
-        if self.phase != Phase::Initialized || !may_change {
-            return;
-        }
-        match protocol::uri(&message["params"]) {
-            Err(_) if method.is_some() => self.lose_all(fault),
-            Ok(uri) if method == Some("textDocument/didOpen") => self.lose(uri, fault),
-            Ok(uri) if self.documents.contains_key(uri) => self.lose(uri, fault),
-            _ => {}
-        }
-    }
-
-    /// Takes a message, and answers the response, where it has one.
-    fn answer(&mut self, message: &Value) -> Option<Value> {
-        if self.exit_code().is_some() {
-            return None;
-        }
-        match call(message) {
-            Call::Request { id, method, params } => {
-                let result = self.request(method, params);
-                if let Err(fault) = &result {
-                    self.lose_meant(message, fault);
-                }
-                Some(response(id, result))
+    /// Does what waits until a request is served, or no message waits: sends warnings where they changed, tells of CRs that
+    /// stand alone where they came, and gives memory back.
+    pub fn rest(&mut self) {
+        for (uri, document) in &mut self.documents {
+            if !mem::take(&mut document.is_changed) {
+                continue;
             }
-            Call::Invalid { id, fault } => {
-                self.lose_meant(message, &fault);
-                Some(response(&id, Err(fault)))
+            let version = document.version;
+            match document.new_warnings() {
+                Ok(None) => {}
+                Ok(Some(warnings)) => self.outbox.push(diagnostics(uri, version, warnings)),
+                Err(fault) => self
+                    .outbox
+                    .push(told("window/logMessage", 1, format!("{uri}: {fault}"))),
             }
-            Call::Response => None,
-            Call::Notification { method, params } => {
-                if let Err(fault) = self.notified(method, params) {
-                    self.tell("window/logMessage", 1, format!("{method}: {fault}"));
-                    self.lose_meant(message, &fault);
-                }
-                None
+            if document.has_new_return() {
+                let sentence = format!(
+                    "{uri} has a CR without an LF: an editor that takes it for no line break means other lines"
+                );
+                self.outbox.push(told("window/logMessage", 2, sentence));
             }
         }
+        if mem::take(&mut self.has_closed) {
+            system::give_memory_back();
+        }
     }
 
-    fn request(&mut self, method: &str, params: &Value) -> Result<Value, Fault> {
+    /// Answers a request.
+    fn request(&mut self, method: &str, params: Raw<'_>) -> Answer {
         match (&self.phase, method) {
-            (Phase::Started, "initialize") => Ok(self.initialize(params)),
+            (Phase::Started, "initialize") => self.initialize(params),
             (Phase::Started, _) => Err(Fault::not_initialized()),
-            (Phase::Initialized, "initialize") => Err(Fault::invalid_request("the server is initialized already")),
-            (Phase::Initialized, "shutdown") => Ok(self.shut_down()),
-            (Phase::Initialized, "textDocument/hover") => self.hover(params),
-            // No method of the protocol: a test asks by it what the server has of a document.
-            (Phase::Initialized, "pauskern/text") => Ok(json!({ "text": self.text(params)?.to_string() })),
+            (Phase::Initialized, "initialize") => Err(Fault::invalid_request("the server is initialized")),
+            (Phase::Initialized, "shutdown") => {
+                self.phase = Phase::ShutDown;
+                answer(&())
+            }
+            (Phase::Initialized, "textDocument/hover") => {
+                answer(&self.text(params)?.hover(*protocol::read::<At>(params)?.position)?)
+            }
+            (Phase::Initialized, "textDocument/formatting") => answer(&edits(self.text(params)?.blanks(None)?)),
+            (Phase::Initialized, "textDocument/rangeFormatting") => answer(&self.edits_in_range(params)?),
+            (Phase::Initialized, "textDocument/codeAction") => answer(&self.code_actions(params)?),
+            (Phase::Initialized, "textDocument/foldingRange") => answer(&self.text(params)?.folds()?),
+            (Phase::Initialized, "pauskern/text") => {
+                let text = self.text(params)?;
+                answer(&Whole { text })
+            }
             (Phase::Initialized, _) => Err(Fault::no_such_method(method)),
             _ => Err(Fault::invalid_request("the server is shut down")),
         }
@@ -156,7 +149,7 @@ impl Server {
 
     /// Takes a notification, which has no response: where it is refused, the client's log is told. A request is answered
     /// before the next message is read, so there is nothing to do for `$/cancelRequest`.
-    fn notified(&mut self, method: &str, params: &Value) -> Result<(), Fault> {
+    fn notified(&mut self, method: &str, params: Raw<'_>) -> Result<(), Fault> {
         match (&self.phase, method) {
             (_, "exit") => {
                 self.phase = Phase::Exited(self.phase == Phase::ShutDown);
@@ -170,118 +163,115 @@ impl Server {
         }
     }
 
-    fn initialize(&mut self, params: &Value) -> Value {
-        self.encoding = protocol::negotiated(&params["capabilities"]);
+    fn initialize(&mut self, params: Raw<'_>) -> Answer {
+        let client: Initialize = protocol::read(params)?;
+        self.encoding = protocol::negotiated(&client.capabilities);
         self.phase = Phase::Initialized;
-        json!({
+        client.process_id.into_iter().for_each(system::end_with);
+        answer(&json!({
             "capabilities": {
                 "positionEncoding": protocol::name_of(self.encoding),
                 // Documents are opened and closed, and 2 is: changes come by ranges.
                 "textDocumentSync": { "openClose": true, "change": 2, "save": { "includeText": true } },
                 "hoverProvider": true,
+                "codeActionProvider": { "codeActionKinds": ["quickfix"] },
+                "documentFormattingProvider": true,
+                "documentRangeFormattingProvider": true,
+                "foldingRangeProvider": true,
             },
             "serverInfo": { "name": env!("CARGO_PKG_NAME"), "version": env!("CARGO_PKG_VERSION") },
-        })
+        }))
     }
 
-    fn shut_down(&mut self) -> Value {
-        self.phase = Phase::ShutDown;
-        Value::Null
-    }
-
-    fn open(&mut self, params: &Value) -> Result<(), Fault> {
+    fn open(&mut self, params: Raw<'_>) -> Result<(), Fault> {
         let uri = protocol::uri(params)?;
-        match Document::opened(self.encoding, &params["textDocument"]) {
-            Ok(document) => {
-                self.documents.insert(uri.to_string(), document);
-                self.tell_of_lone_returns(uri, false);
-                self.publish(uri)
-            }
-            Err(fault) => {
-                self.lose(uri, &fault);
-                Ok(())
-            }
+        let opened = protocol::read(params)?;
+        let document = self.documents.entry(uri.to_string()).or_default();
+        if let Err(fault) = document.open(self.encoding, &opened) {
+            self.lose(&uri, &fault);
         }
+        Ok(())
     }
 
-    fn change(&mut self, params: &Value) -> Result<(), Fault> {
+    fn change(&mut self, params: Raw<'_>) -> Result<(), Fault> {
         let uri = protocol::uri(params)?;
-        let document = self.documents.get_mut(uri);
-        let document = document.ok_or_else(|| Fault::invalid("open document"))?;
-        let (was_in_step, had_returns) = (document.is_in_step(), document.text().is_ok_and(Text::has_lone_return));
-        match document.change(self.encoding, params) {
-            Ok(()) => self.tell_of_lone_returns(uri, had_returns),
-            Err(fault) if was_in_step => self.tell_of_loss(uri, &fault),
-            // It was told already.
-            Err(_) => return Ok(()),
+        let document = open_document(self.documents.get_mut(&*uri))?;
+        let changed: Changed = protocol::read(params)?;
+        if let Err(fault) = document.change(self.encoding, &changed) {
+            self.lose(&uri, &fault);
         }
-        self.publish(uri)
+        Ok(())
     }
 
     /// Takes the text that a client saved: where it is another than the server's, the client is told.
-    fn save(&mut self, params: &Value) -> Result<(), Fault> {
+    fn save(&mut self, params: Raw<'_>) -> Result<(), Fault> {
         let uri = protocol::uri(params)?;
-        let document = self.documents.get_mut(uri);
-        let document = document.ok_or_else(|| Fault::invalid("open document"))?;
-        let Some(text) = params["text"].as_str() else {
+        let document = open_document(self.documents.get_mut(&*uri))?;
+        let Some(text) = protocol::read::<Saved>(params)?.text else {
             return Ok(());
         };
-        let (was_in_step, had_returns) = (document.is_in_step(), document.text().is_ok_and(Text::has_lone_return));
-        if document.text().is_ok_and(|kept| kept.is(text)) {
-            return Ok(());
+        match document.save(self.encoding, &text) {
+            Ok(false) => {}
+            Ok(true) => {
+                let sentence =
+                    format!("{uri} was saved with another text than its changes made. The saved one is taken.");
+                self.tell("window/showMessage", 2, sentence);
+            }
+            Err(fault) => self.lose(&uri, &fault),
         }
-        if let Err(fault) = document.save(self.encoding, text) {
-            self.lose(uri, &fault);
-            return Ok(());
-        }
-        if was_in_step {
-            let sentence = format!("{uri} was saved with another text than its changes made. The saved one is taken.");
-            self.tell("window/showMessage", 2, sentence);
-        }
-        self.tell_of_lone_returns(uri, had_returns);
-        self.publish(uri)
+        Ok(())
     }
 
     /// Forgets a document, and takes its warnings back.
-    fn close(&mut self, params: &Value) -> Result<(), Fault> {
+    fn close(&mut self, params: Raw<'_>) -> Result<(), Fault> {
         let uri = protocol::uri(params)?;
-        let document = self.documents.remove(uri);
-        document.ok_or_else(|| Fault::invalid("open document"))?;
-        self.send(
-            "textDocument/publishDiagnostics",
-            json!({ "uri": uri, "diagnostics": [] }),
-        );
-        Ok(())
-    }
-
-    fn hover(&self, params: &Value) -> Result<Value, Fault> {
-        let position = protocol::position(&params["position"])?;
-        Ok(self.text(params)?.hover(self.encoding, position))
-    }
-
-    fn text(&self, params: &Value) -> Result<&Text, Fault> {
-        let document = self.documents.get(protocol::uri(params)?);
-        document.ok_or_else(|| Fault::invalid("open document"))?.text()
-    }
-
-    /// Sends a document's warnings.
-    fn publish(&mut self, uri: &str) -> Result<(), Fault> {
-        if let Some(document) = self.documents.get(uri) {
-            let warnings = document.warnings(uri)?;
-            self.send("textDocument/publishDiagnostics", warnings);
+        let document = open_document(self.documents.remove(&*uri))?;
+        if document.has_warnings() {
+            self.outbox.push(diagnostics(&uri, None, &[]));
         }
+        self.has_closed = true;
         Ok(())
     }
 
-    /// A document is out of step from now on, and its warnings are taken back.
+    fn edits_in_range(&self, params: Raw<'_>) -> Result<Vec<TextEdit>, Fault> {
+        let range = *protocol::read::<In>(params)?.range;
+        Ok(edits(self.text(params)?.blanks(Some(range))?))
+    }
+
+    /// The one code action that there is takes the blanks out that the lines of a range end in.
+    fn code_actions(&self, params: Raw<'_>) -> Result<Value, Fault> {
+        let (uri, edits) = (protocol::uri(params)?, self.edits_in_range(params)?);
+        if edits.is_empty() || !protocol::read::<Wanted>(params)?.wants("\"quickfix\"") {
+            return Ok(json!([]));
+        }
+        let edit = json!({ "changes": { uri: edits } });
+        Ok(json!([{ "title": "Take out the blanks at the end", "kind": "quickfix", "edit": edit }]))
+    }
+
+    fn text(&self, params: Raw<'_>) -> Result<&Text, Fault> {
+        open_document(self.documents.get(&*protocol::uri(params)?))?.text()
+    }
+
+    /// A message is refused: the document that it would change is out of step, or each, where it does not say which.
+    fn lose_meant(&mut self, method: Option<&str>, params: Raw<'_>, fault: &Fault) {
+        let may_change = matches!(method, None | Some("textDocument/didOpen" | "textDocument/didChange"));
+        if self.phase != Phase::Initialized || !may_change {
+            return;
+        }
+        match protocol::uri(params) {
+            Err(_) if method.is_some() => self.lose_all(fault),
+            Ok(uri) if method == Some("textDocument/didOpen") || self.documents.contains_key(&*uri) => {
+                self.lose(&uri, fault)
+            }
+            _ => {}
+        }
+    }
+
+    /// A document is out of step from now on, and the client hears of it.
     fn lose(&mut self, uri: &str, fault: &Fault) {
-        let lost = self.documents.insert(uri.to_string(), Document::out_of_step());
-        if lost.map_or(true, |document| document.is_in_step()) {
-            self.tell_of_loss(uri, fault);
-            self.send(
-                "textDocument/publishDiagnostics",
-                json!({ "uri": uri, "diagnostics": [] }),
-            );
+        if self.documents.entry(uri.to_string()).or_default().lose() {
+            let sentence = format!("{uri} is out of step, since {fault}. Save it, or send its whole text.");
+            self.tell("window/showMessage", 1, sentence);
         }
     }
 
@@ -291,30 +281,43 @@ impl Server {
         uris.iter().for_each(|uri| self.lose(uri, fault));
     }
 
-    fn tell_of_loss(&mut self, uri: &str, fault: &Fault) {
-        let sentence = format!("{uri} is out of step, since {fault}. Save it, or send its whole text.");
-        self.tell("window/showMessage", 1, sentence);
-    }
-
-    /// Tells of CRs that stand alone, where a document did not have them before.
-    fn tell_of_lone_returns(&mut self, uri: &str, had: bool) {
-        let has = self
-            .documents
-            .get(uri)
-            .and_then(|document| document.text().ok())
-            .is_some_and(Text::has_lone_return);
-        if has && !had {
-            let sentence =
-                format!("{uri} has a CR without an LF: an editor that takes it for no line break means other lines");
-            self.tell("window/logMessage", 2, sentence);
-        }
-    }
-
     fn tell(&mut self, method: &str, kind: u8, sentence: String) {
-        self.send(method, json!({ "type": kind, "message": sentence }));
+        self.outbox.push(told(method, kind, sentence));
     }
+}
 
-    fn send(&mut self, method: &str, params: Value) {
-        self.outbox.push(notification(method, params));
-    }
+fn open_document<T>(document: Option<T>) -> Result<T, Fault> {
+    document.ok_or_else(|| Fault::invalid("open document"))
+}
+
+/// The edits that take blanks out.
+fn edits(blanks: Vec<Span>) -> Vec<TextEdit> {
+    blanks
+        .into_iter()
+        .map(|range| TextEdit { range, new_text: "" })
+        .collect()
+}
+
+/// The body that sends warnings.
+fn diagnostics(uri: &str, version: Option<i64>, blanks: &[Span]) -> Vec<u8> {
+    let diagnostic = |range: &Span| Diagnostic {
+        range: *range,
+        severity: 2,
+        source: env!("CARGO_PKG_NAME"),
+        message: "blanks at the end of a line",
+    };
+    let diagnostics = blanks.iter().map(diagnostic).collect();
+    notification(
+        "textDocument/publishDiagnostics",
+        Diagnostics {
+            uri,
+            version,
+            diagnostics,
+        },
+    )
+}
+
+/// The body that tells people something.
+fn told(method: &str, kind: u8, sentence: String) -> Vec<u8> {
+    notification(method, json!({ "type": kind, "message": sentence }))
 }

@@ -5,15 +5,15 @@
 ;;
 ;;     emacs --batch -l changes.el
 ;;
-;; The environment variable JOB has what to do, as JSON: the server's program, the file, the number of edits, the length of
-;; a paste, and the seed of the random numbers. What was found is printed as JSON.
+;; The environment variable JOB has what to do, as JSON: the server's program, the file, the number of edits, and of those of
+;; each small text, the length of a paste, and the seed of the random numbers. What was found is printed as JSON.
 
 (require 'eglot)
 (require 'json)
 
 (defvar changes-job (json-parse-string (getenv "JOB") :object-type 'alist))
-(defvar changes-found (list (cons 'edits 0) (cons 'texts 0) (cons 'hovers 0) (cons 'told 0) (cons 'after_return "")
-                            (cons 'wrong [])))
+(defvar changes-found (list (cons 'ends 0) (cons 'edits 0) (cons 'texts 0) (cons 'hovers 0) (cons 'told 0)
+                            (cons 'after_return "") (cons 'wrong [])))
 (defvar changes-server nil)
 
 ;; Chars of one to four bytes, chars that combine with the one before, and chars that some take for line breaks; no CR alone,
@@ -43,7 +43,6 @@
 
 (defun changes-edit ()
   "A random edit, as commands make it."
-  (undo-boundary)
   (changes-place)
   (setq last-command nil)
   (let ((end (min (point-max) (+ (point) (random 40)))))
@@ -60,8 +59,63 @@
         (10 (save-restriction (narrow-to-region (point) end) (while (search-forward "a" nil t) (replace-match "🐸b"))))
         (11 (subst-char-in-region (point) end ?a ?é))
         (12 (sort-lines nil (point) end))
-        (_ (undo)))))
-  (changes-count 'edits))
+        (_ (undo))))))
+
+(defun changes-edit-mixed ()
+  "A random edit at the beginning of a line, which leaves each CR before an LF: one that stands alone ends a line for the server."
+  (changes-place)
+  (beginning-of-line)
+  (setq last-command nil)
+  (ignore-errors
+    (pcase (random 9)
+      ((or 0 1) (insert (aref ["a" "🐸 " "b\r\n" "\n" "c \n"] (random 5))))
+      (2 (kill-whole-line))
+      (3 (kill-line))
+      (4 (delete-char 1))
+      (5 (upcase-region (point) (line-end-position)))
+      (6 (sort-lines nil (point-min) (line-beginning-position)))
+      (7 (when (search-forward "\r\n" nil t) (replace-match "\n")))
+      (_ (undo)))))
+
+(defun changes-empty ()
+  "Now and then nothing is left of a text."
+  (when (= 0 (random 20))
+    (delete-region (point-min) (point-max))))
+
+(defun changes-try-ends ()
+  "Edits small texts, which end in every way, and takes all back."
+  (let ((number 0))
+    (dolist (text '("b \na\nc\t" "b \na\nc\n" "" "one" "\n\n" "b\r\na\nc\r\n"))
+      (setq number (1+ number))
+      (let ((file (format "%s%d.txt" (changes-get 'file) number))
+            (edit (if (string-search "\r" text) #'changes-edit-mixed #'changes-edit))
+            (coding-system-for-write 'utf-8-unix))
+        (with-temp-file file (insert text))
+        (find-file file)
+        (text-mode)
+        (buffer-enable-undo)
+        (unless (eglot-managed-p)
+          (eglot--maybe-activate-editing-mode))
+        (dotimes (_ (changes-get 'ends))
+          (undo-boundary)
+          (changes-empty)
+          (funcall edit)
+          (changes-compare-text)
+          (changes-count 'ends))
+        (changes-undo-all)
+        (changes-compare-text)
+        (save-buffer)
+        (changes-compare-text)))))
+
+(defun changes-undo-all ()
+  "Undo to the beginning."
+  (setq last-command nil)
+  (undo-boundary)
+  (ignore-errors
+    (undo)
+    (while t
+      (setq last-command 'undo)
+      (undo-more 1))))
 
 (defun changes-paste (len)
   "Puts in a text of LEN bytes at the least, and takes it back."
@@ -141,10 +195,14 @@
   (dotimes (count (changes-get 'edits))
     (when (= count (/ (changes-get 'edits) 2))
       (changes-paste (changes-get 'paste)))
+    (undo-boundary)
     (changes-edit)
+    (changes-count 'edits)
     (when (= 0 (random 4))
       (changes-compare 2)))
   (changes-compare 10)
+  (changes-try-ends)
+  (find-file (changes-get 'file))
   (changes-return-alone)
   (changes-save)
   (changes-stop))

@@ -4,7 +4,8 @@
 --     nvim --headless -u NONE -i NONE -n -c 'luafile changes.lua'
 --
 -- The environment variable JOB has what to do, as JSON: the server's program, the file, the encodings to offer, how
--- changes are sent, the number of edits, and the seed of the random numbers. What was found is printed as JSON.
+-- changes are sent, the number of edits, and of those of each small text, and the seed of the random numbers. What was found
+-- is printed as JSON.
 local job = vim.fn.json_decode(vim.env.JOB)
 local random = math.random
 
@@ -274,28 +275,30 @@ local function edit_end(what, change)
   compare_end(what)
 end
 
--- Opens another file, and edits it by commands.
-local function edit_other(name, text, commands)
+-- Opens another file.
+local function open_other(name, text)
   local file = assert(io.open(job.file .. name, "wb"))
   file:write(text)
   file:close()
   vim.cmd("edit " .. vim.fn.fnameescape(job.file .. name))
   vim.lsp.buf_attach_client(0, client.id)
+end
+
+-- Edits by commands, and then by random edits until some hundred of them have changed something, and takes all back.
+local function edit_other(name, commands, one_edit)
   for _, words in ipairs(commands) do
     edit_end(words, function()
       vim.cmd("silent! " .. words)
     end)
   end
-end
-
--- Edits a file of a few lines, or of none, whose last line may have no break.
-local function ends(name, text)
-  edit_other(name, (text:gsub("\n", line_break(found.fileformat))), END_COMMANDS)
-  for count = 1, 100 do
-    -- A command of lines that are not there does nothing.
-    edit_end("random edit " .. count .. " of " .. name, function()
-      pcall(({ normal, command, undo, redo })[random(4)])
+  local last = found.edits + job.ends
+  while found.edits < last and #found.wrong == 0 do
+    local before = vim.b.changedtick
+    edit_end("random edit " .. found.edits .. " of " .. name, function()
+      -- A command of lines that are not there does nothing.
+      pcall(one_edit)
     end)
+    found.edits = found.edits + (vim.b.changedtick ~= before and 1 or 0)
   end
   edit_end("undo to the beginning", function()
     vim.cmd("undo 0")
@@ -303,13 +306,28 @@ local function ends(name, text)
   save()
 end
 
+-- In a file with both breaks the editor takes a CR for the last char of its line. These leave each CR before an LF, since one
+-- that stands alone ends a line for the server.
+local MIXED = {
+  "1s/\\r$//", "%s/\\r$//", "%s/[^\\r]$/&\\r/", "2,4move $", "1,3copy 0", "%sort", "2,5sort!", "2delete", "undo", "undo", "redo",
+  "normal! 0x", "normal! 0ix", "normal! 0D", "normal! dd", "normal! yyp", "normal! ddp", "normal! ddP", "normal! O🐸 ", "normal! cc", "normal! ggdG",
+}
+
+local function edit_mixed()
+  vim.api.nvim_win_set_cursor(0, { random(vim.api.nvim_buf_line_count(0)), 0 })
+  vim.cmd("silent! " .. MIXED[random(#MIXED)])
+end
+
 local function try_ends()
   vim.o.hidden = true
   for name, text in ipairs({ "b \na\nc\t", "b \na\nc\n", "", "one", "\n\n" }) do
-    ends(name, text)
+    open_other(name, (text:gsub("\n", line_break(found.fileformat))))
+    edit_other(name, END_COMMANDS, function()
+      EDITS[random(#EDITS)]()
+    end)
   end
-  -- In a file with both breaks the editor takes a CR for the last char of its line.
-  edit_other("6", "b\r\na\nc\r\n", { "1s/\\r$//", "undo", "%s/\\r$//", "undo", "3normal! $x", "undo" })
+  open_other("6", "b\r\na\nc\r\n")
+  edit_other("6", { "1s/\\r$//", "undo", "%s/\\r$//", "undo", "3normal! $x", "undo" }, edit_mixed)
   vim.cmd("edit " .. vim.fn.fnameescape(job.file))
 end
 

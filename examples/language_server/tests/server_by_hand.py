@@ -1,93 +1,158 @@
-"""What a language server does with messages that are written by hand: right ones, wrong ones, and what is no message.
+"""What the language server does with messages that are written by hand: right ones, wrong ones, and what is no message.
 
-The codes of errors are those of JSON-RPC 2.0 and of the Language Server Protocol 3.17.
+The codes of errors are those of JSON-RPC 2.0 and of the Language Server Protocol 3.17. The command `pytest` runs these tests.
 """
 import json
+import os
 import random
 import resource
+import subprocess
 
-from language_client import Client, changed, event, frame
-from wrong_client import REFUSED, TOO_LONG
+import pytest
+from language_client import Client, body, changed, event, frame, place, places_of
+from wrong_client import ABOUT_ANY, ODD, REFUSED, TOO_LONG
 
 URI = "file:///a"
 OTHER = "file:///b"
 PARSE_ERROR, INVALID_REQUEST, NO_METHOD, INVALID_PARAMS = -32700, -32600, -32601, -32602
 NOT_INITIALIZED, OUT_OF_STEP = -32002, -32803
-# the memory by which a server may grow over a hundred thousand changes, in kB, where each text that comes goes again
-GROWTH = 1 << 10
+SHOWN, LOGGED = "window/showMessage", "window/logMessage"
+GREATEST = 2**31 - 1
+MB = 1_000_000
+# the memory by which a server may grow over a hundred thousand changes, where each text that comes goes again
+GROWTH = 1 << 20
+# the most memory that it has while it serves a body of 8 MB
+MOST_MEMORY = 100 << 20
 
 
-def methods(told):
-    return [message.get("method") for message in told if isinstance(message, dict)]
+@pytest.fixture
+def client():
+    with Client() as one:
+        one.initialize()
+        yield one
 
 
-def try_encodings(program, tally):
-    for offered, expected in [
-        (None, "utf-16"), ([], "utf-16"), (["utf-32", "utf-8"], "utf-32"), (["utf-7", "utf-8"], "utf-8"), (["utf-7"], "utf-16"),
-    ]:
-        with Client(program) as client:
-            result = client.initialize({} if offered is None else {"general": {"positionEncodings": offered}})
-            answer = result["capabilities"]["positionEncoding"]
-        tally.result(answer == expected, f"where a client offers {offered}, the encoding is {answer}")
+@pytest.mark.parametrize("offered, expected", [
+    (None, "utf-16"), ([], "utf-16"), (["utf-32", "utf-8"], "utf-32"), (["utf-7", "utf-8"], "utf-8"), (["utf-7"], "utf-16"),
+])
+def test_encoding(offered, expected):
+    with Client() as client:
+        capabilities = client.initialize({} if offered is None else {"general": {"positionEncodings": offered}})
+    assert capabilities["positionEncoding"] == expected
 
 
-def try_changes(program, tally):
-    """Changes one after another, each meant in the text that the one before left, and whole texts between them."""
-    with Client(program) as client:
-        client.initialize({})
-        warnings = client.open(URI, "one \r\n🐸two\r\n")[-1]
-        place = [(one["range"]["start"], one["range"]["end"]) for one in warnings["params"]["diagnostics"]]
-        expected = [({"line": 0, "character": 3}, {"line": 0, "character": 4})]
-        tally.result(place == expected, f"a warning of a blank at the end of a line: {place}")
-        told = client.change(URI, [((1, 2), (1, 3), "x\n"), ((2, 0), (2, 2), "y ")])
-        text = client.text(URI)
-        tally.result(text == "one \r\n🐸x\ny \r\n", f"two changes in one message: {text!r}")
-        lines = [one["range"]["start"]["line"] for one in told[-1]["params"]["diagnostics"]]
-        tally.result(lines == [0, 2], f"warnings after them: in lines {lines}")
-        client.change(URI, [((0, 0), (0, 1), "O"), (None, None, "a\tb"), ((0, 1), (0, 2), "-")], client.version)
-        text = client.text(URI)
-        tally.result(text == "a-b", f"a whole text among changes, under the version of those before: {text!r}")
-        cleared = client.notify("textDocument/didClose", {"textDocument": {"uri": URI}})
-        right = [message["params"] for message in cleared] == [{"uri": URI, "diagnostics": []}]
-        tally.result(right, "a document that is closed has no warnings")
+# Changes, each meant in the text that the one before it left.
+
+def test_changes_and_warnings(client):
+    client.open(URI, "one \r\n🐸two\r\n")
+    assert client.warned(URI) == [(0, 3, 4)]
+    client.change(URI, ((1, 2), (1, 3), "x\n"), ((2, 0), (2, 2), "y "))
+    assert client.text(URI) == "one \r\n🐸x\ny \r\n"
+    assert client.warned(URI) == [(0, 3, 4), (2, 1, 2)]
+    client.change(URI, ((0, 0), (0, 1), "O"), (None, None, "a\tb "), ((0, 1), (0, 2), "-"), version=client.version)
+    assert client.text(URI) == "a-b "
+    assert client.warned(URI) == [(0, 3, 4)]
+    client.notify("textDocument/didClose", textDocument={"uri": URI})
+    assert client.warned(URI) == []
+
+
+def test_warnings_are_sent_where_they_changed(client):
+    client.open(URI, "a \n" * 1001 + "b" * 2000 + " " * 2000)
+    assert client.warned(URI) == [(line, 1, 2) for line in range(1000)]
+    client.warnings.clear()
+    client.change(URI, ((0, 0), (0, 0), "x"), ((0, 0), (0, 1), ""))
+    client.open(OTHER, " ")
+    assert client.warned(OTHER) == [(0, 0, 1)]
+    assert URI not in client.warnings
+    client.change(URI, ((0, 0), (999, 0), ""))
+    assert client.warned(URI) == [(0, 1, 2), (1, 1, 2), (2, 3000, 4000)]
+
+
+def of_range(start, end):
+    return {"range": {"start": place(*start), "end": place(*end)}}
+
+
+BLANKS = "a \r\nb\n🐸\t \n\r  "
+
+
+@pytest.mark.parametrize("method, params, places", [
+    ("formatting", {"options": {}}, [(0, 1, 2), (2, 2, 4), (4, 0, 2)]),
+    ("rangeFormatting", of_range((1, 0), (2, 0)), [(2, 2, 4)]),
+    ("rangeFormatting", of_range((3, 0), (GREATEST, 0)), [(4, 0, 2)]),
+    ("rangeFormatting", of_range((7, 0), (9, 0)), []),
+])
+def test_edits_take_blanks_out(client, method, params, places):
+    client.open(URI, BLANKS)
+    edits = client.ask(f"textDocument/{method}", URI, **params)
+    assert places_of(edits) == places and all(edit["newText"] == "" for edit in edits)
+    client.tell(changed(URI, [{**edit, "text": edit["newText"]} for edit in reversed(edits)], 2))
+    assert client.ask(f"textDocument/{method}", URI, **params) == []
+
+
+def test_code_action(client):
+    client.open(URI, BLANKS)
+    context = {"context": {"diagnostics": []}}
+    [action] = client.ask("textDocument/codeAction", URI, **of_range((2, 0), (2, 0)), **context)
+    assert action["kind"] == "quickfix" and places_of(action["edit"]["changes"][URI]) == [(2, 2, 4)]
+    assert client.ask("textDocument/codeAction", URI, **of_range((1, 0), (1, 0)), **context) == []
+    only = {"context": {"diagnostics": [], "only": ["refactor"]}}
+    assert client.ask("textDocument/codeAction", URI, **of_range((2, 0), (2, 0)), **only) == []
+
+
+@pytest.mark.parametrize("text, folds", [
+    ("", []), ("a\nb", [(0, 1)]), ("a\n\nb\n", []), ("\n a\r\nb\rc\n \t\n\nd\ne\n", [(1, 3), (6, 7)]), ("a\r\n\r\nb\r\nc", [(2, 3)]),
+])
+def test_folding_ranges(client, text, folds):
+    client.open(URI, text)
+    assert [(one["startLine"], one["endLine"]) for one in client.ask("textDocument/foldingRange", URI)] == folds
+
+
+@pytest.mark.parametrize("at, value, end", [
+    ((1, 0), "byte 3\nchar 3\nUTF-16 code unit 3\nline 1", (1, 2)), ((1, 2), "byte 7\nchar 4\nUTF-16 code unit 5\nline 1", (1, 3)),
+    ((1, 9), "byte 8\nchar 5\nUTF-16 code unit 6\nline 1", (1, 3)),
+])
+def test_hover(client, at, value, end):
+    client.open(URI, "a\r\n🐸b")
+    hover = client.ask("textDocument/hover", URI, position=place(*at))
+    assert hover["contents"]["value"] == value and hover["range"]["end"] == place(*end)
 
 
 # changes of "one\n🐸 two" that no client in step sends, with their version, which follows 1
-OUT = [
-    ("the second of three ends before it starts", [((0, 0), (0, 0), "x"), ((1, 1), (0, 0), "z"), ((0, 0), (0, 0), "y")], 2),
-    ("a range past the last line", [((2, 1), (2, 1), "x")], 2),
-    ("a range two lines past the last one", [((0, 0), (3, 0), "x")], 2),
-    ("a range past its line's end, which ends before it starts", [((0, 5), (0, 4), "x")], 2),
-    ("a range inside a char", [((1, 1), (1, 2), "x")], 2),
-    ("an older version", [((0, 0), (0, 1), "x")], 0),
-    ("a version that is none", [((0, 0), (0, 1), "x")], "2"),
-    ("a change without a text", [((0, 0), (0, 1), "x"), ((0, 0), (0, 1), None)], 2),
-]
+OUT = {
+    "the second of three ends before it starts": ([((0, 0), (0, 0), "x"), ((1, 1), (0, 0), "z"), ((0, 0), (0, 0), "y")], 2),
+    "past the last line": ([((2, 1), (2, 1), "x")], 2),
+    "two lines past the last one": ([((0, 0), (3, 0), "x")], 2),
+    "past its line's end, and ends before it starts": ([((0, 5), (0, 4), "x")], 2),
+    "inside a char": ([((1, 1), (1, 2), "x")], 2),
+    "an older version": ([((0, 0), (0, 1), "x")], 0),
+    "a version that is none": ([((0, 0), (0, 1), "x")], "2"),
+    "a change without a text": ([((0, 0), (0, 1), "x"), ((0, 0), (0, 1), None)], 2),
+    "half of a surrogate pair": ([((0, 0), (0, 1), "\\\ud83d")], 2),
+}
+HEALED = {
+    "a whole text": lambda client: client.change(URI, (None, None, "whole"), ((0, 0), (0, 1), "W"), version=4),
+    "a whole text of an older version": lambda client: client.change(URI, (None, None, "Whole"), version=-7),
+    "a save": lambda client: client.save(URI, "Whole"),
+    "opening": lambda client: client.open(URI, "Whole"),
+}
 
 
-def try_out_of_step(program, tally):
-    """The client hears once that a document is out of step, nothing is answered from it, and a whole text mends that."""
-    for what, changes, version in OUT:
-        with Client(program) as client:
-            client.initialize({})
-            client.open(URI, "one\n🐸 two")
-            heard = methods(client.change(URI, changes, version))
-            lost = client.text(URI)
-            later = methods(client.change(URI, [((0, 0), (0, 1), "x")], 3))
-            right = heard == ["window/showMessage", "textDocument/publishDiagnostics"] and later == []
-            tally.result(right and lost == OUT_OF_STEP, f"{what}: the client hears {heard}, then {later}, and {lost}")
-            client.change(URI, [(None, None, "whole"), ((0, 0), (0, 1), "W")], 4)
-            texts = [client.text(URI)]
-            client.change(URI, changes, version)
-            client.open(URI, "again")
-            texts.append(client.text(URI))
-            tally.result(texts == ["Whole", "again"], f"{what}: in step again by a whole text, and by opening: {texts}")
+@pytest.mark.parametrize("healed", HEALED)
+@pytest.mark.parametrize("what", OUT)
+def test_out_of_step(client, what, healed):
+    """The client hears once that a document is out of step, and nothing is answered from it until it is healed."""
+    client.open(URI, "one\n🐸 two ")
+    changes, version = OUT[what]
+    assert client.warned(URI) == [(1, 6, 7)]
+    assert client.change(URI, *changes, version=version).count(SHOWN) == 1 and client.text(URI) == OUT_OF_STEP
+    assert client.warned(URI) == []
+    assert client.change(URI, ((0, 0), (0, 1), "x"), version=3) == [] and client.text(URI) == OUT_OF_STEP
+    assert client.save(URI) == [] and client.text(URI) == OUT_OF_STEP
+    assert HEALED[healed](client) == [] and client.text(URI) == "Whole"
+    assert client.change(URI, ((0, 0), (0, 1), "w"), version=9) == [] and client.text(URI) == "whole"
 
 
-GREATEST = 2**31 - 1
-
-# a text, a change by positions past an end, and the text after it, or that the document is out of step
-ENDS = [
+@pytest.mark.parametrize("text, start, end, put, expected", [
     ("one\ntwo", (1, 0), (2, 0), "2", "one\n2"), ("one\ntwo", (2, 0), (2, 0), "!", "one\ntwo!"), ("", (0, 0), (1, 0), "x", "x"),
     ("one\n", (0, 0), (2, 0), "x", "x"), ("one\ntwo", (0, 1), (GREATEST, GREATEST), "", "o"),
     ("one\ntwo", (GREATEST, GREATEST), (GREATEST, GREATEST), "!", "one\ntwo!"), ("a\rb", (0, 0), (2, 0), "x", "x"),
@@ -96,274 +161,292 @@ ENDS = [
     ("a\rb", (0, 2), (0, 2), "x", OUT_OF_STEP), ("a\r\nb\r", (0, 3), (0, 3), "x", OUT_OF_STEP),
     ("one", (0, 0), (1, 1), "x", OUT_OF_STEP), ("one", (0, 0), (GREATEST, 0), "x", OUT_OF_STEP),
     ("🐸", (0, 1), (0, 9), "x", OUT_OF_STEP), ("a\r\nb", (0, 1), (0, 2), "", "a\nb"), ("a\r\nb", (0, 2), (1, 0), "", "a\rb"),
-    ("a\r\nb", (0, 2), (0, 2), "x", "a\rx\nb"), ("a\r\nb", (0, 3), (0, 3), "x", "ax\r\nb"),
-    ("a\nb", (0, 2), (0, 2), "x", "ax\nb"),
-]
-
-
-def try_ends(program, tally):
+    ("a\r\nb", (0, 2), (0, 2), "x", "a\rx\nb"), ("a\r\nb", (0, 3), (0, 3), "x", "ax\r\nb"), ("a\nb", (0, 2), (0, 2), "x", "ax\nb"),
+])
+def test_ends(client, text, start, end, put, expected):
     """What is past the end of a text or of a line."""
-    with Client(program) as client:
-        client.initialize({})
-        for text, start, end, put, expected in ENDS:
-            client.open(URI, text)
-            client.change(URI, [(start, end, put)])
-            answer = client.text(URI)
-            tally.result(answer == expected, f"{put!r} from {start} to {end} of {text!r}: {answer!r}")
+    client.open(URI, text)
+    client.change(URI, (start, end, put))
+    assert client.text(URI) == expected
 
 
-def try_healing(program, tally):
-    """By what a document is in step again, and what the client hears: a whole text of any version, and a save."""
-    for what, version in [("an older version", -7), ("no version", None), ("a version that is none", "x")]:
-        with Client(program) as client:
-            client.initialize({})
-            client.open(URI, "one")
-            client.notify(**changed(URI, [event((9, 0), (9, 0), "x")], 5))
-            client.notify(**changed(URI, [event(None, None, "whole")], version))
-            client.notify(**changed(URI, [event((0, 0), (0, 1), "W")], None))
-            text = client.text(URI)
-            tally.result(text == "Whole", f"a whole text of {what}, and a change of none: {text!r}")
-    with Client(program) as client:
-        capabilities = client.initialize({})["capabilities"]["textDocumentSync"]
-        tally.result(capabilities["save"] == {"includeText": True}, "the server wants the texts of saves")
-        client.open(URI, "one")
-        for what, saved, expected in [("the same text", "one", []), ("no text", None, []), ("another text", "two", [
-            "window/showMessage", "textDocument/publishDiagnostics",
-        ])]:
-            heard = methods(client.save(URI, saved))
-            text = client.text(URI)
-            tally.result(heard == expected and text == (saved or "one"), f"a save with {what}: {heard}, and then {text!r}")
-        client.change(URI, [((9, 0), (9, 0), "x")])
-        client.save(URI, None)
-        lost = client.text(URI)
-        heard = methods(client.save(URI, "three"))
-        client.change(URI, [((0, 0), (0, 1), "T")])
-        texts = lost, client.text(URI)
-        right = heard == ["textDocument/publishDiagnostics"] and texts == (OUT_OF_STEP, "Three")
-        tally.result(right, f"a save of what is out of step, without a text and with one, and a change: {texts}")
-        client.save(OTHER, "other")
-        tally.result(client.text(OTHER) == INVALID_PARAMS, "a save opens no document")
+@pytest.mark.parametrize("events", [
+    [{"range": [[0, 0], [0, 1]], "text": ""}], [{"range": {"start": [0, 0], "end": place(0, 1)}, "text": ""}], [[None, ""]],
+    [{"range": {"start": {"line": 0}, "end": place(0, 1)}, "text": ""}], {}, None, 7, [{"text": "a", "range": 7}],
+])
+def test_parameters_that_are_not_the_protocols(client, events):
+    client.open(URI, "kept")
+    assert client.tell(changed(URI, events, 2)).count(SHOWN) == 1 and client.text(URI) == OUT_OF_STEP
 
 
-def try_lone_return(program, tally):
+@pytest.mark.parametrize("version", [-7, None, "x"])
+def test_a_whole_text_of_any_version(client, version):
+    client.open(URI, "one")
+    client.tell(changed(URI, [event((9, 0), (9, 0), "x")], 5))
+    client.tell(changed(URI, [event(None, None, "whole")], version))
+    client.tell(changed(URI, [event((0, 0), (0, 1), "W")], None))
+    assert client.text(URI) == "Whole"
+
+
+@pytest.mark.parametrize("saved, heard", [("one", []), (None, []), ("two", [SHOWN])])
+def test_save(client, saved, heard):
+    client.open(URI, "one")
+    assert client.save(URI, saved) == heard and client.text(URI) == (saved or "one")
+
+
+def test_a_save_opens_no_document(client):
+    client.save(URI, "text")
+    assert client.text(URI) == INVALID_PARAMS
+
+
+def test_a_return_alone(client):
     """The limit: an editor that takes a CR alone for no line break means other lines, and its client is told so once."""
-    with Client(program) as client:
-        client.initialize({})
-        heard = methods(client.open(URI, "a\rb\nc"))
-        right = heard == ["window/logMessage", "textDocument/publishDiagnostics"]
-        tally.result(right, f"a CR alone is told to the client's log: {heard}")
-        heard = methods(client.change(URI, [((1, 0), (1, 1), "x")]))
-        text = client.text(URI)
-        right = text == "a\rx\nc" and heard == ["textDocument/publishDiagnostics"]
-        tally.result(right, f"line 1 is after the CR, also for an editor that means the line after the LF: {text!r}")
-        client.change(URI, [((3, 1), (3, 1), "y")])
-        tally.result(client.text(URI) == OUT_OF_STEP, "a line that only the other has is out of step")
-
-
-def hover(uri=URI, line=0):
-    return {"method": "textDocument/hover", "params": {"textDocument": {"uri": uri}, "position": {"line": line, "character": 0}}}
-
-
-def body(message):
-    return json.dumps({"jsonrpc": "2.0", **message}).encode()
+    assert client.open(URI, "a\rb\nc ") == [LOGGED] and client.warned(URI) == [(2, 1, 2)]
+    assert client.change(URI, ((1, 0), (1, 1), " ")) == [] and client.text(URI) == "a\r \nc "
+    assert client.warned(URI) == [(1, 0, 1), (2, 1, 2)]
+    assert client.change(URI, ((3, 1), (3, 1), "y")) == [SHOWN] and client.text(URI) == OUT_OF_STEP
 
 
 # what is no frame or no message, and the code of the error that it gets
-WRONG = [
-    ("a body that is no JSON", frame(b"{\"jsonrpc\": "), PARSE_ERROR),
-    ("an empty body", frame(b""), PARSE_ERROR),
-    ("a body that is not UTF-8", frame(body({"method": "\xff"}).replace(b"\\u00ff", b"\xff")), PARSE_ERROR),
-    ("a body of a thousand arrays", frame(b"[" * 1000 + b"]" * 1000), PARSE_ERROR),
-    ("a body with more after it", frame(body({"method": "x"}) + b"}"), PARSE_ERROR),
-    ("a length that is too small", b"Content-Length: 9\r\n\r\n" + body({"method": "x"}), PARSE_ERROR),
-    ("a length that is too great", b"Content-Length: 200\r\n\r\n" + body({"method": "x"}), PARSE_ERROR),
-    ("a length of 200 MB", b"Content-Length: 200000000\r\n\r\n" + body({"method": "x"}), PARSE_ERROR),
-    ("a length that is more than is taken", b"Content-Length: %d\r\n\r\n" % TOO_LONG, INVALID_REQUEST),
-    ("a length of 2^63", b"Content-Length: 9223372036854775808\r\n\r\n", INVALID_REQUEST),
-    ("a length of 30 digits", b"Content-Length: " + b"9" * 30 + b"\r\n\r\n", INVALID_REQUEST),
-    ("a negative length", b"Content-Length: -1\r\n\r\n", INVALID_REQUEST),
-    ("a length with a sign", b"Content-Length: +2\r\n\r\n{}", INVALID_REQUEST),
-    ("a length of no digits", b"Content-Length: \r\n\r\n", INVALID_REQUEST),
-    ("two lengths", frame(body({"method": "x"}), b"Content-Length: 7\r\n"), INVALID_REQUEST),
-    ("a header with no length", b"Content-Type: x\r\n\r\n{}", INVALID_REQUEST),
-    ("a header line without a colon", b"hello\r\nContent-Type: x\r\n\r\n", INVALID_REQUEST),
-    ("a header of 100 kB in one line", b"x" * 100_000, INVALID_REQUEST),
-    ("a header of 100 kB in lines", b"x: y\r\n" * 20_000, INVALID_REQUEST),
-    ("a header that is not UTF-8", b"\xff: y\r\n\r\n", INVALID_REQUEST),
-    ("a body that is said to be UTF-16", frame(body({"method": "x"}), b"Content-Type: a; charset=utf-16\r\n"), INVALID_REQUEST),
-    ("a message that is a number", frame(b"1"), INVALID_REQUEST),
-    ("an empty batch", frame(b"[]"), INVALID_REQUEST),
-    ("a message of JSON-RPC 1.0", frame(b'{"jsonrpc": "1.0", "method": "x"}'), INVALID_REQUEST),
-    ("a message with no method", frame(body({})), INVALID_REQUEST),
-    ("a method that is a number", frame(body({"method": 1, "params": "bar"})), INVALID_REQUEST),
-    ("params that are a string", frame(body({"method": "x", "params": "bar"})), INVALID_REQUEST),
-    ("an id that is an object", frame(body({"id": {}, "method": "x"})), INVALID_REQUEST),
-]
+WRONG = {
+    "a body that is no JSON": (frame(b"{\"jsonrpc\": "), PARSE_ERROR),
+    "an empty body": (frame(b""), PARSE_ERROR),
+    "a body that is not UTF-8": (frame(body({"method": "\xff"}).replace(b"\\u00ff", b"\xff")), PARSE_ERROR),
+    "an array that does not end": (frame(b"[" * 1000), PARSE_ERROR),
+    "a body with more after it": (frame(body({"method": "x"}) + b"}"), PARSE_ERROR),
+    "a length that is too small": (b"Content-Length: 9\r\n\r\n" + body({"method": "x"}), PARSE_ERROR),
+    "a length that is too great": (b"Content-Length: 200\r\n\r\n" + body({"method": "x"}), PARSE_ERROR),
+    "a length that is far too great": (b"Content-Length: %d\r\n\r\n{}" % TOO_LONG, INVALID_REQUEST),
+    "a length with a sign": (b"Content-Length: +2\r\n\r\n{}", INVALID_REQUEST),
+    "a length of no digits": (b"Content-Length: \r\n\r\n", INVALID_REQUEST),
+    "two lengths": (frame(body({"method": "x"}), b"Content-Length: 7\r\n"), INVALID_REQUEST),
+    "a header with no length": (b"Content-Type: x\r\n\r\n{}", INVALID_REQUEST),
+    "a header line without a colon": (b"hello\r\nContent-Type: x\r\n\r\n", INVALID_REQUEST),
+    "a header of 100 kB in one line": (b"x" * 100_000, INVALID_REQUEST),
+    "a header of 100 kB in lines": (b"x: y\r\n" * 20_000, INVALID_REQUEST),
+    "a header that is not UTF-8": (b"\xff: y\r\n\r\n", INVALID_REQUEST),
+    "a body that is said to be UTF-16": (frame(body({"method": "x"}), b"Content-Type: a; charset=utf-16\r\n"), INVALID_REQUEST),
+    "a batch": (frame(b"[%s]" % body({"method": "x"})), INVALID_REQUEST),
+}
+# the same for what can be no change of a document
+HARMLESS = {
+    "a number": b"1", "an array of numbers": b"[1, 2]", "an empty batch": b"[]", "a thousand arrays": b"[" * 1000 + b"]" * 1000,
+    "a message of JSON-RPC 1.0": b'{"jsonrpc": "1.0", "method": "x"}', "a message with no method": body({}),
+    "a method that is a number": body({"method": 1, "params": "bar"}), "an id that is an object": body({"id": {}, "method": "x"}),
+    "params that are a string": body({"method": "x", "params": "bar"}),
+}
 
 
-# of those, what can be no change of a document: whole messages
-KEPT = ["a message that is a number", "an empty batch", "a message of JSON-RPC 1.0", "a message with no method",
-        "a method that is a number", "params that are a string", "an id that is an object"]
+@pytest.mark.parametrize("what", WRONG)
+def test_wrong(client, what):
+    """Each wrong thing gets one error. It may be a part of a change, so the document is out of step, and told so."""
+    data, code = WRONG[what]
+    client.open(URI, "kept")
+    client.write(data)
+    assert sorted(client.said(), key=str) == [code, SHOWN] and client.text(URI) == OUT_OF_STEP
 
 
-def try_wrong(program, tally):
-    """Each wrong thing gets one error. Where it may be a part of a change, the document is out of step, and told so."""
-    with Client(program) as client:
-        client.initialize({})
-        for what, data, code in WRONG:
-            client.open(URI, "kept")
-            client.write(data)
-            said = client.said()
-            codes = [message["error"]["code"] for message in said if "error" in message]
-            text, heard = client.text(URI), methods(said).count("window/showMessage")
-            right = (text, heard) == (("kept", 0) if what in KEPT else (OUT_OF_STEP, 1))
-            tally.result(codes == [code] and right, f"{what}: {codes}, {heard} messages, and then {text!r}")
+@pytest.mark.parametrize("what", HARMLESS)
+def test_harmless(client, what):
+    client.open(URI, "kept")
+    client.write(frame(HARMLESS[what]))
+    assert client.said() == [INVALID_REQUEST] and client.text(URI) == "kept"
 
 
-def try_refused_changes(program, tally):
+@pytest.mark.parametrize("healed", [lambda client: client.change(URI, (None, None, ">Xhello"), version=4),
+                                    lambda client: client.save(URI, ">Xhello")], ids=["whole", "saved"])
+@pytest.mark.parametrize("what", REFUSED)
+def test_refused_change(client, what, healed):
     """A change in a body that is refused: its document is out of step, and another one where it does not say which."""
-    for what, refused in REFUSED.items():
-        with Client(program) as client:
-            client.initialize({})
-            client.open(URI, "hello")
-            client.open(OTHER, "other")
-            client.write(refused(body(changed(URI, [event((0, 0), (0, 0), "X")], 2))))
-            heard = methods(client.said()).count("window/showMessage")
-            later = client.change(URI, [((0, 0), (0, 0), ">")], 3)
-            texts = client.text(URI), client.text(OTHER)
-            expected = (2, (OUT_OF_STEP, OUT_OF_STEP)) if what == "a body that is too long" else (1, (OUT_OF_STEP, "other"))
-            tally.result((heard, texts) == expected and later == [], f"a change with {what}: {heard} messages, then {texts}")
-            client.change(URI, [(None, None, ">Xhello")], 4)
-            text = client.text(URI)
-            tally.result(text == ">Xhello", f"a change with {what}, and a whole text: {text!r}")
+    client.open(URI, "hello")
+    client.open(OTHER, "other")
+    client.write(REFUSED[what](body(changed(URI, [event((0, 0), (0, 0), "X")], 2))))
+    is_any = what in ABOUT_ANY
+    assert client.said().count(SHOWN) == (2 if is_any else 1)
+    assert client.change(URI, ((0, 0), (0, 0), ">"), version=3) == []
+    assert [client.text(URI), client.text(OTHER)] == [OUT_OF_STEP, OUT_OF_STEP if is_any else "other"]
+    assert healed(client) == [] and client.text(URI) == ">Xhello"
 
 
-def try_changes_of_none(program, tally):
+@pytest.mark.parametrize("what", ODD)
+def test_odd_change(client, what):
+    """A change in a body that has what the server does not look at, however odd, is taken."""
+    client.open(URI, "hello")
+    client.write(ODD[what](body(changed(URI, [event((0, 0), (0, 0), "X")], 2))))
+    assert client.change(URI, ((0, 0), (0, 0), ">"), version=3) == [] and client.text(URI) == ">Xhello"
+
+
+RIGHT = changed(URI, [event((0, 0), (0, 0), "X")], 2)
+HALF = {"method": "textDocument/hover", "params": {"textDocument": {"uri": "\ud83d"}}}
+
+
+@pytest.mark.parametrize("data", [
+    body({"id": 1, **RIGHT}), json.dumps([{"jsonrpc": "1.0", **RIGHT}]).encode(), b"[%s, %s]" % (body(HALF), body(RIGHT)),
+    body({"method": RIGHT["method"], "params": {}}), body({**RIGHT, "method": 7}),
+], ids=["a request", "in a batch", "in a batch with half a pair", "no uri", "a method that is none"])
+def test_changes_of_none(client, data):
     """Whole messages that are refused, each of which may have been a change."""
-    right = changed(URI, [event((0, 0), (0, 0), "X")], 2)
-    other = {"method": "textDocument/hover", "params": {"textDocument": {"uri": "\ud83d"}}}
-    for what, data in [
-        ("a request", body({"id": 1, **right})), ("one in a batch", json.dumps([{"jsonrpc": "1.0", **right}]).encode()),
-        ("one in a batch with half a pair", json.dumps([{"jsonrpc": "2.0", **one} for one in [other, right]]).encode()),
-        ("no uri", body({"method": right["method"], "params": {}})), ("a method that is none", body({**right, "method": 7})),
-    ]:
-        with Client(program) as client:
-            client.initialize({})
-            client.open(URI, "hello")
-            client.write(frame(data))
-            heard = methods(client.said()).count("window/showMessage")
-            text = client.text(URI)
-            tally.result(heard == 1 and text == OUT_OF_STEP, f"a change that is refused, {what}: {heard} messages, then {text}")
+    client.open(URI, "hello")
+    client.write(frame(data))
+    assert client.said().count(SHOWN) == 1 and client.text(URI) == OUT_OF_STEP
 
 
-def try_no_memory(program, tally):
-    """Memory is refused for a body of 64 MB, for its message, or for the rope: the document is out of step."""
-    for what, room in [("a body", 16 << 20), ("a message", 100 << 20), ("a rope", 224 << 20)]:
-        with Client(program) as client:
-            client.initialize({})
-            client.open(URI, "hello")
-            size = client.server_memory("VmSize") + room
-            resource.prlimit(client.server.pid, resource.RLIMIT_AS, (size, resource.RLIM_INFINITY))
-            heard = methods(client.change(URI, [((0, 0), (0, 0), "x" * (64 << 20))])).count("window/showMessage")
-            text = client.text(URI)
-            client.change(URI, [(None, None, "again")])
-            texts = text, client.text(URI)
-            right = heard == 1 and texts == (OUT_OF_STEP, "again")
-            tally.result(right, f"memory is refused for {what}: {heard} messages, then {texts}")
+def test_half_a_pair_elsewhere(client):
+    """A request hears of it by its id, and what is opened with it is out of step. A pair by two escapes is a char."""
+    client.open(URI, "kept")
+    client.send({"id": "half", **HALF})
+    assert client.said() == [INVALID_PARAMS] and client.text(URI) == "kept"
+    client.change(URI, ((0, 0), (0, 0), "\U0001f438"))
+    assert client.text(URI) == "\U0001f438kept"
+    assert SHOWN in client.open(OTHER, "\udc38") and client.text(OTHER) == OUT_OF_STEP
 
 
-def try_surrogates(program, tally):
-    """Half of a pair is JSON and no Unicode text: what it changes is out of step, and a request hears by its id."""
-    with Client(program) as client:
-        client.initialize({})
-        client.open(URI, "kept")
-        client.send({"id": "half", "method": "pauskern/text", "params": {"textDocument": {"uri": "\ud83d"}}})
-        answers = [(message.get("id"), message.get("error", {}).get("code")) for message in client.said()]
-        right = answers == [("half", PARSE_ERROR)] and client.text(URI) == "kept"
-        tally.result(right, f"a request with half a pair: {answers}")
-        client.change(URI, [((0, 0), (0, 0), "\U0001f438")])
-        text = client.text(URI)
-        tally.result(text == "\U0001f438kept", f"a pair by two escapes: {text!r}")
-        heard = client.change(URI, [((0, 0), (0, 0), "\\\ud83d")])
-        codes = [message.get("error", {}).get("code") for message in heard]
-        right = codes == [PARSE_ERROR, None, None] and client.text(URI) == OUT_OF_STEP
-        tally.result(right, f"a change with half a pair: {codes}, and the document is out of step")
-        heard = client.open("file:///b", "\udc38")
-        right = "window/showMessage" in methods(heard) and client.text("file:///b") == OUT_OF_STEP
-        tally.result(right, "a document that is opened with half a pair is out of step")
+def test_what_is_passed_over(client):
+    client.send({"id": 5, "result": None})
+    client.send({"method": "$/cancelRequest", "params": {"id": 5}})
+    client.send({"method": "$/unknown"})
+    assert client.said() == []
+    client.send({"id": None, "method": "$/unknown"})
+    assert client.said() == [NO_METHOD]
 
 
-def try_batches(program, tally):
-    with Client(program) as client:
-        client.initialize({})
-        client.open(URI, "kept")
-        batch = [{"jsonrpc": "2.0", **message} for message in [
-            {"id": 77, **hover()}, {"method": "$/cancelRequest", "params": {"id": 77}}, {"id": "x", "method": "$/unknown"},
-        ]]
-        client.write(frame(json.dumps([*batch, 1]).encode()))
-        answers = [[one.get("id", 0), "result" in one, one.get("error", {}).get("code")] for one in client.said()[0]]
-        expected = [[77, True, None], ["x", False, NO_METHOD], [None, False, INVALID_REQUEST]]
-        tally.result(answers == expected, f"a batch is answered by one: {answers}")
-        client.write(frame(json.dumps(batch[1:2]).encode()))
-        tally.result(client.said() == [], "a batch of notifications is not answered")
-        client.send({"id": 5, "result": None})
-        client.send({"method": "$/unknown"})
-        tally.result(client.said() == [], "a response, and a notification that is not known, are passed over")
+@pytest.mark.parametrize("what, room, text", [("a body", 16, "x"), ("a message", 128, "x"), ("a rope", 288, "\n")])
+def test_no_memory(client, what, room, text):
+    """Memory is refused for a body of 64 MB or more, for its message, or for the rope: the document is out of step."""
+    client.open(URI, "hello")
+    size = client.memory("VmSize") + (room << 20)
+    resource.prlimit(client.server.pid, resource.RLIMIT_AS, (size, resource.RLIM_INFINITY))
+    assert client.change(URI, ((0, 0), (0, 0), text * (64 << 20))).count(SHOWN) == 1 and client.text(URI) == OUT_OF_STEP
+    client.change(URI, (None, None, "again"))
+    assert client.text(URI) == "again"
 
 
-def try_life(program, tally):
-    with Client(program) as client:
-        early = client.error("textDocument/hover", hover()["params"])
-        client.send({"method": "textDocument/didOpen", "params": {"textDocument": {"uri": URI, "version": 1, "text": ""}}})
-        client.initialize({})
-        codes = [early, client.error("textDocument/rename", {}), client.error("textDocument/hover", hover()["params"])]
-        tally.result(codes == [NOT_INITIALIZED, NO_METHOD, INVALID_PARAMS], f"too early, unknown, of no document: {codes}")
-        again = client.error("initialize", {"capabilities": {}})
-        tally.result(again == INVALID_REQUEST, f"a second initialize: {again}")
-        nothing = client.request("shutdown", None)
-        late = client.error("textDocument/hover", hover()["params"])
-        right = nothing["result"] is None and late == INVALID_REQUEST
-        tally.result(right, f"after a shutdown: {late}")
-        tally.result(client.end("exit") == 0, "an exit after a shutdown is a success")
-    with Client(program) as client:
-        tally.result(client.end("exit") == 1, "an exit without a shutdown is a failure")
-    with Client(program) as client:
-        tally.result(client.end(None) == 1, "an input that ends without an exit is a failure")
-    with Client(program) as client:
-        client.initialize({})
-        client.request("shutdown", None)
-        client.write(frame(body({"method": "exit"}) + b" ")[:-1])
-        tally.result(client.end(None) == 1, "a body that the end of the input cuts off is not executed")
+# The life of a server.
+
+def test_life():
+    with Client() as client:
+        hover = {"textDocument": {"uri": URI}, "position": place(0, 0)}
+        error = lambda method, params=None: client.request(method, params)["error"]["code"]  # noqa: E731
+        assert error("textDocument/hover", hover) == NOT_INITIALIZED
+        client.open(URI, "too early")
+        client.initialize()
+        assert error("textDocument/rename", {}) == NO_METHOD and error("textDocument/hover", hover) == INVALID_PARAMS
+        assert error("initialize", {"capabilities": {}}) == INVALID_REQUEST
+        assert client.request("shutdown", None)["result"] is None
+        assert error("textDocument/hover", hover) == INVALID_REQUEST
+        assert client.end("exit") == 0
 
 
-def come_and_go(client, numbers):
-    """Fifty thousand changes, by which a text comes into a line and goes again."""
-    for _ in range(50):
-        lines = [numbers.randrange(20_000) for _ in range(500)]
-        client.change(URI, [
-            change for line in lines for change in [((line, 3), (line, 3), "x\n🐸 "), ((line, 3), (line + 1, 3), "")]
-        ])
-    return client.server_memory("VmRSS") >> 10
+@pytest.mark.parametrize("method", ["exit", None])
+def test_an_end_without_a_shutdown(method):
+    with Client() as client:
+        assert client.end(method) == 1
 
 
-def try_memory(program, tally):
-    """What a hundred thousand changes take of memory: as much as was taken after the first of them."""
-    text, numbers = "a line of some forty bytes, with a 🐸 \n" * 20_000, random.Random(59)
-    with Client(program) as client:
-        client.initialize({})
-        client.open(URI, text)
-        sizes = [come_and_go(client, numbers) for _ in range(3)]
-        tally.result(client.text(URI) == text, "a hundred and fifty thousand changes, and the text is as it was")
-        right = sizes[2] <= sizes[0] + GROWTH
-        tally.result(right, f"memory after the first 50,000 changes, and after each 50,000 more: {sizes} kB")
+def test_a_last_body_that_is_cut_off(client):
+    client.request("shutdown", None)
+    client.write(frame(body({"method": "exit"}) + b" ")[:-1])
+    assert client.end() == 1
 
 
-TRIED = [
-    try_encodings, try_changes, try_out_of_step, try_ends, try_healing, try_lone_return, try_wrong, try_refused_changes,
-    try_changes_of_none, try_no_memory, try_surrogates, try_batches, try_life, try_memory,
-]
+def test_the_end_of_the_process_that_started_it():
+    with subprocess.Popen(["cat"], stdin=subprocess.PIPE) as process, Client() as client:
+        client.initialize(process=process.pid)
+        process.stdin.close()
+        process.wait()
+        assert client.server.wait(timeout=60) == 1
 
 
-def try_by_hand(program, tally):
-    for one in TRIED:
-        one(program, tally)
+@pytest.mark.parametrize("words, status, said", [
+    (["--version"], 0, "language_server "), (["--help"], 0, "usage: "), (["--nothing"], 2, ""), (["--stdio", "x"], 2, ""),
+])
+def test_words(words, status, said):
+    done = subprocess.run([os.environ["LANGUAGE_SERVER"], *words], capture_output=True, text=True, stdin=subprocess.DEVNULL)
+    assert (done.returncode, done.stdout[:len(said)]) == (status, said)
+    assert ("usage: " in done.stderr) == (status == 2)
+
+
+# What it takes.
+
+def test_changes_by_which_a_text_comes_and_goes(client):
+    """The memory after fifty thousand changes is that after each fifty thousand more."""
+    text, numbers, sizes = "a line of some forty bytes, with a 🐸 \n" * 20_000, random.Random(59), []
+    client.open(URI, text)
+    for _ in range(3):
+        for _ in range(50):
+            lines = [numbers.randrange(20_000) for _ in range(500)]
+            client.change(URI, *[
+                change for line in lines for change in [((line, 3), (line, 3), "x\n🐸 "), ((line, 3), (line + 1, 3), "")]
+            ])
+        sizes.append(client.memory("VmRSS"))
+    assert client.text(URI) == text and sizes[2] <= sizes[0] + GROWTH
+
+
+def test_a_closed_document_gives_its_memory_back(client):
+    before = client.memory("VmRSS")
+    client.open(URI, "a line of some forty bytes, with a 🐸 \n" * 500_000)
+    client.notify("textDocument/didClose", textDocument={"uri": URI})
+    client.open(OTHER, " ")
+    assert client.warned(OTHER) == [(0, 0, 1)]
+    assert client.memory("VmRSS") < before + 8 * MB
+
+
+def with_params(method, params):
+    return b'{"jsonrpc": "2.0", "id": "big", "method": "%s", "params": %s}' % (method, params)
+
+
+def about(rest):
+    return b'{"textDocument": {"uri": "file:///a", "version": 2}, %s}' % rest
+
+
+BIG = {
+    "a batch of numbers": b"[" + b"1," * (4 * MB) + b"1]",
+    "a batch of objects": b"[" + b'{"a":0},' * MB + b"1]",
+    "members": b'{"jsonrpc": "2.0", "a": [' + b"1," * (4 * MB) + b"1]}",
+    "params": with_params(b"initialize", b"[" + b"1," * (4 * MB) + b"1]"),
+    "encodings": with_params(b"initialize", b'{"capabilities": {"general": {"positionEncodings": [' + b"1," * (4 * MB) + b"1]}}}"),
+    "a method": with_params(b"x" * (8 * MB), b"[]"),
+    "an id": with_params(b"x", b"[]").replace(b"big", b"x" * (8 * MB)),
+    "arrays": b'{"a": ' + b"[" * (4 * MB) + b"]" * (4 * MB) + b"}",
+    "changes": with_params(b"textDocument/didChange", about(b'"contentChanges": [' + b'{"text":""},' * (8 * MB // 12) + b"1]")),
+    "uris": b"\xff" + b'"uri":"a",' * (8 * MB // 10),
+    "a text": with_params(b"x", b"[]") .replace(b'"id": "big", "method": "x", "params": []', b'"method": "textDocument/didOpen", '
+                          b'"params": {"textDocument": {"uri": "file:///b", "version": 1, "text": "' + b"a \\n\\n" * (8 * MB // 6) + b'"}}'),
+}
+
+
+@pytest.mark.parametrize("what", BIG)
+def test_eight_megabytes(client, what):
+    """Of whatever they are, and of all that may be asked about them."""
+    client.open(URI, "x ")
+    client.write(frame(BIG[what]))
+    client.said()
+    for method in ["pauskern/text", "textDocument/formatting", "textDocument/foldingRange"]:
+        client.ask(method, OTHER)
+    assert client.memory("VmHWM") <= MOST_MEMORY
+
+
+def seconds(client, messages):
+    """The processor time that each message takes."""
+    before = client.seconds()
+    for message in messages:
+        client.tell(message)
+    return (client.seconds() - before) / len(messages)
+
+
+def key(line, number):
+    return changed(URI, [event((line, 0), (line, 0), "\n" if number % 2 == 0 else "x")], None)
+
+
+@pytest.mark.parametrize("text", ["word " * MB, "x" * (5 * MB), " " * (5 * MB), "🐸\t" * MB], ids=["words", "x", "blanks", "frogs"])
+def test_a_line_of_five_megabytes(client, text):
+    client.open(URI, text)
+    event_at = lambda at: event((0, at), (0, at), "y")  # noqa: E731
+    assert seconds(client, [changed(URI, [event_at(at)], None) for at in range(0, 200_000, 100)]) <= 0.0002
+    assert seconds(client, [changed(URI, [event_at(100 * at) for at in range(1000)], None)]) <= 0.2
+
+
+@pytest.mark.parametrize("line", [0, 999])
+def test_a_key_with_a_thousand_warnings(client, line):
+    client.open(URI, "word \n" * 2000)
+    assert seconds(client, [key(line, number) for number in range(1000)]) <= 0.0002

@@ -4,30 +4,28 @@ Beside each document stands the client's text, by the model of positions in Pyth
 from it, or by the error that the document is out of step: never from another text, whatever stands before it: frames that
 are cut, lengths that are wrong, junk, changes in bodies that are refused, changes that no client in step sends, old
 versions, thousands of changes in a message. The server must not end, nor be silent for a minute, and its memory must stay
-below a bound.
+below a bound. The command `pytest` runs this.
 """
+import collections
 import json
-import pathlib
-import queue
 import random
 import re
-import subprocess
-import threading
-import time
 
-from language_client import changed, event, frame, opened
+from language_client import Client, body, changed, event, frame, place, places_of
 from position_model import Lines
+from tally import least
 
-# no answer takes so long, in seconds
-PATIENCE = 60
-# the most memory that the server has at any time, in kB
-MOST_MEMORY = 32 << 10
+SEED = 59
+# so many messages are sent
+MESSAGES = 100_000
+# the most memory that the server has at any time
+MOST_MEMORY = 32 << 20
 URIS = [f"file:///{name}" for name in "abcde"]
-LONGEST = 3000
+LONGEST = 1000
 OUT_OF_STEP, NO_DOCUMENT, NO_METHOD = -32803, -32602, -32601
 PIECES = ["a", "word", " ", "  ", "\t", "é", "せ", "🐸", "\n", "\r\n", "\r", "\u2028", "\"", "\\", "\0"]
 BLANKS = re.compile("[ \t]+$")
-LONE_RETURN = re.compile(b"\r(?!\n)")
+LONE_RETURN = re.compile("\r(?!\n)")
 # the greatest number of the protocol
 GREATEST = 2**31 - 1
 JUNK = [
@@ -36,28 +34,41 @@ JUNK = [
     b"\xff\xfe", b"\0", b"{}", b"[", b"]", b"\"", b"{\"jsonrpc\": \"2.0\", \"id\": 1", b"junk", b":", b"Content-Len",
     b"Content-Length: 2\r\n\r\n{}", b"\x1b[31m", b"[[[[[[[[[[[[",
 ]
-
-
+WRONG_JSON = [
+    b"", b"{", b"nil", b"\xff", b"[" * 5000, b"{}", b"[]", b"7", b"null", b"\"x\"", b"[1, [2]]", b'{"jsonrpc": "2.0"}',
+    b'{"jsonrpc": "2.0", "id": [], "method": "x"}', b'{"jsonrpc": "2.0", "method": 7}', b'[{"jsonrpc": "2.0", "method": "x"}]',
+    b'{"jsonrpc": "2.0", "id": 1e400}', b'{"jsonrpc": "2.0", "method": "textDocument/didChange"}',
+    b'{"jsonrpc": "2.0", "method": "textDocument/didOpen", "params": []}',
+]
 IN_STEP, DOUBTFUL, LOST = range(3)
 # more bytes than the server takes in a body
 TOO_LONG = 257 << 20
 
 
-def with_member(body, member):
-    return body[:-1] + b", " + member + b"}"
+def with_member(content, member):
+    return content[:-1] + b", " + member + b"}"
 
 
-# by name, what makes a frame that is refused of a message's body
+# by name, what makes a frame that is refused of a change's body
 REFUSED = {
-    "a byte that is not UTF-8": lambda body: frame(with_member(body, b"\"x\": \"\xff\"")),
-    "a TAB in a string": lambda body: frame(with_member(body, b"\"x\": \"\t\"")),
-    "no jsonrpc": lambda body: frame(body.replace(b"\"jsonrpc\": \"2.0\", ", b"", 1)),
-    "a member nested 200 deep": lambda body: frame(with_member(body, b"\"x\": " + b"[" * 200 + b"]" * 200)),
-    "a number out of range": lambda body: frame(with_member(body, b"\"x\": 1e999")),
-    "a length that is one too small": lambda body: frame(body).replace(b"%d" % len(body), b"%d" % (len(body) - 1), 1),
-    "a body that is said to be Latin 1": lambda body: frame(body, b"Content-Type: a; charset=latin1\r\n"),
-    "a body that is too long": lambda body: b"Content-Length: %d\r\n\r\n" % TOO_LONG + body,
-    "half of a surrogate pair": lambda body: frame(with_member(body, b"\"x\": \"\\ud83d\"")),
+    "a byte that is not UTF-8": lambda content: frame(with_member(content, b"\"x\": \"\xff\"")),
+    "a TAB in a string": lambda content: frame(with_member(content, b"\"x\": \"\t\"")),
+    "no jsonrpc": lambda content: frame(content.replace(b"\"jsonrpc\": \"2.0\", ", b"", 1)),
+    "two methods": lambda content: frame(with_member(content, b"\"method\": \"textDocument/didChange\"")),
+    "a length that is one too small": lambda content: frame(content).replace(b"%d" % len(content), b"%d" % (len(content) - 1), 1),
+    "a body that is said to be Latin 1": lambda content: frame(content, b"Content-Type: a; charset=latin1\r\n"),
+    "a body that is too long": lambda content: b"Content-Length: %d\r\n\r\n" % TOO_LONG + content,
+    "half of a surrogate pair": lambda content: frame(content.replace(b"\"text\": \"", b"\"text\": \"\\ud83d", 1)),
+    "a batch": lambda content: frame(b"[%s]" % content),
+}
+# those whose bytes do not say which document they change
+ABOUT_ANY = ["a body that is too long", "two methods"]
+# and what makes a frame that is taken, with what the server does not look at
+ODD = {
+    "a member nested 200 deep": lambda content: frame(with_member(content, b"\"x\": " + b"[" * 200 + b"]" * 200)),
+    "a number out of range": lambda content: frame(with_member(content, b"\"x\": 1e999")),
+    "half of a surrogate pair in a member": lambda content: frame(with_member(content, b"\"x\": \"\\ud83d\"")),
+    "a type": lambda content: frame(content, b"Content-Type: application/vscode-jsonrpc; charset=utf8\r\n"),
 }
 
 
@@ -92,13 +103,13 @@ def units(text):
 
 
 def warnings_of(text):
-    """The places of blanks at the end of lines, as the server tells the first thousand."""
+    """The places of blanks at the end of lines."""
     found = []
     for line, content in enumerate(re.split("\r\n|\r|\n", text)):
         blanks = BLANKS.search(content)
         if blanks:
             found.append((line, units(content[: blanks.start()]), units(content)))
-    return found[:1000]
+    return found
 
 
 def is_between(data, byte):
@@ -111,113 +122,90 @@ def is_whole(events):
     return any("range" not in one for one in events)
 
 
-class WrongClient:
-    def __init__(self, program, seed):
-        self.random = random.Random(seed)
-        self.server = subprocess.Popen([program], stdin=subprocess.PIPE, stdout=subprocess.PIPE, stderr=subprocess.DEVNULL)
-        self.came = queue.Queue()
-        threading.Thread(target=self.read, daemon=True).start()
+class WrongClient(Client):
+    def __init__(self):
+        super().__init__()
+        self.random = random.Random(SEED)
         self.documents = {uri: Document() for uri in URIS}
-        self.number = 0
         # by the number of each request that is not answered yet, what it must be answered with
         self.wanted = {}
-        self.warnings = {}
-        self.counts = dict.fromkeys(["answers", "wrong messages", "changes", "refused changes", "texts", "errors"], 0)
-        self.wrong = []
-
-    def read(self):
-        """Puts the server's messages into the queue, and None at the end."""
-        output = self.server.stdout
-        try:
-            while True:
-                header = iter(lambda: output.readline().strip(), b"")
-                lengths = [int(line.partition(b":")[2]) for line in header]
-                self.came.put(json.loads(output.read(lengths[0])))
-        except (IndexError, ValueError):
-            self.came.put(None)
+        self.counts = collections.Counter()
+        self.initialize()
 
     def write(self, data):
-        self.server.stdin.write(data)
-        self.server.stdin.flush()
+        self.counts["messages"] += 1
+        super().write(data)
 
-    def send(self, message):
-        self.write(frame(json.dumps({"jsonrpc": "2.0", **message}).encode()))
-
-    def request(self, method, params, expected):
-        self.send(self.asked(method, params, expected))
-
-    def asked(self, method, params, expected):
+    def ask_for(self, method, params, expected):
         """A request, whose answer must be one of those expected."""
         self.number += 1
         self.wanted[self.number] = expected
-        return {"jsonrpc": "2.0", "id": self.number, "method": method, "params": params}
+        self.send({"id": self.number, "method": method, "params": params})
 
     # right messages
 
     def ask_for_text(self, uri=None):
         uri = uri or self.random.choice(URIS)
-        self.request("pauskern/text", {"textDocument": {"uri": uri}}, self.documents[uri].expected())
+        self.ask_for("pauskern/text", {"textDocument": {"uri": uri}}, self.documents[uri].expected())
 
     def ask_for_hover(self):
         uri = self.random.choice(URIS)
         document = self.documents[uri]
-        place = {"line": self.random.randrange(30), "character": self.random.randrange(30)}
-        byte = Lines(document.text).byte((place["line"], place["character"]), 16)
+        at = self.random.randrange(30), self.random.randrange(30)
+        byte = Lines(document.text).byte(at, 16)
         expected = [f"byte {byte}\n" if isinstance(one, str) else one for one in document.expected()]
-        self.request("textDocument/hover", {"textDocument": {"uri": uri}, "position": place}, expected)
+        self.ask_for("textDocument/hover", {"textDocument": {"uri": uri}, "position": place(*at)}, expected)
+
+    def ask_for_edits(self):
+        uri = self.random.choice(URIS)
+        document = self.documents[uri]
+        expected = [one if isinstance(one, int) else warnings_of(one) for one in document.expected()]
+        self.ask_for("textDocument/formatting", {"textDocument": {"uri": uri}}, expected)
 
     def ask_for_nothing(self):
-        self.request(self.random.choice(["$/x", "textDocument/rename", "é", ""]), {}, [NO_METHOD])
-
-    def ask_in_a_batch(self):
-        uri = self.random.choice(URIS)
-        asked = [
-            self.asked("pauskern/text", {"textDocument": {"uri": uri}}, self.documents[uri].expected())
-            for _ in range(self.random.randrange(1, 4))
-        ]
-        asked.insert(self.random.randrange(len(asked) + 1), {"jsonrpc": "2.0", "method": "$/cancelRequest", "params": {"id": 1}})
-        self.write(frame(json.dumps(asked).encode()))
+        self.ask_for(self.random.choice(["$/x", "textDocument/rename", "é", ""]), {}, [NO_METHOD])
 
     def random_text(self, most):
         """Some pieces; three of four texts have no CR that stands alone."""
         text = "".join(self.random.choice(PIECES) for _ in range(self.random.randrange(most)))
-        return text if self.random.randrange(4) == 0 else LONE_RETURN.sub(b"", text.encode()).decode()
+        return text if self.random.randrange(4) == 0 else LONE_RETURN.sub("", text)
 
     def open(self):
         uri = self.random.choice(URIS)
         document = self.documents[uri]
         document.is_open, document.text, document.state = True, self.random_text(200), IN_STEP
         document.version = document.taken = 1
-        self.send({"method": "textDocument/didOpen", "params": opened(uri, document.text)})
+        item = {"uri": uri, "languageId": "text", "version": 1, "text": document.text}
+        self.send({"method": "textDocument/didOpen", "params": {"textDocument": item}})
 
     def close(self):
         uri = self.random.choice(URIS)
         self.documents[uri].is_open = False
         self.send({"method": "textDocument/didClose", "params": {"textDocument": {"uri": uri}}})
 
-    def place(self, data):
+    def byte(self, data, has_return):
         """A place of a text: a byte where a char begins; between CR and LF, where no CR stands alone."""
         byte = self.random.randrange(len(data) + 1)
         while byte < len(data) and data[byte] & 0xC0 == 0x80:
             byte += 1
-        return byte - (is_between(data, byte) and bool(LONE_RETURN.search(data)))
+        return byte - (has_return and is_between(data, byte))
 
     def right_change(self, text):
         """A random change that names places, and the text after it."""
         if self.random.randrange(12) == 0 or len(text) > LONGEST:
             return event(None, None, whole := self.random_text(200)), whole
-        lines = Lines(text)
+        lines, has_return = Lines(text), LONE_RETURN.search(text) is not None
         data = lines.data
-        start, end = sorted([self.place(data), self.place(data)])
+        start, end = sorted([self.byte(data, has_return), self.byte(data, has_return)])
         if self.random.randrange(2) == 0:
             end = start
-        said = self.random.choice(self.ways(lines, end))
+        said = self.random.choice(self.ways(lines, end, has_return))
         # where both are one place they are said alike, so that the end is not said before the start
-        start_said = said if start == end else self.ways(lines, start)[0]
+        start_said = said if start == end else self.ways(lines, start, has_return)[0]
         put = self.random_text(20)
         return event(start_said, said, put), (data[:start] + put.encode() + data[end:]).decode()
 
-    def ways(self, lines, byte):
+    def ways(self, lines, byte, has_return):
         """How a client may say a place: an end of a line, or of the text, also by a position past it."""
         line, character = place = lines.position(byte, 16)
         if is_between(lines.data, byte):
@@ -225,13 +213,14 @@ class WrongClient:
         ways = [place, place]
         if byte == len(lines.data):
             ways += [(len(lines.lines), 0), (GREATEST, GREATEST)]
-        if byte == lines.end(line) and not LONE_RETURN.search(lines.data):
+        if byte == lines.end(line) and not has_return:
             ways += [(line, character + self.random.randrange(2, LONGEST))]
         return ways
 
     def changed(self, uri, events, version):
         self.counts["changes"] += len(events)
-        self.send(changed(uri, events, version))
+        content = body(changed(uri, events, version))
+        self.write(self.random.choice(list(ODD.values()))(content) if self.random.randrange(8) == 0 else frame(content))
 
     def right_changes(self, document):
         """Some right changes of a document. Where the server is out of step, it refuses ranges, and takes a whole text."""
@@ -307,14 +296,6 @@ class WrongClient:
         right = self.right_change(document.text)[0]
         return self.random.choice([[one], [right, one], [right, one, event((0, 0), (0, 0), "y")]])
 
-    def half_a_pair(self):
-        uri = self.random.choice(URIS)
-        document = self.documents[uri]
-        if document.is_open:
-            document.version += 1
-            document.state = LOST
-            self.changed(uri, [event((0, 0), (0, 0), "\ud83d")], document.version)
-
     def doubt(self):
         """What is sent may be a change of any document."""
         for document in self.documents.values():
@@ -327,14 +308,14 @@ class WrongClient:
         if not document.is_open:
             return
         name, refused = self.random.choice(list(REFUSED.items()))
-        if name == "a body that is too long":
+        if name in ABOUT_ANY:
             self.doubt()
         self.counts["refused changes"] += 1
         # after what is refused, the server finds a frame by its length, and reads no other line before that one
         self.ask_for_nothing()
         events = self.right_changes(document)
         document.state = LOST
-        self.write(refused(json.dumps({"jsonrpc": "2.0", **changed(uri, events, document.version)}).encode()))
+        self.write(refused(body(changed(uri, events, document.version))))
         self.change(uri)
         self.ask_for_text(uri)
 
@@ -349,7 +330,7 @@ class WrongClient:
             message = changed(uri, events, document.version)
             # a cut in the header may leave the frame as right as it was
             document.state = DOUBTFUL if is_whole(events) else document.state
-        whole = frame(json.dumps({"jsonrpc": "2.0", **message}).encode())
+        whole = frame(body(message))
         at = self.random.randrange(1, len(whole))
         cut = self.random.randrange(1, 30)
         self.write(self.random.choice([
@@ -369,16 +350,11 @@ class WrongClient:
 
     def wrong_json(self):
         self.doubt()
-        self.write(frame(self.random.choice([
-            b"", b"{", b"nil", b"\xff", b"[" * 5000, b"{}", b"[]", b"7", b"null", b"\"x\"", b"[1, [2]]", b'{"jsonrpc": "2.0"}',
-            b'{"jsonrpc": "2.0", "id": [], "method": "x"}', b'{"jsonrpc": "2.0", "method": 7}',
-            b'{"jsonrpc": "2.0", "id": 1e400}', b'{"jsonrpc": "2.0", "method": "textDocument/didChange"}',
-            b'{"jsonrpc": "2.0", "method": "textDocument/didOpen", "params": []}',
-        ])))
+        self.write(frame(self.random.choice(WRONG_JSON)))
 
-    RIGHT = [ask_for_text, ask_for_text, ask_for_hover, ask_for_nothing, ask_in_a_batch, open, open, close,
-             change, change, change, change, heal, save]
-    WRONG = [wrong_change, half_a_pair, refused_body, refused_body, cut_frame, cut_frame, junk, junk, wrong_json]
+    RIGHT = [ask_for_text, ask_for_text, ask_for_hover, ask_for_nothing, ask_for_edits, open, open, close,
+             change, change, change, change, heal, heal, save]
+    WRONG = [wrong_change, refused_body, refused_body, cut_frame, cut_frame, junk, junk, wrong_json]
 
     def step(self):
         if self.random.randrange(100) == 0:
@@ -391,83 +367,39 @@ class WrongClient:
 
     # what comes back
 
-    def take(self, message):
-        if isinstance(message, list):
-            for one in message:
-                self.take(one)
-        elif message.get("method") == "textDocument/publishDiagnostics":
-            places = [one["range"] for one in message["params"]["diagnostics"]]
-            self.warnings[message["params"]["uri"]] = [
-                (place["start"]["line"], place["start"]["character"], place["end"]["character"]) for place in places
-            ]
-        elif message.get("id") in self.wanted:
-            self.compare(message)
-        elif "error" in message:
-            self.counts["errors"] += 1
-
     def compare(self, message):
+        """Looks whether an answer is one of those that it may be."""
         expected = self.wanted.pop(message["id"])
-        result = message.get("result") or {}
-        answer = message["error"]["code"] if "error" in message else result.get("text")
-        if "contents" in result:
-            answer = result["contents"]["value"].partition("\n")[0] + "\n"
+        result = message.get("result")
+        if "error" in message:
+            answer = message["error"]["code"]
+        elif isinstance(result, list):
+            answer = places_of(result)
+        else:
+            answer = result["text"] if "text" in result else result["contents"]["value"].partition("\n")[0] + "\n"
         self.counts["answers"] += 1
         self.counts["texts"] += isinstance(answer, str)
-        if answer not in expected:
-            self.wrong.append(f"expected {expected!r}, answered {answer!r}")
+        assert answer in expected
 
     def settle(self):
-        """Waits for the answers to all right requests; whether they came."""
-        self.request("pauskern/nothing", None, [NO_METHOD])
+        """Waits for the answers to all right requests, before which warnings are sent."""
+        self.ask_for_nothing()
         while self.wanted:
-            try:
-                message = self.came.get(timeout=PATIENCE)
-            except queue.Empty:
-                message = None
-            if message is None:
-                status, owed = self.server.poll(), len(self.wanted)
-                self.wrong.append(f"the server ended, with {status}, or is silent, and owes {owed} answers")
-                return False
-            self.take(message)
-        return self.compare_warnings()
-
-    def compare_warnings(self):
+            message = self.next_message()
+            if message.get("id") in self.wanted:
+                self.compare(message)
         for uri, document in self.documents.items():
-            if self.warnings.get(uri, []) not in document.warnings():
-                self.wrong.append(f"warnings of {document.text!r}: {self.warnings.get(uri)}")
-        return not self.wrong
+            assert self.warned(uri) in document.warnings()
 
-    def memory(self):
-        """The most memory that the server had, in kB."""
-        status = pathlib.Path(f"/proc/{self.server.pid}/status").read_text(encoding="utf-8")
-        return int(re.search(r"VmHWM:\s+(\d+) kB", status)[1])
 
-    def run(self, seconds):
-        """Speaks for so long, and ends the server as a right client does; what was wrong, and the server's exit status."""
-        self.request("initialize", {"capabilities": {}}, [None])
-        over = time.monotonic() + seconds
-        while self.settle() and time.monotonic() < over:
+def test_a_client_that_speaks_wrongly():
+    with WrongClient() as client:
+        while client.counts["messages"] < MESSAGES:
             for _ in range(50):
-                self.step()
-        memory = self.memory() if self.server.poll() is None else 0
-        if not self.wrong:
-            self.request("shutdown", None, [None])
-            self.send({"method": "exit"})
-            self.server.stdin.close()
-        else:
-            self.server.kill()
-        return memory, self.server.wait(timeout=PATIENCE)
-
-
-def try_wrong_client(program, seed, seconds, tally):
-    client = WrongClient(program, seed)
-    memory, status = client.run(seconds)
-    for line in client.wrong[:3]:
-        print(line[:1000])
+                client.step()
+            client.settle()
+        assert client.memory("VmHWM") <= MOST_MEMORY
+        assert client.request("shutdown", None)["result"] is None and client.end("exit") == 0
+    print(json.dumps(client.counts))
     for what in ["answers", "texts", "changes", "refused changes"]:
-        number = 0 if client.wrong else client.counts[what]
-        tally.enough(f"{what} of wrong_client.py", number, f"a client that speaks wrongly: {what}")
-    counts = ", ".join(f"{number} {what}" for what, number in client.counts.items())
-    right = not client.wrong and status == 0
-    tally.result(right, f"all its right requests are answered, and the server ends with {status}: {counts}")
-    tally.result(memory <= MOST_MEMORY, f"the server has {memory} kB at the most, of {MOST_MEMORY}")
+        assert client.counts[what] >= least(f"{what} of wrong_client.py")

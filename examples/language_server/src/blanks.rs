@@ -1,0 +1,222 @@
+//! Blanks at the end of lines.
+use crate::faults::Fault;
+use crate::protocol::Span;
+use std::ops;
+use str_rope::{Encoding, Error, Rope, Scheme};
+
+/// At most so many warnings are sent for a document.
+pub const MOST_WARNINGS: usize = 1000;
+
+/// So many bytes before a line's end blanks are warned of, so that a change in a line of millions reads no more of it.
+const LONGEST_WARNING: usize = 1000;
+
+/// The first lines of a text that end in blanks, as far as lines were read.
+#[derive(Default)]
+pub struct Warnings {
+    found: Vec<Span>,
+    /// How many lines were read.
+    read: usize,
+}
+
+impl Warnings {
+    /// Takes in that a part of some lines was exchanged for another text, by which the text came to have other lines: how
+    /// many they were before. The lines before those, and the lines after them, have the content that they had.
+    pub fn changed(
+        &mut self,
+        rope: &Rope,
+        encoding: Encoding,
+        lines: ops::Range<usize>,
+        lines_before: usize,
+    ) -> Result<(), Fault> {
+        if self.read <= lines.start {
+            return Ok(());
+        }
+        let next_now = (number_of_lines(rope) + lines.end)
+            .saturating_sub(lines_before)
+            .max(lines.start);
+        let read_before = self.read;
+        let after = self.found.split_off(self.before(lines.end));
+        self.found.truncate(self.before(lines.start));
+        self.read = lines.start;
+        self.read_to(rope, encoding, next_now)?;
+        if self.read == next_now && lines.end <= read_before {
+            for one in after {
+                self.found.push(one.moved(lines.end, next_now)?);
+            }
+            self.read = read_before - lines.end + next_now;
+        }
+        if self.found.len() > 2 * MOST_WARNINGS {
+            self.found.truncate(MOST_WARNINGS);
+            self.read = self.found[MOST_WARNINGS - 1].lines().end;
+        }
+        Ok(())
+    }
+
+    /// The first of them.
+    pub fn first(&mut self, rope: &Rope, encoding: Encoding) -> Result<&[Span], Fault> {
+        self.read_to(rope, encoding, number_of_lines(rope))?;
+        Ok(&self.found[..self.found.len().min(MOST_WARNINGS)])
+    }
+
+    /// How many are before a line.
+    fn before(&self, line: usize) -> usize {
+        self.found.partition_point(|one| one.lines().start < line)
+    }
+
+    /// Reads on up to a line, or until there are enough.
+    fn read_to(&mut self, rope: &Rope, encoding: Encoding, line: usize) -> Result<(), Fault> {
+        let missing = MOST_WARNINGS.saturating_sub(self.found.len());
+        if self.read < line && missing > 0 {
+            let found = blanks_in(rope, encoding, self.read..line, LONGEST_WARNING, missing)?;
+            self.read = if found.len() < missing {
+                line
+            } else {
+                found[missing - 1].lines().end
+            };
+            self.found.extend(found);
+        }
+        Ok(())
+    }
+}
+
+/// How many lines a text has, as the protocol counts them: one more than line breaks.
+pub fn number_of_lines(rope: &Rope) -> usize {
+    rope.count(Scheme::Crlf) + 1
+}
+
+/// Where some lines end in blanks: the first of these, at most `most`, and of each the last `longest` bytes. Of the last line
+/// no more is read.
+pub fn blanks_in(
+    rope: &Rope,
+    encoding: Encoding,
+    lines: ops::Range<usize>,
+    longest: usize,
+    most: usize,
+) -> Result<Vec<Span>, Fault> {
+    let start_of = |line| rope.to_byte_idx(Scheme::Crlf, line);
+    let tail_of = |line| {
+        let end = rope.line_end(line);
+        let start = end.saturating_sub(longest).max(start_of(line));
+        rope.char_to_byte(rope.byte_to_char(start))..end
+    };
+    let mut found = Vec::new();
+    if !lines.is_empty() {
+        let last = lines.end - 1;
+        if lines.start < last {
+            find_blanks(rope, tail_of(lines.start).start..start_of(last), most, &mut found)?;
+        }
+        find_blanks(rope, tail_of(last), most, &mut found)?;
+    }
+    let span = |bytes: ops::Range<usize>| {
+        Span::of(
+            rope,
+            encoding,
+            bytes.start.max(bytes.end.saturating_sub(longest))..bytes.end,
+        )
+    };
+    found.into_iter().map(span).collect()
+}
+
+/// Looks for blanks before a break or the end of a part of a text, until so many are found.
+fn find_blanks(
+    rope: &Rope,
+    part: ops::Range<usize>,
+    most: usize,
+    found: &mut Vec<ops::Range<usize>>,
+) -> Result<(), Error> {
+    let end = part.end;
+    let mut start = None;
+    for chunk in rope.chunks_in(part)? {
+        for (at, byte) in (chunk.start()..).zip(chunk.bytes()) {
+            match byte {
+                b' ' | b'\t' => start = start.or(Some(at)),
+                b'\r' | b'\n' => found.extend(start.take().map(|start| start..at)),
+                _ => start = None,
+            }
+            if found.len() == most {
+                return Ok(());
+            }
+        }
+    }
+    found.extend(start.map(|start| start..end));
+    Ok(())
+}
+
+#[cfg(test)]
+mod tests {
+    use super::*;
+    use crate::protocol::Place;
+
+    /// Random numbers, by xorshift.
+    struct Numbers(u64);
+
+    impl Numbers {
+        fn below(&mut self, limit: usize) -> usize {
+            self.0 ^= self.0 << 13;
+            self.0 ^= self.0 >> 7;
+            self.0 ^= self.0 << 17;
+            (self.0 % limit as u64) as usize
+        }
+
+        fn text(&mut self, pieces: usize) -> String {
+            const PIECES: [&str; 10] = [" ", "\t", "\r", "\n", "\r\n", "a", "é", "世", "🐸", "  \n"];
+            (0..self.below(pieces))
+                .map(|_| PIECES[self.below(PIECES.len())])
+                .collect()
+        }
+    }
+
+    /// The first warnings of a whole text.
+    fn all(rope: &Rope, encoding: Encoding) -> Vec<Span> {
+        Warnings::default().first(rope, encoding).unwrap().to_vec()
+    }
+
+    #[test]
+    fn what_is_kept_is_what_the_whole_text_has() {
+        let mut numbers = Numbers(59);
+        for encoding in [Encoding::Utf8, Encoding::Utf16, Encoding::Utf32] {
+            let (mut rope, mut kept) = (Rope::new(), Warnings::default());
+            for turn in 0..20_000 {
+                let mut bytes = [numbers.below(rope.len_bytes() + 1), numbers.below(rope.len_bytes() + 1)];
+                bytes.sort();
+                let [start, end] = bytes.map(|byte| rope.char_to_byte(rope.byte_to_char(byte)));
+                let end = if numbers.below(8) == 0 {
+                    end
+                } else {
+                    end.min(start + 40)
+                };
+                let end = rope.char_to_byte(rope.byte_to_char(end));
+                let line = |byte| rope.position_of(encoding, byte).line;
+                let (lines, before) = (line(start)..line(end) + 1, number_of_lines(&rope));
+                let text = numbers.text(if turn % 100 == 0 { 8_000 } else { 24 });
+                rope.replace(start..end, &text).unwrap();
+                kept.changed(&rope, encoding, lines, before).unwrap();
+                if numbers.below(3) == 0 {
+                    assert_eq!(kept.first(&rope, encoding).unwrap(), all(&rope, encoding), "{rope:?}");
+                }
+            }
+        }
+    }
+
+    #[test]
+    fn what_is_found_is_by_hand() {
+        let rope: Rope = "a \r\n🐸\t \r \n\n  ".parse().unwrap();
+        let found = |encoding| {
+            let numbers = |place: Place| (place.line, place.character);
+            let one = |one: Span| (numbers(*one.start), numbers(*one.end).1);
+            all(&rope, encoding).into_iter().map(one).collect::<Vec<_>>()
+        };
+        assert_eq!(
+            found(Encoding::Utf8),
+            [((0, 1), 2), ((1, 4), 6), ((2, 0), 1), ((4, 0), 2)]
+        );
+        assert_eq!(
+            found(Encoding::Utf16),
+            [((0, 1), 2), ((1, 2), 4), ((2, 0), 1), ((4, 0), 2)]
+        );
+        assert_eq!(
+            found(Encoding::Utf32),
+            [((0, 1), 2), ((1, 1), 3), ((2, 0), 1), ((4, 0), 2)]
+        );
+    }
+}
