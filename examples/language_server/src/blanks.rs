@@ -4,8 +4,8 @@ use crate::protocol::Span;
 use std::ops;
 use str_rope::{Encoding, Error, Rope, Scheme};
 
-/// At most so many warnings are sent for a document.
-pub const MOST_WARNINGS: usize = 1000;
+/// At most so many warnings are sent for a document: a key that moves one sends all of them again.
+const MOST_WARNINGS: usize = 200;
 
 /// So many bytes before a line's end blanks are warned of, so that a change in a line of millions reads no more of it.
 const LONGEST_WARNING: usize = 1000;

@@ -15,7 +15,9 @@ mod system;
 use frames::{Frames, Refused};
 use server::Server;
 use std::env;
+use std::fs::File;
 use std::io::{self, stdin, stdout, BufWriter, Write};
+use std::os::fd::AsFd;
 use std::process::ExitCode;
 
 const HELP: &str = "\
@@ -39,7 +41,9 @@ fn main() -> io::Result<ExitCode> {
 }
 
 fn serve() -> io::Result<ExitCode> {
-    let (mut frames, mut output) = (Frames::new(stdin().lock()), BufWriter::new(stdout().lock()));
+    // Rust's own standard output looks for line breaks in all that it writes.
+    let output = File::from(stdout().as_fd().try_clone_to_owned()?);
+    let (mut frames, mut output) = (Frames::new(stdin().lock()), BufWriter::new(output));
     let mut server = Server::default();
     loop {
         if frames.is_idle() {

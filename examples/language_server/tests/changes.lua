@@ -192,13 +192,13 @@ local function compare_hover(text)
   found.hovers = found.hovers + 1
 end
 
--- The lines that end in blanks, as the editor has warnings; at most a thousand. The editor's own search does not serve: it
+-- The lines that end in blanks, as the editor has warnings; at most 200. The editor's own search does not serve: it
 -- takes a blank with a combining char for a blank.
 local function expected_warnings()
   local warnings = {}
   for row, line in ipairs(vim.api.nvim_buf_get_lines(0, 0, -1, true)) do
     local first = line:find("[ \t]+$")
-    if first and #warnings < 1000 then
+    if first and #warnings < 200 then
       table.insert(warnings, string.format("%d:%d-%d:%d", row - 1, first - 1, row - 1, #line))
     end
   end

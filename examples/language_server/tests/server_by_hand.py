@@ -57,14 +57,14 @@ def test_changes_and_warnings(client):
 
 
 def test_warnings_are_sent_where_they_changed(client):
-    client.open(URI, "a \n" * 1001 + "b" * 2000 + " " * 2000)
-    assert client.warned(URI) == [(line, 1, 2) for line in range(1000)]
+    client.open(URI, "a \n" * 201 + "b" * 2000 + " " * 2000)
+    assert client.warned(URI) == [(line, 1, 2) for line in range(200)]
     client.warnings.clear()
     client.change(URI, ((0, 0), (0, 0), "x"), ((0, 0), (0, 1), ""))
     client.open(OTHER, " ")
     assert client.warned(OTHER) == [(0, 0, 1)]
     assert URI not in client.warnings
-    client.change(URI, ((0, 0), (999, 0), ""))
+    client.change(URI, ((0, 0), (199, 0), ""))
     assert client.warned(URI) == [(0, 1, 2), (1, 1, 2), (2, 3000, 4000)]
 
 
@@ -446,7 +446,7 @@ def test_a_line_of_five_megabytes(client, text):
     assert seconds(client, [changed(URI, [event_at(100 * at) for at in range(1000)], None)]) <= 0.2
 
 
-@pytest.mark.parametrize("line", [0, 999])
+@pytest.mark.parametrize("line", [0, 199])
 def test_a_key_with_a_thousand_warnings(client, line):
     client.open(URI, "word \n" * 2000)
     assert seconds(client, [key(line, number) for number in range(1000)]) <= 0.0002
