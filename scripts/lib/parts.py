@@ -97,7 +97,8 @@ PARTS = (
     Part("crates/rope_positions/tests/position_changes.py", 30, ("rope_positions",),
          ("crates/rope_positions/tests/rope_positions.rt.txt",)),
     Part("examples/language_server/tests/test_editor.py", 60, FOR_C,
-         (*FUNCTIONS, *ROPE, *CARGO_CRATES, "examples/language_server/**/*"), (*SHELL, *BINUTILS, *RUST, "nvim", "emacs")),
+         (*FUNCTIONS, *ROPE, *CARGO_CRATES, "examples/language_server/**/*", "examples/language_server/README.md"),
+         (*SHELL, *BINUTILS, *RUST, "pytest", "nvim", "emacs")),
 )
 
 

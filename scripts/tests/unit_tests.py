@@ -9,9 +9,7 @@ import importlib.machinery
 import importlib.util
 import os
 import pathlib
-import re
 import shutil
-import subprocess
 import sys
 
 ROOT = pathlib.Path(__file__).resolve().parents[2]

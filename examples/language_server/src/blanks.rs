@@ -203,7 +203,7 @@ mod tests {
         let rope: Rope = "a \r\n🐸\t \r \n\n  ".parse().unwrap();
         let found = |encoding| {
             let numbers = |place: Place| (place.line, place.character);
-            let one = |one: Span| (numbers(*one.start), numbers(*one.end).1);
+            let one = |one: Span| (numbers(one.start), numbers(one.end).1);
             all(&rope, encoding).into_iter().map(one).collect::<Vec<_>>()
         };
         assert_eq!(

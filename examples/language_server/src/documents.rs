@@ -1,7 +1,7 @@
 //! One open document: its text as a rope, or that the server does not know it.
 use crate::blanks::{blanks_in, number_of_lines, Warnings};
 use crate::faults::Fault;
-use crate::protocol::{self, Change, Changed, Fold, Object, Opened, Place, Span};
+use crate::protocol::{self, Change, Changed, Fold, Opened, Place, Span};
 use serde::{Serialize, Serializer};
 use serde_json::{json, Value};
 use std::mem;
@@ -149,7 +149,7 @@ impl Text {
         if range.end < range.start {
             return Err(Error::NotOrdered.into());
         }
-        let place = |place: Object<Place>| self.place(place.position()).ok_or(Error::NotBoundary);
+        let place = |place: Place| self.place(place.position()).ok_or(Error::NotBoundary);
         let (from, to) = (place(range.start)?, place(range.end)?);
         let line = |byte| self.rope.position_of(self.encoding, byte).line;
         let lines = line(from)..line(to) + 1;
@@ -210,27 +210,18 @@ impl Text {
         let lines = text
             .split('\n')
             .flat_map(|line| line.strip_suffix('\r').unwrap_or(line).split('\r'));
-        let mut start_line = None;
-        let mut folds = Vec::new();
-        for (line, content) in lines.chain([""]).enumerate() {
-            let is_blank = content.trim_ascii().is_empty();
-            match start_line {
-                None if !is_blank => start_line = Some(line),
-                Some(start) if is_blank => {
-                    let end = line - 1;
-                    folds.extend((start < end).then_some(Fold {
-                        start_line: start,
-                        end_line: end,
-                    }));
-                    start_line = None;
-                }
-                _ => {}
-            }
-            if folds.len() == MOST_FOLDS {
-                break;
-            }
-        }
-        Ok(folds)
+        let mut next = 0;
+        let folds = lines.chain([""]).enumerate().filter_map(|(line, content)| {
+            let start_line = content
+                .trim_ascii()
+                .is_empty()
+                .then(|| mem::replace(&mut next, line + 1))?;
+            (start_line + 1 < line).then(|| Fold {
+                start_line,
+                end_line: line - 1,
+            })
+        });
+        Ok(folds.take(MOST_FOLDS).collect())
     }
 }
 

@@ -1,13 +1,9 @@
 //! What the protocol has as JSON.
 use crate::faults::Fault;
 use crate::messages::Raw;
-use serde::de::value::MapAccessDeserializer;
-use serde::de::{MapAccess, Visitor};
-use serde::{Deserialize, Deserializer, Serialize};
+use serde::{Deserialize, Serialize};
 use std::borrow::Cow;
-use std::fmt;
-use std::marker::PhantomData;
-use std::ops::{self, Deref, DerefMut};
+use std::ops;
 use str_rope::{Encoding, Position, Rope};
 
 /// The encodings that the server has, each with the protocol's name.
@@ -16,45 +12,6 @@ const ENCODINGS: [(&str, Encoding); 3] = [
     ("utf-16", Encoding::Utf16),
     ("utf-32", Encoding::Utf32),
 ];
-
-/// A JSON object. Serde takes an array of its members too, and this does not.
-#[derive(Clone, Copy, Debug, Default, PartialEq, PartialOrd, Serialize)]
-#[serde(transparent)]
-pub struct Object<T>(T);
-
-struct Members<T>(PhantomData<T>);
-
-impl<'de, T: Deserialize<'de>> Deserialize<'de> for Object<T> {
-    fn deserialize<D: Deserializer<'de>>(value: D) -> Result<Object<T>, D::Error> {
-        value.deserialize_map(Members(PhantomData)).map(Object)
-    }
-}
-
-impl<'de, T: Deserialize<'de>> Visitor<'de> for Members<T> {
-    type Value = T;
-
-    fn expecting(&self, f: &mut fmt::Formatter<'_>) -> fmt::Result {
-        f.write_str("an object")
-    }
-
-    fn visit_map<A: MapAccess<'de>>(self, members: A) -> Result<T, A::Error> {
-        T::deserialize(MapAccessDeserializer::new(members))
-    }
-}
-
-impl<T> Deref for Object<T> {
-    type Target = T;
-
-    fn deref(&self) -> &T {
-        &self.0
-    }
-}
-
-impl<T> DerefMut for Object<T> {
-    fn deref_mut(&mut self) -> &mut T {
-        &mut self.0
-    }
-}
 
 /// A `Position`, in the protocol's numbers.
 #[derive(Clone, Copy, Debug, PartialEq, PartialOrd, Deserialize, Serialize)]
@@ -66,14 +23,14 @@ pub struct Place {
 /// A `Range`.
 #[derive(Clone, Copy, Debug, PartialEq, Deserialize, Serialize)]
 pub struct Span {
-    pub start: Object<Place>,
-    pub end: Object<Place>,
+    pub start: Place,
+    pub end: Place,
 }
 
 impl Place {
-    fn of(rope: &Rope, encoding: Encoding, byte: usize) -> Result<Object<Place>, Fault> {
+    fn of(rope: &Rope, encoding: Encoding, byte: usize) -> Result<Place, Fault> {
         let (line, character) = rope.position_of(encoding, byte).to_u32()?;
-        Ok(Object(Place { line, character }))
+        Ok(Place { line, character })
     }
 
     pub fn position(self) -> Position {
@@ -91,9 +48,11 @@ impl Span {
         Ok(Span { start, end })
     }
 
-    /// The lines that it touches.
+    /// The lines of which it has a part; where it is empty, its line.
     pub fn lines(self) -> ops::Range<usize> {
-        self.start.position().line..self.end.position().line + 1
+        let (start, end) = (self.start.position(), self.end.position());
+        let has_last = end.character > 0 || start.line == end.line;
+        start.line..end.line + usize::from(has_last)
     }
 
     /// The same, where what was a line came to be another one.
@@ -110,13 +69,13 @@ impl Span {
 pub struct Initialize<'a> {
     pub process_id: Option<u32>,
     #[serde(borrow, default)]
-    pub capabilities: Object<Capabilities<'a>>,
+    pub capabilities: Capabilities<'a>,
 }
 
 #[derive(Default, Deserialize)]
 pub struct Capabilities<'a> {
     #[serde(borrow)]
-    general: Option<Object<General<'a>>>,
+    general: Option<General<'a>>,
 }
 
 #[derive(Deserialize)]
@@ -131,7 +90,7 @@ struct General<'a> {
 #[serde(rename_all = "camelCase")]
 struct About<'a> {
     #[serde(borrow)]
-    text_document: Object<Identifier<'a>>,
+    text_document: Identifier<'a>,
 }
 
 #[derive(Deserialize)]
@@ -144,7 +103,7 @@ struct Identifier<'a> {
 #[serde(rename_all = "camelCase")]
 pub struct Opened<'a> {
     #[serde(borrow)]
-    pub text_document: Object<Item<'a>>,
+    pub text_document: Item<'a>,
 }
 
 #[derive(Deserialize)]
@@ -159,9 +118,9 @@ pub struct Item<'a> {
 #[serde(rename_all = "camelCase")]
 pub struct Changed<'a> {
     #[serde(borrow)]
-    pub text_document: Object<Versioned<'a>>,
+    pub text_document: Versioned<'a>,
     #[serde(borrow)]
-    pub content_changes: Vec<Object<Change<'a>>>,
+    pub content_changes: Vec<Change<'a>>,
 }
 
 #[derive(Deserialize)]
@@ -174,7 +133,7 @@ pub struct Versioned<'a> {
 #[derive(Deserialize)]
 pub struct Change<'a> {
     /// None, where the text is the whole one.
-    pub range: Option<Object<Span>>,
+    pub range: Option<Span>,
     #[serde(borrow)]
     pub text: Cow<'a, str>,
 }
@@ -187,18 +146,18 @@ pub struct Saved<'a> {
 
 #[derive(Deserialize)]
 pub struct At {
-    pub position: Object<Place>,
+    pub position: Place,
 }
 
 #[derive(Deserialize)]
 pub struct In {
-    pub range: Object<Span>,
+    pub range: Span,
 }
 
 #[derive(Deserialize)]
 pub struct Wanted<'a> {
     #[serde(borrow)]
-    context: Object<Context<'a>>,
+    context: Context<'a>,
 }
 
 #[derive(Deserialize)]
@@ -218,13 +177,12 @@ impl Wanted<'_> {
 /// The parameters of a message.
 pub fn read<'a, T: Deserialize<'a>>(params: Raw<'a>) -> Result<T, Fault> {
     let params = params.ok_or_else(|| Fault::invalid("params"))?;
-    let read: Object<T> = serde_json::from_str(params.get()).map_err(|_| Fault::invalid("params"))?;
-    Ok(read.0)
+    serde_json::from_str(params.get()).map_err(|_| Fault::invalid("params"))
 }
 
 /// The document that a message is about.
 pub fn uri(params: Raw<'_>) -> Result<Cow<'_, str>, Fault> {
-    Ok(read::<About>(params)?.text_document.0.uri)
+    Ok(read::<About>(params)?.text_document.uri)
 }
 
 /// The documents that a refused body is about, as its bytes say; `None` where not all of them can be read.

@@ -132,7 +132,7 @@ impl Server {
                 answer(&())
             }
             (Phase::Initialized, "textDocument/hover") => {
-                answer(&self.text(params)?.hover(*protocol::read::<At>(params)?.position)?)
+                answer(&self.text(params)?.hover(protocol::read::<At>(params)?.position)?)
             }
             (Phase::Initialized, "textDocument/formatting") => answer(&edits(self.text(params)?.blanks(None)?)),
             (Phase::Initialized, "textDocument/rangeFormatting") => answer(&self.edits_in_range(params)?),
@@ -234,7 +234,7 @@ impl Server {
     }
 
     fn edits_in_range(&self, params: Raw<'_>) -> Result<Vec<TextEdit>, Fault> {
-        let range = *protocol::read::<In>(params)?.range;
+        let range = protocol::read::<In>(params)?.range;
         Ok(edits(self.text(params)?.blanks(Some(range))?))
     }
 

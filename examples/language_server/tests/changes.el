@@ -82,6 +82,18 @@
   (when (= 0 (random 20))
     (delete-region (point-min) (point-max))))
 
+(defun changes-repeat (edit)
+  "Edits by EDIT until some hundred times something has changed, and compares after each."
+  (let ((left (changes-get 'ends)) (before (buffer-chars-modified-tick)))
+    (while (< 0 left)
+      (undo-boundary)
+      (changes-empty)
+      (funcall edit)
+      (unless (= before (setq before (buffer-chars-modified-tick)))
+        (setq left (1- left))
+        (changes-compare-text)
+        (changes-count 'ends)))))
+
 (defun changes-try-ends ()
   "Edits small texts, which end in every way, and takes all back."
   (let ((number 0))
@@ -96,12 +108,7 @@
         (buffer-enable-undo)
         (unless (eglot-managed-p)
           (eglot--maybe-activate-editing-mode))
-        (dotimes (_ (changes-get 'ends))
-          (undo-boundary)
-          (changes-empty)
-          (funcall edit)
-          (changes-compare-text)
-          (changes-count 'ends))
+        (changes-repeat edit)
         (changes-undo-all)
         (changes-compare-text)
         (save-buffer)

@@ -103,7 +103,7 @@ class Client:
         return self.request("initialize", params)["result"]["capabilities"]
 
     def open(self, uri, text):
-        return self.notify("textDocument/didOpen", textDocument={"uri": uri, "languageId": "text", "version": 1, "text": text})
+        return self.notify("textDocument/didOpen", **item(uri, text))
 
     def change(self, uri, *changes, version=None):
         """Sends changes, each a start and an end by line and offset, or None twice for the whole text, and a text."""
@@ -139,6 +139,11 @@ def body(message):
 def frame(content, header=b""):
     """A frame with a body, and more lines in its header."""
     return b"%sContent-Length: %d\r\n\r\n%s" % (header, len(content), content)
+
+
+def item(uri, text):
+    """The parameters that open a document."""
+    return {"textDocument": {"uri": uri, "languageId": "text", "version": 1, "text": text}}
 
 
 def place(line, character):

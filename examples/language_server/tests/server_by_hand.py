@@ -9,7 +9,7 @@ import resource
 import subprocess
 
 import pytest
-from language_client import Client, body, changed, event, frame, place, places_of
+from language_client import Client, body, changed, event, frame, item, place, places_of
 from wrong_client import ABOUT_ANY, ODD, REFUSED, TOO_LONG
 
 URI = "file:///a"
@@ -77,7 +77,8 @@ BLANKS = "a \r\nb\n🐸\t \n\r  "
 
 @pytest.mark.parametrize("method, params, places", [
     ("formatting", {"options": {}}, [(0, 1, 2), (2, 2, 4), (4, 0, 2)]),
-    ("rangeFormatting", of_range((1, 0), (2, 0)), [(2, 2, 4)]),
+    ("rangeFormatting", of_range((1, 0), (2, 1)), [(2, 2, 4)]),
+    ("rangeFormatting", of_range((0, 1), (2, 0)), [(0, 1, 2)]),
     ("rangeFormatting", of_range((3, 0), (GREATEST, 0)), [(4, 0, 2)]),
     ("rangeFormatting", of_range((7, 0), (9, 0)), []),
 ])
@@ -100,7 +101,8 @@ def test_code_action(client):
 
 
 @pytest.mark.parametrize("text, folds", [
-    ("", []), ("a\nb", [(0, 1)]), ("a\n\nb\n", []), ("\n a\r\nb\rc\n \t\n\nd\ne\n", [(1, 3), (6, 7)]), ("a\r\n\r\nb\r\nc", [(2, 3)]),
+    ("", []), ("a\nb", [(0, 1)]), ("a\n\nb\n", []), ("\n a\r\nb\rc\n \t\n\nd\ne\n", [(1, 3), (6, 7)]),
+    ("a\r\n\r\nb\r\nc", [(2, 3)]),
 ])
 def test_folding_ranges(client, text, folds):
     client.open(URI, text)
@@ -108,7 +110,8 @@ def test_folding_ranges(client, text, folds):
 
 
 @pytest.mark.parametrize("at, value, end", [
-    ((1, 0), "byte 3\nchar 3\nUTF-16 code unit 3\nline 1", (1, 2)), ((1, 2), "byte 7\nchar 4\nUTF-16 code unit 5\nline 1", (1, 3)),
+    ((1, 0), "byte 3\nchar 3\nUTF-16 code unit 3\nline 1", (1, 2)),
+    ((1, 2), "byte 7\nchar 4\nUTF-16 code unit 5\nline 1", (1, 3)),
     ((1, 9), "byte 8\nchar 5\nUTF-16 code unit 6\nline 1", (1, 3)),
 ])
 def test_hover(client, at, value, end):
@@ -161,7 +164,8 @@ def test_out_of_step(client, what, healed):
     ("a\rb", (0, 2), (0, 2), "x", OUT_OF_STEP), ("a\r\nb\r", (0, 3), (0, 3), "x", OUT_OF_STEP),
     ("one", (0, 0), (1, 1), "x", OUT_OF_STEP), ("one", (0, 0), (GREATEST, 0), "x", OUT_OF_STEP),
     ("🐸", (0, 1), (0, 9), "x", OUT_OF_STEP), ("a\r\nb", (0, 1), (0, 2), "", "a\nb"), ("a\r\nb", (0, 2), (1, 0), "", "a\rb"),
-    ("a\r\nb", (0, 2), (0, 2), "x", "a\rx\nb"), ("a\r\nb", (0, 3), (0, 3), "x", "ax\r\nb"), ("a\nb", (0, 2), (0, 2), "x", "ax\nb"),
+    ("a\r\nb", (0, 2), (0, 2), "x", "a\rx\nb"), ("a\r\nb", (0, 3), (0, 3), "x", "ax\r\nb"),
+    ("a\nb", (0, 2), (0, 2), "x", "ax\nb"),
 ])
 def test_ends(client, text, start, end, put, expected):
     """What is past the end of a text or of a line."""
@@ -171,8 +175,7 @@ def test_ends(client, text, start, end, put, expected):
 
 
 @pytest.mark.parametrize("events", [
-    [{"range": [[0, 0], [0, 1]], "text": ""}], [{"range": {"start": [0, 0], "end": place(0, 1)}, "text": ""}], [[None, ""]],
-    [{"range": {"start": {"line": 0}, "end": place(0, 1)}, "text": ""}], {}, None, 7, [{"text": "a", "range": 7}],
+    [{"range": {"start": {"line": 0}, "end": place(0, 1)}, "text": ""}], [{"range": 7, "text": "a"}], [{}], {}, None, 7,
 ])
 def test_parameters_that_are_not_the_protocols(client, events):
     client.open(URI, "kept")
@@ -391,27 +394,26 @@ def test_a_closed_document_gives_its_memory_back(client):
     assert client.memory("VmRSS") < before + 8 * MB
 
 
-def with_params(method, params):
+def big(method, params, *parts):
+    """A request whose parameters have parts instead of each `..`: a text, and how often, to fill 8 MB."""
+    for part in parts:
+        params = params.replace(b"..", part * (8 * MB // len(part)), 1)
     return b'{"jsonrpc": "2.0", "id": "big", "method": "%s", "params": %s}' % (method, params)
 
 
-def about(rest):
-    return b'{"textDocument": {"uri": "file:///a", "version": 2}, %s}' % rest
-
-
 BIG = {
-    "a batch of numbers": b"[" + b"1," * (4 * MB) + b"1]",
-    "a batch of objects": b"[" + b'{"a":0},' * MB + b"1]",
-    "members": b'{"jsonrpc": "2.0", "a": [' + b"1," * (4 * MB) + b"1]}",
-    "params": with_params(b"initialize", b"[" + b"1," * (4 * MB) + b"1]"),
-    "encodings": with_params(b"initialize", b'{"capabilities": {"general": {"positionEncodings": [' + b"1," * (4 * MB) + b"1]}}}"),
-    "a method": with_params(b"x" * (8 * MB), b"[]"),
-    "an id": with_params(b"x", b"[]").replace(b"big", b"x" * (8 * MB)),
-    "arrays": b'{"a": ' + b"[" * (4 * MB) + b"]" * (4 * MB) + b"}",
-    "changes": with_params(b"textDocument/didChange", about(b'"contentChanges": [' + b'{"text":""},' * (8 * MB // 12) + b"1]")),
-    "uris": b"\xff" + b'"uri":"a",' * (8 * MB // 10),
-    "a text": with_params(b"x", b"[]") .replace(b'"id": "big", "method": "x", "params": []', b'"method": "textDocument/didOpen", '
-                          b'"params": {"textDocument": {"uri": "file:///b", "version": 1, "text": "' + b"a \\n\\n" * (8 * MB // 6) + b'"}}'),
+    "a batch of numbers": b"[%s1]" % (b"1," * (4 * MB)),
+    "a batch of objects": b"[%s1]" % (b'{"a":0},' * MB),
+    "members": big(b"x", b'{"a": [..1]}', b"1,"),
+    "arrays": b'{"a": %s%s}' % (b"[" * (4 * MB), b"]" * (4 * MB)),
+    "a method": big(b"x" * (8 * MB), b"[]"),
+    "an id": big(b"x", b"[]").replace(b"big", b"x" * (8 * MB)),
+    "encodings": big(b"initialize", b'{"capabilities": {"general": {"positionEncodings": [..1]}}}', b"1,"),
+    "changes": big(
+        b"textDocument/didChange", b'{"textDocument": {"uri": "file:///a"}, "contentChanges": [..1]}', b'{"text":""},'),
+    "uris": b"\xff%s" % (b'"uri":"a",' * (8 * MB // 10)),
+    "a text": body({"method": "textDocument/didOpen", "params": item(OTHER, "a \n\n" * (8 * MB // 6))}),
+    "blanks": body({"method": "textDocument/didOpen", "params": item(OTHER, " \n" * (8 * MB // 3))}),
 }
 
 
@@ -434,19 +436,16 @@ def seconds(client, messages):
     return (client.seconds() - before) / len(messages)
 
 
-def key(line, number):
-    return changed(URI, [event((line, 0), (line, 0), "\n" if number % 2 == 0 else "x")], None)
-
-
-@pytest.mark.parametrize("text", ["word " * MB, "x" * (5 * MB), " " * (5 * MB), "🐸\t" * MB], ids=["words", "x", "blanks", "frogs"])
-def test_a_line_of_five_megabytes(client, text):
-    client.open(URI, text)
-    event_at = lambda at: event((0, at), (0, at), "y")  # noqa: E731
-    assert seconds(client, [changed(URI, [event_at(at)], None) for at in range(0, 200_000, 100)]) <= 0.0002
-    assert seconds(client, [changed(URI, [event_at(100 * at) for at in range(1000)], None)]) <= 0.2
+@pytest.mark.parametrize("word", ["word ", "x", "\t", "🐸 "])
+def test_a_line_of_five_megabytes(client, word):
+    client.open(URI, word * (5 * MB // len(word.encode())))
+    events = [event((0, 100 * at), (0, 100 * at), "y") for at in range(1000)]
+    assert seconds(client, [changed(URI, [one], None) for one in events]) <= 0.0002
+    assert seconds(client, [changed(URI, events, None)]) <= 0.2
 
 
 @pytest.mark.parametrize("line", [0, 199])
 def test_a_key_with_a_thousand_warnings(client, line):
     client.open(URI, "word \n" * 2000)
-    assert seconds(client, [key(line, number) for number in range(1000)]) <= 0.0002
+    keys = [event((line, 0), (line, 0), text) for text in "x\n" * 500]
+    assert seconds(client, [changed(URI, [one], None) for one in keys]) <= 0.0002

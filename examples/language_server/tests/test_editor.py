@@ -173,3 +173,70 @@ def test_emacs(emacs, tmp_path, line_break):
 def assert_limit(found, whole):
     """After a CR alone an editor is out of step, unless it sends whole texts, until it saves; the server has told of it."""
     assert found["told"] == 1 and (found["after_return"] == "in step") == whole
+
+
+# What README.md says of editors.
+
+IS_ATTACHED = r"""
+local function text()
+  local asked = { textDocument = vim.lsp.util.make_text_document_params() }
+  for _, answer in pairs(vim.lsp.buf_request_sync(0, "pauskern/text", asked, 1000) or {}) do
+    return answer.result and answer.result.text
+  end
+end
+local function has(expected)
+  assert(vim.wait(60000, function() return text() == expected end, 10), expected)
+end
+has("one \n")
+vim.cmd("normal! Atwo ")
+has("one two \n")
+vim.cmd("edit!")
+has("one \n")
+vim.cmd("normal! Atwo ")
+has("one two \n")
+local format = vim.lsp.buf.format or function() vim.lsp.buf.formatting_sync(nil, 60000) end
+format()
+has("one two\n")
+vim.cmd("write")
+"""
+IN_BATCH = """
+(find-file (getenv "TEXT"))
+(run-hooks 'post-command-hook)
+(with-timeout (60) (while (not (eglot-managed-p)) (accept-process-output nil 0.1)))
+(goto-char (point-max))
+(insert "two ")
+(eglot-format-buffer)
+(save-buffer)
+"""
+
+
+@pytest.fixture
+def set_up(tmp_path):
+    """Writes what README.md says in a language into a file, with the server's path in its place, and more after it."""
+    (tmp_path / "text.txt").write_text("one \n")
+
+    def write(language, more):
+        page = (ROOT / "examples/language_server/README.md").read_text(encoding="utf-8")
+        said = re.search(rf"^```{language}\n(.*?)^```", page, re.MULTILINE | re.DOTALL)[1]
+        file = tmp_path / f"set_up.{language}"
+        file.write_text(said.replace('"language_server"', json.dumps(os.environ["LANGUAGE_SERVER"])) + more)
+        return file
+    return write
+
+
+def test_set_up_of_neovim(neovim, set_up, tmp_path):
+    """It attaches, also after `:edit`, and formats."""
+    first, check = set_up("lua", ""), tmp_path / "check.lua"
+    check.write_text(IS_ATTACHED)
+    words = ["-c", f"luafile {first}", "-c", f"edit {tmp_path / 'text.txt'}", "-c", f"luafile {check}", "-c", "qall!"]
+    done = subprocess.run([*IN_NEOVIM[:7], *words], capture_output=True, text=True, timeout=SECONDS, stdin=subprocess.DEVNULL)
+    assert (tmp_path / "text.txt").read_text() == "one two\n", done.stderr
+
+
+def test_set_up_of_emacs(emacs, set_up, tmp_path):
+    command = ["emacs", "--batch", "-l", str(set_up("elisp", IN_BATCH))]
+    done = subprocess.run(
+        command, env=dict(os.environ, TEXT=str(tmp_path / "text.txt")), capture_output=True, text=True, timeout=SECONDS,
+        stdin=subprocess.DEVNULL,
+    )
+    assert (tmp_path / "text.txt").read_text() == "one\ntwo\n", done.stderr

@@ -11,7 +11,7 @@ import json
 import random
 import re
 
-from language_client import Client, body, changed, event, frame, place, places_of
+from language_client import Client, body, changed, event, frame, item, place, places_of
 from position_model import Lines
 from tally import least
 
@@ -175,8 +175,7 @@ class WrongClient(Client):
         document = self.documents[uri]
         document.is_open, document.text, document.state = True, self.random_text(200), IN_STEP
         document.version = document.taken = 1
-        item = {"uri": uri, "languageId": "text", "version": 1, "text": document.text}
-        self.send({"method": "textDocument/didOpen", "params": {"textDocument": item}})
+        self.send({"method": "textDocument/didOpen", "params": item(uri, document.text)})
 
     def close(self):
         uri = self.random.choice(URIS)
