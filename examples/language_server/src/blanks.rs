@@ -16,6 +16,9 @@ pub struct Warnings {
     found: Vec<Span>,
     /// How many lines were read.
     read: usize,
+    /// Whether no line with a warning was changed since the client was told. One that was may have the same offsets, and others
+    /// in a client that keeps them in bytes.
+    pub is_told: bool,
 }
 
 impl Warnings {
@@ -36,7 +39,9 @@ impl Warnings {
             .max(lines.start);
         let read_before = self.read;
         let after = self.found.split_off(self.before(lines.end));
-        self.found.truncate(self.before(lines.start));
+        let first = self.before(lines.start);
+        self.is_told &= first == self.found.len();
+        self.found.truncate(first);
         self.read = lines.start;
         self.read_to(rope, encoding, next_now)?;
         if self.read == next_now && lines.end <= read_before {

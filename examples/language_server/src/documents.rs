@@ -101,13 +101,16 @@ impl Document {
         self.text.as_ref().ok_or_else(Fault::out_of_step)
     }
 
-    /// The warnings, where the client has others.
+    /// The warnings, where the client has others, or places them in another text.
     pub fn new_warnings(&mut self) -> Result<Option<&[Span]>, Fault> {
-        let warnings = match &mut self.text {
-            Some(text) => text.warnings.first(&text.rope, text.encoding)?,
-            None => &[],
+        let (warnings, is_told) = match &mut self.text {
+            Some(text) => {
+                let is_told = mem::replace(&mut text.warnings.is_told, true);
+                (text.warnings.first(&text.rope, text.encoding)?, is_told)
+            }
+            None => (&[][..], true),
         };
-        if self.warnings == warnings {
+        if self.warnings == warnings && (is_told || warnings.is_empty()) {
             return Ok(None);
         }
         self.warnings = warnings.to_vec();

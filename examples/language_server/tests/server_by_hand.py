@@ -57,14 +57,15 @@ def test_changes_and_warnings(client):
 
 
 def test_warnings_are_sent_where_they_changed(client):
-    client.open(URI, "a \n" * 201 + "b" * 2000 + " " * 2000)
-    assert client.warned(URI) == [(line, 1, 2) for line in range(200)]
+    """Also where only their bytes did, by which a client may keep them."""
+    client.open(URI, "c\n" + "a \n" * 201 + "b" * 2000 + " " * 2000)
+    assert client.warned(URI) == [(line, 1, 2) for line in range(1, 201)]
     client.warnings.clear()
-    client.change(URI, ((0, 0), (0, 0), "x"), ((0, 0), (0, 1), ""))
-    client.open(OTHER, " ")
-    assert client.warned(OTHER) == [(0, 0, 1)]
-    assert URI not in client.warnings
-    client.change(URI, ((0, 0), (199, 0), ""))
+    client.change(URI, ((0, 0), (0, 1), "cc"))
+    assert client.warnings == {}
+    client.change(URI, ((1, 0), (1, 1), "é"))
+    assert client.warned(URI) == [(line, 1, 2) for line in range(1, 201)]
+    client.change(URI, ((0, 0), (200, 0), ""))
     assert client.warned(URI) == [(0, 1, 2), (1, 1, 2), (2, 3000, 4000)]
 
 
