@@ -98,7 +98,7 @@ PARTS = (
          ("crates/rope_positions/tests/rope_positions.rt.txt",)),
     Part("examples/language_server/tests/test_editor.py", 60, FOR_C,
          (*FUNCTIONS, *ROPE, *CARGO_CRATES, "examples/language_server/**/*", "examples/language_server/README.md"),
-         (*SHELL, *BINUTILS, *RUST, "pytest", "nvim", "emacs")),
+         (*SHELL, *BINUTILS, *RUST, "pytest", "nvim", "emacs", "vim")),
 )
 
 

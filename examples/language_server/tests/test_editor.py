@@ -101,7 +101,8 @@ PASTE = 1_000_000
 SECONDS = 900
 LINES = ["let frog = \"🐸\";  ", "é e\u0301 世界\t", "", "  x = 1", "👩\u200d🚀 \u2028 \u0085 \u000b a", "word a b c", "\U0010ffff"]
 LF, CR_LF = "\n", "\r\n"
-IN_NEOVIM = ["nvim", "--headless", "-u", "NONE", "-i", "NONE", "-n", "-c", f"luafile {FOLDER / 'changes.lua'}", "-c", "cquit"]
+NEOVIM_WITH_NOTHING = ["nvim", "--headless", "-u", "NONE", "-i", "NONE", "-n"]
+IN_NEOVIM = [*NEOVIM_WITH_NOTHING, "-c", f"luafile {FOLDER / 'changes.lua'}", "-c", "cquit"]
 IN_EMACS = ["emacs", "--batch", "-l", str(FOLDER / "changes.el")]
 
 
@@ -200,7 +201,6 @@ has("one two\n")
 vim.cmd("write")
 """
 IN_BATCH = """
-(find-file (getenv "TEXT"))
 (run-hooks 'post-command-hook)
 (with-timeout (60) (while (not (eglot-managed-p)) (accept-process-output nil 0.1)))
 (goto-char (point-max))
@@ -210,33 +210,58 @@ IN_BATCH = """
 """
 
 
+IN_VIM = """
+set filetype=text
+call ale#Queue(0, 'lint_file')
+for turn in range(1200)
+  if !empty(ale#engine#GetLoclist(bufnr(''))) | break | endif
+  sleep 50m
+endfor
+call setline(1, map(ale#engine#GetLoclist(bufnr('')), 'v:val.text'))
+noautocmd write
+qall!
+"""
+
+
+@pytest.fixture(scope="session")
+def vim():
+    """Leaves out what needs Vim with ALE, where it is missing."""
+    command = ["vim", "-N", "-u", "NONE", "-es", "-c", "try | packadd ale | catch | cquit | endtry", "-c", "qall!"]
+    if not shutil.which("vim") or subprocess.run(command, stdin=subprocess.DEVNULL, capture_output=True).returncode != 0:
+        pytest.skip("no vim with ALE is here (Debian's packages vim and vim-ale)")
+
+
 @pytest.fixture
-def set_up(tmp_path):
-    """Writes what README.md says in a language into a file, with the server's path in its place, and more after it."""
-    (tmp_path / "text.txt").write_text("one \n")
+def text_after(tmp_path):
+    """The text of a file after an editor's words, with files of what README.md says in a language, and of what is done then."""
+    text, server = tmp_path / "text.txt", os.environ["LANGUAGE_SERVER"]
+    page = (ROOT / "examples/language_server/README.md").read_text(encoding="utf-8")
 
-    def write(language, more):
-        page = (ROOT / "examples/language_server/README.md").read_text(encoding="utf-8")
+    def run(language, more, *words):
+        text.write_text("one \n")
         said = re.search(rf"^```{language}\n(.*?)^```", page, re.MULTILINE | re.DOTALL)[1]
-        file = tmp_path / f"set_up.{language}"
-        file.write_text(said.replace('"language_server"', json.dumps(os.environ["LANGUAGE_SERVER"])) + more)
-        return file
-    return write
+        files = {"SET_UP": tmp_path / "set_up", "THEN": tmp_path / "then", "TEXT": text}
+        files["SET_UP"].write_text(re.sub("([\"'])language_server\\1", rf"\1{server}\1", said))
+        files["THEN"].write_text(more)
+        for name, file in files.items():
+            words = [word.replace(name, str(file)) for word in words]
+        done = subprocess.run(words, capture_output=True, text=True, timeout=SECONDS, stdin=subprocess.DEVNULL)
+        return text.read_text() if done.returncode == 0 else done.stderr
+    return run
 
 
-def test_set_up_of_neovim(neovim, set_up, tmp_path):
+def test_set_up_of_neovim(neovim, text_after):
     """It attaches, also after `:edit`, and formats."""
-    first, check = set_up("lua", ""), tmp_path / "check.lua"
-    check.write_text(IS_ATTACHED)
-    words = ["-c", f"luafile {first}", "-c", f"edit {tmp_path / 'text.txt'}", "-c", f"luafile {check}", "-c", "qall!"]
-    done = subprocess.run([*IN_NEOVIM[:7], *words], capture_output=True, text=True, timeout=SECONDS, stdin=subprocess.DEVNULL)
-    assert (tmp_path / "text.txt").read_text() == "one two\n", done.stderr
+    words = ["-c", "luafile SET_UP", "-c", "edit TEXT", "-c", "luafile THEN", "-c", "qall!"]
+    assert text_after("lua", IS_ATTACHED, *NEOVIM_WITH_NOTHING, *words) == "one two\n"
 
 
-def test_set_up_of_emacs(emacs, set_up, tmp_path):
-    command = ["emacs", "--batch", "-l", str(set_up("elisp", IN_BATCH))]
-    done = subprocess.run(
-        command, env=dict(os.environ, TEXT=str(tmp_path / "text.txt")), capture_output=True, text=True, timeout=SECONDS,
-        stdin=subprocess.DEVNULL,
-    )
-    assert (tmp_path / "text.txt").read_text() == "one\ntwo\n", done.stderr
+def test_set_up_of_emacs(emacs, text_after):
+    words = ["-l", "SET_UP", "TEXT", "-l", "THEN"]
+    assert text_after("elisp", IN_BATCH, "emacs", "--batch", *words) == "one\ntwo\n"
+
+
+def test_set_up_of_vim(vim, text_after):
+    """It shows what the server warns of."""
+    words = ["-N", "-u", "NONE", "-i", "NONE", "-es", "-c", "packadd ale", "-S", "SET_UP", "-c", "edit TEXT", "-S", "THEN"]
+    assert text_after("vim", IN_VIM, "vim", *words) == "blanks at the end of a line\n"
