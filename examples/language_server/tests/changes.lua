@@ -18,7 +18,7 @@ local PIECES = {
   "\u{10FFFF}", "\u{FFFD}", "\u{85}", "\u{2028}", "\u{2029}", "\u{B}", "\u{C}", "\u{FEFF}",
 }
 
-local found = { ends = 0, edits = 0, changes = 0, texts = 0, hovers = 0, warnings = 0, told = 0, after_return = "", wrong = {} }
+local found = { ends = 0, edits = 0, texts = 0, hovers = 0, told = 0, after_return = "", wrong = {} }
 local client
 
 -- Tells what is wrong, in ASCII, since a part of a text may begin or end inside a char.
@@ -215,7 +215,6 @@ local function compare_warnings()
   if not vim.deep_equal(warnings, expected) then
     wrong("warnings after " .. found.edits .. " edits", expected, warnings)
   end
-  found.warnings = found.warnings + #expected
 end
 
 local function compare(hovers)
@@ -339,17 +338,6 @@ local function capabilities()
   return all
 end
 
--- Counts the changes that the client sends.
-local function count_changes()
-  local notify = client.notify
-  client.notify = function(method, params)
-    if method == "textDocument/didChange" then
-      found.changes = found.changes + #params.contentChanges
-    end
-    return notify(method, params)
-  end
-end
-
 local function start()
   local id = vim.lsp.start_client({
     cmd = { job.program },
@@ -371,7 +359,6 @@ local function start()
     return client ~= nil and client.server_capabilities ~= nil and vim.lsp.buf_is_attached(0, id)
   end, 10)
   found.encoding = client.server_capabilities.positionEncoding
-  count_changes()
 end
 
 local function stop()

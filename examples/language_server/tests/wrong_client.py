@@ -78,7 +78,9 @@ class Document:
     It is doubtful after what may have been a change of any document: then the answer is the text or the error.
     """
 
-    def __init__(self):
+    def __init__(self, uri):
+        self.uri = uri
+        self.named = {"textDocument": {"uri": uri}}
         self.is_open = False
         self.text = ""
         self.version = 0
@@ -86,16 +88,16 @@ class Document:
         self.taken = None
         self.state = IN_STEP
 
-    def expected(self):
-        """What a request may be answered with: the text, or the code of an error."""
+    def expected(self, of_text=lambda text: text):
+        """What a request may be answered with: something of the text, or the code of an error."""
         if not self.is_open:
             return [NO_DOCUMENT]
-        return [[self.text], [self.text, OUT_OF_STEP], [OUT_OF_STEP]][self.state]
+        right = of_text(self.text)
+        return [[right], [right, OUT_OF_STEP], [OUT_OF_STEP]][self.state]
 
     def warnings(self):
         """What the server may have told of it last."""
-        right = warnings_of(self.text) if self.is_open else []
-        return [[right], [right, []], [[]]][self.state if self.is_open else IN_STEP]
+        return [[] if isinstance(one, int) else one for one in self.expected(warnings_of)]
 
 
 def units(text):
@@ -126,7 +128,7 @@ class WrongClient(Client):
     def __init__(self):
         super().__init__()
         self.random = random.Random(SEED)
-        self.documents = {uri: Document() for uri in URIS}
+        self.documents = [Document(uri) for uri in URIS]
         # by the number of each request that is not answered yet, what it must be answered with
         self.wanted = {}
         self.counts = collections.Counter()
@@ -144,25 +146,18 @@ class WrongClient(Client):
 
     # right messages
 
-    def ask_for_text(self, uri=None):
-        uri = uri or self.random.choice(URIS)
-        self.ask_for("pauskern/text", {"textDocument": {"uri": uri}}, self.documents[uri].expected())
+    def ask_for_text(self, document):
+        self.ask_for("pauskern/text", document.named, document.expected())
 
-    def ask_for_hover(self):
-        uri = self.random.choice(URIS)
-        document = self.documents[uri]
+    def ask_for_hover(self, document):
         at = self.random.randrange(30), self.random.randrange(30)
-        byte = Lines(document.text).byte(at, 16)
-        expected = [f"byte {byte}\n" if isinstance(one, str) else one for one in document.expected()]
-        self.ask_for("textDocument/hover", {"textDocument": {"uri": uri}, "position": place(*at)}, expected)
+        expected = document.expected(lambda text: f"byte {Lines(text).byte(at, 16)}")
+        self.ask_for("textDocument/hover", {**document.named, "position": place(*at)}, expected)
 
-    def ask_for_edits(self):
-        uri = self.random.choice(URIS)
-        document = self.documents[uri]
-        expected = [one if isinstance(one, int) else warnings_of(one) for one in document.expected()]
-        self.ask_for("textDocument/formatting", {"textDocument": {"uri": uri}}, expected)
+    def ask_for_edits(self, document):
+        self.ask_for("textDocument/formatting", document.named, document.expected(warnings_of))
 
-    def ask_for_nothing(self):
+    def ask_for_nothing(self, _=None):
         self.ask_for(self.random.choice(["$/x", "textDocument/rename", "é", ""]), {}, [NO_METHOD])
 
     def random_text(self, most):
@@ -170,17 +165,14 @@ class WrongClient(Client):
         text = "".join(self.random.choice(PIECES) for _ in range(self.random.randrange(most)))
         return text if self.random.randrange(4) == 0 else LONE_RETURN.sub("", text)
 
-    def open(self):
-        uri = self.random.choice(URIS)
-        document = self.documents[uri]
+    def open(self, document):
         document.is_open, document.text, document.state = True, self.random_text(200), IN_STEP
         document.version = document.taken = 1
-        self.send({"method": "textDocument/didOpen", "params": item(uri, document.text)})
+        self.send({"method": "textDocument/didOpen", "params": item(document.uri, document.text)})
 
-    def close(self):
-        uri = self.random.choice(URIS)
-        self.documents[uri].is_open = False
-        self.send({"method": "textDocument/didClose", "params": {"textDocument": {"uri": uri}}})
+    def close(self, document):
+        document.is_open = False
+        self.send({"method": "textDocument/didClose", "params": document.named})
 
     def byte(self, data, has_return):
         """A place of a text: a byte where a char begins; between CR and LF, where no CR stands alone."""
@@ -216,9 +208,9 @@ class WrongClient(Client):
             ways += [(line, character + self.random.randrange(2, LONGEST))]
         return ways
 
-    def changed(self, uri, events, version):
+    def changed(self, document, events, version):
         self.counts["changes"] += len(events)
-        content = body(changed(uri, events, version))
+        content = body(changed(document.uri, events, version))
         self.write(self.random.choice(list(ODD.values()))(content) if self.random.randrange(8) == 0 else frame(content))
 
     def right_changes(self, document):
@@ -230,51 +222,39 @@ class WrongClient(Client):
             events.append(one)
         return events
 
-    def change(self, uri=None):
-        uri = uri or self.random.choice(URIS)
-        document = self.documents[uri]
-        if document.is_open:
-            events = self.right_changes(document)
-            version = self.random.choice([document.version, document.version, None])
-            if is_whole(events):
-                document.state = IN_STEP
-            if document.state == IN_STEP and (version or is_whole(events)):
-                document.taken = version
-            self.changed(uri, events, version)
+    def change(self, document):
+        events = self.right_changes(document)
+        version = self.random.choice([document.version, document.version, None])
+        if is_whole(events):
+            document.state = IN_STEP
+        if document.state == IN_STEP and (version or is_whole(events)):
+            document.taken = version
+        self.changed(document, events, version)
 
-    def heal(self):
+    def heal(self, _):
         """A save for each document that may be out of step, or a whole text, of any version."""
-        for uri, document in self.documents.items():
+        for document in self.documents:
             if document.is_open and document.state != IN_STEP:
                 document.state = IN_STEP
                 if self.random.randrange(2) == 0:
-                    self.save(uri)
+                    self.save(document)
                 else:
                     document.version = document.taken = self.random.randrange(20)
-                    self.changed(uri, [event(None, None, document.text)], document.version)
+                    self.changed(document, [event(None, None, document.text)], document.version)
 
-    def save(self, uri=None):
-        uri = uri or self.random.choice(URIS)
-        document = self.documents[uri]
+    def save(self, document):
         document.state, document.taken = IN_STEP, None
-        self.send({"method": "textDocument/didSave", "params": {"textDocument": {"uri": uri}, "text": document.text}})
+        self.send({"method": "textDocument/didSave", "params": {**document.named, "text": document.text}})
 
-    def many_changes(self):
+    def many_changes(self, document):
         """Thousands of changes that leave the text as it was."""
-        uri = self.random.choice(URIS)
-        document = self.documents[uri]
-        if document.is_open:
-            document.version += 1
-            self.changed(uri, [event((0, 0), (0, 0), "xy"), event((0, 0), (0, 2), "")] * 1000, document.version)
+        document.version += 1
+        self.changed(document, [event((0, 0), (0, 0), "xy"), event((0, 0), (0, 2), "")] * 1000, document.version)
 
     # wrong messages
 
-    def wrong_change(self):
+    def wrong_change(self, document):
         """A change that no client in step sends: the document is out of step."""
-        uri = self.random.choice(URIS)
-        document = self.documents[uri]
-        if not document.is_open:
-            return
         document.version += 1
         self.counts["refused changes"] += 1
         events, version = self.refused_events(document), document.version
@@ -283,7 +263,7 @@ class WrongClient(Client):
             events, version = [event((0, 0), (0, 0), "x")], self.random.choice([*old, "7", 1.5])
             document.version -= 1
         document.state = LOST
-        self.changed(uri, events, version)
+        self.changed(document, events, version)
 
     def refused_events(self, document):
         one = self.random.choice([
@@ -297,15 +277,11 @@ class WrongClient(Client):
 
     def doubt(self):
         """What is sent may be a change of any document."""
-        for document in self.documents.values():
+        for document in self.documents:
             document.state = max(document.state, DOUBTFUL)
 
-    def refused_body(self):
+    def refused_body(self, document):
         """A right change in a body that is refused, and a change and a question after it."""
-        uri = self.random.choice(URIS)
-        document = self.documents[uri]
-        if not document.is_open:
-            return
         name, refused = self.random.choice(list(REFUSED.items()))
         if name in ABOUT_ANY:
             self.doubt()
@@ -314,55 +290,49 @@ class WrongClient(Client):
         self.ask_for_nothing()
         events = self.right_changes(document)
         document.state = LOST
-        self.write(refused(body(changed(uri, events, document.version))))
-        self.change(uri)
-        self.ask_for_text(uri)
+        self.write(refused(body(changed(document.uri, events, document.version))))
+        self.change(document)
+        self.ask_for_text(document)
 
-    def cut_frame(self):
+    def cut_frame(self, document):
         """A right change's frame with a part of it cut out, or a length that is wrong, or with another cut one after it."""
-        uri = self.random.choice(URIS)
-        document = self.documents[uri]
-        message = {"id": "cut", "method": "x", "params": {"text": self.random_text(20)}}
         self.doubt()
-        if document.is_open:
-            events = self.right_changes(document)
-            message = changed(uri, events, document.version)
-            # a cut in the header may leave the frame as right as it was
-            document.state = DOUBTFUL if is_whole(events) else document.state
-        whole = frame(body(message))
+        events = self.right_changes(document)
+        # a cut in the header may leave the frame as right as it was
+        document.state = DOUBTFUL if is_whole(events) else document.state
+        whole = frame(body(changed(document.uri, events, document.version)))
         at = self.random.randrange(1, len(whole))
         cut = self.random.randrange(1, 30)
         self.write(self.random.choice([
             whole[:at], whole[:at] + whole[at + cut:], whole.replace(b": ", b": 1", 1), whole[:at] + whole[at + 1:],
         ]))
-        self.change(uri)
-        self.ask_for_text(uri)
+        self.change(document)
+        self.ask_for_text(document)
 
-    def junk(self):
+    def junk(self, document):
         pieces = [self.random.choice(JUNK) for _ in range(self.random.randrange(1, 12))]
         if self.random.randrange(8) == 0:
             pieces.append(bytes(self.random.randrange(256) for _ in range(self.random.randrange(6000))))
         self.doubt()
         self.write(b"".join(pieces))
-        self.change()
-        self.ask_for_text()
+        self.change(document)
+        self.ask_for_text(document)
 
-    def wrong_json(self):
+    def wrong_json(self, _):
         self.doubt()
         self.write(frame(self.random.choice(WRONG_JSON)))
 
-    RIGHT = [ask_for_text, ask_for_text, ask_for_hover, ask_for_nothing, ask_for_edits, open, open, close,
-             change, change, change, change, heal, heal, save]
+    # what each is done to a document that is open, or closed too
+    OPEN = [change, change, change, change, save, ask_for_hover, ask_for_edits]
+    ANY = [ask_for_text, ask_for_text, ask_for_hover, ask_for_nothing, ask_for_edits, open, open, close, heal, heal]
     WRONG = [wrong_change, refused_body, refused_body, cut_frame, cut_frame, junk, junk, wrong_json]
 
     def step(self):
-        if self.random.randrange(100) == 0:
-            self.many_changes()
-        elif self.random.randrange(3) == 0:
-            self.counts["wrong messages"] += 1
-            self.random.choice(self.WRONG)(self)
-        else:
-            self.random.choice(self.RIGHT)(self)
+        document = self.random.choice(self.documents)
+        kind = self.random.choices([[WrongClient.many_changes], self.WRONG, self.OPEN, self.ANY], [1, 33, 33, 33])[0]
+        if not document.is_open and kind is not self.ANY:
+            self.open(document)
+        self.random.choice(kind)(self, document)
 
     # what comes back
 
@@ -375,7 +345,7 @@ class WrongClient(Client):
         elif isinstance(result, list):
             answer = places_of(result)
         else:
-            answer = result["text"] if "text" in result else result["contents"]["value"].partition("\n")[0] + "\n"
+            answer = result["text"] if "text" in result else result["contents"]["value"].partition("\n")[0]
         self.counts["answers"] += 1
         self.counts["texts"] += isinstance(answer, str)
         assert answer in expected
@@ -387,8 +357,8 @@ class WrongClient(Client):
             message = self.next_message()
             if message.get("id") in self.wanted:
                 self.compare(message)
-        for uri, document in self.documents.items():
-            assert self.warned(uri) in document.warnings()
+        for document in self.documents:
+            assert self.warned(document.uri) in document.warnings()
 
 
 def test_a_client_that_speaks_wrongly():
