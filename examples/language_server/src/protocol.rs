@@ -67,7 +67,7 @@ impl Span {
 #[derive(Deserialize)]
 #[serde(rename_all = "camelCase")]
 pub struct Initialize<'a> {
-    pub process_id: Option<u32>,
+    pub process_id: Option<i64>,
     #[serde(borrow, default)]
     pub capabilities: Capabilities<'a>,
 }
@@ -176,8 +176,8 @@ impl Wanted<'_> {
 
 /// The parameters of a message.
 pub fn read<'a, T: Deserialize<'a>>(params: Raw<'a>) -> Result<T, Fault> {
-    let params = params.ok_or_else(|| Fault::invalid("params"))?;
-    serde_json::from_str(params.get()).map_err(|_| Fault::invalid("params"))
+    let params = params.ok_or_else(|| Fault::invalid("parameter that the method wants"))?;
+    serde_json::from_str(params.get()).map_err(|_| Fault::invalid("parameter that the method wants"))
 }
 
 /// The document that a message is about.

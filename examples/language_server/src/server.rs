@@ -167,7 +167,9 @@ impl Server {
         let client: Initialize = protocol::read(params)?;
         self.encoding = protocol::negotiated(&client.capabilities);
         self.phase = Phase::Initialized;
-        client.process_id.into_iter().for_each(system::end_with);
+        if let Some(process) = client.process_id {
+            system::end_with(process);
+        }
         answer(&json!({
             "capabilities": {
                 "positionEncoding": protocol::name_of(self.encoding),

@@ -14,7 +14,7 @@ pub fn has_input() -> bool {
         events: libc::POLLIN,
         revents: 0,
     };
-    // SAFETY: it is one descriptor, and nobody else has it.
+    // SAFETY: it is one descriptor, as is said, and it is there until the call returns.
     unsafe { libc::poll(&mut input, 1, 0) != 0 }
 }
 
@@ -28,7 +28,7 @@ pub fn give_memory_back() {
 }
 
 /// Ends the program when a process has ended. One that cannot be seen, as from a container, is not watched.
-pub fn end_with(process: u32) {
+pub fn end_with(process: i64) {
     let place = PathBuf::from(format!("/proc/{process}"));
     if place.exists() {
         thread::spawn(move || {

@@ -314,13 +314,13 @@ def test_what_is_passed_over(client):
     assert client.said() == [NO_METHOD]
 
 
-@pytest.mark.parametrize("what, room, text", [("a body", 16, "x"), ("a message", 128, "x"), ("a rope", 288, "\n")])
-def test_no_memory(client, what, room, text):
-    """Memory is refused for a body of 64 MB or more, for its message, or for the rope: the document is out of step."""
+@pytest.mark.parametrize("room", [16, 128])
+def test_no_memory(client, room):
+    """Memory is refused for a body of 64 MB, or for its message: the document is out of step."""
     client.open(URI, "hello")
     size = client.memory("VmSize") + (room << 20)
     resource.prlimit(client.server.pid, resource.RLIMIT_AS, (size, resource.RLIM_INFINITY))
-    assert client.change(URI, ((0, 0), (0, 0), text * (64 << 20))).count(SHOWN) == 1 and client.text(URI) == OUT_OF_STEP
+    assert client.change(URI, ((0, 0), (0, 0), "x" * (64 << 20))).count(SHOWN) == 1 and client.text(URI) == OUT_OF_STEP
     client.change(URI, (None, None, "again"))
     assert client.text(URI) == "again"
 
@@ -424,8 +424,8 @@ def test_eight_megabytes(client, what):
     client.open(URI, "x ")
     client.write(frame(BIG[what]))
     client.said()
-    for method in ["pauskern/text", "textDocument/formatting", "textDocument/foldingRange"]:
-        client.ask(method, OTHER)
+    for method in ["pauskern/text", *(f"textDocument/{name}" for name in ("formatting", "codeAction", "foldingRange", "hover"))]:
+        client.ask(method, OTHER, **of_range((0, 0), (GREATEST, 0)), context={}, position=place(0, 0))
     assert client.memory("VmHWM") <= MOST_MEMORY
 
 

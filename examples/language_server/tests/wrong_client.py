@@ -68,6 +68,7 @@ ODD = {
     "a member nested 200 deep": lambda content: frame(with_member(content, b"\"x\": " + b"[" * 200 + b"]" * 200)),
     "a number out of range": lambda content: frame(with_member(content, b"\"x\": 1e999")),
     "half of a surrogate pair in a member": lambda content: frame(with_member(content, b"\"x\": \"\\ud83d\"")),
+    "a member twice": lambda content: frame(with_member(content, b"\"x\": 1, \"x\": 2")),
     "a type": lambda content: frame(content, b"Content-Type: application/vscode-jsonrpc; charset=utf8\r\n"),
 }
 
