@@ -195,6 +195,13 @@ vim.cmd("edit!")
 has("one \n")
 vim.cmd("normal! Atwo ")
 has("one two \n")
+local asked = vim.lsp.util.make_given_range_params({ 1, 0 }, { 1, 0 })
+asked.context = { diagnostics = {} }
+for _, answer in pairs(vim.lsp.buf_request_sync(0, "textDocument/codeAction", asked, 60000)) do
+  vim.lsp.util.apply_workspace_edit(answer.result[1].edit, "utf-16")
+end
+has("one two\n")
+vim.cmd("normal! A ")
 local format = vim.lsp.buf.format or function() vim.lsp.buf.formatting_sync(nil, 60000) end
 format()
 has("one two\n")
@@ -251,7 +258,7 @@ def text_after(tmp_path):
 
 
 def test_set_up_of_neovim(neovim, text_after):
-    """It attaches, also after `:edit`, and formats."""
+    """It attaches, also after `:edit`, and takes blanks out by a code action and by formatting."""
     words = ["-c", "luafile SET_UP", "-c", "edit TEXT", "-c", "luafile THEN", "-c", "qall!"]
     assert text_after("lua", IS_ATTACHED, *NEOVIM_WITH_NOTHING, *words) == "one two\n"
 
