@@ -62,12 +62,12 @@
         (_ (undo))))))
 
 (defun changes-edit-mixed ()
-  "A random edit at the beginning of a line, which leaves each CR before an LF: one that stands alone ends a line for the server."
+  "A random edit at an end of a line, which leaves each CR before an LF: one that stands alone ends a line for the server."
   (changes-place)
   (beginning-of-line)
   (setq last-command nil)
   (ignore-errors
-    (pcase (random 9)
+    (pcase (random 11)
       ((or 0 1) (insert (aref ["a" "🐸 " "b\r\n" "\n" "c \n"] (random 5))))
       (2 (kill-whole-line))
       (3 (kill-line))
@@ -75,6 +75,8 @@
       (5 (upcase-region (point) (line-end-position)))
       (6 (sort-lines nil (point-min) (line-beginning-position)))
       (7 (when (search-forward "\r\n" nil t) (replace-match "\n")))
+      (8 (end-of-line) (insert "\n"))
+      (9 (end-of-line) (unless (bolp) (delete-char -1)))
       (_ (undo)))))
 
 (defun changes-empty ()

@@ -310,6 +310,7 @@ end
 local MIXED = {
   "1s/\\r$//", "%s/\\r$//", "%s/[^\\r]$/&\\r/", "2,4move $", "1,3copy 0", "%sort", "2,5sort!", "2delete", "undo", "undo", "redo",
   "normal! 0x", "normal! 0ix", "normal! 0D", "normal! dd", "normal! yyp", "normal! ddp", "normal! ddP", "normal! O🐸 ", "normal! cc", "normal! ggdG",
+  "normal! o🐸 ", "normal! $x",
 }
 
 local function edit_mixed()
