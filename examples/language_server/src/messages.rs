@@ -59,7 +59,10 @@ pub fn read(body: &[u8]) -> Result<Call<'_>, Fault> {
     if Vec::<u8>::new().try_reserve_exact(3 * body.len()).is_err() {
         return Err(Fault::no_memory());
     }
-    let refused = |error| Fault::parse_error(format!("a body is no JSON: {error}"));
+    let refused = |error: serde_json::Error| match error.is_data() {
+        true => Fault::invalid_request("a message has a member twice"),
+        false => Fault::parse_error(format!("a body is no JSON: {error}")),
+    };
     let text = str::from_utf8(body).map_err(|error| Fault::parse_error(format!("a body is not UTF-8: {error}")))?;
     if text.trim_start().starts_with('{') {
         return serde_json::from_str(text).map(call).map_err(refused);
