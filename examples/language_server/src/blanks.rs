@@ -4,7 +4,7 @@ use crate::protocol::Span;
 use std::ops;
 use str_rope::{Encoding, Error, Rope, Scheme};
 
-/// At most so many warnings are sent for a document: a key that moves one sends all of them again.
+/// The most warnings that are sent for a document: a key that moves one sends all of them again.
 const MOST_WARNINGS: usize = 200;
 
 /// So many bytes before a line's end blanks are warned of, so that a change in a line of millions reads no more of it.
@@ -122,7 +122,7 @@ pub fn blanks_in(
     found.into_iter().map(span).collect()
 }
 
-/// Looks for blanks before a break or the end of a part of a text, until so many are found.
+/// Looks for blanks before a break or the end of a part of a text, until the most that are wanted are found.
 fn find_blanks(
     rope: &Rope,
     part: ops::Range<usize>,

@@ -10,7 +10,7 @@ use str_rope::{Encoding, Error, Position, Rope, Scheme};
 /// The greatest number of the protocol.
 const GREATEST: u32 = i32::MAX as u32;
 
-/// At most so many edits are answered at once, and so many folding ranges.
+/// The most edits, and the most folding ranges, that one answer has.
 const MOST_EDITS: usize = 10_000;
 const MOST_FOLDS: usize = 5_000;
 

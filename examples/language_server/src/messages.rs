@@ -1,4 +1,4 @@
-//! Messages of JSON-RPC 2.0. What the server has no use for in one is looked at, and not kept.
+//! Messages of JSON-RPC 2.0. Members of one that the server has no use for are looked at, and not kept.
 use crate::faults::Fault;
 use serde::{Deserialize, Deserializer, Serialize};
 use serde_json::value::RawValue;

@@ -134,7 +134,7 @@ local function edit()
   found.edits = found.edits + 1
 end
 
--- A paste as a terminal sends it, of so many bytes at the least.
+-- A paste as a terminal sends it, of at least `size` bytes.
 local function paste(size)
   local lines, len = {}, 0
   while len < size do

@@ -16,7 +16,7 @@ from position_model import Lines
 from tally import least
 
 SEED = 59
-# so many messages are sent
+# how many messages are sent
 MESSAGES = 100_000
 # the most memory that the server has at any time
 MOST_MEMORY = 32 << 20
