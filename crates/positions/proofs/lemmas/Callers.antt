@@ -1,0 +1,3 @@
+-- What the proofs of other crates may cite of this one.
+pub use Rattle.positions.proofs.lemmas.Kinds.{none_before}
+pub use Rattle.positions.proofs.lemmas.Starts.{weighed_none}

@@ -1,0 +1,165 @@
+-- The byte of a position, by the rest of the part that its line begins in.
+use Rattle.position_mapper.proofs.lemmas.Callers.{boundary_within}
+use Rattle.positions.proofs.lemmas.Common.{Bool, Some, None, [], ◌≡◌, ◌≢◌, ℕ, ◌+◌, ◌<◌, ◌≤◌, ◌⊎◌, ◌++◌, min, sym, refl, ap, ◌∙◌, inl, inr, arith, size-append, cut, cut_front, Text, size, count, weighed, boundary_weighed, boundary_weighed_is_greatest, to_byte_idx, to_byte_idx-zero, IsBoundary, units_of, byte_at, exact_byte_at, line_content, before_first, scheme_of, is_break, Position, Encoding, LineType}
+use Rattle.position_mapper.proofs.lemmas.Callers.{split_at_first}
+use Rattle.positions.proofs.lemmas.Firsts.{first_of}
+use Rattle.positions.proofs.lemmas.Starts.{weighed_none, weighed_before, place_before, content_from, first_content}
+use Rattle.positions.proofs.lemmas.Units.{IsBoundary-byte_at, byte_of_units, units_at_place, exact_by_units, not_exact_by_units}
+use Rattle.positions.proofs.lemmas.PartsOf.{rest_is}
+
+-- the content of a text's beginning is that of the text, up to where it ends
+pub content_of_front : (p : ℕ → Bool) (a b : Text) → size (before_first p a) ≡ min (size a) (size (before_first p (a ++ b)))
+content_of_front p a b = elim (first_of p a b) [
+  | inl (none, more) ↦
+      omega (arith, ap size none, ap size more, size-append a (before_first p b))
+  | inr same ↦ omega (arith, ap size same, within)
+]
+  where
+    within : size (before_first p a) ≤ size a
+    within = let parts = split_at_first p a in omega (arith, ap size parts.split, size-append (before_first p a) parts.after)
+
+-- on the first line, the place of an offset is that in the text, or the end of the content before that
+pub byte_on_first : (l : LineType) (e : Encoding) (cs : Text) (k : ℕ)
+    → size (before_first (is_break l) (cut cs (boundary_weighed (units_of e) cs k)))
+    ≡ byte_at l e cs (record { line = 0; character = k })
+byte_on_first l e cs k =
+    let w = units_of e in
+    let place = boundary_weighed w cs k in
+    let at = (boundary_weighed_is_greatest w cs k).boundary in
+    let front = cut_front cs place at in
+    let zero = to_byte_idx-zero (scheme_of l) cs in
+    let none : weighed w cs (to_byte_idx (scheme_of l) cs 0) + k ≡ k = omega (arith, ap (weighed w cs) zero, weighed_none w cs) in
+    omega (
+      arith,
+      byte_of_units l e cs (record { line = 0; character = k }),
+      ap (boundary_weighed w cs) none,
+      zero,
+      ap size (first_content l cs),
+      ap (λ f. size (before_first (is_break l) f)) front,
+      content_of_front (is_break l) at.front at.back,
+      ap (λ t. size (before_first (is_break l) t)) at.split,
+      at.place,
+    )
+
+module _ (l : LineType) (e : Encoding) (cs : Text) (p : Position) (front rest back : Text) (start : ℕ)
+    (split : cs ≡ front ++ (rest ++ back)) (place : size front ≡ start) (start_is : start ≡ to_byte_idx (scheme_of l) cs p.line) where
+  -- the content of the line, and what of it is in the rest
+  abbrev content : Text
+  content = line_content l cs p.line
+
+  abbrev part : Text
+  part = before_first (is_break l) rest
+
+  abbrev own_position : Position
+  own_position = record { line = 0; character = p.character }
+
+  abbrev w : ℕ → ℕ
+  w = units_of e
+
+  goes_on : content ≡ before_first (is_break l) (rest ++ back)
+  goes_on = content_from l cs p.line front (rest ++ back) split (place ∙ start_is)
+
+  -- the content is that part, or all of the rest and more
+  part_or_more : ((part ≡ rest) × (content ≡ rest ++ before_first (is_break l) back)) ⊎ (content ≡ part)
+  part_or_more = elim (first_of (is_break l) rest back) [
+    | inl (none, more) ↦ inl (none, goes_on ∙ more)
+    | inr same ↦ inr (goes_on ∙ same)
+  ]
+
+  -- where the text ends with the rest, it is that part
+  part_at_end : start + size rest ≡ size cs → content ≡ part
+  part_at_end ends =
+      goes_on ∙ ap (before_first (is_break l)) (rest_is cs front rest back start split place ends)
+
+  -- the byte of the position in the rest
+  place_is : (own : ℕ) → own ≡ byte_at l e rest own_position → own ≡ boundary_weighed w part p.character
+  place_is own is = omega (
+    arith,
+    is,
+    ap (λ t. boundary_weighed w t p.character) (first_content l rest),
+    to_byte_idx-zero (scheme_of l) rest,
+  )
+
+  -- it is in the rest
+  pub place_within : (own : ℕ) → own ≡ byte_at l e rest own_position → own ≤ size rest
+  place_within own is = omega (arith, is, boundary_within rest (byte_at l e rest own_position) (IsBoundary-byte_at l e rest own_position))
+
+  byte_in_rest : (own : ℕ) → own ≡ byte_at l e rest own_position → own < size rest → start + own ≡ byte_at l e cs p
+  byte_in_rest own is inside =
+      let here_is = place_is own is in
+      elim part_or_more [
+        | inl (none, more) ↦
+            let here = here_is ∙ ap (λ t. boundary_weighed w t p.character) none in
+            let same = place_before w rest (before_first (is_break l) back) p.character (omega (arith, inside, here)) in
+            omega (arith, start_is, here, same, ap (λ t. boundary_weighed w t p.character) more)
+        | inr same ↦ omega (arith, start_is, here_is, ap (λ t. boundary_weighed w t p.character) same)
+      ]
+
+  byte_at_end : (own : ℕ) → own ≡ byte_at l e rest own_position → start + size rest ≡ size cs
+      → start + own ≡ byte_at l e cs p
+  byte_at_end own is ends = omega (
+    arith,
+    start_is,
+    place_is own is,
+    ap (λ t. boundary_weighed w t p.character) (part_at_end ends),
+  )
+
+  -- where it is before the end of the rest, or the text ends there, it is the place in the text
+  pub byte_told : (own : ℕ) → own ≡ byte_at l e rest own_position → (own < size rest) ⊎ (start + size rest ≡ size cs)
+      → start + own ≡ byte_at l e cs p
+  byte_told own is (inl inside) = byte_in_rest own is inside
+  byte_told own is (inr ends) = byte_at_end own is ends
+
+  -- the units before its place in the content are those in the part, where that place is told
+  units_told : (own : ℕ) → own ≡ byte_at l e rest own_position → (own < size rest) ⊎ (start + size rest ≡ size cs)
+      → weighed w content (boundary_weighed w content p.character) ≡ weighed w part (boundary_weighed w part p.character)
+  units_told own is (inr ends) = ap (λ t. weighed w t (boundary_weighed w t p.character)) (part_at_end ends)
+  units_told own is (inl inside) = elim part_or_more [
+    | inr equal ↦ ap (λ t. weighed w t (boundary_weighed w t p.character)) equal
+    | inl (none, more) ↦
+        let whole = rest ++ before_first (is_break l) back in
+        let here = place_is own is ∙ ap (λ t. boundary_weighed w t p.character) none in
+        let same = place_before w rest (before_first (is_break l) back) p.character (omega (arith, inside, here)) in
+        let units = weighed_before w rest (before_first (is_break l) back)
+        (boundary_weighed w rest p.character) (omega (arith, inside, here)) in
+        ap (λ t. weighed w t (boundary_weighed w t p.character)) more ∙ ap (weighed w whole) same ∙ units
+        ∙ sym (ap (λ t. weighed w t (boundary_weighed w t p.character)) none)
+  ]
+
+  -- so the units before it in the rest are those on the line
+  units_in_rest : (own : ℕ) → own ≡ byte_at l e rest own_position → (own < size rest) ⊎ (start + size rest ≡ size cs)
+      → weighed w cs (byte_at l e cs p) ≡ weighed w cs (to_byte_idx (scheme_of l) cs p.line) + weighed w rest own
+  units_in_rest own is told =
+      let first = ap (λ t. weighed w t (boundary_weighed w t p.character)) (first_content l rest) in
+      omega (
+        arith,
+        units_at_place l e cs p,
+        units_told own is told,
+        first,
+        units_at_place l e rest own_position,
+        weighed_none w rest,
+        ap (weighed w rest) is,
+        ap (weighed w rest) (to_byte_idx-zero (scheme_of l) rest),
+      )
+
+  pub exact_told : (own : ℕ) → own ≡ byte_at l e rest own_position → (own < size rest) ⊎ (start + size rest ≡ size cs)
+      → p.line ≤ count (scheme_of l) cs → weighed w rest own ≡ p.character → Some (start + own) ≡ exact_byte_at l e cs p
+  exact_told own is told has same = ap (λ n. Some n) (byte_told own is told)
+      ∙ exact_by_units l e cs p has (omega (arith, units_in_rest own is told, same))
+
+  pub none_told : (own : ℕ) → own ≡ byte_at l e rest own_position → (own < size rest) ⊎ (start + size rest ≡ size cs)
+      → weighed w rest own ≢ p.character → None ≡ exact_byte_at l e cs p
+  none_told own is told other =
+      not_exact_by_units l e cs p (inr (λ same. other (omega (arith, units_in_rest own is told, same))))
+
+-- the place of an offset on the first line of a text's beginning is that of the text, where it is before the end of that
+pub first_told : (l : LineType) (e : Encoding) (cs : Text) (k end : ℕ) (at : IsBoundary cs end) (own : ℕ)
+    → own ≡ byte_at l e at.front (record { line = 0; character = k }) → (own < end) ⊎ (size cs ≤ end)
+    → own ≡ byte_at l e cs (record { line = 0; character = k })
+first_told l e cs k end at own is told =
+    let zero : 0 ≡ to_byte_idx (scheme_of l) cs 0 = sym (to_byte_idx-zero (scheme_of l) cs) in
+    let told' : (own < size at.front) ⊎ (0 + size at.front ≡ size cs) = elim told [
+      | inl inside ↦ inl (omega (arith, inside, at.place))
+      | inr all ↦ inr (omega (arith, all, at.place, ap size at.split, size-append at.front at.back))
+    ] in
+    omega (arith, byte_told l e cs (record { line = 0; character = k }) [] at.front at.back 0 at.split refl zero own is told')

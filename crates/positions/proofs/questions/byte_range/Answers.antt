@@ -1,0 +1,44 @@
+use Rattle.positions.proofs.lemmas.{◌≡◌, ◌∙◌, ap, arith, byte_at, byte_at-le, none_taken, taken_within, taken_after}
+use Rattle.positions.proofs.questions.byte_range.Goals as goal
+
+pub returns-then-not-is_at_or_before-clause-cost : goal.returns-then-not-is_at_or_before-clause-cost
+returns-then-not-is_at_or_before-clause-cost g c =
+    taken_within c.len-len.ensures.searched (omega arith) (omega arith) (none_taken (g.P.Parts.state c.args.parts.now))
+
+pub returns-then-start-end-clause-ordered : goal.returns-then-start-end-clause-ordered
+returns-then-start-end-clause-ordered g c =
+    let cs = (g.P.Parts.state c.args.parts.now).text in
+    let l = c.args.lines in
+    let e = c.args.encoding in
+    let range = c.args.range in
+    let ordered = c.is_at_or_before.ensures.order.0 c.if-not-is_at_or_before.false in
+    let from : c.byte_on-from.result ≡ byte_at l e cs range.start =
+    c.byte_on-from.ensures.answer ∙ ap (λ t. byte_at l e t range.start) c.line_in-first.ensures.cost.text in
+    let text = c.byte_on-from.ensures.cost.text ∙ c.line_in-first.ensures.cost.text in
+    let to : c.byte_on-to.result ≡ byte_at l e cs range.end =
+    c.byte_on-to.ensures.answer ∙ ap (λ t. byte_at l e t range.end) text in
+    omega (arith, byte_at-le l e cs range.start range.end ordered, from, to)
+
+pub returns-then-start-end-clause-cost : goal.returns-then-start-end-clause-cost
+returns-then-start-end-clause-cost g c =
+    taken_within c.len-len.ensures.searched (omega arith) (omega arith)
+    (taken_after (taken_after c.line_in-first.ensures.cost c.byte_on-from.ensures.cost) c.byte_on-to.ensures.cost)
+
+pub returns-clause-ordered : goal.returns-clause-ordered
+returns-clause-ordered g c =
+    let cs = (g.P.Parts.state c.args.parts.now).text in
+    let l = c.args.lines in
+    let e = c.args.encoding in
+    let range = c.args.range in
+    let ordered = c.is_at_or_before.ensures.order.0 c.if-not-is_at_or_before.false in
+    let from : c.byte_on-from.result ≡ byte_at l e cs range.start =
+    c.byte_on-from.ensures.answer ∙ ap (λ t. byte_at l e t range.start) c.line_in-first.ensures.cost.text in
+    let text = c.byte_on-from.ensures.cost.text ∙ c.line_in-first.ensures.cost.text in
+    let to : c.byte_of-to.result ≡ byte_at l e cs range.end =
+    c.byte_of-to.ensures.answer ∙ ap (λ t. byte_at l e t range.end) text in
+    omega (arith, byte_at-le l e cs range.start range.end ordered, from, to)
+
+pub returns-clause-cost : goal.returns-clause-cost
+returns-clause-cost g c =
+    taken_within c.len-len.ensures.searched (omega arith) (omega arith)
+    (taken_after (taken_after c.line_in-first.ensures.cost c.byte_on-from.ensures.cost) c.byte_of-to.ensures.cost)

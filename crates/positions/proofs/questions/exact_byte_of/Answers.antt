@@ -1,0 +1,85 @@
+use Rattle.positions.proofs.lemmas.{◌∙◌, ap, sym, subst, refl, arith, chars, byte_at, exact_byte_at, IsBoundary, boundary_within, IsBoundary-byte_at, part_within, place_told, exact_place, no_place, none_taken, taken_within, taken_after}
+use Rattle.positions.proofs.questions.exact_byte_of.Goals as goal
+
+pub returns-then-count-position-clause-cost : goal.returns-then-count-position-clause-cost
+returns-then-count-position-clause-cost g c =
+    taken_within c.len-len.ensures.searched (omega arith) (omega arith) (none_taken (g.P.Parts.state c.args.parts.now))
+
+pub tells-requires : goal.tells-requires
+tells-requires g c =
+    let start = c.line_in-start in
+    rw start.ensures.cost.text
+    (λ k. ((refl, tt), part_within (g.P.Parts.state c.args.parts.now).text c.args.lines c.args.encoding start.result.part start.ensures.part))
+
+pub returns-then-units_before-position-clause-answer : goal.returns-then-units_before-position-clause-answer
+returns-then-units_before-position-clause-answer g c =
+    let cs = (g.P.Parts.state c.args.parts.now).text in
+    let l = c.args.lines in
+    let e = c.args.encoding in
+    let start = c.line_in-start in
+    let rest = chars c.from_byte-rest.result.now in
+    let own = c.place_on_first_line-own in
+    let told = rw start.ensures.cost.text at (c.tells.ensures.0 c.if-tells.true) in
+    no_place cs l e start.result.part start.ensures.part start.result.own rest c.from_byte-rest.ensures c.args.position start.ensures.place own.result own.ensures told (λ same. c.if-units_before-position.true (c.units_before.ensures ∙ same))
+
+pub returns-then-units_before-position-clause-cost : goal.returns-then-units_before-position-clause-cost
+returns-then-units_before-position-clause-cost g c = taken_within c.len-len.ensures.searched (omega arith) (omega arith) c.line_in-start.ensures.cost
+
+pub overflow_add-result : goal.overflow_add-result
+overflow_add-result g c =
+    let cs = (g.P.Parts.state c.args.parts.now).text in
+    let l = c.args.lines in
+    let e = c.args.encoding in
+    let start = c.line_in-start in
+    let rest = chars c.from_byte-rest.result.now in
+    let own = c.place_on_first_line-own in
+    let told = rw start.ensures.cost.text at (c.tells.ensures.0 c.if-tells.true) in
+    let is = place_told cs l e start.result.part start.ensures.part start.result.own rest c.from_byte-rest.ensures c.args.position start.ensures.place own.result own.ensures told in
+    omega (arith, is, boundary_within cs (byte_at l e cs c.args.position) (IsBoundary-byte_at l e cs c.args.position), c.len-len.ensures.short)
+
+pub overflow_add-result-then-tells : goal.overflow_add-result-then-tells
+overflow_add-result-then-tells g c =
+    let cs = (g.P.Parts.state c.args.parts.now).text in
+    let l = c.args.lines in
+    let e = c.args.encoding in
+    let start = c.line_in-start in
+    let rest = chars c.from_byte-rest.result.now in
+    let own = c.place_on_first_line-own in
+    let told = rw start.ensures.cost.text at (c.tells.ensures.0 c.if-tells.true) in
+    let is = place_told cs l e start.result.part start.ensures.part start.result.own rest c.from_byte-rest.ensures c.args.position start.ensures.place own.result own.ensures told in
+    omega (arith, is, boundary_within cs (byte_at l e cs c.args.position) (IsBoundary-byte_at l e cs c.args.position), c.len-len.ensures.short)
+
+pub returns-then-tells-clause-answer : goal.returns-then-tells-clause-answer
+returns-then-tells-clause-answer g c =
+    let cs = (g.P.Parts.state c.args.parts.now).text in
+    let l = c.args.lines in
+    let e = c.args.encoding in
+    let start = c.line_in-start in
+    let rest = chars c.from_byte-rest.result.now in
+    let own = c.place_on_first_line-own in
+    let told = rw start.ensures.cost.text at (c.tells.ensures.0 c.if-tells.true) in
+    exact_place cs l e start.result.part start.ensures.part start.result.own rest c.from_byte-rest.ensures c.args.position start.ensures.place own.result own.ensures told (omega (arith, c.count.ensures, c.if-count-position.false)) (sym c.units_before.ensures ∙ c.if-units_before-position.false)
+
+pub returns-then-tells-clause-boundary : goal.returns-then-tells-clause-boundary
+returns-then-tells-clause-boundary g c =
+    let cs = (g.P.Parts.state c.args.parts.now).text in
+    let l = c.args.lines in
+    let e = c.args.encoding in
+    let start = c.line_in-start in
+    let rest = chars c.from_byte-rest.result.now in
+    let own = c.place_on_first_line-own in
+    let told = rw start.ensures.cost.text at (c.tells.ensures.0 c.if-tells.true) in
+    subst (IsBoundary cs) (sym (place_told cs l e start.result.part start.ensures.part start.result.own rest c.from_byte-rest.ensures c.args.position start.ensures.place own.result own.ensures told)) (IsBoundary-byte_at l e cs c.args.position)
+
+pub returns-then-tells-clause-cost : goal.returns-then-tells-clause-cost
+returns-then-tells-clause-cost g c = taken_within c.len-len.ensures.searched (omega arith) (omega arith) c.line_in-start.ensures.cost
+
+pub returns-clause-answer : goal.returns-clause-answer
+returns-clause-answer g c = c.exact_byte_after.ensures.answer
+    ∙ ap (λ t. exact_byte_at c.args.lines c.args.encoding t c.args.position) c.line_in-start.ensures.cost.text
+
+pub returns-clause-boundary : goal.returns-clause-boundary
+returns-clause-boundary g c = rw c.line_in-start.ensures.cost.text at c.exact_byte_after.ensures.boundary
+
+pub returns-clause-cost : goal.returns-clause-cost
+returns-clause-cost g c = taken_after c.line_in-start.ensures.cost c.exact_byte_after.ensures.cost

@@ -1,0 +1,209 @@
+use Rattle.positions.proofs.lemmas.{◌≡◌, ◌+◌, ◌-◌, ◌<◌, ◌⊎◌, ◌∙◌, min, ap, refl, inl, inr, arith, chars, size, units_of, weighed, to_byte_idx, from_byte_idx, scheme_of, at_within, at_round, line_told, lines_short, line_before, return_before, position_told, start_before, units_from_start, return_and_line, position_cut, taken_within, searched_before, taken_after}
+use Rattle.positions.proofs.questions.position_of.Goals as goal
+
+pub overflow_sub-byte : goal.overflow_sub-byte
+overflow_sub-byte g c = c.part_of_byte-part.ensures.round.after
+
+pub overflow_add-line : goal.overflow_add-line
+overflow_add-line g c =
+    let cs = (g.P.Parts.state c.args.parts.now).text in
+    let l = c.args.lines in
+    let e = c.args.encoding in
+    let byte = c.args.byte in
+    let part = c.part_of_byte-part in
+    let is = part.ensures.part in
+    let round = part.ensures.round in
+    let at = c.min-at.result in
+    let own = chars part.result.text.now in
+    let at_is : at ≡ min (byte - part.result.start) (size own) =
+    c.min-at.ensures ∙ ap (λ n. min (byte - part.result.start) n) c.len_of.ensures in
+    let counted = rw c.scheme.ensures at c.from_byte_idx-own.ensures in
+    omega (arith, lines_short cs l e part.result is byte round at at_is, counted, rw part.ensures.cost.text at c.len-len.ensures.short)
+
+pub line_start-start-requires : goal.line_start-start-requires
+line_start-start-requires g c =
+    let cs = (g.P.Parts.state c.args.parts.now).text in
+    let l = c.args.lines in
+    let e = c.args.encoding in
+    let byte = c.args.byte in
+    let part = c.part_of_byte-part in
+    let is = part.ensures.part in
+    let round = part.ensures.round in
+    let at = c.min-at.result in
+    let own = chars part.result.text.now in
+    let at_is : at ≡ min (byte - part.result.start) (size own) =
+    c.min-at.ensures ∙ ap (λ n. min (byte - part.result.start) n) c.len_of.ensures in
+    let counted = rw c.scheme.ensures at c.from_byte_idx-own.ensures in
+    record { line = counted; within = at_within cs l e part.result is byte round at at_is }
+
+pub overflow_sub-at : goal.overflow_sub-at
+overflow_sub-at g c =
+    let cs = (g.P.Parts.state c.args.parts.now).text in
+    let l = c.args.lines in
+    let e = c.args.encoding in
+    let byte = c.args.byte in
+    let part = c.part_of_byte-part in
+    let is = part.ensures.part in
+    let round = part.ensures.round in
+    let at = c.min-at.result in
+    let own = chars part.result.text.now in
+    let at_is : at ≡ min (byte - part.result.start) (size own) =
+    c.min-at.ensures ∙ ap (λ n. min (byte - part.result.start) n) c.len_of.ensures in
+    let counted = rw c.scheme.ensures at c.from_byte_idx-own.ensures in
+    start_before cs l e part.result is byte round at at_is c.line_start-start.result
+    (c.line_start-start.ensures.start ∙ ap (to_byte_idx (scheme_of l) own) counted)
+
+pub overflow_sub-result : goal.overflow_sub-result
+overflow_sub-result g c =
+    let cs = (g.P.Parts.state c.args.parts.now).text in
+    let l = c.args.lines in
+    let e = c.args.encoding in
+    let byte = c.args.byte in
+    let part = c.part_of_byte-part in
+    let is = part.ensures.part in
+    let round = part.ensures.round in
+    let at = c.min-at.result in
+    let own = chars part.result.text.now in
+    let at_is : at ≡ min (byte - part.result.start) (size own) =
+    c.min-at.ensures ∙ ap (λ n. min (byte - part.result.start) n) c.len_of.ensures in
+    let counted = rw c.scheme.ensures at c.from_byte_idx-own.ensures in
+    let some : (0 < from_byte_idx (scheme_of l) own at) ⊎ (part.result.start ≡ 0) = elim c.then-own-gt0.either [
+      | inl above ↦ inl (omega (arith, above, counted))
+      | inr first ↦ inr first.1
+    ] in
+    let start = c.line_start-start in
+    let start_is = start.ensures.start ∙ ap (to_byte_idx (scheme_of l) own) counted in
+    let line_is : part.result.lines + c.from_byte_idx-own.result ≡ from_byte_idx (scheme_of l) cs byte =
+    omega (arith, counted, line_told cs l e part.result is byte round at at_is) in
+    let units = units_from_start cs l e part.result is byte round at at_is (chars c.from_byte.result.now) start.result c.units_before-units.result
+    (part.result.lines + c.from_byte_idx-own.result) start_is c.from_byte.ensures c.units_before-units.ensures some line_is in
+    let behind = c.return_behind-behind.ensures cs l e is (at_round cs l e part.result is byte round at at_is) in
+    return_before cs l e part.result is byte round at at_is c.return_behind-behind.result behind (part.result.lines + c.from_byte_idx-own.result) c.units_before-units.result line_is units
+
+pub returns-then-own-gt0-clause-answer : goal.returns-then-own-gt0-clause-answer
+returns-then-own-gt0-clause-answer g c =
+    let cs = (g.P.Parts.state c.args.parts.now).text in
+    let l = c.args.lines in
+    let e = c.args.encoding in
+    let byte = c.args.byte in
+    let part = c.part_of_byte-part in
+    let is = part.ensures.part in
+    let round = part.ensures.round in
+    let at = c.min-at.result in
+    let own = chars part.result.text.now in
+    let at_is : at ≡ min (byte - part.result.start) (size own) =
+    c.min-at.ensures ∙ ap (λ n. min (byte - part.result.start) n) c.len_of.ensures in
+    let counted = rw c.scheme.ensures at c.from_byte_idx-own.ensures in
+    let some : (0 < from_byte_idx (scheme_of l) own at) ⊎ (part.result.start ≡ 0) = elim c.then-own-gt0.either [
+      | inl above ↦ inl (omega (arith, above, counted))
+      | inr first ↦ inr first.1
+    ] in
+    let start = c.line_start-start in
+    let start_is = start.ensures.start ∙ ap (to_byte_idx (scheme_of l) own) counted in
+    let line_is : part.result.lines + c.from_byte_idx-own.result ≡ from_byte_idx (scheme_of l) cs byte =
+    omega (arith, counted, line_told cs l e part.result is byte round at at_is) in
+    let units = units_from_start cs l e part.result is byte round at at_is (chars c.from_byte.result.now) start.result c.units_before-units.result
+    (part.result.lines + c.from_byte_idx-own.result) start_is c.from_byte.ensures c.units_before-units.ensures some line_is in
+    let behind = c.return_behind-behind.ensures cs l e is (at_round cs l e part.result is byte round at at_is) in
+    position_told cs l e part.result is byte round at at_is c.return_behind-behind.result behind (part.result.lines + c.from_byte_idx-own.result) c.units_before-units.result line_is units
+
+pub returns-then-own-gt0-clause-cost : goal.returns-then-own-gt0-clause-cost
+returns-then-own-gt0-clause-cost g c =
+    taken_within (searched_before c.part_of_byte-part.ensures.cost c.len-len.ensures.searched) (omega arith) (omega arith) c.part_of_byte-part.ensures.cost
+
+pub overflow_sub-units : goal.overflow_sub-units
+overflow_sub-units g c =
+    let cs = (g.P.Parts.state c.args.parts.now).text in
+    let l = c.args.lines in
+    let e = c.args.encoding in
+    let byte = c.args.byte in
+    let part = c.part_of_byte-part in
+    let is = part.ensures.part in
+    let round = part.ensures.round in
+    let at = c.min-at.result in
+    let own = chars part.result.text.now in
+    let at_is : at ≡ min (byte - part.result.start) (size own) =
+    c.min-at.ensures ∙ ap (λ n. min (byte - part.result.start) n) c.len_of.ensures in
+    let counted = rw c.scheme.ensures at c.from_byte_idx-own.ensures in
+    let line_is : part.result.lines + c.from_byte_idx-own.result ≡ from_byte_idx (scheme_of l) cs byte =
+    omega (arith, counted, line_told cs l e part.result is byte round at at_is) in
+    let text = part.ensures.cost.text in
+    let behind = c.return_behind-behind.ensures cs l e is (at_round cs l e part.result is byte round at at_is) in
+    let units : c.units_up_to.result ≡ weighed (units_of e) cs (part.result.start + at) = rw text at c.units_up_to.ensures in
+    let begins = to_byte_idx (scheme_of l) cs (part.result.lines + c.from_byte_idx-own.result) in
+    omega (
+      arith,
+      return_and_line cs l e part.result is byte round at at_is c.return_behind-behind.result behind
+          (part.result.lines + c.from_byte_idx-own.result) (weighed (units_of e) cs begins) c.units_up_to.result line_is refl units,
+    )
+
+pub overflow_sub-result-2 : goal.overflow_sub-result-2
+overflow_sub-result-2 g c =
+    let cs = (g.P.Parts.state c.args.parts.now).text in
+    let l = c.args.lines in
+    let e = c.args.encoding in
+    let byte = c.args.byte in
+    let part = c.part_of_byte-part in
+    let is = part.ensures.part in
+    let round = part.ensures.round in
+    let at = c.min-at.result in
+    let own = chars part.result.text.now in
+    let at_is : at ≡ min (byte - part.result.start) (size own) =
+    c.min-at.ensures ∙ ap (λ n. min (byte - part.result.start) n) c.len_of.ensures in
+    let counted = rw c.scheme.ensures at c.from_byte_idx-own.ensures in
+    let line_is : part.result.lines + c.from_byte_idx-own.result ≡ from_byte_idx (scheme_of l) cs byte =
+    omega (arith, counted, line_told cs l e part.result is byte round at at_is) in
+    let text = part.ensures.cost.text in
+    let behind = c.return_behind-behind.ensures cs l e is (at_round cs l e part.result is byte round at at_is) in
+    let units : c.units_up_to.result ≡ weighed (units_of e) cs (part.result.start + at) = rw text at c.units_up_to.ensures in
+    let start = c.line_in-start in
+    let place = rw text at start.ensures.place in
+    let before = rw (start.ensures.cost.text ∙ text) at c.units_up_to-before_line.ensures ∙ ap (weighed (units_of e) cs) place in
+    omega (arith, return_and_line cs l e part.result is byte round at at_is c.return_behind-behind.result behind (part.result.lines + c.from_byte_idx-own.result) c.units_up_to-before_line.result c.units_up_to.result line_is before units)
+
+pub returns-clause-answer : goal.returns-clause-answer
+returns-clause-answer g c =
+    let cs = (g.P.Parts.state c.args.parts.now).text in
+    let l = c.args.lines in
+    let e = c.args.encoding in
+    let byte = c.args.byte in
+    let part = c.part_of_byte-part in
+    let is = part.ensures.part in
+    let round = part.ensures.round in
+    let at = c.min-at.result in
+    let own = chars part.result.text.now in
+    let at_is : at ≡ min (byte - part.result.start) (size own) =
+    c.min-at.ensures ∙ ap (λ n. min (byte - part.result.start) n) c.len_of.ensures in
+    let counted = rw c.scheme.ensures at c.from_byte_idx-own.ensures in
+    let line_is : part.result.lines + c.from_byte_idx-own.result ≡ from_byte_idx (scheme_of l) cs byte =
+    omega (arith, counted, line_told cs l e part.result is byte round at at_is) in
+    let text = part.ensures.cost.text in
+    let behind = c.return_behind-behind.ensures cs l e is (at_round cs l e part.result is byte round at at_is) in
+    let units : c.units_up_to.result ≡ weighed (units_of e) cs (part.result.start + at) = rw text at c.units_up_to.ensures in
+    let start = c.line_in-start in
+    let place = rw text at start.ensures.place in
+    let before = rw (start.ensures.cost.text ∙ text) at c.units_up_to-before_line.ensures ∙ ap (weighed (units_of e) cs) place in
+    position_cut cs l e part.result is byte round at at_is c.return_behind-behind.result behind (part.result.lines + c.from_byte_idx-own.result) c.units_up_to-before_line.result c.units_up_to.result line_is before units
+
+pub returns-clause-cost : goal.returns-clause-cost
+returns-clause-cost g c = taken_after c.part_of_byte-part.ensures.cost c.line_in-start.ensures.cost
+
+pub returns-clause-near : goal.returns-clause-near
+returns-clause-near g c =
+    let cs = (g.P.Parts.state c.args.parts.now).text in
+    let l = c.args.lines in
+    let e = c.args.encoding in
+    let byte = c.args.byte in
+    let part = c.part_of_byte-part in
+    let is = part.ensures.part in
+    let round = part.ensures.round in
+    let at = c.min-at.result in
+    let own = chars part.result.text.now in
+    let at_is : at ≡ min (byte - part.result.start) (size own) =
+    c.min-at.ensures ∙ ap (λ n. min (byte - part.result.start) n) c.len_of.ensures in
+    let counted = rw c.scheme.ensures at c.from_byte_idx-own.ensures in
+    let none : from_byte_idx (scheme_of l) own at ≡ 0 = omega (arith, counted, c.if-own-gt0.false) in
+    λ near. absurd (elim near [
+      | inl before ↦ omega (arith, before, part.ensures.start, line_before cs l e part.result is byte round at at_is none)
+      | inr first ↦ c.if-part-eq0.false (part.ensures.start ∙ first)
+    ])

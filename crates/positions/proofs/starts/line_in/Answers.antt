@@ -1,0 +1,25 @@
+use Rattle.positions.proofs.lemmas.{◌-◌, sym, subst, arith, chars, IsBoundary, IsBoundary-to_byte_idx, lines_within, line_place}
+use Rattle.positions.proofs.starts.line_in.Goals as goal
+
+pub overflow_sub-line : goal.overflow_sub-line
+overflow_sub-line g c =
+    let part = c.part_of_line-part in
+    lines_within (g.P.Parts.state c.args.parts.now).text c.args.lines c.args.encoding part.result part.ensures.part c.args.line
+    part.ensures.round
+
+pub returns-clause-place : goal.returns-clause-place
+returns-clause-place g c =
+    let part = c.part_of_line-part in
+    let own = rw c.scheme.ensures at c.to_byte_idx-own.ensures.answer in
+    omega (
+      arith,
+      own,
+      line_place (g.P.Parts.state c.args.parts.now).text c.args.lines c.args.encoding part.result part.ensures.part c.args.line
+          part.ensures.round,
+    )
+
+pub returns-clause-boundary : goal.returns-clause-boundary
+returns-clause-boundary g c =
+    let own = chars c.part_of_line-part.result.text.now in
+    subst (IsBoundary own) (sym c.to_byte_idx-own.ensures.answer)
+    (IsBoundary-to_byte_idx c.scheme.result own (c.args.line - c.part_of_line-part.result.lines))

@@ -1,0 +1,6 @@
+pub mod Lines
+pub mod Positions
+pub mod Parts
+pub mod Units
+pub mod Characters
+pub mod Examples

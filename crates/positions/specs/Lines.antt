@@ -1,0 +1,40 @@
+-- The lines of a text, by what ends them. Which line a byte index is on, and where a line begins, the scheme says.
+--     scheme_of l              the scheme that counts these line breaks
+--     is_break l c             whether a line break begins with a character
+--     line_content l text k    the characters of line k, without its break
+--     line_end l text k        the byte index where they end
+--     IsReturnBehind l text p n   n is 1 where p is between a CR that begins a break and LF, and else 0
+use Rattle.std.specs.Prelude.{ℕ, ◌≡◌, ◌+◌, ◌⊎◌, Bool, true}
+use Rattle.std.specs.Char.{char_set_contains}
+use Rattle.std.specs.List.{before_first}
+use Rattle.str_indices.specs.Text.{Text, size, carriage_return}
+use Rattle.str_indices.specs.Schemes.{break_characters, to_byte_idx}
+use Rattle.str_indices.specs.Relations.{IsCrlfMiddle}
+use Rattle.str_indices.specs.declared.Scheme.{Scheme}
+use Rattle.str_indices.specs.declared.Scheme.TheVariants as schemes
+use Rattle.position_mapper.specs.Lines.{behind}
+use Rattle.positions.specs.declared.line_type.LineType.{LineType}
+use Rattle.positions.specs.declared.line_type.LineType.TheVariants.{Lf, Crlf, Lines}
+
+-- the scheme that counts these line breaks
+abbrev pub scheme_of : LineType → Scheme
+scheme_of Lf = schemes.Lf
+scheme_of Crlf = schemes.Crlf
+scheme_of Lines = schemes.Lines
+
+-- whether a line break begins with the character
+abbrev pub is_break : LineType → ℕ → Bool
+is_break l c = char_set_contains (break_characters (scheme_of l)) c
+
+-- the characters of a line, without its break: those from its beginning on, before the first that begins a break
+abbrev pub line_content : LineType → Text → ℕ → Text
+line_content l text line = before_first (is_break l) (behind text (to_byte_idx (scheme_of l) text line))
+
+-- the byte index where the content of a line ends: before its break, or at the text's size where it has none
+abbrev pub line_end : LineType → Text → ℕ → ℕ
+line_end l text line = to_byte_idx (scheme_of l) text line + size (line_content l text line)
+
+-- n is 1 where p is between a CR that begins a break and LF, and else 0
+abbrev pub IsReturnBehind : LineType → Text → ℕ → ℕ → Type 0
+IsReturnBehind l text p n = ((n ≡ 1) × ((is_break l carriage_return ≡ true) × IsCrlfMiddle text p))
+    ⊎ ((n ≡ 0) × (is_break l carriage_return ≡ true → ¬ (IsCrlfMiddle text p)))

@@ -1,0 +1,54 @@
+-- The positions on the lines of a text, and their byte indices, where offsets are counted in an encoding. Where lines end
+-- in LF, CR or CRLF they are those of `position_mapper`.
+--     units_on_line l e text k byte     the units of the content of line k up to a byte index
+--     position_at l e text byte         the position of a byte index
+--     byte_at l e text position         the byte index of a position
+--     is_exact l e text position        whether the position names a place, and not one that is cut to another
+--     exact_byte_at l e text position   the byte index of a position that names a place
+--     byte_range_at l e text range      the byte indices of a range whose end is not before its start
+use Rattle.std.specs.Prelude.{ℕ, ◌+◌, ◌-◌, ◌&&◌, ◌==◌, Bool, Option, Some, None, if◌then◌else◌, nat_le}
+use Rattle.std.specs.declared.ops.Range as bytes
+use Rattle.str_indices.specs.Text.{Text}
+use Rattle.str_indices.specs.Schemes.{count, from_byte_idx, to_byte_idx, weighed, boundary_weighed}
+use Rattle.position_mapper.specs.Encodings.{units_of}
+use Rattle.position_mapper.specs.Positions.{is_at_or_before}
+use Rattle.position_mapper.specs.declared.Position.{Position}
+use Rattle.position_mapper.specs.declared.Range.{Range}
+use Rattle.position_mapper.specs.declared.encodings.Encoding.{Encoding}
+use Rattle.positions.specs.Lines.{scheme_of, line_content}
+use Rattle.positions.specs.declared.line_type.LineType.{LineType}
+
+-- the units of a line's content up to the byte index: all of them, where it is after the content
+abbrev pub units_on_line : LineType → Encoding → Text → ℕ → ℕ → ℕ
+units_on_line l e text line byte =
+    weighed (units_of e) (line_content l text line) (byte - to_byte_idx (scheme_of l) text line)
+
+-- the line of the byte index, and the units on that line up to it
+abbrev pub position_at : LineType → Encoding → Text → ℕ → Position
+position_at l e text byte = record {
+  line = from_byte_idx (scheme_of l) text byte;
+  character = units_on_line l e text (from_byte_idx (scheme_of l) text byte) byte;
+}
+
+-- where, in the line's content, the character of that unit begins; the line's end, where the content has no such unit
+abbrev pub byte_at : LineType → Encoding → Text → Position → ℕ
+byte_at l e text position = to_byte_idx (scheme_of l) text position.line
+    + boundary_weighed (units_of e) (line_content l text position.line) position.character
+
+-- whether the text has the line, and the offset is before or after a character of that line's content
+abbrev pub is_exact : LineType → Encoding → Text → Position → Bool
+is_exact l e text position = let content = line_content l text position.line in
+    nat_le position.line (count (scheme_of l) text)
+    && (weighed (units_of e) content (boundary_weighed (units_of e) content position.character) == position.character)
+
+-- the byte index of a position that names a place
+abbrev pub exact_byte_at : LineType → Encoding → Text → Position → Option ℕ
+exact_byte_at l e text position =
+    if is_exact l e text position then Some (byte_at l e text position) else None
+
+-- the byte indices of a range's start and end, where its end is not before its start
+abbrev pub byte_range_at : LineType → Encoding → Text → Range → Option (bytes.Range ℕ)
+byte_range_at l e text range =
+    if is_at_or_before range.start range.end
+    then Some (record { start = byte_at l e text range.start; end = byte_at l e text range.end })
+    else None

@@ -1,0 +1,38 @@
+//! Where a line begins in a text by itself, found from behind.
+ghost use Rattle.std.specs.Prelude.{◌≡◌, ◌≤◌, chars};
+ghost use Rattle.str_indices.specs.Relations.{IsBoundary};
+ghost use Rattle.str_indices.specs.Schemes.{from_byte_idx, to_byte_idx};
+ghost use Rattle.str_indices.specs.Text.{size};
+ghost use Rattle.positions.specs.Lines.{scheme_of};
+
+use crate::LineType;
+use crate::texts::{char_start, from_byte, len_of};
+
+/// How many bytes the first window has: more than most lines.
+const FIRST_WINDOW: usize = 64;
+
+/// The byte index where the line of a byte begins, of which the number is told. It is found in windows that end at the byte,
+/// each eight times as long as the one before: so it takes little more than the line's length, wherever in the text that is,
+/// and nothing on the first line.
+pub(crate) fn line_start(lines: LineType, text: &str, byte: usize, line: usize) -> usize
+    requires line { line ≡ from_byte_idx (scheme_of lines) (chars text.now) byte }
+    requires within { byte ≤ size (chars text.now) }
+    ensures start { result ≡ to_byte_idx (scheme_of lines) (chars text.now) line }
+    ensures boundary { IsBoundary (chars text.now) result }
+{
+    if line == 0 {
+        return 0;
+    }
+    let _len = len_of(text);
+    let scheme = lines.scheme();
+    let mut window = FIRST_WINDOW;
+    'windows: loop {
+        let from = char_start(text, byte.saturating_sub(window));
+        let behind = from_byte(text, from);
+        let breaks = scheme.from_byte_idx(behind, byte - from);
+        if from == 0 || breaks > 0 {
+            return from + scheme.to_byte_idx(behind, breaks);
+        }
+        window = window.saturating_mul(8);
+    }
+}

@@ -1,0 +1,220 @@
+//! Positions and their byte indices, each by one search and one part where that tells them.
+ghost use Rattle.std.specs.Prelude.{◌≡◌, ◌+◌, ◌<◌, ◌≤◌, ◌⊎◌, ◌↔◌, IfSome, IsTrue, chars};
+ghost use Rattle.str_indices.specs.Relations.{IsBoundary};
+ghost use Rattle.str_indices.specs.Schemes.{count, from_byte_idx, to_byte_idx, weighed};
+ghost use Rattle.str_indices.specs.Text.{size};
+ghost use Rattle.position_mapper.specs.Encodings.{units_of};
+ghost use Rattle.positions.specs.Lines.{scheme_of};
+ghost use Rattle.positions.specs.Parts.{IsPart, Took};
+ghost use Rattle.positions.specs.Positions.{byte_at, byte_range_at, exact_byte_at, position_at};
+
+use crate::first_lines::place_on_first_line;
+use crate::look_back::line_start;
+use crate::middles::return_behind;
+use crate::starts::{Place, line_end, line_in, units_up_to};
+use crate::texts::{from_byte, len_of};
+use crate::units::{place_of, units_before};
+use crate::{LineType, Part, Parts};
+use position_mapper::{Encoding, Position, Range};
+use std::ops;
+
+/// The position of a byte: its line, and the units from that line's beginning to the byte.
+///
+/// A byte inside a char has the position where the char begins, a byte in a line break that of the line's end, and a byte past
+/// the end that of the text's end. It takes one search by the byte where the line begins after the start of the byte's part,
+/// and else one by the line too.
+pub fn position_of<'a, P: Parts<'a>>(
+    parts: &mut P,
+    lines: LineType,
+    encoding: Encoding,
+    byte: usize,
+) -> Position
+    ensures answer { result ≡ position_at lines encoding (P.state parts.old).text byte }
+    ensures cost { Took 1 1 (P.state parts.old) (P.state parts.new) }
+    ensures near { let cs = (P.state parts.old).text in let begins = (P.state parts.old).begins byte in
+        (begins < to_byte_idx (scheme_of lines) cs (from_byte_idx (scheme_of lines) cs byte)) ⊎ (begins ≡ 0)
+        → Took 1 0 (P.state parts.old) (P.state parts.new) }
+{
+    let part = parts.part_of_byte(lines, encoding, byte);
+    let at = (byte - part.start).min(len_of(part.text));
+    let own = lines.scheme().from_byte_idx(part.text, at);
+    let _len = parts.len();
+    let line = part.lines + own;
+    let behind = return_behind(lines, &part, at);
+    if own > 0 || part.start == 0 {
+        let start = line_start(lines, part.text, at, own);
+        let units = units_before(encoding, from_byte(part.text, start), at - start);
+        return Position {
+            line,
+            character: units - behind,
+        };
+    }
+    let units = units_up_to(parts, lines, encoding, &part, at) - behind;
+    let start = line_in(parts, lines, encoding, line);
+    let before_line = units_up_to(parts, lines, encoding, &start.part, start.own);
+    Position {
+        line,
+        character: units - before_line,
+    }
+}
+
+/// The byte index where the char at a position begins.
+///
+/// A unit inside a char belongs to it. An offset past the end of the line gives the line's end, before its break, and a
+/// line past the last one the text's length in bytes. It takes one search by the line where the place is before the end of the
+/// line's part, and else one by the units and one by the line too.
+pub fn byte_of<'a, P: Parts<'a>>(
+    parts: &mut P,
+    lines: LineType,
+    encoding: Encoding,
+    position: Position,
+) -> usize
+    ensures answer { result ≡ byte_at lines encoding (P.state parts.old).text position }
+    ensures boundary { IsBoundary (P.state parts.old).text result }
+    ensures cost { Took 0 3 (P.state parts.old) (P.state parts.new) }
+{
+    let start = line_in(parts, lines, encoding, position.line);
+    byte_on(parts, lines, encoding, &start, position)
+}
+
+/// The byte index of a position that names a place, or `None`: where the text has no such line, the offset is past the
+/// end of the line, or the unit is inside a char. So a server notices a client that is out of step. It takes one search more
+/// by a byte than `byte_of`, where the place is not before the end of the line's part.
+pub fn exact_byte_of<'a, P: Parts<'a>>(
+    parts: &mut P,
+    lines: LineType,
+    encoding: Encoding,
+    position: Position,
+) -> Option<usize>
+    ensures answer { result ≡ exact_byte_at lines encoding (P.state parts.old).text position }
+    ensures boundary { IfSome result (λ byte. IsBoundary (P.state parts.old).text byte) }
+    ensures cost { Took 1 3 (P.state parts.old) (P.state parts.new) }
+{
+    let _len = parts.len();
+    if parts.count(lines) < position.line {
+        return None;
+    }
+    let start = line_in(parts, lines, encoding, position.line);
+    let rest = from_byte(start.part.text, start.own);
+    let own = place_on_first_line(lines, encoding, rest, position.character);
+    if tells(parts, &start.part, rest, own) {
+        if units_before(encoding, rest, own) != position.character {
+            return None;
+        }
+        return Some(start.part.start + start.own + own);
+    }
+    exact_byte_after(parts, lines, encoding, &start, position)
+}
+
+/// The byte indices of a range, or `None` where its end is before its start. Each is that of its position, as `byte_of`
+/// answers it. Positions on one line share the search by it.
+pub fn byte_range<'a, P: Parts<'a>>(
+    parts: &mut P,
+    lines: LineType,
+    encoding: Encoding,
+    range: Range,
+) -> Option<ops::Range<usize>>
+    ensures answer { result ≡ byte_range_at lines encoding (P.state parts.old).text range }
+    ensures ordered { IfSome result (λ bytes. bytes.start ≤ bytes.end) }
+    ensures boundaries { let cs = (P.state parts.old).text in
+        IfSome result (λ bytes. IsBoundary cs bytes.start × IsBoundary cs bytes.end) }
+    ensures cost { Took 0 6 (P.state parts.old) (P.state parts.new) }
+{
+    let _len = parts.len();
+    let Range { start, end } = range;
+    if !start.is_at_or_before(end) {
+        return None;
+    }
+    let first = line_in(parts, lines, encoding, start.line);
+    let from = byte_on(parts, lines, encoding, &first, start);
+    if start.line == end.line {
+        let to = byte_on(parts, lines, encoding, &first, end);
+        return Some(from..to);
+    }
+    let to = byte_of(parts, lines, encoding, end);
+    Some(from..to)
+}
+
+/// Whether the part that a line begins in tells a place on the line, by the rest of it: the place is before the end of that, or
+/// the text ends there.
+fn tells<'a, P: Parts<'a>>(parts: &P, part: &Part<'a>, rest: &str, own: usize) -> bool
+    requires { part.now.start + size (chars part.now.text.now) ≤ size (P.state parts.now).text }
+    ensures { IsTrue result ↔ ((own < size (chars rest.now))
+        ⊎ (part.now.start + size (chars part.now.text.now) ≡ size (P.state parts.now).text)) }
+{
+    let len = parts.len();
+    own < len_of(rest) || part.start + len_of(part.text) == len
+}
+
+/// The byte index of a position on a line.
+fn byte_on<'a, P: Parts<'a>>(
+    parts: &mut P,
+    lines: LineType,
+    encoding: Encoding,
+    start: &Place<'a>,
+    position: Position,
+) -> usize
+    requires part { IsPart (P.state parts.old).text lines encoding start.now.part }
+    requires place { start.now.part.start + start.now.own ≡ to_byte_idx (scheme_of lines) (P.state parts.old).text position.line }
+    requires boundary { IsBoundary (chars start.now.part.text.now) start.now.own }
+    ensures answer { result ≡ byte_at lines encoding (P.state parts.old).text position }
+    ensures boundary { IsBoundary (P.state parts.old).text result }
+    ensures cost { Took 0 2 (P.state parts.old) (P.state parts.new) }
+{
+    let _len = parts.len();
+    let rest = from_byte(start.part.text, start.own);
+    let own = place_on_first_line(lines, encoding, rest, position.character);
+    if tells(parts, &start.part, rest, own) {
+        return start.part.start + start.own + own;
+    }
+    let before_line = units_up_to(parts, lines, encoding, &start.part, start.own);
+    byte_after(parts, lines, encoding, position, before_line)
+}
+
+/// The byte index of a position, by the units before its line.
+fn byte_after<'a, P: Parts<'a>>(
+    parts: &mut P,
+    lines: LineType,
+    encoding: Encoding,
+    position: Position,
+    before_line: usize,
+) -> usize
+    requires { let cs = (P.state parts.old).text in
+        before_line ≡ weighed (units_of encoding) cs (to_byte_idx (scheme_of lines) cs position.line) }
+    ensures answer { result ≡ byte_at lines encoding (P.state parts.old).text position }
+    ensures cost { Took 0 2 (P.state parts.old) (P.state parts.new) }
+{
+    let end = line_end(parts, lines, position.line);
+    // from the text's length on, every number of units means the text's end
+    let _len = parts.len();
+    let units = before_line.saturating_add(position.character);
+    let part = parts.part_of_units(lines, encoding, units);
+    let place = part.start + place_of(encoding, part.text, units - part.units);
+    place.min(end)
+}
+
+/// The byte index of a position that names a place, or `None`, where the part that its line begins in does not tell it.
+fn exact_byte_after<'a, P: Parts<'a>>(
+    parts: &mut P,
+    lines: LineType,
+    encoding: Encoding,
+    start: &Place<'a>,
+    position: Position,
+) -> Option<usize>
+    requires part { IsPart (P.state parts.old).text lines encoding start.now.part }
+    requires place { start.now.part.start + start.now.own ≡ to_byte_idx (scheme_of lines) (P.state parts.old).text position.line }
+    requires boundary { IsBoundary (chars start.now.part.text.now) start.now.own }
+    requires has { position.line ≤ count (scheme_of lines) (P.state parts.old).text }
+    ensures answer { result ≡ exact_byte_at lines encoding (P.state parts.old).text position }
+    ensures boundary { IfSome result (λ byte. IsBoundary (P.state parts.old).text byte) }
+    ensures cost { Took 1 2 (P.state parts.old) (P.state parts.new) }
+{
+    let before_line = units_up_to(parts, lines, encoding, &start.part, start.own);
+    let byte = byte_after(parts, lines, encoding, position, before_line);
+    let part = parts.part_of_byte(lines, encoding, byte);
+    let units = units_up_to(parts, lines, encoding, &part, byte - part.start);
+    if units - before_line != position.character {
+        return None;
+    }
+    Some(byte)
+}

@@ -1,0 +1,28 @@
+//! A text by itself, as a contract counts it.
+ghost use Rattle.std.specs.Prelude.{◌≡◌, chars};
+ghost use Rattle.str_indices.specs.Relations.{IsBoundary};
+ghost use Rattle.str_indices.specs.Starts.{IsGreatestBoundary};
+ghost use Rattle.str_indices.specs.Text.{size};
+ghost use Rattle.positions.specs.Characters.{IsBackOf};
+
+/// How many bytes a text has.
+pub(crate) fn len_of(text: &str) -> usize
+    ensures { result ≡ size (chars text.now) }
+{
+    text.len()
+}
+
+/// The greatest byte index between chars that is at most this one; past the end, the text's length.
+pub(crate) fn char_start(text: &str, byte: usize) -> usize
+    ensures { IsGreatestBoundary (chars text.now) byte result }
+{
+    text.floor_char_boundary(byte)
+}
+
+/// The text from a byte index on.
+pub(crate) fn from_byte(text: &str, at: usize) -> &str
+    requires boundary { IsBoundary (chars text.now) at }
+    ensures { IsBackOf (chars text.now) (chars result.now) at }
+{
+    &text[at..]
+}

@@ -1,0 +1,42 @@
+//! The units of an encoding, in a text by itself.
+ghost use Rattle.std.specs.Prelude.{◌≡◌, IsCharBoundary, chars};
+ghost use Rattle.str_indices.specs.Schemes.{boundary_weighed, weighed};
+ghost use Rattle.position_mapper.specs.Encodings.{units_of};
+ghost use Rattle.positions.specs.Units.{unit_scheme};
+
+use crate::texts::char_start;
+use position_mapper::Encoding;
+use str_indices::Scheme;
+
+/// The scheme that counts the units of an encoding, or `None` for bytes.
+pub fn unit_scheme(encoding: Encoding) -> Option<Scheme>
+    ensures { result ≡ unit_scheme encoding }
+{
+    match encoding {
+        Encoding::Utf8 => None,
+        Encoding::Utf16 => Some(Scheme::Utf16),
+        Encoding::Utf32 => Some(Scheme::Chars),
+    }
+}
+
+/// The units of the chars before a byte index.
+pub(crate) fn units_before(encoding: Encoding, text: &str, byte: usize) -> usize
+    ensures { result ≡ weighed (units_of encoding) (chars text.now) byte }
+{
+    match unit_scheme(encoding) {
+        None => char_start(text, byte),
+        Some(scheme) => scheme.from_byte_idx(text, byte),
+    }
+}
+
+/// The byte index before which the chars have `units` units, or where the char begins that has that unit inside it; past
+/// them all the text's length in bytes.
+pub(crate) fn place_of(encoding: Encoding, text: &str, units: usize) -> usize
+    ensures answer { result ≡ boundary_weighed (units_of encoding) (chars text.now) units }
+    ensures boundary { IsCharBoundary text.now result }
+{
+    match unit_scheme(encoding) {
+        None => text.floor_char_boundary(units),
+        Some(scheme) => scheme.to_byte_idx(text, units),
+    }
+}
