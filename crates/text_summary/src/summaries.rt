@@ -1,5 +1,5 @@
 //! The summary of a text: its length, its counts, and how it starts and ends.
-ghost use Rattle.std.specs.Prelude.{◌≡◌, [], chars};
+ghost use Rattle.std.specs.Prelude.{◌≡◌, ◌<◌, [], ◌∷◌, chars};
 ghost use Rattle.str_indices.specs.Joins.{starts_with_feed, ends_in_return};
 
 use crate::Scheme;
@@ -34,12 +34,40 @@ impl Summary {
     ghost use Rattle.text_summary.specs.Summaries.{summary_of, count_of};
 
     /// The summary of a text.
+    #[inline(always)]
     pub fn of(text: &str) -> Summary
         ensures { result ≡ summary_of (chars text.now) }
     {
-        if text.is_empty() {
-            return Summary::none();
+        match text.as_bytes() {
+            [] => Summary::none(),
+            [byte] if *byte < 128 => Summary::of_ascii(*byte),
+            _ => Summary::counted(text),
         }
+    }
+
+    /// The summary of one ASCII character.
+    #[inline(always)]
+    fn of_ascii(byte: u8) -> Summary
+        requires { byte < 128 }
+        ensures { result ≡ summary_of (byte ∷ []) }
+    {
+        Summary {
+            len: 1,
+            chars: 1,
+            utf16: 1,
+            lf: usize::from(byte == LF),
+            crlf: usize::from(byte == LF || byte == CR),
+            lines: usize::from(LF <= byte && byte <= CR),
+            starts_lf: byte == LF,
+            ends_cr: byte == CR,
+        }
+    }
+
+    /// The summary of a text, by all its counts.
+    #[inline(never)]
+    fn counted(text: &str) -> Summary
+        ensures { result ≡ summary_of (chars text.now) }
+    {
         let counts = counts(text);
         Summary {
             len: text.len(),
