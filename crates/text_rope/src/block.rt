@@ -66,7 +66,6 @@ impl Block {
         from: usize,
         to: usize,
         more: &str,
-        own: &Summary,
         least: usize,
         shift: &mut Shift,
     ) -> Result<(), Unplaced>
@@ -74,7 +73,6 @@ impl Block {
         requires order { from ≤ to }
         requires within { to ≤ joined_size self.old }
         requires short { joined_size self.old < 2 ^ 63 }
-        requires own { own.now ≡ summary_of (chars more.now) }
         ensures changed { OnOk result (IsOneChanged self.old self.new from to (chars more.now) shift.new) }
         ensures full { OnOk result (least ≤ shift.new.own.len) }
         ensures not_boundary { result ≡ Err NotBoundary
@@ -92,7 +90,6 @@ impl Block {
             from - place.start,
             to - place.start,
             more,
-            own,
             least,
             shift,
         )

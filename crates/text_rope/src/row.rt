@@ -1,5 +1,5 @@
 //! One piece of a text, with its summary.
-ghost use Rattle.std.specs.Prelude.{◌≡◌, ◌≢◌, ◌+◌, ◌-◌, ◌<◌, ◌≤◌, ◌↔◌, [], chars, length, string_bytes, true, Err, IsTrue, IfOk, OnOk, OnErr};
+ghost use Rattle.std.specs.Prelude.{◌≡◌, ◌≢◌, ◌+◌, ◌-◌, ◌<◌, ◌≤◌, ◌↔◌, [], ◌∷◌, chars, length, string_bytes, true, Err, IsTrue, IfOk, OnOk, OnErr};
 ghost use Rattle.std.specs.String.{string_len, string_capacity};
 ghost use Rattle.str_indices.specs.Relations.{IsBoundary};
 ghost use Rattle.str_indices.specs.Schemes.{from_byte_idx, to_byte_idx};
@@ -142,14 +142,12 @@ impl Row {
         from: usize,
         to: usize,
         more: &str,
-        own: &Summary,
         least: usize,
         shift: &mut Shift,
     ) -> Result<(), Unplaced>
         requires some { 0 < least }
         requires order { from ≤ to }
         requires within { to ≤ size self.old }
-        requires own { own.now ≡ summary_of (chars more.now) }
         ensures replaced { OnOk result (IsReplaced self.old self.new from to (chars more.now)) }
         ensures shift { OnOk result (IsShift self.old self.new shift.new) }
         ensures full { OnOk result (least ≤ size self.new) }
@@ -163,7 +161,7 @@ impl Row {
         if !self.has_room(to - from, more.len(), least) {
             return Err(Unplaced::NoRoom);
         }
-        self.replace_part(from, to, more, own, shift)
+        self.replace_part(from, to, more, shift)
     }
 
     /// Whether two byte indices are between its characters, or at its beginning or end.
@@ -180,13 +178,11 @@ impl Row {
         from: usize,
         to: usize,
         more: &str,
-        own: &Summary,
         shift: &mut Shift,
     ) -> Result<(), Unplaced>
         requires order { from ≤ to }
         requires start { IsBoundary self.old from }
         requires end { IsBoundary self.old to }
-        requires own { own.now ≡ summary_of (chars more.now) }
         requires room { size self.old + length more.now ≤ max_piece + (to - from) }
         requires some { to < from + (size self.old + length more.now) }
         ensures replaced { OnOk result (IsReplaced self.old self.new from to (chars more.now)) }
@@ -196,7 +192,7 @@ impl Row {
         ensures room { result ≢ Err NotBoundary }
     {
         let out = self.summary();
-        let after = changed(self.text(), out, from, to, more, *own);
+        let after = changed(self.text(), out, from, to, more, Summary::of(more));
         let Ok(text) = Arc::make_mut(&mut self.text) else {
             return Err(Unplaced::NoRoom);
         };
@@ -204,9 +200,9 @@ impl Row {
         if !has_memory(text, after.len) {
             return Err(Unplaced::NoRoom);
         }
+        *shift = Shift { out, own: after };
         exchange(text, from, to, more);
         self.counts = Counts::of(after);
-        *shift = Shift { out, own: after };
         Ok(())
     }
 
@@ -283,6 +279,34 @@ fn take_out(text: &mut String, from: usize, to: usize)
 
 /// Puts a text in where there is room for it.
 fn put(text: &mut String, at: usize, more: &str)
+    requires boundary { IsBoundary (chars (string_bytes text.old)) at }
+    requires room { string_len text.old + length more.now ≤ string_capacity text.old }
+    ensures text { IsReplaced (chars (string_bytes text.old)) (chars (string_bytes text.new)) at at (chars more.now) }
+    ensures room { string_capacity text.old ≤ string_capacity text.new }
+{
+    match more.as_bytes() {
+        [byte] if *byte < 128 => put_ascii(text, at, more, *byte),
+        _ => put_longer(text, at, more),
+    }
+}
+
+/// The same of one ASCII character: what is behind it moves by a distance that the compiler knows, which is one `memmove`.
+fn put_ascii(text: &mut String, at: usize, more: &str, byte: u8)
+    requires boundary { IsBoundary (chars (string_bytes text.old)) at }
+    requires room { string_len text.old < string_capacity text.old }
+    requires own { more.now ≡ byte ∷ [] }
+    requires ascii { byte < 128 }
+    ensures text { IsReplaced (chars (string_bytes text.old)) (chars (string_bytes text.new)) at at (chars more.now) }
+    ensures room { string_capacity text.old ≤ string_capacity text.new }
+{
+    let _before = text.as_str();
+    let Ok(()) = text.insert(at, char::from(byte)) else {
+        unreachable!()
+    };
+}
+
+/// The same of any text.
+fn put_longer(text: &mut String, at: usize, more: &str)
     requires boundary { IsBoundary (chars (string_bytes text.old)) at }
     requires room { string_len text.old + length more.now ≤ string_capacity text.old }
     ensures text { IsReplaced (chars (string_bytes text.old)) (chars (string_bytes text.new)) at at (chars more.now) }

@@ -32,23 +32,19 @@ impl Shift {
     }
 }
 
-/// The summary of a text in which a row has changed so, by that of the text before. The row keeps its ends.
-pub(crate) fn shifted(whole: &Summary, shift: &Shift) -> Summary
-    requires fits { FitsShift whole.now shift.now }
+/// Brings the summary of a text up to date in which a row has changed so. The row keeps its ends, and so does the text.
+pub(crate) fn shift_by(whole: &mut Summary, shift: &Shift)
+    requires fits { FitsShift whole.old shift.now }
     requires starts { shift.now.own.starts_lf ≡ shift.now.out.starts_lf }
     requires ends { shift.now.own.ends_cr ≡ shift.now.out.ends_cr }
-    ensures { (x old new y : Text) → whole.now ≡ summary_of (x ++ (old ++ y)) → IsShift old new shift.now →
-        result ≡ summary_of (x ++ (new ++ y)) }
+    ensures { (x old new y : Text) → whole.old ≡ summary_of (x ++ (old ++ y)) → IsShift old new shift.now →
+        whole.new ≡ summary_of (x ++ (new ++ y)) }
 {
     let Shift { out, own } = shift;
-    Summary {
-        len: whole.len + own.len - out.len,
-        chars: whole.chars + own.chars - out.chars,
-        utf16: whole.utf16 + own.utf16 - out.utf16,
-        lf: whole.lf + own.lf - out.lf,
-        crlf: whole.crlf + own.crlf - out.crlf,
-        lines: whole.lines + own.lines - out.lines,
-        starts_lf: whole.starts_lf,
-        ends_cr: whole.ends_cr,
-    }
+    whole.len = whole.len + own.len - out.len;
+    whole.chars = whole.chars + own.chars - out.chars;
+    whole.utf16 = whole.utf16 + own.utf16 - out.utf16;
+    whole.lf = whole.lf + own.lf - out.lf;
+    whole.crlf = whole.crlf + own.crlf - out.crlf;
+    whole.lines = whole.lines + own.lines - out.lines;
 }

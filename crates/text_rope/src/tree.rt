@@ -17,7 +17,7 @@ ghost use Rattle.text_rope.specs.declared.row.Unplaced.TheVariants.{NotBoundary}
 
 use crate::block::{Block, summary_of_rows};
 use crate::row::{MIN_PIECE, Row, Unplaced};
-use crate::shifts::{Shift, shifted};
+use crate::shifts::{Shift, shift_by};
 use crate::work::Work;
 use byte_chunk::Counter;
 use std::alloc::{AllocError, Global};
@@ -141,14 +141,12 @@ impl Side {
         from: usize,
         to: usize,
         more: &str,
-        own: &Summary,
         least: usize,
         shift: &mut Shift,
     ) -> Result<(), Unplaced>
         requires some { 0 < least }
         requires order { from ≤ to }
         requires within { to ≤ joined_size self.old.texts }
-        requires own { own.now ≡ summary_of (chars more.now) }
         requires short { joined_size self.old.texts + size (chars more.now) < 2 ^ 63 + (to - from) }
         ensures changed { OnOk result (
             IsOneChanged self.old.texts self.new.texts from to (chars more.now) shift.new) }
@@ -164,15 +162,15 @@ impl Side {
         work.make();
         match &mut self.node {
             Node::Block(block) => match Arc::get_mut(block) {
-                Some(block) => block.replace_in_place(work, from, to, more, own, least, shift)?,
+                Some(block) => block.replace_in_place(work, from, to, more, least, shift)?,
                 None => return Err(Unplaced::NoRoom),
             },
             Node::Fork(fork) => match Arc::get_mut(fork) {
-                Some(fork) => fork.replace_in_place(work, from, to, more, own, least, shift)?,
+                Some(fork) => fork.replace_in_place(work, from, to, more, least, shift)?,
                 None => return Err(Unplaced::NoRoom),
             },
         }
-        self.summary = summary_after(&self.node, &self.summary, shift);
+        follow(&mut self.summary, &self.node, shift);
         Ok(())
     }
 }
@@ -186,7 +184,6 @@ impl Fork {
         from: usize,
         to: usize,
         more: &str,
-        own: &Summary,
         least: usize,
         shift: &mut Shift,
     ) -> Result<(), Unplaced>
@@ -194,7 +191,6 @@ impl Fork {
         requires sound { IsFork self.old.left self.old.right self.old.height }
         requires order { from ≤ to }
         requires within { to ≤ joined_size (self.old.left.texts ++ self.old.right.texts) }
-        requires own { own.now ≡ summary_of (chars more.now) }
         requires short { joined_size (self.old.left.texts ++ self.old.right.texts) + size (chars more.now)
             < 2 ^ 63 + (to - from) }
         ensures sound { IsFork self.new.left self.new.right self.new.height }
@@ -214,25 +210,34 @@ impl Fork {
         let _right = self.right.summary();
         if to <= middle {
             self.left
-                .replace_in_place(work, from, to, more, own, least, shift)
+                .replace_in_place(work, from, to, more, least, shift)
         } else if middle <= from {
             self.right
-                .replace_in_place(work, from - middle, to - middle, more, own, least, shift)
+                .replace_in_place(work, from - middle, to - middle, more, least, shift)
         } else {
             Err(Unplaced::NoRoom)
         }
     }
 }
 
-/// The summary of the text under a node in which a row has changed, by that of the text before. Reads no row, and sums them anew
-/// only where the row does not keep its ends.
-fn summary_after(node: &Node, whole: &Summary, shift: &Shift) -> Summary
-    requires { IsChangedIn whole.now (seen node.now).texts shift.now }
-    ensures { result ≡ summary_of (joined (seen node.now).texts) }
+/// Brings the summary of the text under a node up to date in which a row has changed. Reads no row, and sums them anew only
+/// where the row does not keep its ends.
+fn follow(whole: &mut Summary, node: &Node, shift: &Shift)
+    requires { IsChangedIn whole.old (seen node.now).texts shift.now }
+    ensures { whole.new ≡ summary_of (joined (seen node.now).texts) }
 {
     if shift.keeps_ends() {
-        return shifted(whole, shift);
+        shift_by(whole, shift);
+    } else {
+        *whole = summary_under(node);
     }
+}
+
+/// The summary of the text under a node, by those of its rows or trees.
+fn summary_under(node: &Node) -> Summary
+    requires { joined_size (seen node.now).texts < 2 ^ 63 }
+    ensures { result ≡ summary_of (joined (seen node.now).texts) }
+{
     match node {
         Node::Block(block) => summary_of_rows(block.rows()),
         Node::Fork(fork) => joined(*fork.left.summary(), *fork.right.summary()),
@@ -392,8 +397,7 @@ impl Tree {
         };
         let _height = side.height();
         let _short = side.summary();
-        let own = Summary::of(more);
-        side.replace_in_place(work, from, to, more, &own, least, &mut Shift::none())
+        side.replace_in_place(work, from, to, more, least, &mut Shift::none())
     }
 
     /// It as a question sees it, with nothing counted.

@@ -14,7 +14,7 @@ Fork::replace_in_place-replace_in_place-requires t c =
     let len = ap (λ s. s.len) c.summary.ensures.summary in
     let r = c.requires.1.1.1.1 in (
       grind (arith, length-append {A = Text}),
-      (c.requires.1.1.0, (r.0, (omega (arith, len, c.if-to-middle.true), (r.1.1.0, omega (arith, sizes, r.1.1.1))))),
+      (c.requires.1.1.0, (r.0, (omega (arith, len, c.if-to-middle.true), omega (arith, sizes, r.1.1)))),
     )
 
 pub Fork::replace_in_place-replace_in_place-requires-then-middle-from : goal.Fork::replace_in_place-replace_in_place-requires-then-middle-from
@@ -29,7 +29,7 @@ Fork::replace_in_place-replace_in_place-requires-then-middle-from t c =
         c.requires.1.1.0,
         (
           omega (arith, r.0, c.if-middle-from.true),
-          (omega (arith, len, sizes, r.1.0, r.0, c.if-middle-from.true), (r.1.1.0, omega (arith, sizes, r.1.1.1, c.if-middle-from.true))),
+          (omega (arith, len, sizes, r.1.0, r.0, c.if-middle-from.true), omega (arith, sizes, r.1.1, c.if-middle-from.true)),
         ),
       ),
     )
@@ -77,8 +77,8 @@ Fork::replace_in_place-returns-then-middle-from-clause-not_boundary t c refused 
     c.replace_in_place-then-middle-from.ensures.not_boundary refused
     (boundaries_right left right c.summary.result.now.len c.args.from c.args.to len c.if-middle-from.true c.requires.1.1.1.1.0 both)
 
-pub Side::replace_in_place-summary_after-self-inside-requires : goal.Side::replace_in_place-summary_after-self-inside-requires
-Side::replace_in_place-summary_after-self-inside-requires t c =
+pub Side::replace_in_place-follow-requires : goal.Side::replace_in_place-follow-requires
+Side::replace_in_place-follow-requires t c =
     let r = c.requires.1.1.1 in
     elim c.match-self.branch [
       | Side::replace_in_place-in-Block+in-Some+in_ok-replace_in_place-in-Some w ↦
@@ -89,7 +89,7 @@ Side::replace_in_place-summary_after-self-inside-requires t c =
           let changed : IsOneChanged old new c.args.from c.args.to (chars c.args.more.now) w.replace_in_place.new.shift =
           rw w.in-Some.ensures.value at w.in_ok-replace_in_place-in-Some.ensures.changed in
           rw (w.self-inside-is, w.shift-is) (changed_in old new c.args.from c.args.to (chars c.args.more.now) w.replace_in_place.new.shift
-          c.self.inside.summary changed r.0 side.summary_is side.short (omega (arith, ap joined_size is, r.1.1.1)))
+          c.self.inside.summary changed r.0 side.summary_is side.short (omega (arith, ap joined_size is, r.1.1)))
       | Side::replace_in_place-in-Fork+in-Some-get_mut+in_ok-replace_in_place-in-Some-get_mut w ↦
           let fork = w.in-Fork.fork.value in
           let after = w.replace_in_place-in-Some-get_mut.new.self in
@@ -102,13 +102,13 @@ Side::replace_in_place-summary_after-self-inside-requires t c =
           let changed : IsOneChanged old new c.args.from c.args.to (chars c.args.more.now) shift =
           rw w.in-Some-get_mut.ensures.value at w.in_ok-replace_in_place-in-Some-get_mut.ensures.changed in
           rw (w.self-inside-is, w.shift-is) (changed_in old new c.args.from c.args.to (chars c.args.more.now) shift
-          c.self.inside.summary changed r.0 sound.0.summary_is sound.0.short (omega (arith, ap joined_size is, r.1.1.1)))
+          c.self.inside.summary changed r.0 sound.0.summary_is sound.0.short (omega (arith, ap joined_size is, r.1.1)))
     ]
 
 pub Side::replace_in_place-invariant_of-self-2 : goal.Side::replace_in_place-invariant_of-self-2
 Side::replace_in_place-invariant_of-self-2 t c =
     let r = c.requires.1.1.1 in
-    let told = c.summary_after-self-inside.ensures in
+    let told = c.follow.ensures in
     elim c.match-self.branch [
       | Side::replace_in_place-in-Block+in-Some+in_ok-replace_in_place-in-Some w ↦
           let old : Seen = record { texts = w.in-Block.block.value; height = 0 } in
@@ -119,7 +119,7 @@ Side::replace_in_place-invariant_of-self-2 t c =
           let changed : IsOneChanged old.texts new.texts c.args.from c.args.to (chars c.args.more.now) w.replace_in_place.new.shift =
           rw w.in-Some.ensures.value at w.in_ok-replace_in_place-in-Some.ensures.changed in
           rw w.self-inside-is (side_changed old new c.args.from c.args.to (chars c.args.more.now) w.replace_in_place.new.shift
-          c.self.inside.summary c.summary_after-self-inside.result side changed r.0 refl (rw w.self-inside-is at told) (omega (arith, ap joined_size is, r.1.1.1))
+          c.self.inside.summary c.follow.new.whole side changed r.0 refl (rw w.self-inside-is at told) (omega (arith, ap joined_size is, r.1.1))
           w.in_ok-replace_in_place-in-Some.ensures.each)
       | Side::replace_in_place-in-Fork+in-Some-get_mut+in_ok-replace_in_place-in-Some-get_mut w ↦
           let fork = w.in-Fork.fork.value in
@@ -134,8 +134,8 @@ Side::replace_in_place-invariant_of-self-2 t c =
           ap (λ n. (seen n).texts) (sym w.in-Fork.is) ∙ ap (λ d. d.texts) c.self.view_is in
           let changed : IsOneChanged old.texts new.texts c.args.from c.args.to (chars c.args.more.now) shift = rw here at ensured.changed in
           rw w.self-inside-is (
-            side_changed old new c.args.from c.args.to (chars c.args.more.now) shift c.self.inside.summary c.summary_after-self-inside.result
-                sound.0 changed r.0 (rw here at ensured.height) (rw w.self-inside-is at told) (omega (arith, ap joined_size is, r.1.1.1)) ensured.each,
+            side_changed old new c.args.from c.args.to (chars c.args.more.now) shift c.self.inside.summary c.follow.new.whole
+                sound.0 changed r.0 (rw here at ensured.height) (rw w.self-inside-is at told) (omega (arith, ap joined_size is, r.1.1)) ensured.each,
             ensured.sound,
           )
     ]

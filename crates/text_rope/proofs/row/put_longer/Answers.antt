@@ -1,5 +1,5 @@
 use Rattle.text_rope.proofs.lemmas.{◌≡◌, ◌++◌, take, drop, ◌∙◌, arith, append_assoc, string_bytes, IsUtf8, IsCharBoundary-from_boundary, replaced_bytes}
-use Rattle.text_rope.proofs.row.put.Goals as goal
+use Rattle.text_rope.proofs.row.put_longer.Goals as goal
 
 pub insert_str-requires : goal.insert_str-requires
 insert_str-requires c =
