@@ -3,12 +3,13 @@
 --     is_break l c             whether a line break begins with a character
 --     line_content l text k    the characters of line k, without its break
 --     line_end l text k        the byte index where they end
+--     HasSameBreaks l k text   the text has the same breaks of both kinds
 --     IsReturnBehind l text p n   n is 1 where p is between a CR that begins a break and LF, and else 0
 use Rattle.std.specs.Prelude.{ℕ, ◌≡◌, ◌+◌, ◌⊎◌, Bool, true}
 use Rattle.std.specs.Char.{char_set_contains}
 use Rattle.std.specs.List.{before_first}
 use Rattle.str_indices.specs.Text.{Text, size, carriage_return}
-use Rattle.str_indices.specs.Schemes.{break_characters, to_byte_idx}
+use Rattle.str_indices.specs.Schemes.{break_characters, from_byte_idx, to_byte_idx}
 use Rattle.str_indices.specs.Relations.{IsCrlfMiddle}
 use Rattle.str_indices.specs.declared.Scheme.{Scheme}
 use Rattle.str_indices.specs.declared.Scheme.TheVariants as schemes
@@ -38,3 +39,8 @@ line_end l text line = to_byte_idx (scheme_of l) text line + size (line_content 
 abbrev pub IsReturnBehind : LineType → Text → ℕ → ℕ → Type 0
 IsReturnBehind l text p n = ((n ≡ 1) × ((is_break l carriage_return ≡ true) × IsCrlfMiddle text p))
     ⊎ ((n ≡ 0) × (is_break l carriage_return ≡ true → ¬ (IsCrlfMiddle text p)))
+
+-- the text has the same breaks of both kinds
+pub record HasSameBreaks (l k : LineType) (text : Text) : Type 0 where
+  pub from : (b : ℕ) → from_byte_idx (scheme_of l) text b ≡ from_byte_idx (scheme_of k) text b
+  pub to : (n : ℕ) → to_byte_idx (scheme_of l) text n ≡ to_byte_idx (scheme_of k) text n

@@ -2,21 +2,23 @@
 --     PartsState                  what contracts see of a text in parts
 --     IsSearched state            a search may take no look, and not less
 --     Took bytes counts old new   at most `bytes` searches by a byte, and `counts` by a count
+--     HasEnds l e part ends       what is counted up to the part's end
 --     IsPart text l e part        a part of the text, and what is counted before it
 --     HasByte text byte part      a byte is in the part
 --     HasLine text l line part    a line begins in the part
 --     HasUnits text e k part      k units end in the part
-use Rattle.std.specs.Prelude.{ℕ, ◌≡◌, ◌+◌, ◌-◌, ◌*◌, ◌^◌, ◌<◌, ◌≤◌, ◌⊎◌, ◌↔◌, ◌++◌, IsTrue, chars}
+use Rattle.std.specs.Prelude.{ℕ, ◌≡◌, ◌+◌, ◌-◌, ◌*◌, ◌^◌, ◌<◌, ◌≤◌, ◌⊎◌, ◌↔◌, ◌++◌, IfSome, IsTrue, chars, sum_by}
 use Rattle.str_indices.specs.Text.{Text, size}
 use Rattle.str_indices.specs.Relations.{IsCrlfMiddle}
-use Rattle.str_indices.specs.Schemes.{from_byte_idx, weighed}
+use Rattle.str_indices.specs.Schemes.{count, from_byte_idx, weighed}
 use Rattle.position_mapper.specs.Encodings.{units_of}
 use Rattle.position_mapper.specs.declared.encodings.Encoding.{Encoding}
-use Rattle.positions.specs.Lines.{scheme_of}
+use Rattle.positions.specs.Lines.{HasSameBreaks, scheme_of}
 use Rattle.positions.specs.declared.line_type.LineType.{LineType}
+use Rattle.positions.specs.declared.parts.Ends.{Ends}
 use Rattle.positions.specs.declared.parts.Part.{Part}
 
--- the text; where the part of a byte begins; 2 to the power of the looks that a search by a byte, and by a count, takes at
+-- the text; where the part of a byte begins at most; 2 to the power of the looks that a search by a byte, and by a count, takes at
 -- most; and how many looks and reads there were
 pub record PartsState : Type 0 where
   pub text : Text
@@ -42,7 +44,13 @@ pub record Took (bytes counts : ℕ) (old new : PartsState) : Type 0 where
   pub reads : new.reads ≤ old.reads + bytes + counts
   pub reads_kept : old.reads ≤ new.reads
 
--- the text before the part, the part, and the text after it; and what of the text is counted before the part
+-- the part's own breaks and units, and those before it; and a kind of line break that it has the same of
+pub record HasEnds (l : LineType) (e : Encoding) (part : Part) (ends : Ends) : Type 0 where
+  pub lines : part.lines + count (scheme_of l) (chars part.text.now) ≡ ends.lines
+  pub units : part.units + sum_by (units_of e) (chars part.text.now) ≡ ends.units
+  pub kind : HasSameBreaks l ends.kind (chars part.text.now)
+
+-- the text before the part, the part, and the text after it; and what of the text is counted before the part and up to its end
 pub record IsPart (text : Text) (l : LineType) (e : Encoding) (part : Part) : Type 0 where
   pub front : Text
   pub back : Text
@@ -51,6 +59,7 @@ pub record IsPart (text : Text) (l : LineType) (e : Encoding) (part : Part) : Ty
   pub lines : part.lines ≡ from_byte_idx (scheme_of l) text part.start
   pub units : part.units ≡ weighed (units_of e) text part.start
   pub in_crlf : IsTrue part.in_crlf ↔ IsCrlfMiddle text part.start
+  pub ends : IfSome part.ends (HasEnds l e part)
 
 -- the byte is not before the part, and not behind it unless the text ends with the part
 pub record HasByte (text : Text) (byte : ℕ) (part : Part) : Type 0 where

@@ -3,6 +3,7 @@
 #![tactic(auto)]
 
 mod first_lines;
+mod known;
 mod line_type;
 mod look_back;
 mod middles;
@@ -14,9 +15,9 @@ mod units;
 mod whole;
 
 pub use line_type::LineType;
-pub use parts::{Part, Parts};
+pub use parts::{Ends, Part, Parts};
 pub use position_mapper::{Encoding, Position, Range};
 pub use questions::{byte_of, byte_range, exact_byte_of, position_of};
-pub use starts::line_end;
+pub use starts::{line, line_end};
 pub use units::unit_scheme;
 pub use whole::Whole;

@@ -1,5 +1,5 @@
 //! A text that lends the part round a place.
-ghost use Rattle.std.specs.Prelude.{◌≡◌, ◌^◌, ◌<◌};
+ghost use Rattle.std.specs.Prelude.{◌≡◌, ◌^◌, ◌<◌, ◌≤◌};
 ghost use Rattle.str_indices.specs.Schemes.{count};
 ghost use Rattle.str_indices.specs.Text.{size};
 ghost use Rattle.positions.specs.Lines.{scheme_of};
@@ -21,6 +21,19 @@ pub struct Part<'a> {
     pub units: usize,
     /// Whether it starts between CR and LF.
     pub in_crlf: bool,
+    /// What is counted up to its end, where that is known without reading it.
+    pub ends: Option<Ends>,
+}
+
+/// What is counted up to the end of a part.
+#[derive(Clone, Copy)]
+pub struct Ends {
+    /// The line breaks before its start, and those of its own.
+    pub lines: usize,
+    /// The units before its start, and its own.
+    pub units: usize,
+    /// A kind of line break that it has the same of.
+    pub kind: LineType,
 }
 
 /// A text that lends the part round a place. A contract sees the text, how often it was searched and how many parts were
@@ -42,7 +55,7 @@ pub trait Parts<'a> {
     fn part_of_byte(&mut self, lines: LineType, encoding: Encoding, byte: usize) -> Part<'a>
         ensures part { IsPart (state self.old).text lines encoding result }
         ensures round { HasByte (state self.old).text byte result }
-        ensures start { result.start ≡ (state self.old).begins byte }
+        ensures start { result.start ≤ (state self.old).begins byte }
         ensures cost { Took 1 0 (state self.old) (state self.new) };
 
     /// The part in which a line begins: after its start, or at the text's start. A line past the last one is in the last

@@ -1,5 +1,5 @@
 //! Positions and their byte indices, each by one search and one part where that tells them.
-ghost use Rattle.std.specs.Prelude.{◌≡◌, ◌+◌, ◌<◌, ◌≤◌, ◌⊎◌, ◌↔◌, IfSome, IsTrue, chars};
+ghost use Rattle.std.specs.Prelude.{◌≡◌, ◌+◌, ◌-◌, ◌<◌, ◌≤◌, ◌⊎◌, ◌↔◌, IfSome, IsTrue, chars};
 ghost use Rattle.str_indices.specs.Relations.{IsBoundary};
 ghost use Rattle.str_indices.specs.Schemes.{count, from_byte_idx, to_byte_idx, weighed};
 ghost use Rattle.str_indices.specs.Text.{size};
@@ -8,7 +8,6 @@ ghost use Rattle.positions.specs.Lines.{scheme_of};
 ghost use Rattle.positions.specs.Parts.{IsPart, Took};
 ghost use Rattle.positions.specs.Positions.{byte_at, byte_range_at, exact_byte_at, position_at};
 
-use crate::first_lines::place_on_first_line;
 use crate::look_back::line_start;
 use crate::middles::return_behind;
 use crate::starts::{Place, line_end, line_in, units_up_to};
@@ -37,13 +36,14 @@ pub fn position_of<'a, P: Parts<'a>>(
 {
     let part = parts.part_of_byte(lines, encoding, byte);
     let at = (byte - part.start).min(len_of(part.text));
-    let own = lines.scheme().from_byte_idx(part.text, at);
+    let own = part.breaks_up_to(lines, at);
     let _len = parts.len();
     let line = part.lines + own;
     let behind = return_behind(lines, &part, at);
     if own > 0 || part.start == 0 {
-        let start = line_start(lines, part.text, at, own);
-        let units = units_before(encoding, from_byte(part.text, start), at - start);
+        let start = line_start(part.kind(lines), part.text, at, own);
+        let rest = from_byte(part.text, start);
+        let units = units_before(part.encoding(encoding), rest, at - start);
         return Position {
             line,
             character: units - behind,
@@ -96,9 +96,11 @@ pub fn exact_byte_of<'a, P: Parts<'a>>(
     }
     let start = line_in(parts, lines, encoding, position.line);
     let rest = from_byte(start.part.text, start.own);
-    let own = place_on_first_line(lines, encoding, rest, position.character);
+    let own = start
+        .part
+        .place_on_line(lines, encoding, position.line, rest, position.character);
     if tells(parts, &start.part, rest, own) {
-        if units_before(encoding, rest, own) != position.character {
+        if units_before(start.part.encoding(encoding), rest, own) != position.character {
             return None;
         }
         return Some(start.part.start + start.own + own);
@@ -156,6 +158,8 @@ fn byte_on<'a, P: Parts<'a>>(
 ) -> usize
     requires part { IsPart (P.state parts.old).text lines encoding start.now.part }
     requires place { start.now.part.start + start.now.own ≡ to_byte_idx (scheme_of lines) (P.state parts.old).text position.line }
+    requires own { let part = start.now.part in
+        start.now.own ≡ to_byte_idx (scheme_of lines) (chars part.text.now) (position.line - part.lines) }
     requires boundary { IsBoundary (chars start.now.part.text.now) start.now.own }
     ensures answer { result ≡ byte_at lines encoding (P.state parts.old).text position }
     ensures boundary { IsBoundary (P.state parts.old).text result }
@@ -163,7 +167,9 @@ fn byte_on<'a, P: Parts<'a>>(
 {
     let _len = parts.len();
     let rest = from_byte(start.part.text, start.own);
-    let own = place_on_first_line(lines, encoding, rest, position.character);
+    let own = start
+        .part
+        .place_on_line(lines, encoding, position.line, rest, position.character);
     if tells(parts, &start.part, rest, own) {
         return start.part.start + start.own + own;
     }
@@ -189,7 +195,8 @@ fn byte_after<'a, P: Parts<'a>>(
     let _len = parts.len();
     let units = before_line.saturating_add(position.character);
     let part = parts.part_of_units(lines, encoding, units);
-    let place = part.start + place_of(encoding, part.text, units - part.units);
+    let own = part.encoding(encoding);
+    let place = part.start + place_of(own, part.text, units - part.units);
     place.min(end)
 }
 

@@ -1,5 +1,5 @@
 //! Where a line begins, in the part that it begins in.
-ghost use Rattle.std.specs.Prelude.{◌≡◌, ◌+◌, ◌<◌, ◌≤◌, ◌⊎◌, ◌↔◌, IsTrue, chars};
+ghost use Rattle.std.specs.Prelude.{◌≡◌, ◌+◌, ◌-◌, ◌<◌, ◌≤◌, ◌⊎◌, ◌↔◌, IsTrue, chars};
 ghost use Rattle.str_indices.specs.Relations.{IsBoundary};
 ghost use Rattle.str_indices.specs.Schemes.{count, to_byte_idx, weighed};
 ghost use Rattle.str_indices.specs.Text.{size};
@@ -12,6 +12,7 @@ use crate::texts::char_start;
 use crate::units::units_before;
 use crate::{LineType, Part, Parts};
 use position_mapper::Encoding;
+use std::ops;
 
 /// A place in a part.
 #[derive(Clone, Copy)]
@@ -30,11 +31,16 @@ pub(crate) fn line_in<'a, P: Parts<'a>>(
     ensures part { IsPart (P.state parts.old).text lines encoding result.part }
     ensures round { HasLine (P.state parts.old).text lines line result.part }
     ensures place { result.part.start + result.own ≡ to_byte_idx (scheme_of lines) (P.state parts.old).text line }
+    ensures own { let part = result.part in
+        result.own ≡ to_byte_idx (scheme_of lines) (chars part.text.now) (line - part.lines) }
     ensures boundary { IsBoundary (chars result.part.text.now) result.own }
     ensures cost { Took 0 1 (P.state parts.old) (P.state parts.new) }
 {
     let part = parts.part_of_line(lines, encoding, line);
-    let own = lines.scheme().to_byte_idx(part.text, line - part.lines);
+    let own = part
+        .kind(lines)
+        .scheme()
+        .to_byte_idx(part.text, line - part.lines);
     Place { part, own }
 }
 
@@ -51,7 +57,7 @@ pub(crate) fn units_up_to<'a, P: Parts<'a>>(
     ensures { result ≡ weighed (units_of encoding) (P.state parts.now).text (part.now.start + at) }
 {
     let _len = parts.len();
-    part.units + units_before(encoding, part.text, at)
+    part.units + units_before(part.encoding(encoding), part.text, at)
 }
 
 /// The byte index where the content of a line ends, by where the next line begins.
@@ -87,4 +93,17 @@ pub fn line_end<'a, P: Parts<'a>>(parts: &mut P, lines: LineType, line: usize) -
     }
     let next = line_in(parts, lines, Encoding::Utf8, line + 1);
     end_before(parts, lines, Encoding::Utf8, line, &next)
+}
+
+/// The byte indices where a line begins, counted from 0, and where its content ends; the length of the text in bytes twice
+/// for a line past the last one. It takes two searches by the line.
+pub fn line<'a, P: Parts<'a>>(parts: &mut P, lines: LineType, line: usize) -> ops::Range<usize>
+    ensures start { result.start ≡ to_byte_idx (scheme_of lines) (P.state parts.old).text line }
+    ensures end { result.end ≡ line_end lines (P.state parts.old).text line }
+    ensures cost { Took 0 2 (P.state parts.old) (P.state parts.new) }
+{
+    let _len = parts.len();
+    let start = line_in(parts, lines, Encoding::Utf8, line);
+    let end = line_end(parts, lines, line);
+    start.part.start + start.own..end
 }

@@ -60,5 +60,6 @@ fn whole_part(text: &str) -> Part<'_>
         lines: 0,
         units: 0,
         in_crlf: false,
+        ends: None,
     }
 }

@@ -13,7 +13,7 @@ overflow_add-result g c =
     let start = c.args.start.now in
     let rest = chars c.from_byte-rest.result.now in
     let is = place_told cs l e start.part c.requires.part start.own rest c.from_byte-rest.ensures c.args.position c.requires.place
-    c.place_on_first_line-own.result c.place_on_first_line-own.ensures (c.tells.ensures.0 c.if-tells.true) in
+    c.place_on_line-own.result (c.place_on_line-own.ensures cs start.own c.requires.part c.requires.own c.from_byte-rest.ensures) (c.tells.ensures.0 c.if-tells.true) in
     omega (arith, is, boundary_within cs (byte_at l e cs c.args.position) (IsBoundary-byte_at l e cs c.args.position), c.len-len.ensures.short)
 
 pub overflow_add-result-then-tells : goal.overflow_add-result-then-tells
@@ -24,7 +24,7 @@ overflow_add-result-then-tells g c =
     let start = c.args.start.now in
     let rest = chars c.from_byte-rest.result.now in
     let is = place_told cs l e start.part c.requires.part start.own rest c.from_byte-rest.ensures c.args.position c.requires.place
-    c.place_on_first_line-own.result c.place_on_first_line-own.ensures (c.tells.ensures.0 c.if-tells.true) in
+    c.place_on_line-own.result (c.place_on_line-own.ensures cs start.own c.requires.part c.requires.own c.from_byte-rest.ensures) (c.tells.ensures.0 c.if-tells.true) in
     omega (arith, is, boundary_within cs (byte_at l e cs c.args.position) (IsBoundary-byte_at l e cs c.args.position), c.len-len.ensures.short)
 
 pub returns-then-tells-clause-answer : goal.returns-then-tells-clause-answer
@@ -35,7 +35,7 @@ returns-then-tells-clause-answer g c =
     let start = c.args.start.now in
     let rest = chars c.from_byte-rest.result.now in
     place_told cs l e start.part c.requires.part start.own rest c.from_byte-rest.ensures c.args.position c.requires.place
-    c.place_on_first_line-own.result c.place_on_first_line-own.ensures (c.tells.ensures.0 c.if-tells.true)
+    c.place_on_line-own.result (c.place_on_line-own.ensures cs start.own c.requires.part c.requires.own c.from_byte-rest.ensures) (c.tells.ensures.0 c.if-tells.true)
 
 pub returns-then-tells-clause-boundary : goal.returns-then-tells-clause-boundary
 returns-then-tells-clause-boundary g c =

@@ -1,4 +1,4 @@
-use Rattle.positions.proofs.lemmas.{◌∙◌, ap, sym, subst, refl, arith, chars, byte_at, exact_byte_at, IsBoundary, boundary_within, IsBoundary-byte_at, part_within, place_told, exact_place, no_place, none_taken, taken_within, taken_after}
+use Rattle.positions.proofs.lemmas.{◌∙◌, ap, sym, same_behind, weighed_same, subst, refl, arith, chars, byte_at, exact_byte_at, IsBoundary, boundary_within, IsBoundary-byte_at, part_within, place_told, exact_place, no_place, none_taken, taken_within, taken_after}
 use Rattle.positions.proofs.questions.exact_byte_of.Goals as goal
 
 pub returns-then-count-position-clause-cost : goal.returns-then-count-position-clause-cost
@@ -18,9 +18,13 @@ returns-then-units_before-position-clause-answer g c =
     let e = c.args.encoding in
     let start = c.line_in-start in
     let rest = chars c.from_byte-rest.result.now in
-    let own = c.place_on_first_line-own in
+    let own = c.place_on_line-own in
+    let own_is = own.ensures cs start.result.own start.ensures.part start.ensures.own c.from_byte-rest.ensures in
+    let same = same_behind e c.encoding.result (chars start.result.part.text.now) (c.encoding.ensures cs l start.ensures.part) rest
+    start.result.own c.from_byte-rest.ensures in
+    let counted = c.units_before.ensures ∙ sym (weighed_same e c.encoding.result rest same own.result) in
     let told = rw start.ensures.cost.text at (c.tells.ensures.0 c.if-tells.true) in
-    no_place cs l e start.result.part start.ensures.part start.result.own rest c.from_byte-rest.ensures c.args.position start.ensures.place own.result own.ensures told (λ same. c.if-units_before-position.true (c.units_before.ensures ∙ same))
+    no_place cs l e start.result.part start.ensures.part start.result.own rest c.from_byte-rest.ensures c.args.position start.ensures.place own.result own_is told (λ same. c.if-units_before-position.true (counted ∙ same))
 
 pub returns-then-units_before-position-clause-cost : goal.returns-then-units_before-position-clause-cost
 returns-then-units_before-position-clause-cost g c = taken_within c.len-len.ensures.searched (omega arith) (omega arith) c.line_in-start.ensures.cost
@@ -32,9 +36,10 @@ overflow_add-result g c =
     let e = c.args.encoding in
     let start = c.line_in-start in
     let rest = chars c.from_byte-rest.result.now in
-    let own = c.place_on_first_line-own in
+    let own = c.place_on_line-own in
+    let own_is = own.ensures cs start.result.own start.ensures.part start.ensures.own c.from_byte-rest.ensures in
     let told = rw start.ensures.cost.text at (c.tells.ensures.0 c.if-tells.true) in
-    let is = place_told cs l e start.result.part start.ensures.part start.result.own rest c.from_byte-rest.ensures c.args.position start.ensures.place own.result own.ensures told in
+    let is = place_told cs l e start.result.part start.ensures.part start.result.own rest c.from_byte-rest.ensures c.args.position start.ensures.place own.result own_is told in
     omega (arith, is, boundary_within cs (byte_at l e cs c.args.position) (IsBoundary-byte_at l e cs c.args.position), c.len-len.ensures.short)
 
 pub overflow_add-result-then-tells : goal.overflow_add-result-then-tells
@@ -44,9 +49,10 @@ overflow_add-result-then-tells g c =
     let e = c.args.encoding in
     let start = c.line_in-start in
     let rest = chars c.from_byte-rest.result.now in
-    let own = c.place_on_first_line-own in
+    let own = c.place_on_line-own in
+    let own_is = own.ensures cs start.result.own start.ensures.part start.ensures.own c.from_byte-rest.ensures in
     let told = rw start.ensures.cost.text at (c.tells.ensures.0 c.if-tells.true) in
-    let is = place_told cs l e start.result.part start.ensures.part start.result.own rest c.from_byte-rest.ensures c.args.position start.ensures.place own.result own.ensures told in
+    let is = place_told cs l e start.result.part start.ensures.part start.result.own rest c.from_byte-rest.ensures c.args.position start.ensures.place own.result own_is told in
     omega (arith, is, boundary_within cs (byte_at l e cs c.args.position) (IsBoundary-byte_at l e cs c.args.position), c.len-len.ensures.short)
 
 pub returns-then-tells-clause-answer : goal.returns-then-tells-clause-answer
@@ -56,9 +62,13 @@ returns-then-tells-clause-answer g c =
     let e = c.args.encoding in
     let start = c.line_in-start in
     let rest = chars c.from_byte-rest.result.now in
-    let own = c.place_on_first_line-own in
+    let own = c.place_on_line-own in
+    let own_is = own.ensures cs start.result.own start.ensures.part start.ensures.own c.from_byte-rest.ensures in
+    let same = same_behind e c.encoding.result (chars start.result.part.text.now) (c.encoding.ensures cs l start.ensures.part) rest
+    start.result.own c.from_byte-rest.ensures in
+    let counted = c.units_before.ensures ∙ sym (weighed_same e c.encoding.result rest same own.result) in
     let told = rw start.ensures.cost.text at (c.tells.ensures.0 c.if-tells.true) in
-    exact_place cs l e start.result.part start.ensures.part start.result.own rest c.from_byte-rest.ensures c.args.position start.ensures.place own.result own.ensures told (omega (arith, c.count.ensures, c.if-count-position.false)) (sym c.units_before.ensures ∙ c.if-units_before-position.false)
+    exact_place cs l e start.result.part start.ensures.part start.result.own rest c.from_byte-rest.ensures c.args.position start.ensures.place own.result own_is told (omega (arith, c.count.ensures, c.if-count-position.false)) (sym counted ∙ c.if-units_before-position.false)
 
 pub returns-then-tells-clause-boundary : goal.returns-then-tells-clause-boundary
 returns-then-tells-clause-boundary g c =
@@ -67,9 +77,10 @@ returns-then-tells-clause-boundary g c =
     let e = c.args.encoding in
     let start = c.line_in-start in
     let rest = chars c.from_byte-rest.result.now in
-    let own = c.place_on_first_line-own in
+    let own = c.place_on_line-own in
+    let own_is = own.ensures cs start.result.own start.ensures.part start.ensures.own c.from_byte-rest.ensures in
     let told = rw start.ensures.cost.text at (c.tells.ensures.0 c.if-tells.true) in
-    subst (IsBoundary cs) (sym (place_told cs l e start.result.part start.ensures.part start.result.own rest c.from_byte-rest.ensures c.args.position start.ensures.place own.result own.ensures told)) (IsBoundary-byte_at l e cs c.args.position)
+    subst (IsBoundary cs) (sym (place_told cs l e start.result.part start.ensures.part start.result.own rest c.from_byte-rest.ensures c.args.position start.ensures.place own.result own_is told)) (IsBoundary-byte_at l e cs c.args.position)
 
 pub returns-then-tells-clause-cost : goal.returns-then-tells-clause-cost
 returns-then-tells-clause-cost g c = taken_within c.len-len.ensures.searched (omega arith) (omega arith) c.line_in-start.ensures.cost

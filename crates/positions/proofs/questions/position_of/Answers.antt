@@ -1,4 +1,4 @@
-use Rattle.positions.proofs.lemmas.{◌≡◌, ◌+◌, ◌-◌, ◌<◌, ◌⊎◌, ◌∙◌, min, ap, refl, inl, inr, arith, chars, size, units_of, weighed, to_byte_idx, from_byte_idx, scheme_of, at_within, at_round, line_told, lines_short, line_before, return_before, position_told, start_before, units_from_start, return_and_line, position_cut, taken_within, searched_before, taken_after}
+use Rattle.positions.proofs.lemmas.{◌≡◌, ◌+◌, ◌-◌, ◌<◌, ◌⊎◌, ◌∙◌, min, ap, sym, refl, same_behind, weighed_same, inl, inr, arith, chars, size, units_of, weighed, to_byte_idx, from_byte_idx, scheme_of, at_within, at_round, line_told, lines_short, line_before, return_before, position_told, start_before, units_from_start, return_and_line, position_cut, taken_within, searched_before, taken_after}
 use Rattle.positions.proofs.questions.position_of.Goals as goal
 
 pub overflow_sub-byte : goal.overflow_sub-byte
@@ -17,7 +17,7 @@ overflow_add-line g c =
     let own = chars part.result.text.now in
     let at_is : at ≡ min (byte - part.result.start) (size own) =
     c.min-at.ensures ∙ ap (λ n. min (byte - part.result.start) n) c.len_of.ensures in
-    let counted = rw c.scheme.ensures at c.from_byte_idx-own.ensures in
+    let counted = c.breaks_up_to-own.ensures cs e is in
     omega (arith, lines_short cs l e part.result is byte round at at_is, counted, rw part.ensures.cost.text at c.len-len.ensures.short)
 
 pub line_start-start-requires : goal.line_start-start-requires
@@ -33,8 +33,8 @@ line_start-start-requires g c =
     let own = chars part.result.text.now in
     let at_is : at ≡ min (byte - part.result.start) (size own) =
     c.min-at.ensures ∙ ap (λ n. min (byte - part.result.start) n) c.len_of.ensures in
-    let counted = rw c.scheme.ensures at c.from_byte_idx-own.ensures in
-    record { line = counted; within = at_within cs l e part.result is byte round at at_is }
+    let counted = c.breaks_up_to-own.ensures cs e is in
+    record { line = counted ∙ (c.kind.ensures cs e is).from at; within = at_within cs l e part.result is byte round at at_is }
 
 pub overflow_sub-at : goal.overflow_sub-at
 overflow_sub-at g c =
@@ -49,9 +49,9 @@ overflow_sub-at g c =
     let own = chars part.result.text.now in
     let at_is : at ≡ min (byte - part.result.start) (size own) =
     c.min-at.ensures ∙ ap (λ n. min (byte - part.result.start) n) c.len_of.ensures in
-    let counted = rw c.scheme.ensures at c.from_byte_idx-own.ensures in
+    let counted = c.breaks_up_to-own.ensures cs e is in
     start_before cs l e part.result is byte round at at_is c.line_start-start.result
-    (c.line_start-start.ensures.start ∙ ap (to_byte_idx (scheme_of l) own) counted)
+    (c.line_start-start.ensures.start ∙ sym ((c.kind.ensures cs e is).to c.breaks_up_to-own.result) ∙ ap (to_byte_idx (scheme_of l) own) counted)
 
 pub overflow_sub-result : goal.overflow_sub-result
 overflow_sub-result g c =
@@ -66,19 +66,23 @@ overflow_sub-result g c =
     let own = chars part.result.text.now in
     let at_is : at ≡ min (byte - part.result.start) (size own) =
     c.min-at.ensures ∙ ap (λ n. min (byte - part.result.start) n) c.len_of.ensures in
-    let counted = rw c.scheme.ensures at c.from_byte_idx-own.ensures in
+    let counted = c.breaks_up_to-own.ensures cs e is in
     let some : (0 < from_byte_idx (scheme_of l) own at) ⊎ (part.result.start ≡ 0) = elim c.then-own-gt0.either [
       | inl above ↦ inl (omega (arith, above, counted))
       | inr first ↦ inr first.1
     ] in
     let start = c.line_start-start in
-    let start_is = start.ensures.start ∙ ap (to_byte_idx (scheme_of l) own) counted in
-    let line_is : part.result.lines + c.from_byte_idx-own.result ≡ from_byte_idx (scheme_of l) cs byte =
+    let start_is = start.ensures.start ∙ sym ((c.kind.ensures cs e is).to c.breaks_up_to-own.result)
+    ∙ ap (to_byte_idx (scheme_of l) own) counted in
+    let line_is : part.result.lines + c.breaks_up_to-own.result ≡ from_byte_idx (scheme_of l) cs byte =
     omega (arith, counted, line_told cs l e part.result is byte round at at_is) in
-    let units = units_from_start cs l e part.result is byte round at at_is (chars c.from_byte.result.now) start.result c.units_before-units.result
-    (part.result.lines + c.from_byte_idx-own.result) start_is c.from_byte.ensures c.units_before-units.ensures some line_is in
+    let rest = chars c.from_byte-rest.result.now in
+    let same = same_behind e c.encoding.result own (c.encoding.ensures cs l is) rest start.result c.from_byte-rest.ensures in
+    let counted_units = c.units_before-units.ensures ∙ sym (weighed_same e c.encoding.result rest same (at - start.result)) in
+    let units = units_from_start cs l e part.result is byte round at at_is rest start.result c.units_before-units.result
+    (part.result.lines + c.breaks_up_to-own.result) start_is c.from_byte-rest.ensures counted_units some line_is in
     let behind = c.return_behind-behind.ensures cs l e is (at_round cs l e part.result is byte round at at_is) in
-    return_before cs l e part.result is byte round at at_is c.return_behind-behind.result behind (part.result.lines + c.from_byte_idx-own.result) c.units_before-units.result line_is units
+    return_before cs l e part.result is byte round at at_is c.return_behind-behind.result behind (part.result.lines + c.breaks_up_to-own.result) c.units_before-units.result line_is units
 
 pub returns-then-own-gt0-clause-answer : goal.returns-then-own-gt0-clause-answer
 returns-then-own-gt0-clause-answer g c =
@@ -93,19 +97,23 @@ returns-then-own-gt0-clause-answer g c =
     let own = chars part.result.text.now in
     let at_is : at ≡ min (byte - part.result.start) (size own) =
     c.min-at.ensures ∙ ap (λ n. min (byte - part.result.start) n) c.len_of.ensures in
-    let counted = rw c.scheme.ensures at c.from_byte_idx-own.ensures in
+    let counted = c.breaks_up_to-own.ensures cs e is in
     let some : (0 < from_byte_idx (scheme_of l) own at) ⊎ (part.result.start ≡ 0) = elim c.then-own-gt0.either [
       | inl above ↦ inl (omega (arith, above, counted))
       | inr first ↦ inr first.1
     ] in
     let start = c.line_start-start in
-    let start_is = start.ensures.start ∙ ap (to_byte_idx (scheme_of l) own) counted in
-    let line_is : part.result.lines + c.from_byte_idx-own.result ≡ from_byte_idx (scheme_of l) cs byte =
+    let start_is = start.ensures.start ∙ sym ((c.kind.ensures cs e is).to c.breaks_up_to-own.result)
+    ∙ ap (to_byte_idx (scheme_of l) own) counted in
+    let line_is : part.result.lines + c.breaks_up_to-own.result ≡ from_byte_idx (scheme_of l) cs byte =
     omega (arith, counted, line_told cs l e part.result is byte round at at_is) in
-    let units = units_from_start cs l e part.result is byte round at at_is (chars c.from_byte.result.now) start.result c.units_before-units.result
-    (part.result.lines + c.from_byte_idx-own.result) start_is c.from_byte.ensures c.units_before-units.ensures some line_is in
+    let rest = chars c.from_byte-rest.result.now in
+    let same = same_behind e c.encoding.result own (c.encoding.ensures cs l is) rest start.result c.from_byte-rest.ensures in
+    let counted_units = c.units_before-units.ensures ∙ sym (weighed_same e c.encoding.result rest same (at - start.result)) in
+    let units = units_from_start cs l e part.result is byte round at at_is rest start.result c.units_before-units.result
+    (part.result.lines + c.breaks_up_to-own.result) start_is c.from_byte-rest.ensures counted_units some line_is in
     let behind = c.return_behind-behind.ensures cs l e is (at_round cs l e part.result is byte round at at_is) in
-    position_told cs l e part.result is byte round at at_is c.return_behind-behind.result behind (part.result.lines + c.from_byte_idx-own.result) c.units_before-units.result line_is units
+    position_told cs l e part.result is byte round at at_is c.return_behind-behind.result behind (part.result.lines + c.breaks_up_to-own.result) c.units_before-units.result line_is units
 
 pub returns-then-own-gt0-clause-cost : goal.returns-then-own-gt0-clause-cost
 returns-then-own-gt0-clause-cost g c =
@@ -124,17 +132,17 @@ overflow_sub-units g c =
     let own = chars part.result.text.now in
     let at_is : at ≡ min (byte - part.result.start) (size own) =
     c.min-at.ensures ∙ ap (λ n. min (byte - part.result.start) n) c.len_of.ensures in
-    let counted = rw c.scheme.ensures at c.from_byte_idx-own.ensures in
-    let line_is : part.result.lines + c.from_byte_idx-own.result ≡ from_byte_idx (scheme_of l) cs byte =
+    let counted = c.breaks_up_to-own.ensures cs e is in
+    let line_is : part.result.lines + c.breaks_up_to-own.result ≡ from_byte_idx (scheme_of l) cs byte =
     omega (arith, counted, line_told cs l e part.result is byte round at at_is) in
     let text = part.ensures.cost.text in
     let behind = c.return_behind-behind.ensures cs l e is (at_round cs l e part.result is byte round at at_is) in
     let units : c.units_up_to.result ≡ weighed (units_of e) cs (part.result.start + at) = rw text at c.units_up_to.ensures in
-    let begins = to_byte_idx (scheme_of l) cs (part.result.lines + c.from_byte_idx-own.result) in
+    let begins = to_byte_idx (scheme_of l) cs (part.result.lines + c.breaks_up_to-own.result) in
     omega (
       arith,
       return_and_line cs l e part.result is byte round at at_is c.return_behind-behind.result behind
-          (part.result.lines + c.from_byte_idx-own.result) (weighed (units_of e) cs begins) c.units_up_to.result line_is refl units,
+          (part.result.lines + c.breaks_up_to-own.result) (weighed (units_of e) cs begins) c.units_up_to.result line_is refl units,
     )
 
 pub overflow_sub-result-2 : goal.overflow_sub-result-2
@@ -150,8 +158,8 @@ overflow_sub-result-2 g c =
     let own = chars part.result.text.now in
     let at_is : at ≡ min (byte - part.result.start) (size own) =
     c.min-at.ensures ∙ ap (λ n. min (byte - part.result.start) n) c.len_of.ensures in
-    let counted = rw c.scheme.ensures at c.from_byte_idx-own.ensures in
-    let line_is : part.result.lines + c.from_byte_idx-own.result ≡ from_byte_idx (scheme_of l) cs byte =
+    let counted = c.breaks_up_to-own.ensures cs e is in
+    let line_is : part.result.lines + c.breaks_up_to-own.result ≡ from_byte_idx (scheme_of l) cs byte =
     omega (arith, counted, line_told cs l e part.result is byte round at at_is) in
     let text = part.ensures.cost.text in
     let behind = c.return_behind-behind.ensures cs l e is (at_round cs l e part.result is byte round at at_is) in
@@ -159,7 +167,7 @@ overflow_sub-result-2 g c =
     let start = c.line_in-start in
     let place = rw text at start.ensures.place in
     let before = rw (start.ensures.cost.text ∙ text) at c.units_up_to-before_line.ensures ∙ ap (weighed (units_of e) cs) place in
-    omega (arith, return_and_line cs l e part.result is byte round at at_is c.return_behind-behind.result behind (part.result.lines + c.from_byte_idx-own.result) c.units_up_to-before_line.result c.units_up_to.result line_is before units)
+    omega (arith, return_and_line cs l e part.result is byte round at at_is c.return_behind-behind.result behind (part.result.lines + c.breaks_up_to-own.result) c.units_up_to-before_line.result c.units_up_to.result line_is before units)
 
 pub returns-clause-answer : goal.returns-clause-answer
 returns-clause-answer g c =
@@ -174,8 +182,8 @@ returns-clause-answer g c =
     let own = chars part.result.text.now in
     let at_is : at ≡ min (byte - part.result.start) (size own) =
     c.min-at.ensures ∙ ap (λ n. min (byte - part.result.start) n) c.len_of.ensures in
-    let counted = rw c.scheme.ensures at c.from_byte_idx-own.ensures in
-    let line_is : part.result.lines + c.from_byte_idx-own.result ≡ from_byte_idx (scheme_of l) cs byte =
+    let counted = c.breaks_up_to-own.ensures cs e is in
+    let line_is : part.result.lines + c.breaks_up_to-own.result ≡ from_byte_idx (scheme_of l) cs byte =
     omega (arith, counted, line_told cs l e part.result is byte round at at_is) in
     let text = part.ensures.cost.text in
     let behind = c.return_behind-behind.ensures cs l e is (at_round cs l e part.result is byte round at at_is) in
@@ -183,7 +191,7 @@ returns-clause-answer g c =
     let start = c.line_in-start in
     let place = rw text at start.ensures.place in
     let before = rw (start.ensures.cost.text ∙ text) at c.units_up_to-before_line.ensures ∙ ap (weighed (units_of e) cs) place in
-    position_cut cs l e part.result is byte round at at_is c.return_behind-behind.result behind (part.result.lines + c.from_byte_idx-own.result) c.units_up_to-before_line.result c.units_up_to.result line_is before units
+    position_cut cs l e part.result is byte round at at_is c.return_behind-behind.result behind (part.result.lines + c.breaks_up_to-own.result) c.units_up_to-before_line.result c.units_up_to.result line_is before units
 
 pub returns-clause-cost : goal.returns-clause-cost
 returns-clause-cost g c = taken_after c.part_of_byte-part.ensures.cost c.line_in-start.ensures.cost
@@ -201,9 +209,9 @@ returns-clause-near g c =
     let own = chars part.result.text.now in
     let at_is : at ≡ min (byte - part.result.start) (size own) =
     c.min-at.ensures ∙ ap (λ n. min (byte - part.result.start) n) c.len_of.ensures in
-    let counted = rw c.scheme.ensures at c.from_byte_idx-own.ensures in
+    let counted = c.breaks_up_to-own.ensures cs e is in
     let none : from_byte_idx (scheme_of l) own at ≡ 0 = omega (arith, counted, c.if-own-gt0.false) in
     λ near. absurd (elim near [
       | inl before ↦ omega (arith, before, part.ensures.start, line_before cs l e part.result is byte round at at_is none)
-      | inr first ↦ c.if-part-eq0.false (part.ensures.start ∙ first)
+      | inr first ↦ c.if-part-eq0.false (omega (arith, part.ensures.start, first))
     ])

@@ -1,4 +1,4 @@
-use Rattle.positions.proofs.lemmas.{◌-◌, sym, subst, arith, chars, IsBoundary, IsBoundary-to_byte_idx, lines_within, line_place}
+use Rattle.positions.proofs.lemmas.{◌-◌, ◌∙◌, sym, ap, subst, arith, chars, to_byte_idx, IsBoundary, IsBoundary-to_byte_idx, lines_within, line_place}
 use Rattle.positions.proofs.starts.line_in.Goals as goal
 
 pub overflow_sub-line : goal.overflow_sub-line
@@ -7,13 +7,20 @@ overflow_sub-line g c =
     lines_within (g.P.Parts.state c.args.parts.now).text c.args.lines c.args.encoding part.result part.ensures.part c.args.line
     part.ensures.round
 
+pub returns-clause-own : goal.returns-clause-own
+returns-clause-own g c =
+    let part = c.part_of_line-part in
+    let own = chars part.result.text.now in
+    let k = c.args.line - part.result.lines in
+    c.to_byte_idx-own.ensures.answer ∙ ap (λ s. to_byte_idx s own k) c.scheme.ensures
+    ∙ sym ((c.kind.ensures (g.P.Parts.state c.args.parts.now).text c.args.encoding part.ensures.part).to k)
+
 pub returns-clause-place : goal.returns-clause-place
 returns-clause-place g c =
     let part = c.part_of_line-part in
-    let own = rw c.scheme.ensures at c.to_byte_idx-own.ensures.answer in
     omega (
       arith,
-      own,
+      returns-clause-own g c,
       line_place (g.P.Parts.state c.args.parts.now).text c.args.lines c.args.encoding part.result part.ensures.part c.args.line
           part.ensures.round,
     )

@@ -1,0 +1,110 @@
+-- What is known of a part: where each char is one byte, and where no line ends.
+use Rattle.position_mapper.proofs.lemmas.Callers.{boundary_within, split_at_first}
+use Rattle.position_mapper.specs.declared.encodings.Encoding.TheVariants.{Utf8}
+use Rattle.positions.specs.Characters.{IsBackOf}
+use Rattle.positions.specs.Units.{HasSameUnits}
+use Rattle.positions.proofs.lemmas.Common.{◌≡◌, ℕ, ◌+◌, ◌≤◌, [], ◌++◌, sym, refl, ap, ◌∙◌, arith, append_assoc, append-nil, sum_by, sum_by-append, sum_by-le-sum_by, len_utf8, cut, cut_is_longest, is_joined, Text, size, count, from_byte_idx, from-to, IsBoundary, Option, Some, None, subst, to_byte_idx, to_byte_idx-zero, weighed, boundary_weighed, boundary_weighed_is_greatest, boundary_weighed_iff, units_of, units_of-le, scheme_of, is_break, line_content, byte_at, Encoding, LineType}
+use Rattle.positions.proofs.lemmas.Lines.{line_end_past}
+use Rattle.std.specs.Prelude.{IfSome}
+use Rattle.positions.proofs.lemmas.Kinds.{not_utf16, none_before}
+use Rattle.positions.proofs.lemmas.Starts.{weighed_all, weighed_none, first_content}
+use Rattle.positions.proofs.lemmas.Units.{byte_of_units}
+
+-- where there are as many units as bytes, so there are in each stretch
+pub units_are_bytes : (e : Encoding) (text : Text) → sum_by (units_of e) text ≡ size text → HasSameUnits e Utf8 text
+units_are_bytes e text same = λ front own back split.
+    let less = λ (t : Text). sum_by-le-sum_by (units_of e) len_utf8 t (units_of-le e) in
+    let whole = λ (w : ℕ → ℕ). ap (sum_by w) split ∙ sum_by-append w front (own ++ back) ∙ ap (λ n. sum_by w front + n)
+    (sum_by-append w own back) in
+    omega (arith, same, whole len_utf8, whole (units_of e), less front, less own, less back)
+
+module _ (e f : Encoding) (text : Text) (same : HasSameUnits e f text) where
+  -- so has each stretch of such a text
+  pub same_within : (front own back : Text) → text ≡ front ++ (own ++ back) → HasSameUnits e f own
+  same_within front own back split = λ a m b is.
+      let parts : front ++ ((a ++ (m ++ b)) ++ back) ≡ (front ++ a) ++ (m ++ (b ++ back)) = simp append_assoc in
+      same (front ++ a) m (b ++ back) (split ∙ ap (λ t. front ++ (t ++ back)) is ∙ parts)
+
+  pub same_behind : (rest : Text) (at : ℕ) → IsBackOf text rest at → HasSameUnits e f rest
+  same_behind rest at is =
+      same_within is.front rest [] (is.parts ∙ ap (λ t. is.front ++ t) (sym (append-nil rest)))
+
+  -- up to a place it has as many units by both
+  pub weighed_same : (n : ℕ) → weighed (units_of e) text n ≡ weighed (units_of f) text n
+  weighed_same n = let longest = cut_is_longest text n in same [] (cut text n) longest.back longest.split
+
+  -- and so many units end at one place
+  pub placed_same : (k : ℕ) → boundary_weighed (units_of e) text k ≡ boundary_weighed (units_of f) text k
+  placed_same k =
+      let p = boundary_weighed (units_of e) text k in
+      let q = boundary_weighed (units_of f) text k in
+      let at_p = (boundary_weighed_is_greatest (units_of e) text k).boundary in
+      let at_q = (boundary_weighed_is_greatest (units_of f) text k).boundary in
+      let few_p = (boundary_weighed_iff (units_of e) text p k at_p).0 (omega arith) in
+      let few_q = (boundary_weighed_iff (units_of f) text q k at_q).0 (omega arith) in
+      omega (
+        arith,
+        (boundary_weighed_iff (units_of f) text p k at_p).1 (omega (arith, few_p, weighed_same p)),
+        (boundary_weighed_iff (units_of e) text q k at_q).1 (omega (arith, few_q, weighed_same q)),
+      )
+
+-- so it is on the first line
+pub first_same : (l : LineType) (e f : Encoding) (text : Text) (k : ℕ) → HasSameUnits e f text
+    → byte_at l e text (record { line = 0; character = k }) ≡ byte_at l f text (record { line = 0; character = k })
+first_same l e f text k same =
+    let first = split_at_first (is_break l) text in
+    let split : text ≡ [] ++ (line_content l text 0 ++ first.after) =
+    first.split ∙ ap (λ t. t ++ first.after) (sym (first_content l text)) in
+    ap (λ n. to_byte_idx (scheme_of l) text 0 + n)
+    (placed_same e f (line_content l text 0) (same_within e f text same [] (line_content l text 0) first.after split) k)
+
+-- a text that has no break is its first line
+pub unbroken_place : (l : LineType) (e : Encoding) (text : Text) (k : ℕ) → count (scheme_of l) text ≡ 0
+    → boundary_weighed (units_of e) text k ≡ byte_at l e text (record { line = 0; character = k })
+unbroken_place l e text k none =
+    let w = units_of e in
+    let zero : weighed w text (to_byte_idx (scheme_of l) text 0) + k ≡ k =
+    omega (arith, ap (weighed w text) (to_byte_idx-zero (scheme_of l) text), weighed_none w text) in
+    omega (
+      arith,
+      byte_of_units l e text (record { line = 0; character = k }),
+      ap (boundary_weighed w text) zero,
+      line_end_past l text 0 (omega (arith, none)),
+      boundary_within text (boundary_weighed w text k) (boundary_weighed_is_greatest w text k).boundary,
+    )
+
+-- from where its last line begins on, a text has no break
+pub none_behind_last : (l : LineType) (text rest : Text) (at k : ℕ) → at ≡ to_byte_idx (scheme_of l) text k
+    → count (scheme_of l) text ≤ k → IsBackOf text rest at → count (scheme_of l) rest ≡ 0
+none_behind_last l text rest at k at_is last is =
+    let s = scheme_of l in
+    let joined = is_joined s is.front rest in
+    let here : size is.front + 0 ≡ to_byte_idx s text k = omega (arith, is.place, at_is) in
+    omega (
+      arith,
+      ap (count s) is.parts,
+      joined.counts,
+      joined.loss_within,
+      joined.from_behind 0,
+      none_before l rest,
+      ap (λ t. from_byte_idx s t (to_byte_idx s text k)) is.parts,
+      ap (from_byte_idx s (is.front ++ rest)) here,
+      from-to s (not_utf16 l) text k,
+      last,
+    )
+
+-- where the rest has no more units than these, they end with it
+pub all_units : (e : Encoding) (text rest : Text) (at k : ℕ) → sum_by (units_of e) text ≤ k → IsBackOf text rest at
+    → size rest ≡ boundary_weighed (units_of e) rest k
+all_units e text rest at k few is =
+    let w = units_of e in
+    let ends : IsBoundary rest (size rest) =
+    record { front = rest; back = []; split = sym (append-nil rest); place = refl } in
+    let most = (boundary_weighed_iff w rest (size rest) k ends).1
+    (omega (arith, weighed_all w rest, few, ap (sum_by w) is.parts, sum_by-append w is.front rest)) in
+    omega (arith, most, boundary_within rest (boundary_weighed w rest k) (boundary_weighed_is_greatest w rest k).boundary)
+
+-- what holds of what there may be holds of what there is
+pub some_is : {A : Type 0} (P : A → Type 0) (may : Option A) (is : A) → IfSome may P → may ≡ Some is → P is
+some_is {A} P (Some a) is holds same = let here : a ≡ is = cc in subst P here holds
+some_is P None is holds same = cc

@@ -1,0 +1,113 @@
+//! A part, asked beside what is known of it.
+ghost use Rattle.std.specs.Prelude.{◌≡◌, ◌+◌, ◌-◌, ◌≤◌, ℕ, IsTrue, chars, sum_by};
+ghost use Rattle.str_indices.specs.Schemes.{count, from_byte_idx, to_byte_idx};
+ghost use Rattle.str_indices.specs.Text.{Text, size};
+ghost use Rattle.position_mapper.specs.Encodings.{units_of};
+ghost use Rattle.position_mapper.specs.declared.encodings.Encoding.{Encoding};
+ghost use Rattle.positions.specs.Characters.{IsBackOf};
+ghost use Rattle.positions.specs.Lines.{HasSameBreaks, scheme_of};
+ghost use Rattle.positions.specs.Parts.{IsPart};
+ghost use Rattle.positions.specs.Positions.{byte_at};
+ghost use Rattle.positions.specs.Units.{HasSameUnits};
+ghost use Rattle.positions.specs.declared.line_type.LineType.{LineType};
+
+use crate::first_lines::place_on_first_line;
+use crate::texts::len_of;
+use crate::units::place_of;
+use crate::{LineType, Part};
+use position_mapper::Encoding;
+
+impl Part<'_> {
+    /// Whether it is known to end on a line.
+    fn ends_on(&self, line: usize) -> bool
+        ensures { (cs : Text) (l : LineType) (e : Encoding) → IsPart cs l e self.now → IsTrue result
+            → self.now.lines + count (scheme_of l) (chars self.now.text.now) ≡ line }
+    {
+        match self.ends {
+            Some(ends) => ends.lines == line,
+            None => false,
+        }
+    }
+
+    /// Whether it is known to have so many units at most.
+    fn has_at_most(&self, units: usize) -> bool
+        ensures { (cs : Text) (l : LineType) (e : Encoding) → IsPart cs l e self.now → IsTrue result
+            → sum_by (units_of e) (chars self.now.text.now) ≤ units }
+    {
+        match self.ends {
+            Some(ends) => ends.units.saturating_sub(self.units) <= units,
+            None => false,
+        }
+    }
+
+    /// Whether it is known that each of its units is a byte.
+    fn counts_bytes(&self) -> bool
+        ensures { (cs : Text) (l : LineType) (e : Encoding) → IsPart cs l e self.now → IsTrue result
+            → sum_by (units_of e) (chars self.now.text.now) ≡ size (chars self.now.text.now) }
+    {
+        let len = len_of(self.text);
+        match self.ends {
+            Some(ends) => ends.units.saturating_sub(self.units) == len,
+            None => false,
+        }
+    }
+
+    /// An encoding in which it has the same units: bytes, of which none is read, where it is known that they are.
+    pub(crate) fn encoding(&self, encoding: Encoding) -> Encoding
+        ensures { (cs : Text) (l : LineType) → IsPart cs l encoding self.now
+            → HasSameUnits encoding result (chars self.now.text.now) }
+    {
+        if self.counts_bytes() {
+            Encoding::Utf8
+        } else {
+            encoding
+        }
+    }
+
+    /// A kind of line break that it has the same of: one that takes least, where that is known.
+    pub(crate) fn kind(&self, lines: LineType) -> LineType
+        ensures { (cs : Text) (e : Encoding) → IsPart cs lines e self.now
+            → HasSameBreaks lines result (chars self.now.text.now) }
+    {
+        match self.ends {
+            Some(ends) => ends.kind,
+            None => lines,
+        }
+    }
+
+    /// How many line breaks end in it up to a place, for which none of it is read where it is known to have none.
+    pub(crate) fn breaks_up_to(&self, lines: LineType, at: usize) -> usize
+        ensures { (cs : Text) (e : Encoding) → IsPart cs lines e self.now
+            → result ≡ from_byte_idx (scheme_of lines) (chars self.now.text.now) at }
+    {
+        if self.ends_on(self.lines) {
+            return 0;
+        }
+        self.kind(lines).scheme().from_byte_idx(self.text, at)
+    }
+
+    /// The byte index where the char at an offset on a line begins, or the end of the line's content, in the rest of it from the
+    /// line's beginning on. It is read up to the answer where the line ends in it, and else not where it has too few units.
+    pub(crate) fn place_on_line(
+        &self,
+        lines: LineType,
+        encoding: Encoding,
+        line: usize,
+        rest: &str,
+        character: usize,
+    ) -> usize
+        ensures { (cs : Text) (at : ℕ) → IsPart cs lines encoding self.now
+            → at ≡ to_byte_idx (scheme_of lines) (chars self.now.text.now) (line - self.now.lines)
+            → IsBackOf (chars self.now.text.now) (chars rest.now) at
+            → result ≡ byte_at lines encoding (chars rest.now) (record { line = 0; character = character }) }
+    {
+        let own = self.encoding(encoding);
+        if !self.ends_on(line) {
+            return place_on_first_line(lines, own, rest, character);
+        }
+        if self.has_at_most(character) {
+            return len_of(rest);
+        }
+        place_of(own, rest, character)
+    }
+}
