@@ -3,6 +3,7 @@ pub mod Placing
 pub mod Marking
 pub mod Stretching
 pub mod Answering
+pub mod Lending
 pub mod Halving
 pub mod Lining
 pub mod Callers
@@ -11,5 +12,6 @@ pub use Placing.*
 pub use Marking.*
 pub use Stretching.*
 pub use Answering.*
+pub use Lending.*
 pub use Halving.*
 pub use Lining.*

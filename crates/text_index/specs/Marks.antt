@@ -7,12 +7,16 @@
 --     IsMarkAt text i mark     it is mark i, at most four bytes before the place that this has
 --     AreMarks text marks whole   the marks of a text from mark 1 on, and the one at its end
 --     MarksState               what contracts see of `Marks`
-use Rattle.std.specs.Prelude.{ℕ, ◌≡◌, ◌+◌, ◌*◌, ◌/◌, ◌^◌, ◌<◌, ◌≤◌, false, List, ◌++◌, length, slice_index_or}
+--     begins_at byte           where the stretch of a byte begins at most
+--     parts_of state           what they see of it as a text in parts
+--     Asked stretches few old new   how many stretches were read and marks looked at, at most
+use Rattle.std.specs.Prelude.{ℕ, ◌≡◌, ◌+◌, ◌-◌, ◌*◌, ◌/◌, ◌^◌, ◌<◌, ◌≤◌, false, List, ◌++◌, length, slice_index_or}
 use Rattle.str_indices.specs.Text.{Text, size}
 use Rattle.str_indices.specs.Schemes.{count}
 use Rattle.str_indices.specs.Joins.{joins_crlf}
 use Rattle.str_indices.specs.declared.Scheme.{Scheme}
 use Rattle.str_indices.specs.declared.Scheme.TheVariants.{Chars, Utf16, Lf, Crlf, Lines}
+use Rattle.positions.specs.Parts.{PartsState}
 use Rattle.text_index.specs.declared.mark.Mark.{Mark}
 
 -- how many bytes a stretch has, give or take four
@@ -59,3 +63,26 @@ pub record MarksState : Type 0 where
   pub text : Text
   pub looks : ℕ
   pub reads : ℕ
+
+-- where the stretch of a byte begins at most
+abbrev pub begins_at : ℕ → ℕ
+begins_at byte = (byte + 4) / stretch_size * stretch_size
+
+-- the same as a text in parts: a search by a byte takes at most two looks, and one by a count halves the marks
+abbrev pub parts_of : MarksState → PartsState
+parts_of state = record {
+  text = state.text;
+  begins = begins_at;
+  by_byte = 4;
+  by_count = 2 * stretches_of state.text;
+  looks = state.looks;
+  reads = state.reads;
+}
+
+-- no more stretches were read, and 2 to the number of looks is no more than `few`
+pub record Asked (stretches few : ℕ) (old new : MarksState) : Type 0 where
+  pub text : new.text ≡ old.text
+  pub looks : 2 ^ (new.looks - old.looks) ≤ few
+  pub looks_kept : old.looks ≤ new.looks
+  pub reads : new.reads ≤ old.reads + stretches
+  pub reads_kept : old.reads ≤ new.reads

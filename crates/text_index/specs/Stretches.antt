@@ -4,6 +4,8 @@
 --     AddsUp stretch part            its marks differ by what the part has
 --     StandsRound text byte stretch  a byte is in the stretch
 --     Answers s text k stretch       the stretch answers for a count
+--     HasPlace text byte stretch     a byte is in the stretch, or past the text's end
+--     Reaches s text k stretch       a count is reached in the stretch
 --     EndsBy text i mark             a stretch ends at the mark, which is mark i or the text's end
 use Rattle.std.specs.Prelude.{ℕ, ◌≡◌, ◌+◌, ◌*◌, ◌<◌, ◌≤◌, ◌⊎◌, ◌++◌}
 use Rattle.str_indices.specs.Text.{Text, size}
@@ -43,6 +45,18 @@ pub record StandsRound (text : Text) (byte : ℕ) (stretch : Stretch) : Type 0 w
 pub record Answers (s : Scheme) (text : Text) (k : ℕ) (stretch : Stretch) : Type 0 where
   pub is : IsStretch text stretch
   pub past : count_at stretch.start.now s < k
+  pub reached : (k ≤ count_at stretch.end.now s) ⊎ (stretch.end.now.byte ≡ size text)
+
+-- a byte is in the stretch, or past the text's end, where that is the last one
+pub record HasPlace (text : Text) (byte : ℕ) (stretch : Stretch) : Type 0 where
+  pub is : IsStretch text stretch
+  pub after : stretch.start.now.byte ≤ byte
+  pub before : (byte < stretch.end.now.byte) ⊎ (stretch.end.now.byte ≡ size text)
+
+-- before the stretch a count is not reached, or it is the first; and behind it the count is, or the text ends there
+pub record Reaches (s : Scheme) (text : Text) (k : ℕ) (stretch : Stretch) : Type 0 where
+  pub is : IsStretch text stretch
+  pub past : (count_at stretch.start.now s < k) ⊎ (stretch.start.now.byte ≡ 0)
   pub reached : (k ≤ count_at stretch.end.now s) ⊎ (stretch.end.now.byte ≡ size text)
 
 -- it is mark i, or the mark at the text's end, where that is the last stretch's

@@ -1,11 +1,14 @@
 //! What is counted of a text before a place in it.
 ghost use Rattle.std.specs.Prelude.{◌≡◌, ◌≤◌, chars, false};
 ghost use Rattle.str_indices.specs.Relations.{IsBoundary};
+ghost use Rattle.str_indices.specs.Schemes.{weighed};
 ghost use Rattle.str_indices.specs.Text.{Text, size};
+ghost use Rattle.position_mapper.specs.Encodings.{units_of};
 ghost use Rattle.text_index.specs.Marks.{IsMark, count_at};
 ghost use Rattle.text_index.specs.Places.{IsWholeAt};
 
 use crate::places::part_of;
+use positions::{Encoding, unit_scheme};
 use str_indices::{Scheme, counts};
 
 /// A byte index, and how many characters, UTF-16 code units and line breaks are before it.
@@ -41,6 +44,17 @@ impl Mark {
             Scheme::Lf => self.lf,
             Scheme::Crlf => self.crlf,
             Scheme::Lines => self.lines,
+        }
+    }
+
+    /// The units of an encoding before it.
+    pub(crate) fn units(&self, encoding: Encoding) -> usize
+        ensures { (text : Text) → IsMark text self.now
+            → result ≡ weighed (units_of encoding) text self.now.byte }
+    {
+        match unit_scheme(encoding) {
+            None => self.byte,
+            Some(s) => self.count(s),
         }
     }
 

@@ -2,8 +2,8 @@
 ghost use Rattle.std.specs.Prelude.{◌≡◌, ◌+◌, ◌-◌, ◌*◌, ◌^◌, ◌<◌, ◌≤◌};
 ghost use Rattle.str_indices.specs.Schemes.{count, from_byte_idx, to_byte_idx};
 ghost use Rattle.str_indices.specs.Text.{size};
-ghost use Rattle.text_index.specs.Marks.{MarksState, stretches_of};
-ghost use Rattle.text_index.specs.Stretches.{Answers, StandsRound};
+ghost use Rattle.text_index.specs.Marks.{MarksState, begins_at, stretches_of};
+ghost use Rattle.text_index.specs.Stretches.{Answers, HasPlace, Reaches, StandsRound};
 
 use crate::stretch::Stretch;
 use crate::{Marks, Scheme};
@@ -61,6 +61,7 @@ pub fn to_in(m: &mut Marks, s: Scheme, k: usize) -> usize
 fn stretch_round<'a>(m: &mut Marks<'a>, b: usize) -> Stretch<'a>
     requires { b < size m.old.text }
     ensures round { StandsRound m.old.text b result }
+    ensures start { result.start.now.byte ≤ begins_at b }
     ensures text { m.new.text ≡ m.old.text }
     ensures looks { m.new.looks ≤ m.old.looks + 2 }
     ensures looks_kept { m.old.looks ≤ m.new.looks }
@@ -109,4 +110,48 @@ fn stretch_for<'a>(m: &mut Marks<'a>, s: Scheme, k: usize) -> Stretch<'a>
         }
     }
     found
+}
+
+/// The stretch that a byte is in; past the end, the last one.
+pub(crate) fn stretch_at<'a>(m: &mut Marks<'a>, b: usize) -> Stretch<'a>
+    ensures place { HasPlace m.old.text b result }
+    ensures start { result.start.now.byte ≤ begins_at b }
+    ensures text { m.new.text ≡ m.old.text }
+    ensures looks { m.new.looks ≤ m.old.looks + 2 }
+    ensures few { 2 ^ (m.new.looks - m.old.looks) ≤ 2 * stretches_of m.old.text }
+    ensures looks_kept { m.old.looks ≤ m.new.looks }
+    ensures reads { m.new.reads ≡ m.old.reads }
+{
+    let last = m.stretches() - 1;
+    let whole = m.whole();
+    if last == 0 {
+        return Stretch {
+            start: m.first(),
+            end: whole,
+        };
+    }
+    if whole.byte <= b {
+        return Stretch {
+            start: m.mark(last),
+            end: whole,
+        };
+    }
+    stretch_round(m, b)
+}
+
+/// The stretch in which a count is reached; the last one, where the text has fewer.
+pub(crate) fn stretch_up_to<'a>(m: &mut Marks<'a>, s: Scheme, k: usize) -> Stretch<'a>
+    ensures reaches { Reaches s m.old.text k result }
+    ensures text { m.new.text ≡ m.old.text }
+    ensures looks { 2 ^ (m.new.looks - m.old.looks) ≤ 2 * stretches_of m.old.text }
+    ensures looks_kept { m.old.looks ≤ m.new.looks }
+    ensures reads { m.new.reads ≡ m.old.reads }
+{
+    if k == 0 {
+        return Stretch {
+            start: m.first(),
+            end: m.end_by(1),
+        };
+    }
+    stretch_for(m, s, k)
 }

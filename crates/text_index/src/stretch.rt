@@ -2,9 +2,11 @@
 ghost use Rattle.std.specs.Prelude.{◌≡◌, chars};
 ghost use Rattle.str_indices.specs.Schemes.{from_byte_idx, to_byte_idx};
 ghost use Rattle.text_summary.specs.Summaries.{summary_of};
+ghost use Rattle.positions.specs.Lines.{HasSameBreaks};
 ghost use Rattle.text_index.specs.Stretches.{AddsUp};
 
 use crate::mark::Mark;
+use positions::LineType;
 use str_indices::Scheme;
 use text_summary::{Summary, ends_cr, starts_lf};
 
@@ -30,6 +32,20 @@ impl Stretch<'_> {
         ensures { result ≡ to_byte_idx s (chars text.now) idx }
     {
         self.summary(text).to_byte_idx(s, text, idx)
+    }
+
+    /// A kind of line break that its text has the same of: LF, where its marks count as many.
+    pub(crate) fn kind(&self, lines: LineType, _text: &str) -> LineType
+        requires { AddsUp self.now (chars _text.now) }
+        ensures { HasSameBreaks lines result (chars _text.now) }
+    {
+        let Stretch { start, end } = *self;
+        let s = lines.scheme();
+        if end.lf - start.lf == end.count(s) - start.count(s) {
+            LineType::Lf
+        } else {
+            lines
+        }
     }
 
     /// The summary of its text, which its marks tell.

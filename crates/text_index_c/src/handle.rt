@@ -1,8 +1,9 @@
 //! The index of a text as C holds it.
 ghost use Rattle.std.specs.Prelude.{◌≡◌};
+ghost use Rattle.text_index.specs.Marks.{MarksState};
 ghost use Rattle.text_index_c.specs.Handles.{IsIndex, text_of};
 
-use text_index::{BorrowedIndex, Mark};
+use text_index::{BorrowedIndex, Mark, Marks};
 
 /// The index of a text as C holds it: the text, which C keeps, its marks, and the one at its end.
 #[derive(Clone, Copy)]
@@ -20,4 +21,12 @@ pub(crate) fn index_of<'a>(handle: &'a Handle<'_>) -> BorrowedIndex<'a>
 {
     let text = unsafe { str::from_utf8_unchecked(handle.text) };
     BorrowedIndex::of(text, handle.marks, &handle.whole)
+}
+
+/// The marks of that index as a question sees them.
+pub(crate) fn view_of<'a>(handle: &'a Handle<'_>) -> Marks<'a>
+    requires { IsIndex handle.now }
+    ensures { result ≡ record { text = text_of handle.now; looks = 0; reads = 0 } }
+{
+    index_of(handle).view()
 }

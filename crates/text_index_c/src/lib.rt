@@ -6,7 +6,7 @@
 #![tactic(auto)]
 
 mod handle;
+mod index_positions;
 mod making;
 mod numbers;
-mod positions;
 mod questions;

@@ -7,7 +7,9 @@
 mod answers;
 mod caller;
 #[cfg(test)]
-mod positions;
+mod lines;
+#[cfg(test)]
+mod protocol;
 #[cfg(test)]
 mod texts;
 

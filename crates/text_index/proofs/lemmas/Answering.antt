@@ -3,7 +3,7 @@ use Rattle.text_index.proofs.lemmas.Common.{◌≡◌, ℕ, ◌+◌, ◌-◌, �
 use Rattle.text_index.proofs.lemmas.Marking.{no_loss, whole_before, AreParted, are_parted, counts_at_end}
 
 -- the stretch between two marks
-between : (text part : Text) (stretch : Stretch) (is : IsStretch text stretch)
+pub between : (text part : Text) (stretch : Stretch) (is : IsStretch text stretch)
     → IsPart text stretch.start.now.byte stretch.end.now.byte part
     → AreParted is.start.front is.start.back is.end.front is.end.back part
 between text part stretch is own =

@@ -1,0 +1,132 @@
+//! Positions of the Language Server Protocol 3.17 and lines in an indexed text.
+ghost use Rattle.std.specs.Prelude.{◌≡◌, ◌≤◌, IfSome, chars};
+ghost use Rattle.str_indices.specs.Relations.{IsBoundary};
+ghost use Rattle.position_mapper.specs.Lines.{line_content, line_end};
+ghost use Rattle.position_mapper.specs.Positions.{byte_at, byte_range_at, exact_byte_at, position_at};
+ghost use Rattle.positions.specs.Lines as by;
+ghost use Rattle.positions.specs.Positions as by_lines;
+
+use crate::places::part_of;
+use crate::{TextIndex, byte_in, byte_range_in, exact_byte_in, line_end_in, line_in, position_in};
+use positions::{Encoding, LineType, Position, Range};
+use std::ops;
+
+impl<'a> TextIndex<'a> {
+    /// The byte index where the content of a line ends, counted from 0: before its break, or the length of the text in
+    /// bytes where it is the last line or past it. Lines end in LF, CR or CRLF. It asks `line_end_in`.
+    pub fn line_end(&self, line: usize) -> usize
+        ensures answer { result ≡ line_end self.now line }
+        ensures boundary { IsBoundary self.now result }
+    {
+        self.line_end_by(LineType::Crlf, line)
+    }
+
+    /// The same, where lines end in breaks of a kind.
+    pub fn line_end_by(&self, lines: LineType, line: usize) -> usize
+        ensures answer { result ≡ by.line_end lines self.now line }
+        ensures boundary { IsBoundary self.now result }
+    {
+        line_end_in(&mut self.view(), lines, line)
+    }
+
+    /// The content of a line, counted from 0: without its break, and empty past the last one. Lines end in LF, CR or CRLF.
+    /// It asks `line_in`.
+    pub fn line(&self, line: usize) -> &'a str
+        ensures { chars result.now ≡ line_content self.now line }
+    {
+        self.line_by(LineType::Crlf, line)
+    }
+
+    /// The same, where lines end in breaks of a kind.
+    pub fn line_by(&self, lines: LineType, line: usize) -> &'a str
+        ensures { chars result.now ≡ by.line_content lines self.now line }
+    {
+        let ops::Range { start, end } = line_in(&mut self.view(), lines, line);
+        part_of(self.text(), start, end)
+    }
+
+    /// The position of a byte: its line, and the units from that line's beginning to the byte. Lines end in LF, CR or CRLF.
+    /// It asks `position_in`.
+    ///
+    /// A byte inside a char has the position where the char begins, a byte in a line break that of the line's end, and a byte
+    /// past the end that of the text's end.
+    pub fn position_of(&self, encoding: Encoding, byte: usize) -> Position
+        ensures { result ≡ position_at encoding self.now byte }
+    {
+        self.position_by(LineType::Crlf, encoding, byte)
+    }
+
+    /// The same, where lines end in breaks of a kind.
+    pub fn position_by(&self, lines: LineType, encoding: Encoding, byte: usize) -> Position
+        ensures { result ≡ by_lines.position_at lines encoding self.now byte }
+    {
+        position_in(&mut self.view(), lines, encoding, byte)
+    }
+
+    /// The byte index where the char at a position begins. Lines end in LF, CR or CRLF. It asks `byte_in`.
+    ///
+    /// A unit inside a char belongs to it. An offset past the end of the line gives the line's end, before its break,
+    /// and a line past the last one the text's length in bytes.
+    pub fn byte_of(&self, encoding: Encoding, position: Position) -> usize
+        ensures answer { result ≡ byte_at encoding self.now position }
+        ensures boundary { IsBoundary self.now result }
+    {
+        self.byte_by(LineType::Crlf, encoding, position)
+    }
+
+    /// The same, where lines end in breaks of a kind.
+    pub fn byte_by(&self, lines: LineType, encoding: Encoding, position: Position) -> usize
+        ensures answer { result ≡ by_lines.byte_at lines encoding self.now position }
+        ensures boundary { IsBoundary self.now result }
+    {
+        byte_in(&mut self.view(), lines, encoding, position)
+    }
+
+    /// The byte index of a position that names a place, or `None`: where the text has no such line, the offset is past
+    /// the end of the line, or the unit is inside a char. Lines end in LF, CR or CRLF. It asks `exact_byte_in`.
+    pub fn exact_byte_of(&self, encoding: Encoding, position: Position) -> Option<usize>
+        ensures answer { result ≡ exact_byte_at encoding self.now position }
+        ensures boundary { IfSome result (λ byte. IsBoundary self.now byte) }
+    {
+        self.exact_byte_by(LineType::Crlf, encoding, position)
+    }
+
+    /// The same, where lines end in breaks of a kind.
+    pub fn exact_byte_by(
+        &self,
+        lines: LineType,
+        encoding: Encoding,
+        position: Position,
+    ) -> Option<usize>
+        ensures answer { result ≡ by_lines.exact_byte_at lines encoding self.now position }
+        ensures boundary { IfSome result (λ byte. IsBoundary self.now byte) }
+    {
+        exact_byte_in(&mut self.view(), lines, encoding, position)
+    }
+
+    /// The byte indices of a range, or `None` where its end is before its start. Each is that of its position, as
+    /// `byte_of` answers it. It asks `byte_range_in`.
+    pub fn byte_range(&self, encoding: Encoding, range: Range) -> Option<ops::Range<usize>>
+        ensures answer { result ≡ byte_range_at encoding self.now range }
+        ensures ordered { IfSome result (λ bytes. bytes.start ≤ bytes.end) }
+        ensures boundaries { IfSome result (λ bytes.
+            IsBoundary self.now bytes.start × IsBoundary self.now bytes.end) }
+    {
+        self.byte_range_by(LineType::Crlf, encoding, range)
+    }
+
+    /// The same, where lines end in breaks of a kind.
+    pub fn byte_range_by(
+        &self,
+        lines: LineType,
+        encoding: Encoding,
+        range: Range,
+    ) -> Option<ops::Range<usize>>
+        ensures answer { result ≡ by_lines.byte_range_at lines encoding self.now range }
+        ensures ordered { IfSome result (λ bytes. bytes.start ≤ bytes.end) }
+        ensures boundaries { IfSome result (λ bytes.
+            IsBoundary self.now bytes.start × IsBoundary self.now bytes.end) }
+    {
+        byte_range_in(&mut self.view(), lines, encoding, range)
+    }
+}

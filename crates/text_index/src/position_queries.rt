@@ -1,0 +1,80 @@
+//! Positions and lines in an indexed text, each by a few searches, and what they cost.
+ghost use Rattle.std.specs.Prelude.{◌≡◌, ◌*◌, ◌^◌, ◌<◌, ◌≤◌, ◌⊎◌, IfSome};
+ghost use Rattle.str_indices.specs.Relations.{IsBoundary};
+ghost use Rattle.str_indices.specs.Schemes.{from_byte_idx, to_byte_idx};
+ghost use Rattle.positions.specs.Lines.{line_end, scheme_of};
+ghost use Rattle.positions.specs.Positions.{byte_at, byte_range_at, exact_byte_at, position_at};
+ghost use Rattle.text_index.specs.Marks.{Asked, MarksState, begins_at, stretches_of};
+
+use crate::Marks;
+use positions::{Encoding, LineType, Position, Range};
+use std::ops;
+
+/// The byte index where the content of a line ends, counted from 0: before its break, or the length of the text in bytes
+/// where it is the last line or past it. It reads one stretch at most.
+pub fn line_end_in(m: &mut Marks, lines: LineType, line: usize) -> usize
+    ensures answer { result ≡ line_end lines m.old.text line }
+    ensures boundary { IsBoundary m.old.text result }
+    ensures cost { Asked 1 (2 * stretches_of m.old.text) m.old m.new }
+{
+    positions::line_end(m, lines, line)
+}
+
+/// The byte indices where a line begins and where its content ends. It reads two stretches at most.
+pub fn line_in(m: &mut Marks, lines: LineType, line: usize) -> ops::Range<usize>
+    ensures start { result.start ≡ to_byte_idx (scheme_of lines) m.old.text line }
+    ensures end { result.end ≡ line_end lines m.old.text line }
+    ensures cost { Asked 2 ((2 * stretches_of m.old.text) ^ 2) m.old m.new }
+{
+    positions::line(m, lines, line)
+}
+
+/// The position of a byte. It reads two stretches at most, and one where the line begins after the stretch of the byte does.
+pub fn position_in(m: &mut Marks, lines: LineType, encoding: Encoding, byte: usize) -> Position
+    ensures answer { result ≡ position_at lines encoding m.old.text byte }
+    ensures cost { Asked 2 (8 * stretches_of m.old.text) m.old m.new }
+    ensures near { let cs = m.old.text in
+        (begins_at byte < to_byte_idx (scheme_of lines) cs (from_byte_idx (scheme_of lines) cs byte)) ⊎ (begins_at byte ≡ 0)
+        → Asked 1 4 m.old m.new }
+{
+    positions::position_of(m, lines, encoding, byte)
+}
+
+/// The byte index where the char at a position begins. It reads three stretches at most.
+pub fn byte_in(m: &mut Marks, lines: LineType, encoding: Encoding, position: Position) -> usize
+    ensures answer { result ≡ byte_at lines encoding m.old.text position }
+    ensures boundary { IsBoundary m.old.text result }
+    ensures cost { Asked 3 ((2 * stretches_of m.old.text) ^ 3) m.old m.new }
+{
+    positions::byte_of(m, lines, encoding, position)
+}
+
+/// The byte index of a position that names a place, or `None`. It reads four stretches at most.
+pub fn exact_byte_in(
+    m: &mut Marks,
+    lines: LineType,
+    encoding: Encoding,
+    position: Position,
+) -> Option<usize>
+    ensures answer { result ≡ exact_byte_at lines encoding m.old.text position }
+    ensures boundary { IfSome result (λ byte. IsBoundary m.old.text byte) }
+    ensures cost { Asked 4 (4 * (2 * stretches_of m.old.text) ^ 3) m.old m.new }
+{
+    positions::exact_byte_of(m, lines, encoding, position)
+}
+
+/// The byte indices of a range, or `None` where its end is before its start. It reads six stretches at most.
+pub fn byte_range_in(
+    m: &mut Marks,
+    lines: LineType,
+    encoding: Encoding,
+    range: Range,
+) -> Option<ops::Range<usize>>
+    ensures answer { result ≡ byte_range_at lines encoding m.old.text range }
+    ensures ordered { IfSome result (λ bytes. bytes.start ≤ bytes.end) }
+    ensures boundaries { IfSome result (λ bytes.
+        IsBoundary m.old.text bytes.start × IsBoundary m.old.text bytes.end) }
+    ensures cost { Asked 6 ((2 * stretches_of m.old.text) ^ 6) m.old m.new }
+{
+    positions::byte_range(m, lines, encoding, range)
+}
