@@ -5,12 +5,13 @@
 --     line_end l text k        the byte index where they end
 --     HasSameBreaks l k text   the text has the same breaks of both kinds
 --     IsReturnBehind l text p n   n is 1 where p is between a CR that begins a break and LF, and else 0
+--     IsPlace l text p         p is between characters, and not between a CR that begins a break and LF
 use Rattle.std.specs.Prelude.{ℕ, ◌≡◌, ◌+◌, ◌⊎◌, Bool, true}
 use Rattle.std.specs.Char.{char_set_contains}
 use Rattle.std.specs.List.{before_first}
 use Rattle.str_indices.specs.Text.{Text, size, carriage_return}
 use Rattle.str_indices.specs.Schemes.{break_characters, from_byte_idx, to_byte_idx}
-use Rattle.str_indices.specs.Relations.{IsCrlfMiddle}
+use Rattle.str_indices.specs.Relations.{IsBoundary, IsCrlfMiddle}
 use Rattle.str_indices.specs.declared.Scheme.{Scheme}
 use Rattle.str_indices.specs.declared.Scheme.TheVariants as schemes
 use Rattle.position_mapper.specs.Lines.{behind}
@@ -39,6 +40,10 @@ line_end l text line = to_byte_idx (scheme_of l) text line + size (line_content 
 abbrev pub IsReturnBehind : LineType → Text → ℕ → ℕ → Type 0
 IsReturnBehind l text p n = ((n ≡ 1) × ((is_break l carriage_return ≡ true) × IsCrlfMiddle text p))
     ⊎ ((n ≡ 0) × (is_break l carriage_return ≡ true → ¬ (IsCrlfMiddle text p)))
+
+-- p is between characters, and not between a CR that begins a break and LF
+abbrev pub IsPlace : LineType → Text → ℕ → Type 0
+IsPlace l text p = IsBoundary text p × ¬ ((is_break l carriage_return ≡ true) × IsCrlfMiddle text p)
 
 -- the text has the same breaks of both kinds
 pub record HasSameBreaks (l k : LineType) (text : Text) : Type 0 where

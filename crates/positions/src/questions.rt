@@ -5,7 +5,7 @@ ghost use Rattle.str_indices.specs.Schemes.{count, from_byte_idx, to_byte_idx, w
 ghost use Rattle.str_indices.specs.Text.{size};
 ghost use Rattle.position_mapper.specs.Encodings.{units_of};
 ghost use Rattle.positions.specs.Lines.{scheme_of};
-ghost use Rattle.positions.specs.Parts.{IsPart, Took};
+ghost use Rattle.positions.specs.Parts.{HasByte, IsPart, Took};
 ghost use Rattle.positions.specs.Positions.{byte_at, byte_range_at, exact_byte_at, position_at};
 
 use crate::look_back::line_start;
@@ -35,6 +35,25 @@ pub fn position_of<'a, P: Parts<'a>>(
         → Took 1 0 (P.state parts.old) (P.state parts.new) }
 {
     let part = parts.part_of_byte(lines, encoding, byte);
+    position_from(parts, lines, encoding, part, byte)
+}
+
+/// The position of a byte, by a part that the byte is in.
+pub(crate) fn position_from<'a, P: Parts<'a>>(
+    parts: &mut P,
+    lines: LineType,
+    encoding: Encoding,
+    part: Part<'a>,
+    byte: usize,
+) -> Position
+    requires part { IsPart (P.state parts.old).text lines encoding part }
+    requires round { HasByte (P.state parts.old).text byte part }
+    ensures answer { result ≡ position_at lines encoding (P.state parts.old).text byte }
+    ensures cost { Took 0 1 (P.state parts.old) (P.state parts.new) }
+    ensures near { let cs = (P.state parts.old).text in
+        (part.entry.start < to_byte_idx (scheme_of lines) cs (from_byte_idx (scheme_of lines) cs byte)) ⊎ (part.entry.start ≡ 0)
+        → Took 0 0 (P.state parts.old) (P.state parts.new) }
+{
     let at = (byte - part.start).min(len_of(part.text));
     let own = part.breaks_up_to(lines, at);
     let _len = parts.len();

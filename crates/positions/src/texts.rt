@@ -1,5 +1,5 @@
 //! A text by itself, as a contract counts it.
-ghost use Rattle.std.specs.Prelude.{◌≡◌, chars};
+ghost use Rattle.std.specs.Prelude.{◌≡◌, ◌↔◌, IsTrue, chars};
 ghost use Rattle.str_indices.specs.Relations.{IsBoundary};
 ghost use Rattle.str_indices.specs.Starts.{IsGreatestBoundary};
 ghost use Rattle.str_indices.specs.Text.{size};
@@ -10,6 +10,13 @@ pub(crate) fn len_of(text: &str) -> usize
     ensures { result ≡ size (chars text.now) }
 {
     text.len()
+}
+
+/// Whether a byte index is between chars, or at the text's beginning or end.
+pub(crate) fn is_boundary(text: &str, at: usize) -> bool
+    ensures { IsTrue result ↔ IsBoundary (chars text.now) at }
+{
+    text.is_char_boundary(at)
 }
 
 /// The greatest byte index between chars that is at most this one; past the end, the text's length.

@@ -1,13 +1,16 @@
 //! Positions of the Language Server Protocol 3.17 and lines in an indexed text.
-ghost use Rattle.std.specs.Prelude.{◌≡◌, ◌≤◌, IfSome, chars};
-ghost use Rattle.str_indices.specs.Relations.{IsBoundary};
+ghost use Rattle.std.specs.Prelude.{◌≡◌, ◌≤◌, ◌↔◌, IfSome, IsSome, chars};
+ghost use Rattle.str_indices.specs.Relations.{IsBoundary, IsCrlfMiddle};
 ghost use Rattle.position_mapper.specs.Lines.{line_content, line_end};
 ghost use Rattle.position_mapper.specs.Positions.{byte_at, byte_range_at, exact_byte_at, position_at};
 ghost use Rattle.positions.specs.Lines as by;
 ghost use Rattle.positions.specs.Positions as by_lines;
 
 use crate::places::part_of;
-use crate::{TextIndex, byte_in, byte_range_in, exact_byte_in, line_end_in, line_in, position_in};
+use crate::{
+    TextIndex, byte_in, byte_range_in, exact_byte_in, exact_position_in, line_end_in, line_in,
+    position_in, range_in,
+};
 use positions::{Encoding, LineType, Position, Range};
 use std::ops;
 
@@ -128,5 +131,43 @@ impl<'a> TextIndex<'a> {
             IsBoundary self.now bytes.start × IsBoundary self.now bytes.end) }
     {
         byte_range_in(&mut self.view(), lines, encoding, range)
+    }
+
+    /// The positions of the two ends of a span, as `position_of` answers them. Lines end in LF, CR or CRLF. It asks `range_in`.
+    pub fn range_of(&self, encoding: Encoding, span: ops::Range<usize>) -> Range
+        ensures start { result.start ≡ position_at encoding self.now span.start }
+        ensures end { result.end ≡ position_at encoding self.now span.end }
+    {
+        self.range_by(LineType::Crlf, encoding, span)
+    }
+
+    /// The same, where lines end in breaks of a kind.
+    pub fn range_by(&self, lines: LineType, encoding: Encoding, span: ops::Range<usize>) -> Range
+        ensures start { result.start ≡ by_lines.position_at lines encoding self.now span.start }
+        ensures end { result.end ≡ by_lines.position_at lines encoding self.now span.end }
+    {
+        range_in(&mut self.view(), lines, encoding, span)
+    }
+
+    /// The position of a byte that is a place on a line, or `None`: where it is inside a char, between CR and LF, or past the
+    /// text's end. So a compiler notices a span that is wrong. Lines end in LF, CR or CRLF. It asks `exact_position_in`.
+    pub fn exact_position_of(&self, encoding: Encoding, byte: usize) -> Option<Position>
+        ensures answer { IfSome result (λ position. position ≡ position_at encoding self.now byte) }
+        ensures some { IsSome result ↔ (IsBoundary self.now byte × ¬ (IsCrlfMiddle self.now byte)) }
+    {
+        self.exact_position_by(LineType::Crlf, encoding, byte)
+    }
+
+    /// The same, where lines end in breaks of a kind: where CR is no break, the byte between CR and LF is a place too.
+    pub fn exact_position_by(
+        &self,
+        lines: LineType,
+        encoding: Encoding,
+        byte: usize,
+    ) -> Option<Position>
+        ensures answer { IfSome result (λ position. position ≡ by_lines.position_at lines encoding self.now byte) }
+        ensures some { IsSome result ↔ by.IsPlace lines self.now byte }
+    {
+        exact_position_in(&mut self.view(), lines, encoding, byte)
     }
 }

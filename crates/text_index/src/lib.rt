@@ -21,7 +21,8 @@ pub use index::TextIndex;
 pub use mark::Mark;
 pub use marking::{fill, marks_for};
 pub use position_queries::{
-    byte_in, byte_range_in, exact_byte_in, line_end_in, line_in, position_in,
+    byte_in, byte_range_in, exact_byte_in, exact_position_in, line_end_in, line_in, position_in,
+    range_in,
 };
 pub use positions::LineType;
 pub use queries::{count_in, from_in, to_in};

@@ -1,8 +1,8 @@
 //! Positions and lines in an indexed text, each by a few searches, and what they cost.
-ghost use Rattle.std.specs.Prelude.{◌≡◌, ◌*◌, ◌^◌, ◌<◌, ◌≤◌, ◌⊎◌, IfSome};
+ghost use Rattle.std.specs.Prelude.{◌≡◌, ◌*◌, ◌^◌, ◌<◌, ◌≤◌, ◌⊎◌, ◌↔◌, IfSome, IsSome};
 ghost use Rattle.str_indices.specs.Relations.{IsBoundary};
 ghost use Rattle.str_indices.specs.Schemes.{from_byte_idx, to_byte_idx};
-ghost use Rattle.positions.specs.Lines.{line_end, scheme_of};
+ghost use Rattle.positions.specs.Lines.{IsPlace, line_end, scheme_of};
 ghost use Rattle.positions.specs.Positions.{byte_at, byte_range_at, exact_byte_at, position_at};
 ghost use Rattle.text_index.specs.Marks.{Asked, MarksState, begins_at, stretches_of};
 
@@ -77,4 +77,32 @@ pub fn byte_range_in(
     ensures cost { Asked 6 ((2 * stretches_of m.old.text) ^ 6) m.old m.new }
 {
     positions::byte_range(m, lines, encoding, range)
+}
+
+/// The positions of the two ends of a span, each as `position_in` answers it. It reads four stretches at most.
+pub fn range_in(
+    m: &mut Marks,
+    lines: LineType,
+    encoding: Encoding,
+    span: ops::Range<usize>,
+) -> Range
+    ensures start { result.start ≡ position_at lines encoding m.old.text span.start }
+    ensures end { result.end ≡ position_at lines encoding m.old.text span.end }
+    ensures cost { Asked 4 (16 * (2 * stretches_of m.old.text) ^ 2) m.old m.new }
+{
+    positions::range_of(m, lines, encoding, span)
+}
+
+/// The position of a byte that is a place on a line, or `None`. It reads two stretches at most.
+pub fn exact_position_in(
+    m: &mut Marks,
+    lines: LineType,
+    encoding: Encoding,
+    byte: usize,
+) -> Option<Position>
+    ensures answer { IfSome result (λ position. position ≡ position_at lines encoding m.old.text byte) }
+    ensures some { IsSome result ↔ IsPlace lines m.old.text byte }
+    ensures cost { Asked 2 (8 * stretches_of m.old.text) m.old m.new }
+{
+    positions::exact_position_of(m, lines, encoding, byte)
 }

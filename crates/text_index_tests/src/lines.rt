@@ -53,6 +53,11 @@ fn assert_byte(rt: &impl Abort, index: &TextIndex<'_>, l: LineType, byte: usize)
             positions::position_of(whole, l, e, byte),
             "{l:?} {e:?} {byte}"
         );
+        assert_eq!(rt;
+            index.exact_position_by(l, e, byte),
+            positions::exact_position_of(whole, l, e, byte),
+            "{l:?} {e:?} {byte}"
+        );
         assert_position(rt, index, l, e, position);
         let Position { line, character } = position;
         let next = Position {

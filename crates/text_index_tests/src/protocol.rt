@@ -38,12 +38,32 @@ fn assert_position(
     );
 }
 
+/// Compares the positions of two spans from a byte on, a short one and one to the text's end, and whether the byte is a place:
+/// then the byte of its position is the byte itself.
+fn assert_span(rt: &impl Abort, index: &TextIndex<'_>, e: Encoding, byte: usize, start: Position) {
+    let text = index.text();
+    for last in [byte.saturating_add(3), text.len()] {
+        let range = Range {
+            start,
+            end: e.position_of(text, last),
+        };
+        assert_eq!(rt; index.range_of(e, byte..last), range, "{e:?} {byte} {last}");
+    }
+    let exact = if e.byte_of(text, start) == byte {
+        Some(start)
+    } else {
+        None
+    };
+    assert_eq!(rt; index.exact_position_of(e, byte), exact, "{e:?} {byte}");
+}
+
 /// Compares the position of a byte, those beside it on its line, and the line.
 fn assert_byte(rt: &impl Abort, index: &TextIndex<'_>, byte: usize) {
     let text = index.text();
     for e in ENCODINGS {
         let position = index.position_of(e, byte);
         assert_eq!(rt; position, e.position_of(text, byte), "{e:?} {byte}");
+        assert_span(rt, index, e, byte, position);
         let Position { line, character } = position;
         let next = Position {
             line,

@@ -1,0 +1,71 @@
+//! Positions of spans: of both ends, and of bytes that may be no place on a line.
+ghost use Rattle.std.specs.Prelude.{◌≡◌, ◌+◌, ◌≤◌, ◌<◌, ◌↔◌, IfSome, IsSome, IsTrue, chars};
+ghost use Rattle.str_indices.specs.Text.{Text, size};
+ghost use Rattle.position_mapper.specs.declared.encodings.Encoding.{Encoding};
+ghost use Rattle.positions.specs.Lines.{IsPlace};
+ghost use Rattle.positions.specs.Parts.{HasByte, IsPart, Took};
+ghost use Rattle.positions.specs.Positions.{position_at};
+
+use crate::middles::return_behind;
+use crate::questions::{position_from, position_of};
+use crate::texts::{is_boundary, len_of};
+use crate::{LineType, Part, Parts};
+use position_mapper::{Encoding, Position, Range};
+use std::ops;
+
+/// The positions of the two ends of a span, each as `position_of` answers it. Ends in one part share the search by it.
+pub fn range_of<'a, P: Parts<'a>>(
+    parts: &mut P,
+    lines: LineType,
+    encoding: Encoding,
+    span: ops::Range<usize>,
+) -> Range
+    ensures start { result.start ≡ position_at lines encoding (P.state parts.old).text span.start }
+    ensures end { result.end ≡ position_at lines encoding (P.state parts.old).text span.end }
+    ensures cost { Took 2 2 (P.state parts.old) (P.state parts.new) }
+{
+    let part = parts.part_of_byte(lines, encoding, span.start);
+    let _len = parts.len();
+    let start = position_from(parts, lines, encoding, part, span.start);
+    let end = if is_in(&part, span.end) {
+        position_from(parts, lines, encoding, part, span.end)
+    } else {
+        position_of(parts, lines, encoding, span.end)
+    };
+    Range { start, end }
+}
+
+/// Whether a byte is in a part.
+fn is_in(part: &Part<'_>, byte: usize) -> bool
+    ensures { IsTrue result ↔ ((part.now.start ≤ byte) × (byte < part.now.start + size (chars part.now.text.now))) }
+{
+    part.start <= byte && byte - part.start < len_of(part.text)
+}
+
+/// The position of a byte that is a place on a line, or `None`: where it is inside a char, between the CR and the LF of a line
+/// break, or past the text's end. So a compiler notices a span that is wrong. It takes the searches of `position_of`.
+pub fn exact_position_of<'a, P: Parts<'a>>(
+    parts: &mut P,
+    lines: LineType,
+    encoding: Encoding,
+    byte: usize,
+) -> Option<Position>
+    ensures answer { IfSome result (λ position. position ≡ position_at lines encoding (P.state parts.old).text byte) }
+    ensures some { IsSome result ↔ IsPlace lines (P.state parts.old).text byte }
+    ensures cost { Took 1 1 (P.state parts.old) (P.state parts.new) }
+{
+    let part = parts.part_of_byte(lines, encoding, byte);
+    let _len = parts.len();
+    if !is_place(lines, &part, byte - part.start) {
+        return None;
+    }
+    Some(position_from(parts, lines, encoding, part, byte))
+}
+
+/// Whether a place in a part is one on a line.
+fn is_place(lines: LineType, part: &Part<'_>, at: usize) -> bool
+    ensures { (cs : Text) (e : Encoding) → IsPart cs lines e part.now → HasByte cs (part.now.start + at) part.now
+        → IsTrue result ↔ IsPlace lines cs (part.now.start + at) }
+{
+    is_boundary(part.text, at) && return_behind(lines, part, at) == 0
+}
