@@ -14,6 +14,7 @@ use Rattle.str_indices.specs.Schemes.{count, from_byte_idx, weighed}
 use Rattle.position_mapper.specs.Encodings.{units_of}
 use Rattle.position_mapper.specs.declared.encodings.Encoding.{Encoding}
 use Rattle.positions.specs.Lines.{HasSameBreaks, scheme_of}
+use Rattle.positions.specs.Units.{HasSameUnits}
 use Rattle.positions.specs.declared.line_type.LineType.{LineType}
 use Rattle.positions.specs.declared.parts.Ends.{Ends}
 use Rattle.positions.specs.declared.parts.Part.{Part}
@@ -49,6 +50,7 @@ pub record HasEnds (l : LineType) (e : Encoding) (part : Part) (ends : Ends) : T
   pub lines : part.lines + count (scheme_of l) (chars part.text.now) ≡ ends.lines
   pub units : part.units + sum_by (units_of e) (chars part.text.now) ≡ ends.units
   pub kind : HasSameBreaks l ends.kind (chars part.text.now)
+  pub encoding : HasSameUnits e ends.encoding (chars part.text.now)
 
 -- the text before the part, the part, and the text after it; and what of the text is counted before the part and up to its end
 pub record IsPart (text : Text) (l : LineType) (e : Encoding) (part : Part) : Type 0 where

@@ -40,27 +40,14 @@ impl Part<'_> {
         }
     }
 
-    /// Whether it is known that each of its units is a byte.
-    fn counts_bytes(&self) -> bool
-        ensures { (cs : Text) (l : LineType) (e : Encoding) → IsPart cs l e self.now → IsTrue result
-            → sum_by (units_of e) (chars self.now.text.now) ≡ size (chars self.now.text.now) }
-    {
-        let len = len_of(self.text);
-        match self.ends {
-            Some(ends) => ends.units.saturating_sub(self.units) == len,
-            None => false,
-        }
-    }
-
-    /// An encoding in which it has the same units: bytes, of which none is read, where it is known that they are.
+    /// An encoding in which it has the same units: one that takes least, where that is known.
     pub(crate) fn encoding(&self, encoding: Encoding) -> Encoding
         ensures { (cs : Text) (l : LineType) → IsPart cs l encoding self.now
             → HasSameUnits encoding result (chars self.now.text.now) }
     {
-        if self.counts_bytes() {
-            Encoding::Utf8
-        } else {
-            encoding
+        match self.ends {
+            Some(ends) => ends.encoding,
+            None => encoding,
         }
     }
 

@@ -34,6 +34,8 @@ pub struct Ends {
     pub units: usize,
     /// A kind of line break that it has the same of.
     pub kind: LineType,
+    /// An encoding in which it has the same units.
+    pub encoding: Encoding,
 }
 
 /// A text that lends the part round a place. A contract sees the text, how often it was searched and how many parts were

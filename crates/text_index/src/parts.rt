@@ -71,6 +71,7 @@ fn part_in<'a>(
             lines: end.count(s),
             units: end.units(encoding),
             kind: stretch.kind(lines, text),
+            encoding: stretch.encoding(encoding, text),
         }),
     }
 }

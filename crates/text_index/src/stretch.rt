@@ -3,10 +3,11 @@ ghost use Rattle.std.specs.Prelude.{◌≡◌, chars};
 ghost use Rattle.str_indices.specs.Schemes.{from_byte_idx, to_byte_idx};
 ghost use Rattle.text_summary.specs.Summaries.{summary_of};
 ghost use Rattle.positions.specs.Lines.{HasSameBreaks};
+ghost use Rattle.positions.specs.Units.{HasSameUnits};
 ghost use Rattle.text_index.specs.Stretches.{AddsUp};
 
 use crate::mark::Mark;
-use positions::LineType;
+use positions::{Encoding, LineType, unit_scheme};
 use str_indices::Scheme;
 use text_summary::{Summary, ends_cr, starts_lf};
 
@@ -45,6 +46,25 @@ impl Stretch<'_> {
             LineType::Lf
         } else {
             lines
+        }
+    }
+
+    /// An encoding in which its text has the same units: bytes or else chars, where its marks count as many.
+    pub(crate) fn encoding(&self, encoding: Encoding, _text: &str) -> Encoding
+        requires { AddsUp self.now (chars _text.now) }
+        ensures { HasSameUnits encoding result (chars _text.now) }
+    {
+        let Stretch { start, end } = *self;
+        let Some(s) = unit_scheme(encoding) else {
+            return encoding;
+        };
+        let units = end.count(s) - start.count(s);
+        if units == end.byte - start.byte {
+            Encoding::Utf8
+        } else if units == end.chars - start.chars {
+            Encoding::Utf32
+        } else {
+            encoding
         }
     }
 

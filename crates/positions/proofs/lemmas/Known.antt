@@ -1,22 +1,22 @@
 -- What is known of a part: where each char is one byte, and where no line ends.
 use Rattle.position_mapper.proofs.lemmas.Callers.{boundary_within, split_at_first}
-use Rattle.position_mapper.specs.declared.encodings.Encoding.TheVariants.{Utf8}
 use Rattle.positions.specs.Characters.{IsBackOf}
 use Rattle.positions.specs.Units.{HasSameUnits}
-use Rattle.positions.proofs.lemmas.Common.{◌≡◌, ℕ, ◌+◌, ◌≤◌, [], ◌++◌, sym, refl, ap, ◌∙◌, arith, append_assoc, append-nil, sum_by, sum_by-append, sum_by-le-sum_by, len_utf8, cut, cut_is_longest, is_joined, Text, size, count, from_byte_idx, from-to, IsBoundary, Option, Some, None, subst, to_byte_idx, to_byte_idx-zero, weighed, boundary_weighed, boundary_weighed_is_greatest, boundary_weighed_iff, units_of, units_of-le, scheme_of, is_break, line_content, byte_at, Encoding, LineType}
+use Rattle.positions.proofs.lemmas.Common.{◌≡◌, ℕ, ◌+◌, ◌≤◌, [], ◌++◌, sym, refl, ap, ◌∙◌, arith, append_assoc, append-nil, sum_by, sum_by-append, sum_by-le-sum_by, cut, cut_is_longest, is_joined, Text, size, count, from_byte_idx, from-to, IsBoundary, Option, Some, None, subst, to_byte_idx, to_byte_idx-zero, weighed, boundary_weighed, boundary_weighed_is_greatest, boundary_weighed_iff, units_of, scheme_of, is_break, line_content, byte_at, Encoding, LineType}
 use Rattle.positions.proofs.lemmas.Lines.{line_end_past}
 use Rattle.std.specs.Prelude.{IfSome}
 use Rattle.positions.proofs.lemmas.Kinds.{not_utf16, none_before}
 use Rattle.positions.proofs.lemmas.Starts.{weighed_all, weighed_none, first_content}
 use Rattle.positions.proofs.lemmas.Units.{byte_of_units}
 
--- where there are as many units as bytes, so there are in each stretch
-pub units_are_bytes : (e : Encoding) (text : Text) → sum_by (units_of e) text ≡ size text → HasSameUnits e Utf8 text
-units_are_bytes e text same = λ front own back split.
-    let less = λ (t : Text). sum_by-le-sum_by (units_of e) len_utf8 t (units_of-le e) in
+-- where a text has as many units by both of two encodings, and no character has more by the first, so has each stretch
+pub units_alike : (e f : Encoding) (text : Text) → ((c : ℕ) → units_of e c ≤ units_of f c)
+    → sum_by (units_of e) text ≡ sum_by (units_of f) text → HasSameUnits e f text
+units_alike e f text le same = λ front own back split.
+    let less = λ (t : Text). sum_by-le-sum_by (units_of e) (units_of f) t le in
     let whole = λ (w : ℕ → ℕ). ap (sum_by w) split ∙ sum_by-append w front (own ++ back) ∙ ap (λ n. sum_by w front + n)
     (sum_by-append w own back) in
-    omega (arith, same, whole len_utf8, whole (units_of e), less front, less own, less back)
+    omega (arith, same, whole (units_of f), whole (units_of e), less front, less own, less back)
 
 module _ (e f : Encoding) (text : Text) (same : HasSameUnits e f text) where
   -- so has each stretch of such a text

@@ -14,7 +14,7 @@ use Rattle.positions.proofs.lemmas.Callers.{none_before}
 use Rattle.positions.specs.Lines.{HasSameBreaks, scheme_of}
 use Rattle.positions.specs.Parts.{Took, HasByte, HasLine, HasUnits}
 use Rattle.positions.specs.Parts as parts
-use Rattle.positions.specs.Units.{unit_scheme}
+use Rattle.positions.specs.Units.{unit_scheme, HasSameUnits}
 use Rattle.positions.specs.declared.line_type.LineType.{LineType}
 use Rattle.positions.specs.declared.parts.Ends.{Ends}
 use Rattle.positions.specs.declared.parts.Part.{Part}
@@ -66,8 +66,8 @@ pub part_of_stretch : (l : LineType) (e : Encoding) (text : Text) (stretch : Str
     → part.units ≡ weighed (units_of e) text stretch.start.now.byte → part.in_crlf ≡ false
     → (ends : Ends) → part.ends ≡ Some ends → ends.lines ≡ count_at stretch.end.now (scheme_of l)
     → ends.units ≡ weighed (units_of e) text stretch.end.now.byte → HasSameBreaks l ends.kind (chars part.text.now)
-    → parts.IsPart text l e part
-part_of_stretch l e text stretch part is own start lines units in_crlf ends some ends_lines ends_units kind =
+    → HasSameUnits e ends.encoding (chars part.text.now) → parts.IsPart text l e part
+part_of_stretch l e text stretch part is own start lines units in_crlf ends some ends_lines ends_units kind encoding =
     let adds = adds_up text (chars part.text.now) stretch is own in
     let first = is.start in
     let last = is.end in
@@ -96,6 +96,7 @@ part_of_stretch l e text stretch part is own start lines units in_crlf ends some
           sum_by-append w first.front (chars part.text.now),
         );
         kind = kind;
+        encoding = encoding;
       });
     }
 
