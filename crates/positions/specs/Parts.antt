@@ -45,7 +45,8 @@ pub record Took (bytes counts : ℕ) (old new : PartsState) : Type 0 where
   pub reads : new.reads ≤ old.reads + bytes + counts
   pub reads_kept : old.reads ≤ new.reads
 
--- the part's own breaks and units, and those before it; and a kind of line break that it has the same of
+-- `ends` counts the breaks and units before the part and in it, and names a kind of break and an encoding that count the same
+-- in it
 pub record HasEnds (l : LineType) (e : Encoding) (part : Part) (ends : Ends) : Type 0 where
   pub lines : part.lines + count (scheme_of l) (chars part.text.now) ≡ ends.lines
   pub units : part.units + sum_by (units_of e) (chars part.text.now) ≡ ends.units

@@ -18,7 +18,7 @@ use crate::{LineType, Part};
 use position_mapper::Encoding;
 
 impl Part<'_> {
-    /// Whether it is known to end on a line.
+    /// Whether `ends` tells that the part ends on line `line`.
     fn ends_on(&self, line: usize) -> bool
         ensures { (cs : Text) (l : LineType) (e : Encoding) → IsPart cs l e self.now → IsTrue result
             → self.now.lines + count (scheme_of l) (chars self.now.text.now) ≡ line }
@@ -29,7 +29,7 @@ impl Part<'_> {
         }
     }
 
-    /// Whether it is known to have so many units at most.
+    /// Whether `ends` tells that the part has at most `units` units.
     fn has_at_most(&self, units: usize) -> bool
         ensures { (cs : Text) (l : LineType) (e : Encoding) → IsPart cs l e self.now → IsTrue result
             → sum_by (units_of e) (chars self.now.text.now) ≤ units }
@@ -40,7 +40,7 @@ impl Part<'_> {
         }
     }
 
-    /// An encoding in which it has the same units: one that takes least, where that is known.
+    /// The encoding to ask the part in: that of `ends`, in which it has the same units, or else `encoding`.
     pub(crate) fn encoding(&self, encoding: Encoding) -> Encoding
         ensures { (cs : Text) (l : LineType) → IsPart cs l encoding self.now
             → HasSameUnits encoding result (chars self.now.text.now) }
@@ -51,7 +51,7 @@ impl Part<'_> {
         }
     }
 
-    /// A kind of line break that it has the same of: one that takes least, where that is known.
+    /// The kind of line break to ask the part for: that of `ends`, which breaks it at the same places, or else `lines`.
     pub(crate) fn kind(&self, lines: LineType) -> LineType
         ensures { (cs : Text) (e : Encoding) → IsPart cs lines e self.now
             → HasSameBreaks lines result (chars self.now.text.now) }

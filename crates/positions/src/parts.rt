@@ -21,20 +21,20 @@ pub struct Part<'a> {
     pub units: usize,
     /// Whether it starts between CR and LF.
     pub in_crlf: bool,
-    /// What is counted up to its end, where that is known without reading it.
+    /// The counts up to its end, where the text has them without reading the part.
     pub ends: Option<Ends>,
 }
 
-/// What is counted up to the end of a part.
+/// The counts up to the end of a part, and how they let it be asked for less.
 #[derive(Clone, Copy)]
 pub struct Ends {
     /// The line breaks before its start, and those of its own.
     pub lines: usize,
     /// The units before its start, and its own.
     pub units: usize,
-    /// A kind of line break that it has the same of.
+    /// A kind of line break that breaks the part at the same places as the kind asked for.
     pub kind: LineType,
-    /// An encoding in which it has the same units.
+    /// An encoding in which each stretch of the part has as many units as in the encoding asked for.
     pub encoding: Encoding,
 }
 

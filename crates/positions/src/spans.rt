@@ -43,7 +43,8 @@ fn is_in(part: &Part<'_>, byte: usize) -> bool
 }
 
 /// The position of a byte that is a place on a line, or `None`: where it is inside a char, between the CR and the LF of a line
-/// break, or past the text's end. So a compiler notices a span that is wrong. It takes the searches of `position_of`.
+/// break, or past the text's end. So a compiler notices a span that is wrong. It takes one search by the byte, and one by the line
+/// where that does not begin in the part.
 pub fn exact_position_of<'a, P: Parts<'a>>(
     parts: &mut P,
     lines: LineType,

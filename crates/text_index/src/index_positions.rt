@@ -24,7 +24,7 @@ impl<'a> TextIndex<'a> {
         self.line_end_by(LineType::Crlf, line)
     }
 
-    /// The same, where lines end in breaks of a kind.
+    /// The same, where lines end in breaks of the kind `lines`.
     pub fn line_end_by(&self, lines: LineType, line: usize) -> usize
         ensures answer { result ≡ by.line_end lines self.now line }
         ensures boundary { IsBoundary self.now result }
@@ -40,7 +40,7 @@ impl<'a> TextIndex<'a> {
         self.line_by(LineType::Crlf, line)
     }
 
-    /// The same, where lines end in breaks of a kind.
+    /// The same, where lines end in breaks of the kind `lines`.
     pub fn line_by(&self, lines: LineType, line: usize) -> &'a str
         ensures { chars result.now ≡ by.line_content lines self.now line }
     {
@@ -59,7 +59,7 @@ impl<'a> TextIndex<'a> {
         self.position_by(LineType::Crlf, encoding, byte)
     }
 
-    /// The same, where lines end in breaks of a kind.
+    /// The same, where lines end in breaks of the kind `lines`.
     pub fn position_by(&self, lines: LineType, encoding: Encoding, byte: usize) -> Position
         ensures { result ≡ by_lines.position_at lines encoding self.now byte }
     {
@@ -77,7 +77,7 @@ impl<'a> TextIndex<'a> {
         self.byte_by(LineType::Crlf, encoding, position)
     }
 
-    /// The same, where lines end in breaks of a kind.
+    /// The same, where lines end in breaks of the kind `lines`.
     pub fn byte_by(&self, lines: LineType, encoding: Encoding, position: Position) -> usize
         ensures answer { result ≡ by_lines.byte_at lines encoding self.now position }
         ensures boundary { IsBoundary self.now result }
@@ -94,7 +94,7 @@ impl<'a> TextIndex<'a> {
         self.exact_byte_by(LineType::Crlf, encoding, position)
     }
 
-    /// The same, where lines end in breaks of a kind.
+    /// The same, where lines end in breaks of the kind `lines`.
     pub fn exact_byte_by(
         &self,
         lines: LineType,
@@ -118,7 +118,7 @@ impl<'a> TextIndex<'a> {
         self.byte_range_by(LineType::Crlf, encoding, range)
     }
 
-    /// The same, where lines end in breaks of a kind.
+    /// The same, where lines end in breaks of the kind `lines`.
     pub fn byte_range_by(
         &self,
         lines: LineType,
@@ -141,7 +141,7 @@ impl<'a> TextIndex<'a> {
         self.range_by(LineType::Crlf, encoding, span)
     }
 
-    /// The same, where lines end in breaks of a kind.
+    /// The same, where lines end in breaks of the kind `lines`.
     pub fn range_by(&self, lines: LineType, encoding: Encoding, span: ops::Range<usize>) -> Range
         ensures start { result.start ≡ by_lines.position_at lines encoding self.now span.start }
         ensures end { result.end ≡ by_lines.position_at lines encoding self.now span.end }
@@ -158,7 +158,7 @@ impl<'a> TextIndex<'a> {
         self.exact_position_by(LineType::Crlf, encoding, byte)
     }
 
-    /// The same, where lines end in breaks of a kind: where CR is no break, the byte between CR and LF is a place too.
+    /// The same, where lines end in breaks of the kind `lines`: where CR is no break, the byte between CR and LF is a place too.
     pub fn exact_position_by(
         &self,
         lines: LineType,

@@ -35,7 +35,7 @@ impl Stretch<'_> {
         self.summary(text).to_byte_idx(s, text, idx)
     }
 
-    /// A kind of line break that its text has the same of: LF, where its marks count as many.
+    /// The kind of line break to ask its text for: LF where its marks count as many LFs as breaks, or else `lines`.
     pub(crate) fn kind(&self, lines: LineType, _text: &str) -> LineType
         requires { AddsUp self.now (chars _text.now) }
         ensures { HasSameBreaks lines result (chars _text.now) }
@@ -49,7 +49,8 @@ impl Stretch<'_> {
         }
     }
 
-    /// An encoding in which its text has the same units: bytes or else chars, where its marks count as many.
+    /// The encoding to ask its text in: bytes, or else chars, where its marks count as many of them as units, or else
+    /// `encoding`.
     pub(crate) fn encoding(&self, encoding: Encoding, _text: &str) -> Encoding
         requires { AddsUp self.now (chars _text.now) }
         ensures { HasSameUnits encoding result (chars _text.now) }

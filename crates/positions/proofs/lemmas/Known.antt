@@ -33,7 +33,7 @@ module _ (e f : Encoding) (text : Text) (same : HasSameUnits e f text) where
   pub weighed_same : (n : ℕ) → weighed (units_of e) text n ≡ weighed (units_of f) text n
   weighed_same n = let longest = cut_is_longest text n in same [] (cut text n) longest.back longest.split
 
-  -- and so many units end at one place
+  -- and k units end at the same place by both
   pub placed_same : (k : ℕ) → boundary_weighed (units_of e) text k ≡ boundary_weighed (units_of f) text k
   placed_same k =
       let p = boundary_weighed (units_of e) text k in
