@@ -1,8 +1,9 @@
 //! Positions of spans: of both ends, and of bytes that may be no place on a line.
-ghost use Rattle.std.specs.Prelude.{◌≡◌, ◌+◌, ◌≤◌, ◌<◌, ◌↔◌, IfSome, IsSome, IsTrue, chars};
+ghost use Rattle.std.specs.Prelude.{◌≡◌, ◌+◌, ◌≤◌, ◌<◌, ◌⊎◌, ◌↔◌, IfSome, IsSome, IsTrue, chars};
+ghost use Rattle.str_indices.specs.Schemes.{from_byte_idx, to_byte_idx};
 ghost use Rattle.str_indices.specs.Text.{Text, size};
 ghost use Rattle.position_mapper.specs.declared.encodings.Encoding.{Encoding};
-ghost use Rattle.positions.specs.Lines.{IsPlace};
+ghost use Rattle.positions.specs.Lines.{IsPlace, scheme_of};
 ghost use Rattle.positions.specs.Parts.{HasByte, IsPart, Took};
 ghost use Rattle.positions.specs.Positions.{position_at};
 
@@ -54,6 +55,9 @@ pub fn exact_position_of<'a, P: Parts<'a>>(
     ensures answer { IfSome result (λ position. position ≡ position_at lines encoding (P.state parts.old).text byte) }
     ensures some { IsSome result ↔ IsPlace lines (P.state parts.old).text byte }
     ensures cost { Took 1 1 (P.state parts.old) (P.state parts.new) }
+    ensures near { let cs = (P.state parts.old).text in let begins = (P.state parts.old).begins byte in
+        (begins < to_byte_idx (scheme_of lines) cs (from_byte_idx (scheme_of lines) cs byte)) ⊎ (begins ≡ 0)
+        → Took 1 0 (P.state parts.old) (P.state parts.new) }
 {
     let part = parts.part_of_byte(lines, encoding, byte);
     let _len = parts.len();

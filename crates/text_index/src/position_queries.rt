@@ -93,7 +93,7 @@ pub fn range_in(
     positions::range_of(m, lines, encoding, span)
 }
 
-/// The position of a byte that is a place on a line, or `None`. It reads two stretches at most.
+/// The position of a byte that is a place on a line, or `None`. It reads the stretches of `position_in`.
 pub fn exact_position_in(
     m: &mut Marks,
     lines: LineType,
@@ -103,6 +103,9 @@ pub fn exact_position_in(
     ensures answer { IfSome result (λ position. position ≡ position_at lines encoding m.old.text byte) }
     ensures some { IsSome result ↔ IsPlace lines m.old.text byte }
     ensures cost { Asked 2 (8 * stretches_of m.old.text) m.old m.new }
+    ensures near { let cs = m.old.text in
+        (begins_at byte < to_byte_idx (scheme_of lines) cs (from_byte_idx (scheme_of lines) cs byte)) ⊎ (begins_at byte ≡ 0)
+        → Asked 1 4 m.old m.new }
 {
     positions::exact_position_of(m, lines, encoding, byte)
 }

@@ -1,4 +1,4 @@
-use Rattle.positions.proofs.lemmas.{◌≡◌, ◌+◌, ◌-◌, ◌∙◌, sym, refl, arith, taken_after, taken_within, searched_before}
+use Rattle.positions.proofs.lemmas.{◌<◌, ◌⊎◌, inl, inr, from_byte_idx, to_byte_idx, scheme_of, ◌≡◌, ◌+◌, ◌-◌, ◌∙◌, sym, refl, arith, taken_after, taken_within, searched_before}
 use Rattle.positions.specs.Parts.{HasByte}
 use Rattle.positions.proofs.spans.exact_position_of.Goals as goal
 
@@ -27,3 +27,17 @@ returns-clause-some g c =
 
 pub returns-clause-cost : goal.returns-clause-cost
 returns-clause-cost g c = taken_after c.part_of_byte-part.ensures.cost c.position_from.ensures.cost
+
+pub returns-then-not-is_place-clause-near : goal.returns-then-not-is_place-clause-near
+returns-then-not-is_place-clause-near g c near = c.part_of_byte-part.ensures.cost
+
+pub returns-clause-near : goal.returns-clause-near
+returns-clause-near g c near =
+    let part = c.part_of_byte-part in
+    let cs = (g.P.Parts.state c.args.parts.now).text in
+    let begins : (part.result.start < to_byte_idx (scheme_of c.args.lines) cs (from_byte_idx (scheme_of c.args.lines) cs c.args.byte))
+    ⊎ (part.result.start ≡ 0) = elim near [
+      | inl before ↦ inl (omega (arith, before, part.ensures.start))
+      | inr first ↦ inr (omega (arith, first, part.ensures.start))
+    ] in
+    taken_after part.ensures.cost (c.position_from.ensures.near (rw part.ensures.cost.text begins))

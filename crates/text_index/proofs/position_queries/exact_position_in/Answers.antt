@@ -6,3 +6,8 @@ pub returns-clause-cost : goal.returns-clause-cost
 returns-clause-cost c =
     let most = 2 * stretches_of c.args.m.now.text in
     asked c.exact_position_of.ensures.cost (omega (arith, pow-suc most 0, ap (λ n. n * most) (pow-zero most)))
+
+pub returns-clause-near : goal.returns-clause-near
+returns-clause-near c = λ near.
+    let most = 2 * stretches_of c.args.m.now.text in
+    asked (c.exact_position_of.ensures.near near) (omega (arith, ap (λ n. 4 * n) (pow-zero most)))
