@@ -8,10 +8,13 @@ pub mod OnLines
 pub mod Breaks
 pub mod Encoded
 pub mod PartsOf
+pub mod Joins
 pub mod Rests
 pub mod Taking
 pub mod Characters
 pub mod Known
+pub mod Alike
+pub mod Plain
 pub mod Answering
 pub mod Bytes
 pub mod Callers
@@ -28,7 +31,9 @@ pub use Rests.*
 pub use Taking.*
 pub use Characters.*
 pub use Known.*
-pub use Answering.{weighed_within, weighed_from, part_within, units_at, lines_within, line_place, units_within_part, units_place, next_in_part, last_inside, return_within, end_is, place_told, exact_place, no_place, here_is, at_within, at_round, line_told, lines_short, line_begins, line_before, return_before, position_told, start_before, units_from_start, return_and_line, position_cut, line_within, exact_made, none_made, byte_made, begins_of_back}
+pub use Alike.*
+pub use Plain.*
+pub use Answering.{weighed_within, weighed_from, part_within, units_at, lines_within, line_place, next_in_part, last_inside, return_within, end_is, place_told, exact_place, no_place, here_is, at_within, at_round, line_told, lines_short, line_begins, line_before, return_before, position_told, start_before, units_from_start, return_and_line, position_cut, line_within, exact_made, none_made, byte_made, begins_of_back}
 pub use Breaks.{first_line_end, all_content, next_above, ends_before_return, ends_before_last}
 pub use Rattle.position_mapper.proofs.lemmas.Callers.{nearest_is_greatest}
 pub use Rattle.position_mapper.proofs.lemmas.Callers.{chars-take}

@@ -2,30 +2,32 @@
 --     PartsState                  what contracts see of a text in parts
 --     IsSearched state            a search may take no look, and not less
 --     Took bytes counts old new   at most `bytes` searches by a byte, and `counts` by a count
---     HasEnds l e part ends       what is counted up to the part's end
+--     HasOwn l e text own         what a part of a text has
 --     IsPart text l e part        a part of the text, and what is counted before it
 --     HasByte text byte part      a byte is in the part
 --     HasLine text l line part    a line begins in the part
---     HasUnits text e k part      k units end in the part
-use Rattle.std.specs.Prelude.{ℕ, ◌≡◌, ◌+◌, ◌-◌, ◌*◌, ◌^◌, ◌<◌, ◌≤◌, ◌⊎◌, ◌↔◌, ◌++◌, IfSome, IsTrue, chars, sum_by}
+use Rattle.std.specs.Prelude.{ℕ, ◌≡◌, ◌+◌, ◌-◌, ◌*◌, ◌^◌, ◌<◌, ◌≤◌, ◌⊎◌, ◌↔◌, List, ◌++◌, IfSome, IsTrue, chars, sum_by}
 use Rattle.str_indices.specs.Text.{Text, size}
 use Rattle.str_indices.specs.Relations.{IsCrlfMiddle}
 use Rattle.str_indices.specs.Schemes.{count, from_byte_idx, weighed}
+use Rattle.str_indices.specs.declared.Scheme.TheVariants.{Chars, Lf}
 use Rattle.position_mapper.specs.Encodings.{units_of}
 use Rattle.position_mapper.specs.declared.encodings.Encoding.{Encoding}
-use Rattle.positions.specs.Lines.{HasSameBreaks, scheme_of}
-use Rattle.positions.specs.Units.{HasSameUnits}
+use Rattle.positions.specs.Lines.{scheme_of}
 use Rattle.positions.specs.declared.line_type.LineType.{LineType}
-use Rattle.positions.specs.declared.parts.Ends.{Ends}
+use Rattle.positions.specs.declared.parts.Own.{Own}
 use Rattle.positions.specs.declared.parts.Part.{Part}
 
--- the text; where the part of a byte begins at most; 2 to the power of the looks that a search by a byte, and by a count, takes at
--- most; and how many looks and reads there were
+-- the text; the pieces that it is kept in; where the part of a byte begins at most; 2 to the power of the looks that a search by a byte, and by a count, takes at
+-- most; how many searches by a byte the units before a part take, none where the part has them; and how many looks and reads
+-- there were
 pub record PartsState : Type 0 where
   pub text : Text
+  pub pieces : List Text
   pub begins : ℕ → ℕ
   pub by_byte : ℕ
   pub by_count : ℕ
+  pub apart : ℕ
   pub looks : ℕ
   pub reads : ℕ
 
@@ -34,35 +36,36 @@ pub record IsSearched (state : PartsState) : Type 0 where
   pub by_byte : 0 < state.by_byte
   pub by_count : 0 < state.by_count
 
--- no more searches than these: each reads one part, and the text is kept
+-- no more searches than these: each reads one part, and the text is kept, and what it is kept in
 pub record Took (bytes counts : ℕ) (old new : PartsState) : Type 0 where
   pub text : new.text ≡ old.text
+  pub pieces : new.pieces ≡ old.pieces
   pub begins : new.begins ≡ old.begins
   pub by_byte : new.by_byte ≡ old.by_byte
   pub by_count : new.by_count ≡ old.by_count
+  pub apart : new.apart ≡ old.apart
   pub looks : 2 ^ (new.looks - old.looks) ≤ (old.by_byte ^ bytes) * (old.by_count ^ counts)
   pub looks_kept : old.looks ≤ new.looks
   pub reads : new.reads ≤ old.reads + bytes + counts
   pub reads_kept : old.reads ≤ new.reads
 
--- `ends` counts the breaks and units before the part and in it, and names a kind of break and an encoding that count the same
--- in it
-pub record HasEnds (l : LineType) (e : Encoding) (part : Part) (ends : Ends) : Type 0 where
-  pub lines : part.lines + count (scheme_of l) (chars part.text.now) ≡ ends.lines
-  pub units : part.units + sum_by (units_of e) (chars part.text.now) ≡ ends.units
-  pub kind : HasSameBreaks l ends.kind (chars part.text.now)
-  pub encoding : HasSameUnits e ends.encoding (chars part.text.now)
+-- what a part of a text has: characters, units, LFs and line breaks
+pub record HasOwn (l : LineType) (e : Encoding) (text : Text) (own : Own) : Type 0 where
+  pub chars : own.chars ≡ count Chars text
+  pub units : own.units ≡ sum_by (units_of e) text
+  pub lf : own.lf ≡ count Lf text
+  pub breaks : own.breaks ≡ count (scheme_of l) text
 
--- the text before the part, the part, and the text after it; and what of the text is counted before the part and up to its end
+-- the text before the part, the part, and the text after it; what of the text is counted before the part and in it
 pub record IsPart (text : Text) (l : LineType) (e : Encoding) (part : Part) : Type 0 where
   pub front : Text
   pub back : Text
   pub split : text ≡ front ++ (chars part.text.now ++ back)
   pub start : size front ≡ part.start
   pub lines : part.lines ≡ from_byte_idx (scheme_of l) text part.start
-  pub units : part.units ≡ weighed (units_of e) text part.start
+  pub units : IfSome part.units (λ n. n ≡ weighed (units_of e) text part.start)
   pub in_crlf : IsTrue part.in_crlf ↔ IsCrlfMiddle text part.start
-  pub ends : IfSome part.ends (HasEnds l e part)
+  pub own : IfSome part.own (HasOwn l e (chars part.text.now))
 
 -- the byte is not before the part, and not behind it unless the text ends with the part
 pub record HasByte (text : Text) (byte : ℕ) (part : Part) : Type 0 where
@@ -73,10 +76,4 @@ pub record HasByte (text : Text) (byte : ℕ) (part : Part) : Type 0 where
 pub record HasLine (text : Text) (l : LineType) (line : ℕ) (part : Part) : Type 0 where
   pub after : (part.lines < line) ⊎ (part.start ≡ 0)
   pub before : (line ≤ from_byte_idx (scheme_of l) text (part.start + size (chars part.text.now)))
-      ⊎ (part.start + size (chars part.text.now) ≡ size text)
-
--- before the part there are no more units, and behind it there are as many, or the text ends with the part
-pub record HasUnits (text : Text) (e : Encoding) (k : ℕ) (part : Part) : Type 0 where
-  pub after : part.units ≤ k
-  pub before : (k ≤ weighed (units_of e) text (part.start + size (chars part.text.now)))
       ⊎ (part.start + size (chars part.text.now) ≡ size text)

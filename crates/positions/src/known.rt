@@ -1,7 +1,7 @@
-//! A part, asked beside what is known of it.
-ghost use Rattle.std.specs.Prelude.{◌≡◌, ◌+◌, ◌-◌, ◌≤◌, ℕ, IsTrue, chars, sum_by};
+//! A part, asked beside what it is known to have.
+ghost use Rattle.std.specs.Prelude.{◌≡◌, ◌-◌, ◌≤◌, ℕ, IsTrue, chars, sum_by};
 ghost use Rattle.str_indices.specs.Schemes.{count, from_byte_idx, to_byte_idx};
-ghost use Rattle.str_indices.specs.Text.{Text, size};
+ghost use Rattle.str_indices.specs.Text.{Text};
 ghost use Rattle.position_mapper.specs.Encodings.{units_of};
 ghost use Rattle.position_mapper.specs.declared.encodings.Encoding.{Encoding};
 ghost use Rattle.positions.specs.Characters.{IsBackOf};
@@ -11,54 +11,70 @@ ghost use Rattle.positions.specs.Positions.{byte_at};
 ghost use Rattle.positions.specs.Units.{HasSameUnits};
 ghost use Rattle.positions.specs.declared.line_type.LineType.{LineType};
 
-use crate::first_lines::place_on_first_line;
+use crate::first_lines::{NEAR, place_on_first_line};
+use crate::plain::is_after_plain;
 use crate::texts::len_of;
 use crate::units::place_of;
 use crate::{LineType, Part};
 use position_mapper::Encoding;
 
 impl Part<'_> {
-    /// Whether `ends` tells that the part ends on line `line`.
+    /// Whether it is known that no later line than `line` begins in it.
     fn ends_on(&self, line: usize) -> bool
         ensures { (cs : Text) (l : LineType) (e : Encoding) → IsPart cs l e self.now → IsTrue result
-            → self.now.lines + count (scheme_of l) (chars self.now.text.now) ≡ line }
+            → count (scheme_of l) (chars self.now.text.now) ≤ line - self.now.lines }
     {
-        match self.ends {
-            Some(ends) => ends.lines == line,
+        match &self.own {
+            Some(own) => own.breaks <= line.saturating_sub(self.lines),
             None => false,
         }
     }
 
-    /// Whether `ends` tells that the part has at most `units` units.
+    /// Whether it is known to have at most `units` units.
     fn has_at_most(&self, units: usize) -> bool
         ensures { (cs : Text) (l : LineType) (e : Encoding) → IsPart cs l e self.now → IsTrue result
             → sum_by (units_of e) (chars self.now.text.now) ≤ units }
     {
-        match self.ends {
-            Some(ends) => ends.units.saturating_sub(self.units) <= units,
+        match &self.own {
+            Some(own) => own.units <= units,
             None => false,
         }
     }
 
-    /// The encoding to ask the part in: that of `ends`, in which it has the same units, or else `encoding`.
+    /// The encoding to ask the part in: bytes, or else chars, where it has as many of them as units, or else
+    /// `encoding`.
     pub(crate) fn encoding(&self, encoding: Encoding) -> Encoding
         ensures { (cs : Text) (l : LineType) → IsPart cs l encoding self.now
             → HasSameUnits encoding result (chars self.now.text.now) }
     {
-        match self.ends {
-            Some(ends) => ends.encoding,
-            None => encoding,
+        let Some(own) = &self.own else {
+            return encoding;
+        };
+        if own.units == len_of(self.text) {
+            Encoding::Utf8
+        } else if own.units == own.chars {
+            Encoding::Utf32
+        } else {
+            encoding
         }
     }
 
-    /// The kind of line break to ask the part for: that of `ends`, which breaks it at the same places, or else `lines`.
+    /// Whether it may have ASCII chars alone: as far as it is known.
+    fn may_be_ascii(&self) -> bool {
+        match &self.own {
+            Some(own) => own.chars == len_of(self.text),
+            None => true,
+        }
+    }
+
+    /// The kind of line break to ask the part for: LF, where it has as many LFs as breaks, or else `lines`.
     pub(crate) fn kind(&self, lines: LineType) -> LineType
         ensures { (cs : Text) (e : Encoding) → IsPart cs lines e self.now
             → HasSameBreaks lines result (chars self.now.text.now) }
     {
-        match self.ends {
-            Some(ends) => ends.kind,
-            None => lines,
+        match &self.own {
+            Some(own) if own.lf == own.breaks => LineType::Lf,
+            _ => lines,
         }
     }
 
@@ -88,13 +104,15 @@ impl Part<'_> {
             → IsBackOf (chars self.now.text.now) (chars rest.now) at
             → result ≡ byte_at lines encoding (chars rest.now) (record { line = 0; character = character }) }
     {
-        let own = self.encoding(encoding);
-        if !self.ends_on(line) {
-            return place_on_first_line(lines, own, rest, character);
+        if self.ends_on(line) {
+            if self.has_at_most(character) {
+                return len_of(rest);
+            }
+            return place_of(self.encoding(encoding), rest, character);
         }
-        if self.has_at_most(character) {
-            return len_of(rest);
+        if character < NEAR && self.may_be_ascii() && is_after_plain(rest, character) {
+            return character;
         }
-        place_of(own, rest, character)
+        place_on_first_line(lines, self.encoding(encoding), rest, character)
     }
 }

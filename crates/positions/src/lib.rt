@@ -8,6 +8,7 @@ mod line_type;
 mod look_back;
 mod middles;
 mod parts;
+mod plain;
 mod questions;
 mod spans;
 mod starts;
@@ -16,7 +17,7 @@ mod units;
 mod whole;
 
 pub use line_type::LineType;
-pub use parts::{Ends, Part, Parts};
+pub use parts::{Own, Part, Parts};
 pub use position_mapper::{Encoding, Position, Range};
 pub use questions::{byte_of, byte_range, exact_byte_of, position_of};
 pub use spans::{exact_position_of, range_of};

@@ -1,9 +1,10 @@
 //! A text that lends the part round a place.
-ghost use Rattle.std.specs.Prelude.{◌≡◌, ◌^◌, ◌<◌, ◌≤◌};
-ghost use Rattle.str_indices.specs.Schemes.{count};
+ghost use Rattle.std.specs.Prelude.{◌≡◌, ◌^◌, ◌<◌, ◌≤◌, IsSome};
+ghost use Rattle.str_indices.specs.Schemes.{boundary_weighed, count, weighed};
 ghost use Rattle.str_indices.specs.Text.{size};
 ghost use Rattle.positions.specs.Lines.{scheme_of};
-ghost use Rattle.positions.specs.Parts.{HasByte, HasLine, HasUnits, IsPart, IsSearched, PartsState, Took};
+ghost use Rattle.position_mapper.specs.Encodings.{units_of};
+ghost use Rattle.positions.specs.Parts.{HasByte, HasLine, IsPart, IsSearched, PartsState, Took};
 
 use crate::LineType;
 use position_mapper::Encoding;
@@ -17,25 +18,25 @@ pub struct Part<'a> {
     pub start: usize,
     /// How many line breaks end at or before its start.
     pub lines: usize,
-    /// How many units of an encoding are before its start.
-    pub units: usize,
+    /// How many units of an encoding are before its start, where the search for the part told them.
+    pub units: Option<usize>,
     /// Whether it starts between CR and LF.
     pub in_crlf: bool,
-    /// The counts up to its end, where the text has them without reading the part.
-    pub ends: Option<Ends>,
+    /// What it has, where the text tells that without reading the part.
+    pub own: Option<Own>,
 }
 
-/// The counts up to the end of a part, and how they let it be asked for less.
+/// What a part has.
 #[derive(Clone, Copy)]
-pub struct Ends {
-    /// The line breaks before its start, and those of its own.
-    pub lines: usize,
-    /// The units before its start, and its own.
+pub struct Own {
+    /// How many chars.
+    pub chars: usize,
+    /// How many units of the encoding asked for.
     pub units: usize,
-    /// A kind of line break that breaks the part at the same places as the kind asked for.
-    pub kind: LineType,
-    /// An encoding in which each stretch of the part has as many units as in the encoding asked for.
-    pub encoding: Encoding,
+    /// How many LFs.
+    pub lf: usize,
+    /// How many line breaks of the kind asked for.
+    pub breaks: usize,
 }
 
 /// A text that lends the part round a place. A contract sees the text, how often it was searched and how many parts were
@@ -58,6 +59,7 @@ pub trait Parts<'a> {
         ensures part { IsPart (state self.old).text lines encoding result }
         ensures round { HasByte (state self.old).text byte result }
         ensures start { result.start ≤ (state self.old).begins byte }
+        ensures units { (state self.old).apart ≡ 0 → IsSome result.units }
         ensures cost { Took 1 0 (state self.old) (state self.new) };
 
     /// The part in which a line begins: after its start, or at the text's start. A line past the last one is in the last
@@ -65,12 +67,17 @@ pub trait Parts<'a> {
     fn part_of_line(&mut self, lines: LineType, encoding: Encoding, line: usize) -> Part<'a>
         ensures part { IsPart (state self.old).text lines encoding result }
         ensures round { HasLine (state self.old).text lines line result }
+        ensures units { (state self.old).apart ≡ 0 → IsSome result.units }
         ensures cost { Took 0 1 (state self.old) (state self.new) };
 
-    /// The part in which `units` units of an encoding end, or at whose start they do. More units than the text has end in the
-    /// last part.
-    fn part_of_units(&mut self, lines: LineType, encoding: Encoding, units: usize) -> Part<'a>
-        ensures part { IsPart (state self.old).text lines encoding result }
-        ensures round { HasUnits (state self.old).text encoding units result }
+    /// The units of the chars before a byte index.
+    fn units_of_byte(&mut self, encoding: Encoding, byte: usize) -> usize
+        ensures answer { result ≡ weighed (units_of encoding) (state self.old).text byte }
+        ensures cost { Took 1 0 (state self.old) (state self.new) };
+
+    /// The byte index before which the chars have `units` units, or where the char begins that has that unit inside it; past
+    /// them all the text's length in bytes.
+    fn byte_of_units(&mut self, encoding: Encoding, units: usize) -> usize
+        ensures answer { result ≡ boundary_weighed (units_of encoding) (state self.old).text units }
         ensures cost { Took 0 1 (state self.old) (state self.new) };
 }

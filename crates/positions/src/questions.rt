@@ -1,5 +1,5 @@
 //! Positions and their byte indices, each by one search and one part where that tells them.
-ghost use Rattle.std.specs.Prelude.{◌≡◌, ◌+◌, ◌-◌, ◌<◌, ◌≤◌, ◌⊎◌, ◌↔◌, IfSome, IsTrue, chars};
+ghost use Rattle.std.specs.Prelude.{◌≡◌, ◌+◌, ◌-◌, ◌*◌, ◌<◌, ◌≤◌, ◌⊎◌, ◌↔◌, IfSome, IsSome, IsTrue, chars};
 ghost use Rattle.str_indices.specs.Relations.{IsBoundary};
 ghost use Rattle.str_indices.specs.Schemes.{count, from_byte_idx, to_byte_idx, weighed};
 ghost use Rattle.str_indices.specs.Text.{size};
@@ -12,7 +12,7 @@ use crate::look_back::line_start;
 use crate::middles::return_behind;
 use crate::starts::{Place, line_end, line_in, units_up_to};
 use crate::texts::{from_byte, len_of};
-use crate::units::{place_of, units_before};
+use crate::units::units_before;
 use crate::{LineType, Part, Parts};
 use position_mapper::{Encoding, Position, Range};
 use std::ops;
@@ -29,13 +29,13 @@ pub fn position_of<'a, P: Parts<'a>>(
     byte: usize,
 ) -> Position
     ensures answer { result ≡ position_at lines encoding (P.state parts.old).text byte }
-    ensures cost { Took 1 1 (P.state parts.old) (P.state parts.new) }
+    ensures cost { Took (1 + 2 * (P.state parts.old).apart) 1 (P.state parts.old) (P.state parts.new) }
     ensures near { let cs = (P.state parts.old).text in let begins = (P.state parts.old).begins byte in
         (begins < to_byte_idx (scheme_of lines) cs (from_byte_idx (scheme_of lines) cs byte)) ⊎ (begins ≡ 0)
         → Took 1 0 (P.state parts.old) (P.state parts.new) }
 {
     let part = parts.part_of_byte(lines, encoding, byte);
-    position_from(parts, lines, encoding, part, byte)
+    position_from(parts, lines, encoding, &part, byte)
 }
 
 /// The position of a byte, by a part that the byte is in.
@@ -43,23 +43,25 @@ pub(crate) fn position_from<'a, P: Parts<'a>>(
     parts: &mut P,
     lines: LineType,
     encoding: Encoding,
-    part: Part<'a>,
+    part: &Part<'a>,
     byte: usize,
 ) -> Position
-    requires part { IsPart (P.state parts.old).text lines encoding part }
-    requires round { HasByte (P.state parts.old).text byte part }
+    requires part { IsPart (P.state parts.old).text lines encoding part.now }
+    requires round { HasByte (P.state parts.old).text byte part.now }
+    requires units { (P.state parts.old).apart ≡ 0 → IsSome part.now.units }
     ensures answer { result ≡ position_at lines encoding (P.state parts.old).text byte }
-    ensures cost { Took 0 1 (P.state parts.old) (P.state parts.new) }
+    ensures cost { Took (2 * (P.state parts.old).apart) 1 (P.state parts.old) (P.state parts.new) }
     ensures near { let cs = (P.state parts.old).text in
-        (part.entry.start < to_byte_idx (scheme_of lines) cs (from_byte_idx (scheme_of lines) cs byte)) ⊎ (part.entry.start ≡ 0)
+        (part.now.start < to_byte_idx (scheme_of lines) cs (from_byte_idx (scheme_of lines) cs byte)) ⊎ (part.now.start ≡ 0)
         → Took 0 0 (P.state parts.old) (P.state parts.new) }
 {
+    let first = part.start == 0;
     let at = (byte - part.start).min(len_of(part.text));
     let own = part.breaks_up_to(lines, at);
     let _len = parts.len();
     let line = part.lines + own;
-    let behind = return_behind(lines, &part, at);
-    if own > 0 || part.start == 0 {
+    let behind = return_behind(lines, part, at);
+    if own > 0 || first {
         let start = line_start(part.kind(lines), part.text, at, own);
         let rest = from_byte(part.text, start);
         let units = units_before(part.encoding(encoding), rest, at - start);
@@ -68,13 +70,31 @@ pub(crate) fn position_from<'a, P: Parts<'a>>(
             character: units - behind,
         };
     }
-    let units = units_up_to(parts, lines, encoding, &part, at) - behind;
-    let start = line_in(parts, lines, encoding, line);
-    let before_line = units_up_to(parts, lines, encoding, &start.part, start.own);
+    let units = units_up_to(parts, lines, encoding, part, at) - behind;
+    let before_line = units_before_line(parts, lines, encoding, line);
     Position {
         line,
         character: units - before_line,
     }
+}
+
+/// The units of the chars before a line.
+fn units_before_line<'a, P: Parts<'a>>(
+    parts: &mut P,
+    lines: LineType,
+    encoding: Encoding,
+    line: usize,
+) -> usize
+    ensures answer { let cs = (P.state parts.old).text in
+        result ≡ weighed (units_of encoding) cs (to_byte_idx (scheme_of lines) cs line) }
+    ensures cost { Took (P.state parts.old).apart 1 (P.state parts.old) (P.state parts.new) }
+{
+    let _len = parts.len();
+    if line == 0 {
+        return 0;
+    }
+    let start = line_in(parts, lines, encoding, line);
+    units_up_to(parts, lines, encoding, &start.part, start.own)
 }
 
 /// The byte index where the char at a position begins.
@@ -90,7 +110,7 @@ pub fn byte_of<'a, P: Parts<'a>>(
 ) -> usize
     ensures answer { result ≡ byte_at lines encoding (P.state parts.old).text position }
     ensures boundary { IsBoundary (P.state parts.old).text result }
-    ensures cost { Took 0 3 (P.state parts.old) (P.state parts.new) }
+    ensures cost { Took (P.state parts.old).apart 3 (P.state parts.old) (P.state parts.new) }
 {
     let start = line_in(parts, lines, encoding, position.line);
     byte_on(parts, lines, encoding, &start, position)
@@ -107,7 +127,7 @@ pub fn exact_byte_of<'a, P: Parts<'a>>(
 ) -> Option<usize>
     ensures answer { result ≡ exact_byte_at lines encoding (P.state parts.old).text position }
     ensures boundary { IfSome result (λ byte. IsBoundary (P.state parts.old).text byte) }
-    ensures cost { Took 1 3 (P.state parts.old) (P.state parts.new) }
+    ensures cost { Took ((P.state parts.old).apart + 1) 3 (P.state parts.old) (P.state parts.new) }
 {
     let _len = parts.len();
     if parts.count(lines) < position.line {
@@ -139,7 +159,7 @@ pub fn byte_range<'a, P: Parts<'a>>(
     ensures ordered { IfSome result (λ bytes. bytes.start ≤ bytes.end) }
     ensures boundaries { let cs = (P.state parts.old).text in
         IfSome result (λ bytes. IsBoundary cs bytes.start × IsBoundary cs bytes.end) }
-    ensures cost { Took 0 6 (P.state parts.old) (P.state parts.new) }
+    ensures cost { Took (2 * (P.state parts.old).apart) 6 (P.state parts.old) (P.state parts.new) }
 {
     let _len = parts.len();
     let Range { start, end } = range;
@@ -180,9 +200,10 @@ fn byte_on<'a, P: Parts<'a>>(
     requires own { let part = start.now.part in
         start.now.own ≡ to_byte_idx (scheme_of lines) (chars part.text.now) (position.line - part.lines) }
     requires boundary { IsBoundary (chars start.now.part.text.now) start.now.own }
+    requires units { (P.state parts.old).apart ≡ 0 → IsSome start.now.part.units }
     ensures answer { result ≡ byte_at lines encoding (P.state parts.old).text position }
     ensures boundary { IsBoundary (P.state parts.old).text result }
-    ensures cost { Took 0 2 (P.state parts.old) (P.state parts.new) }
+    ensures cost { Took (P.state parts.old).apart 2 (P.state parts.old) (P.state parts.new) }
 {
     let _len = parts.len();
     let rest = from_byte(start.part.text, start.own);
@@ -213,10 +234,7 @@ fn byte_after<'a, P: Parts<'a>>(
     // from the text's length on, every number of units means the text's end
     let _len = parts.len();
     let units = before_line.saturating_add(position.character);
-    let part = parts.part_of_units(lines, encoding, units);
-    let own = part.encoding(encoding);
-    let place = part.start + place_of(own, part.text, units - part.units);
-    place.min(end)
+    parts.byte_of_units(encoding, units).min(end)
 }
 
 /// The byte index of a position that names a place, or `None`, where the part that its line begins in does not tell it.
@@ -230,15 +248,15 @@ fn exact_byte_after<'a, P: Parts<'a>>(
     requires part { IsPart (P.state parts.old).text lines encoding start.now.part }
     requires place { start.now.part.start + start.now.own ≡ to_byte_idx (scheme_of lines) (P.state parts.old).text position.line }
     requires boundary { IsBoundary (chars start.now.part.text.now) start.now.own }
+    requires units { (P.state parts.old).apart ≡ 0 → IsSome start.now.part.units }
     requires has { position.line ≤ count (scheme_of lines) (P.state parts.old).text }
     ensures answer { result ≡ exact_byte_at lines encoding (P.state parts.old).text position }
     ensures boundary { IfSome result (λ byte. IsBoundary (P.state parts.old).text byte) }
-    ensures cost { Took 1 2 (P.state parts.old) (P.state parts.new) }
+    ensures cost { Took ((P.state parts.old).apart + 1) 2 (P.state parts.old) (P.state parts.new) }
 {
     let before_line = units_up_to(parts, lines, encoding, &start.part, start.own);
     let byte = byte_after(parts, lines, encoding, position, before_line);
-    let part = parts.part_of_byte(lines, encoding, byte);
-    let units = units_up_to(parts, lines, encoding, &part, byte - part.start);
+    let units = parts.units_of_byte(encoding, byte);
     if units - before_line != position.character {
         return None;
     }

@@ -1,5 +1,5 @@
 //! Positions of spans: of both ends, and of bytes that may be no place on a line.
-ghost use Rattle.std.specs.Prelude.{◌≡◌, ◌+◌, ◌≤◌, ◌<◌, ◌⊎◌, ◌↔◌, IfSome, IsSome, IsTrue, chars};
+ghost use Rattle.std.specs.Prelude.{◌≡◌, ◌+◌, ◌*◌, ◌≤◌, ◌<◌, ◌⊎◌, ◌↔◌, IfSome, IsSome, IsTrue, chars};
 ghost use Rattle.str_indices.specs.Schemes.{from_byte_idx, to_byte_idx};
 ghost use Rattle.str_indices.specs.Text.{Text, size};
 ghost use Rattle.position_mapper.specs.declared.encodings.Encoding.{Encoding};
@@ -23,13 +23,13 @@ pub fn range_of<'a, P: Parts<'a>>(
 ) -> Range
     ensures start { result.start ≡ position_at lines encoding (P.state parts.old).text span.start }
     ensures end { result.end ≡ position_at lines encoding (P.state parts.old).text span.end }
-    ensures cost { Took 2 2 (P.state parts.old) (P.state parts.new) }
+    ensures cost { Took (2 + 4 * (P.state parts.old).apart) 2 (P.state parts.old) (P.state parts.new) }
 {
     let part = parts.part_of_byte(lines, encoding, span.start);
     let _len = parts.len();
-    let start = position_from(parts, lines, encoding, part, span.start);
+    let start = position_from(parts, lines, encoding, &part, span.start);
     let end = if is_in(&part, span.end) {
-        position_from(parts, lines, encoding, part, span.end)
+        position_from(parts, lines, encoding, &part, span.end)
     } else {
         position_of(parts, lines, encoding, span.end)
     };
@@ -54,7 +54,7 @@ pub fn exact_position_of<'a, P: Parts<'a>>(
 ) -> Option<Position>
     ensures answer { IfSome result (λ position. position ≡ position_at lines encoding (P.state parts.old).text byte) }
     ensures some { IsSome result ↔ IsPlace lines (P.state parts.old).text byte }
-    ensures cost { Took 1 1 (P.state parts.old) (P.state parts.new) }
+    ensures cost { Took (1 + 2 * (P.state parts.old).apart) 1 (P.state parts.old) (P.state parts.new) }
     ensures near { let cs = (P.state parts.old).text in let begins = (P.state parts.old).begins byte in
         (begins < to_byte_idx (scheme_of lines) cs (from_byte_idx (scheme_of lines) cs byte)) ⊎ (begins ≡ 0)
         → Took 1 0 (P.state parts.old) (P.state parts.new) }
@@ -64,7 +64,7 @@ pub fn exact_position_of<'a, P: Parts<'a>>(
     if !is_place(lines, &part, byte - part.start) {
         return None;
     }
-    Some(position_from(parts, lines, encoding, part, byte))
+    Some(position_from(parts, lines, encoding, &part, byte))
 }
 
 /// Whether a place in a part is one on a line.

@@ -1,5 +1,5 @@
 //! Where a line begins, in the part that it begins in.
-ghost use Rattle.std.specs.Prelude.{◌≡◌, ◌+◌, ◌-◌, ◌<◌, ◌≤◌, ◌⊎◌, ◌↔◌, IsTrue, chars};
+ghost use Rattle.std.specs.Prelude.{◌≡◌, ◌+◌, ◌-◌, ◌<◌, ◌≤◌, IsSome, chars};
 ghost use Rattle.str_indices.specs.Relations.{IsBoundary};
 ghost use Rattle.str_indices.specs.Schemes.{count, to_byte_idx, weighed};
 ghost use Rattle.str_indices.specs.Text.{size};
@@ -22,6 +22,7 @@ pub(crate) struct Place<'a> {
 }
 
 /// Where a line begins.
+#[inline(always)]
 pub(crate) fn line_in<'a, P: Parts<'a>>(
     parts: &mut P,
     lines: LineType,
@@ -34,6 +35,7 @@ pub(crate) fn line_in<'a, P: Parts<'a>>(
     ensures own { let part = result.part in
         result.own ≡ to_byte_idx (scheme_of lines) (chars part.text.now) (line - part.lines) }
     ensures boundary { IsBoundary (chars result.part.text.now) result.own }
+    ensures units { (P.state parts.old).apart ≡ 0 → IsSome result.part.units }
     ensures cost { Took 0 1 (P.state parts.old) (P.state parts.new) }
 {
     let part = parts.part_of_line(lines, encoding, line);
@@ -44,20 +46,26 @@ pub(crate) fn line_in<'a, P: Parts<'a>>(
     Place { part, own }
 }
 
-/// The units of the text's chars before a place in a part.
+/// The units of the text's chars before a place in a part. It takes a search by the byte where the part does not have those
+/// before its start.
 pub(crate) fn units_up_to<'a, P: Parts<'a>>(
-    parts: &P,
+    parts: &mut P,
     lines: LineType,
     encoding: Encoding,
     part: &Part<'a>,
     at: usize,
 ) -> usize
-    requires part { IsPart (P.state parts.now).text lines encoding part.now }
+    requires part { IsPart (P.state parts.old).text lines encoding part.now }
+    requires units { (P.state parts.old).apart ≡ 0 → IsSome part.now.units }
     requires within { at ≤ size (chars part.now.text.now) }
-    ensures { result ≡ weighed (units_of encoding) (P.state parts.now).text (part.now.start + at) }
+    ensures answer { result ≡ weighed (units_of encoding) (P.state parts.old).text (part.now.start + at) }
+    ensures cost { Took (P.state parts.old).apart 0 (P.state parts.old) (P.state parts.new) }
 {
     let _len = parts.len();
-    part.units + units_before(part.encoding(encoding), part.text, at)
+    match part.units {
+        Some(before) => before + units_before(part.encoding(encoding), part.text, at),
+        None => parts.units_of_byte(encoding, part.start + at),
+    }
 }
 
 /// The byte index where the content of a line ends, by where the next line begins.

@@ -10,7 +10,7 @@
 --     begins_at byte           where the stretch of a byte begins at most
 --     parts_of state           what they see of it as a text in parts
 --     Asked stretches few old new   how many stretches were read and marks looked at, at most
-use Rattle.std.specs.Prelude.{ℕ, ◌≡◌, ◌+◌, ◌-◌, ◌*◌, ◌/◌, ◌^◌, ◌<◌, ◌≤◌, false, List, ◌++◌, length, slice_index_or}
+use Rattle.std.specs.Prelude.{ℕ, ◌≡◌, ◌+◌, ◌-◌, ◌*◌, ◌/◌, ◌^◌, ◌<◌, ◌≤◌, false, List, [], ◌∷◌, ◌++◌, length, slice_index_or}
 use Rattle.str_indices.specs.Text.{Text, size}
 use Rattle.str_indices.specs.Schemes.{count}
 use Rattle.str_indices.specs.Joins.{joins_crlf}
@@ -68,13 +68,16 @@ pub record MarksState : Type 0 where
 abbrev pub begins_at : ℕ → ℕ
 begins_at byte = (byte + 4) / stretch_size * stretch_size
 
--- the same as a text in parts: a search by a byte takes at most two looks, and one by a count halves the marks
+-- the same as a text in parts: a search by a byte takes at most two looks, one by a count halves the marks, and a mark has the
+-- units before it
 abbrev pub parts_of : MarksState → PartsState
 parts_of state = record {
   text = state.text;
+  pieces = state.text ∷ [];
   begins = begins_at;
   by_byte = 4;
   by_count = 2 * stretches_of state.text;
+  apart = 0;
   looks = state.looks;
   reads = state.reads;
 }

@@ -1,14 +1,14 @@
 //! The stretches of a text, as the parts in which positions are searched.
-ghost use Rattle.std.specs.Prelude.{◌≡◌, ◌+◌, chars};
+ghost use Rattle.std.specs.Prelude.{◌≡◌, ◌+◌, IsSome, chars};
 ghost use Rattle.str_indices.specs.Text.{size};
 ghost use Rattle.positions.specs.Parts.{IsPart, PartsState};
 ghost use Rattle.text_index.specs.Marks.{MarksState, parts_of};
 ghost use Rattle.text_index.specs.Stretches.{IsStretch};
 
 use crate::Marks;
-use crate::queries::{stretch_at, stretch_up_to};
+use crate::queries::{char_start_in, from_in, stretch_at, stretch_up_to, to_in};
 use crate::stretch::Stretch;
-use positions::{Encoding, Ends, LineType, Part, Parts, unit_scheme};
+use positions::{Encoding, LineType, Own, Part, Parts, unit_scheme};
 
 impl<'a> Parts<'a> for Marks<'a> {
     ghost state = { λ m. parts_of m };
@@ -31,21 +31,22 @@ impl<'a> Parts<'a> for Marks<'a> {
         part_in(self, lines, encoding, &stretch)
     }
 
-    fn part_of_units(&mut self, lines: LineType, encoding: Encoding, units: usize) -> Part<'a> {
+    fn units_of_byte(&mut self, encoding: Encoding, byte: usize) -> usize {
         match unit_scheme(encoding) {
-            None => {
-                let stretch = stretch_at(self, units);
-                part_in(self, lines, encoding, &stretch)
-            }
-            Some(s) => {
-                let stretch = stretch_up_to(self, s, units);
-                part_in(self, lines, encoding, &stretch)
-            }
+            None => char_start_in(self, byte),
+            Some(s) => from_in(self, s, byte),
+        }
+    }
+
+    fn byte_of_units(&mut self, encoding: Encoding, units: usize) -> usize {
+        match unit_scheme(encoding) {
+            None => char_start_in(self, units),
+            Some(s) => to_in(self, s, units),
         }
     }
 }
 
-/// The part that a stretch is, for one read. Its marks tell what is counted up to its start and its end.
+/// The part that a stretch is, for one read. Its marks tell what is counted before it and in it.
 fn part_in<'a>(
     m: &mut Marks<'a>,
     lines: LineType,
@@ -55,23 +56,26 @@ fn part_in<'a>(
     requires { IsStretch m.old.text stretch.now }
     ensures part { IsPart m.old.text lines encoding result }
     ensures start { result.start ≡ stretch.now.start.now.byte }
+    ensures units { IsSome result.units }
     ensures end { result.start + size (chars result.text.now) ≡ stretch.now.end.now.byte }
-    ensures state { m.new ≡ record m.old { reads = m.old.reads + 1 } }
+    ensures kept { m.new.text ≡ m.old.text }
+    ensures looks { m.new.looks ≡ m.old.looks }
+    ensures reads { m.new.reads ≡ m.old.reads + 1 }
 {
     let Stretch { start, end } = *stretch;
     let s = lines.scheme();
-    let text = m.read(stretch);
+    let (breaks, units) = (start.count(s), start.units(encoding));
     Part {
-        text,
+        text: m.read(stretch),
         start: start.byte,
-        lines: start.count(s),
-        units: start.units(encoding),
+        lines: breaks,
+        units: Some(units),
         in_crlf: false,
-        ends: Some(Ends {
-            lines: end.count(s),
-            units: end.units(encoding),
-            kind: stretch.kind(lines, text),
-            encoding: stretch.encoding(encoding, text),
+        own: Some(Own {
+            chars: end.chars - start.chars,
+            units: end.units(encoding) - units,
+            lf: end.lf - start.lf,
+            breaks: end.count(s) - breaks,
         }),
     }
 }

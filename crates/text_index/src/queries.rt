@@ -1,6 +1,7 @@
 //! The answers for a text, from its marks and the text of one stretch at most.
 ghost use Rattle.std.specs.Prelude.{◌≡◌, ◌+◌, ◌-◌, ◌*◌, ◌^◌, ◌<◌, ◌≤◌};
 ghost use Rattle.str_indices.specs.Schemes.{count, from_byte_idx, to_byte_idx};
+ghost use Rattle.str_indices.specs.Starts.{IsGreatestBoundary};
 ghost use Rattle.str_indices.specs.Text.{size};
 ghost use Rattle.text_index.specs.Marks.{MarksState, begins_at, stretches_of};
 ghost use Rattle.text_index.specs.Stretches.{Answers, HasPlace, Reaches, StandsRound};
@@ -55,6 +56,21 @@ pub fn to_in(m: &mut Marks, s: Scheme, k: usize) -> usize
     let start = stretch.start;
     let text = m.read(&stretch);
     start.byte + stretch.to_byte_idx(s, text, k - start.count(s))
+}
+
+/// The greatest byte index between characters that is at most this one. Looks at two marks at most, and reads one stretch.
+pub(crate) fn char_start_in(m: &mut Marks, b: usize) -> usize
+    ensures answer { IsGreatestBoundary m.old.text b result }
+    ensures text { m.new.text ≡ m.old.text }
+    ensures looks { m.new.looks ≤ m.old.looks + 2 }
+    ensures few { 2 ^ (m.new.looks - m.old.looks) ≤ 2 * stretches_of m.old.text }
+    ensures looks_kept { m.old.looks ≤ m.new.looks }
+    ensures reads { m.new.reads ≡ m.old.reads + 1 }
+{
+    let stretch = stretch_at(m, b);
+    let start = stretch.start.byte;
+    let text = m.read(&stretch);
+    start + text.floor_char_boundary(b - start)
 }
 
 /// The stretch that a byte is in. A mark may stand a little before the byte that is at its place.

@@ -2,12 +2,9 @@
 ghost use Rattle.std.specs.Prelude.{◌≡◌, chars};
 ghost use Rattle.str_indices.specs.Schemes.{from_byte_idx, to_byte_idx};
 ghost use Rattle.text_summary.specs.Summaries.{summary_of};
-ghost use Rattle.positions.specs.Lines.{HasSameBreaks};
-ghost use Rattle.positions.specs.Units.{HasSameUnits};
 ghost use Rattle.text_index.specs.Stretches.{AddsUp};
 
 use crate::mark::Mark;
-use positions::{Encoding, LineType, unit_scheme};
 use str_indices::Scheme;
 use text_summary::{Summary, ends_cr, starts_lf};
 
@@ -33,40 +30,6 @@ impl Stretch<'_> {
         ensures { result ≡ to_byte_idx s (chars text.now) idx }
     {
         self.summary(text).to_byte_idx(s, text, idx)
-    }
-
-    /// The kind of line break to ask its text for: LF where its marks count as many LFs as breaks, or else `lines`.
-    pub(crate) fn kind(&self, lines: LineType, _text: &str) -> LineType
-        requires { AddsUp self.now (chars _text.now) }
-        ensures { HasSameBreaks lines result (chars _text.now) }
-    {
-        let Stretch { start, end } = *self;
-        let s = lines.scheme();
-        if end.lf - start.lf == end.count(s) - start.count(s) {
-            LineType::Lf
-        } else {
-            lines
-        }
-    }
-
-    /// The encoding to ask its text in: bytes, or else chars, where its marks count as many of them as units, or else
-    /// `encoding`.
-    pub(crate) fn encoding(&self, encoding: Encoding, _text: &str) -> Encoding
-        requires { AddsUp self.now (chars _text.now) }
-        ensures { HasSameUnits encoding result (chars _text.now) }
-    {
-        let Stretch { start, end } = *self;
-        let Some(s) = unit_scheme(encoding) else {
-            return encoding;
-        };
-        let units = end.count(s) - start.count(s);
-        if units == end.byte - start.byte {
-            Encoding::Utf8
-        } else if units == end.chars - start.chars {
-            Encoding::Utf32
-        } else {
-            encoding
-        }
     }
 
     /// The summary of its text, which its marks tell.

@@ -4,14 +4,14 @@ use Rattle.position_mapper.proofs.lemmas.Callers.{place_of_least}
 use Rattle.positions.specs.Characters.{IsBackOf}
 use Rattle.positions.specs.Lines.{IsReturnBehind}
 use Rattle.position_mapper.specs.declared.encodings.Encoding.TheVariants.{Utf8, Utf16, Utf32}
-use Rattle.positions.proofs.lemmas.Common.{Some, None, ◌≡◌, ◌≢◌, ℕ, ◌+◌, ◌-◌, ◌<◌, ◌≤◌, ◌⊎◌, min, [], ◌∷◌, ◌++◌, inl, inr, sym, refl, ap, ap₂, ◌∙◌, arith, append_assoc, cases_lt, size-append, sum_by-append, sum_by-cons, sum_by-le-sum_by, len_utf8, line_feed, Scheme, cut, cut_is_longest, weighed_at, weighed-le-weighed, from-to, to-from_is_greatest, to_byte_idx-le-size, from_byte_idx-all, from_byte_idx-le, from_byte_idx-le-count, count-le-size, IsBoundary, IsGreatestBoundary, Text, size, count, from_byte_idx, to_byte_idx, weighed, boundary_weighed, units_of, units_of-le, units_of-some, carriage_return, chars, scheme_of, line_end, position_at, byte_at, exact_byte_at, IsPart, HasByte, HasLine, HasUnits, Part, Position, Encoding, LineType}
+use Rattle.positions.proofs.lemmas.Common.{Some, None, ◌≡◌, ◌≢◌, ℕ, ◌+◌, ◌-◌, ◌<◌, ◌≤◌, ◌⊎◌, min, [], ◌∷◌, ◌++◌, inl, inr, sym, refl, ap, ap₂, ◌∙◌, arith, append_assoc, cases_lt, size-append, sum_by-append, sum_by-cons, sum_by-le-sum_by, len_utf8, line_feed, Scheme, cut, cut_is_longest, weighed_at, weighed-le-weighed, from-to, to-from_is_greatest, to_byte_idx-le-size, from_byte_idx-all, from_byte_idx-le, from_byte_idx-le-count, count-le-size, IsBoundary, IsGreatestBoundary, Text, size, count, from_byte_idx, to_byte_idx, weighed, boundary_weighed, units_of, units_of-le, carriage_return, chars, scheme_of, line_end, position_at, byte_at, exact_byte_at, IsPart, HasByte, HasLine, Part, Position, Encoding, LineType}
 use Rattle.positions.proofs.lemmas.Kinds.{not_utf16, none_before}
 use Rattle.positions.proofs.lemmas.Lines.{IsBoundary-line_end, begins_behind}
 use Rattle.positions.proofs.lemmas.Starts.{weighed_behind, weighed_none}
 use Rattle.positions.proofs.lemmas.Units.{units_of_position, byte_of_units, units_at_place, exact_by_units, not_exact_by_units}
 use Rattle.positions.proofs.lemmas.OnLines.{middle_above, weighed_on_line, weighed_behind_line}
 use Rattle.positions.proofs.lemmas.Breaks.{next_above, ends_before_return, ends_before_last}
-use Rattle.positions.proofs.lemmas.PartsOf.{ends_within, boundary_in, boundary_of, line_in_part, start_in_part, units_in_part, place_in_part}
+use Rattle.positions.proofs.lemmas.PartsOf.{ends_within, greatest_in_part, line_in_part, start_in_part, units_in_part}
 use Rattle.positions.proofs.lemmas.Rests.{byte_told, exact_told, none_told}
 
 -- a text has no more units than bytes
@@ -62,9 +62,9 @@ module _ (cs : Text) (l : LineType) (e : Encoding) (part : Part) (is : IsPart cs
   part_within = ends_within cs is.front own is.back part.start is.split is.start
 
   -- the units of the text up to a place in the part
-  pub units_at : (at : ℕ) → at ≤ size own → part.units + weighed w own at ≡ weighed w cs (part.start + at)
-  units_at at within =
-      sym (units_in_part cs is.front own is.back part.start is.split is.start w part.units is.units at (inl within))
+  pub units_at : (at : ℕ) → at ≤ size own → weighed w cs part.start + weighed w own at ≡ weighed w cs (part.start + at)
+  units_at at within = sym (units_in_part cs is.front own is.back part.start is.split is.start w (weighed w cs part.start) refl at
+      (inl within))
 
   -- where a line begins that begins in the part
   pub lines_within : (line : ℕ) → HasLine cs l line part → part.lines ≤ line
@@ -77,15 +77,6 @@ module _ (cs : Text) (l : LineType) (e : Encoding) (part : Part) (is : IsPart cs
       → part.start + to_byte_idx s own (line - part.lines) ≡ to_byte_idx s cs line
   line_place line round =
       sym (start_in_part cs is.front own is.back part.start is.split is.start l part.lines is.lines line round.after round.before)
-
-  -- and k units that end in it
-  pub units_within_part : (k : ℕ) → HasUnits cs e k part → part.units ≤ k
-  units_within_part k round = round.after
-
-  pub units_place : (k : ℕ) → HasUnits cs e k part
-      → part.start + boundary_weighed w own (k - part.units) ≡ boundary_weighed w cs k
-  units_place k round = sym (place_in_part cs is.front own is.back part.start is.split is.start w part.units is.units
-      (units_of-some e) k (units_within_part k round) round.before)
 
   -- the end of a line, by where the next one begins in the part
   module _ (line next : ℕ) (round : HasLine cs l (line + 1) part) (place : part.start + next ≡ to_byte_idx s cs (line + 1))
@@ -110,17 +101,10 @@ module _ (cs : Text) (l : LineType) (e : Encoding) (part : Part) (is : IsPart cs
       last_inside = omega (arith, greatest.at_or_before, next_within, next_in_part)
 
       last_in_text : IsGreatestBoundary cs (to_byte_idx s cs (line + 1) - 1) (part.start + last)
-      last_in_text = record {
-        boundary = boundary_in cs is.front own is.back part.start is.split is.start last greatest.boundary;
-        at_or_before = omega (arith, greatest.at_or_before, place, next_in_part);
-        greatest = λ q there before. elim (cases_lt q part.start) [
-          | inl early ↦ omega (arith, early)
-          | inr from ↦
-              let own_q = boundary_of cs is.front own is.back part.start is.split is.start q there from
-              (omega (arith, before, place, next_within)) in
-              omega (arith, greatest.greatest (q - part.start) own_q (omega (arith, before, place)), from)
-        ];
-      }
+      last_in_text =
+          let before : to_byte_idx s cs (line + 1) - 1 - part.start ≡ next - 1 = omega (arith, place) in
+          greatest_in_part cs is.front own is.back part.start is.split is.start (to_byte_idx s cs (line + 1) - 1) last
+          (omega (arith, place, next_in_part)) (inl (omega (arith, place, next_in_part, next_within))) (rw before greatest)
 
       pub return_within : (n : ℕ) → IsReturnBehind l cs (part.start + last) n → n ≤ part.start + last
       return_within n (inl (one, (_, middle))) = omega (arith, one, middle_above cs (part.start + last) middle)

@@ -1,5 +1,6 @@
 -- The names that the proofs here cite most, passed on from one place. Declares nothing.
 pub use Rattle.std.proofs.Common.{◌==◌, Some, None, Option, ◌≡◌, ℕ, zero, suc, ◌+◌, ◌-◌, ◌*◌, ◌^◌, ◌<◌, ◌≤◌, ◌↔◌, min, Bool, true, false, cond, not, IsTrue, ◌≢◌, ◌⊎◌, List, [], ◌∷◌, ◌++◌, length, take, drop, nat_le, IsUtf8, sum_by, count_by, chars, IsCharBoundary, sym, refl, ap, ap₂, ◌∙◌, subst, inl, inr, append_assoc, append-nil, arith, take-append-drop, length-take-le, le_refl, pow-add, pow_pos, mul-le-mul, true≢false}
+pub use Rattle.std.proofs.Math.Nat.{zero-add, add-zero}
 pub use Rattle.std.proofs.Math.Seq.{drop-append_seam}
 pub use Rattle.std.proofs.lemmas.Bool.{cases_lt, cases_Bool}
 pub use Rattle.std.proofs.lemmas.List.{append_cancel_left}
@@ -25,7 +26,7 @@ pub use Rattle.position_mapper.specs.declared.Range.{Range}
 pub use Rattle.position_mapper.specs.declared.encodings.Encoding.{Encoding}
 pub use Rattle.positions.specs.Lines.{scheme_of, is_break, line_content, line_end}
 pub use Rattle.positions.specs.Positions.{units_on_line, position_at, byte_at, is_exact, exact_byte_at, byte_range_at}
-pub use Rattle.positions.specs.Parts.{PartsState, IsSearched, Took, HasEnds, IsPart, HasByte, HasLine, HasUnits}
+pub use Rattle.positions.specs.Parts.{PartsState, IsSearched, Took, IsPart, HasByte, HasLine}
 pub use Rattle.positions.specs.Units.{unit_scheme}
 pub use Rattle.positions.specs.declared.line_type.LineType.{LineType}
 pub use Rattle.positions.specs.declared.parts.Part.{Part}

@@ -2,9 +2,11 @@
 use Rattle.position_mapper.proofs.lemmas.Callers.{boundary_within, split_at_first}
 use Rattle.positions.specs.Characters.{IsBackOf}
 use Rattle.positions.specs.Units.{HasSameUnits}
-use Rattle.positions.proofs.lemmas.Common.{◌≡◌, ℕ, ◌+◌, ◌≤◌, [], ◌++◌, sym, refl, ap, ◌∙◌, arith, append_assoc, append-nil, sum_by, sum_by-append, sum_by-le-sum_by, cut, cut_is_longest, is_joined, Text, size, count, from_byte_idx, from-to, IsBoundary, Option, Some, None, subst, to_byte_idx, to_byte_idx-zero, weighed, boundary_weighed, boundary_weighed_is_greatest, boundary_weighed_iff, units_of, scheme_of, is_break, line_content, byte_at, Encoding, LineType}
+use Rattle.positions.specs.Parts.{HasOwn}
+use Rattle.positions.specs.declared.parts.Own.{Own}
+use Rattle.positions.proofs.lemmas.Common.{◌≡◌, ℕ, ◌+◌, ◌≤◌, [], ◌++◌, sym, refl, ap, ◌∙◌, arith, append_assoc, append-nil, sum_by, sum_by-append, sum_by-le-sum_by, cut, cut_is_longest, is_joined, Text, size, count, from_byte_idx, from-to, IsBoundary, Option, Some, None, subst, to_byte_idx, to_byte_idx-zero, weighed, boundary_weighed, boundary_weighed_is_greatest, boundary_weighed_iff, units_of, scheme_of, is_break, line_content, byte_at, chars, IsPart, Part, Encoding, LineType}
 use Rattle.positions.proofs.lemmas.Lines.{line_end_past}
-use Rattle.std.specs.Prelude.{IfSome}
+use Rattle.std.specs.Prelude.{IfSome, IsSome}
 use Rattle.positions.proofs.lemmas.Kinds.{not_utf16, none_before}
 use Rattle.positions.proofs.lemmas.Starts.{weighed_all, weighed_none, first_content}
 use Rattle.positions.proofs.lemmas.Units.{byte_of_units}
@@ -104,7 +106,17 @@ all_units e text rest at k few is =
     (omega (arith, weighed_all w rest, few, ap (sum_by w) is.parts, sum_by-append w is.front rest)) in
     omega (arith, most, boundary_within rest (boundary_weighed w rest k) (boundary_weighed_is_greatest w rest k).boundary)
 
+-- what there is may not be none
+pub not_none : (may : Option ℕ) → may ≡ None → ¬ (IsSome may)
+not_none (Some n) is some = cc
+not_none None is some = cc
+
 -- what holds of what there may be holds of what there is
 pub some_is : {A : Type 0} (P : A → Type 0) (may : Option A) (is : A) → IfSome may P → may ≡ Some is → P is
 some_is {A} P (Some a) is holds same = let here : a ≡ is = cc in subst P here holds
 some_is P None is holds same = cc
+
+-- so of what a part has
+pub own_is : (cs : Text) (l : LineType) (e : Encoding) (part : Part) (own : Own) → IsPart cs l e part → part.own ≡ Some own
+    → HasOwn l e (chars part.text.now) own
+own_is cs l e part own is told = some_is (HasOwn l e (chars part.text.now)) part.own own is.own told

@@ -1,6 +1,6 @@
 -- What a part of a text tells of the text: what is counted in it adds to what is before it.
 use Rattle.position_mapper.proofs.lemmas.Callers.{boundary_within}
-use Rattle.positions.proofs.lemmas.Common.{◌≡◌, ℕ, ◌+◌, ◌-◌, ◌<◌, ◌≤◌, ◌⊎◌, [], ◌∷◌, ◌++◌, inl, inr, sym, refl, ap, ◌∙◌, arith, append-nil, size-append, size-cons, len_utf8_bounds, boundary_weighed_is_greatest, boundary_weighed_iff, boundary_weighed-le, weighed_is_greatest_boundary, IsBoundary-before, IsBoundary-behind, IsBoundary-either, is_joined, seam_loss, IsBoundary, Text, size, count, from_byte_idx, to_byte_idx, weighed, boundary_weighed, scheme_of, LineType}
+use Rattle.positions.proofs.lemmas.Common.{◌≡◌, ℕ, ◌+◌, ◌-◌, ◌<◌, ◌≤◌, ◌⊎◌, [], ◌∷◌, ◌++◌, inl, inr, sym, refl, ap, ◌∙◌, arith, append-nil, size-append, size-cons, len_utf8_bounds, IsBoundary-before, IsBoundary-behind, IsBoundary-either, is_joined, seam_loss, cases_lt, IsGreatestBoundary, IsBoundary, Text, size, count, from_byte_idx, to_byte_idx, weighed, scheme_of, LineType}
 use Rattle.positions.proofs.lemmas.Kinds.{none_before}
 use Rattle.positions.proofs.lemmas.Starts.{weighed_before, weighed_behind, weighed_none}
 
@@ -48,6 +48,23 @@ module _ (cs front part back : Text) (start : ℕ) (split : cs ≡ front ++ (par
               }
             ]
       ]
+
+  -- the greatest boundary of the part up to a byte in it is that of the text
+  pub greatest_in_part : (byte p : ℕ) → start ≤ byte → (byte < start + size part) ⊎ (start + size part ≡ size cs)
+      → IsGreatestBoundary part (byte - start) p → IsGreatestBoundary cs byte (start + p)
+  greatest_in_part byte p after round own = record {
+    boundary = boundary_in p own.boundary;
+    at_or_before = omega (arith, own.at_or_before, after);
+    greatest = λ q there before. elim (cases_lt q start) [
+      | inl early ↦ omega (arith, early)
+      | inr from ↦
+          let within : q ≤ start + size part = elim round [
+            | inl inside ↦ omega (arith, before, inside)
+            | inr last ↦ omega (arith, last, boundary_within cs q there)
+          ] in
+          omega (arith, own.greatest (q - start) (boundary_of q there from within) (omega (arith, before)), from)
+    ];
+  }
 
   module _ (l : LineType) (lines : ℕ) (lines_is : lines ≡ from_byte_idx (scheme_of l) cs start) where
     -- of the breaks that end before the part and in it, those before it are told
@@ -155,33 +172,3 @@ module _ (cs front part back : Text) (start : ℕ) (split : cs ≡ front ++ (par
           units_is,
           in_rest,
         )
-
-    -- where k units end that end in the part
-    pub place_in_part : ((c : ℕ) → 0 < w c) → (k : ℕ) → units ≤ k
-        → (k ≤ weighed w cs (start + size part)) ⊎ (start + size part ≡ size cs)
-        → boundary_weighed w cs k ≡ start + boundary_weighed w part (k - units)
-    place_in_part some k after before =
-        let g = boundary_weighed w part (k - units) in
-        let h = boundary_weighed w cs k in
-        let own = (boundary_weighed_is_greatest w part (k - units)).boundary in
-        let all = (boundary_weighed_is_greatest w cs k).boundary in
-        let g_within = boundary_within part g own in
-        let fits = (boundary_weighed_iff w part g (k - units) own).0 (omega arith) in
-        let least : start + g ≤ h = (boundary_weighed_iff w cs (start + g) k (boundary_in g own)).1
-        (omega (arith, units_in_part g (inl g_within), fits, after)) in
-        let most : h ≤ start + size part = elim before [
-          | inr last ↦ omega (arith, last, boundary_within cs h all)
-          | inl reached ↦
-              let end = weighed_is_greatest_boundary w some cs (start + size part) in
-              omega (
-                arith,
-                boundary_weighed-le w cs k (weighed w cs (start + size part)) reached,
-                end.at_or_before,
-              )
-        ] in
-        let there : IsBoundary part (h - start) = boundary_of h all (omega (arith, least)) most in
-        let whole : start + (h - start) ≡ h = omega (arith, least) in
-        let few = (boundary_weighed_iff w cs h k all).0 (omega arith) in
-        let up = (boundary_weighed_iff w part (h - start) (k - units) there).1
-        (omega (arith, units_in_part (h - start) (inl (omega (arith, most))), ap (weighed w cs) whole, few)) in
-        omega (arith, least, up)

@@ -6,9 +6,11 @@ use Rattle.positions.proofs.lemmas.Common.{◌≡◌, ℕ, ◌+◌, ◌-◌, ◌
 pub none_taken : (state : PartsState) → Took 0 0 state state
 none_taken state = record {
   text = refl;
+  pieces = refl;
   begins = refl;
   by_byte = refl;
   by_count = refl;
+  apart = refl;
   looks = let still : state.looks - state.looks ≡ 0 = omega arith in
       omega (
         arith,
@@ -31,9 +33,11 @@ taken_after {i} {j} {k} {m} {a} {b} {c} first next =
     let both = mul-le-mul first.looks later in
     record {
       text = next.text ∙ first.text;
+      pieces = next.pieces ∙ first.pieces;
       begins = next.begins ∙ first.begins;
       by_byte = next.by_byte ∙ first.by_byte;
       by_count = next.by_count ∙ first.by_count;
+      apart = next.apart ∙ first.apart;
       looks = rw (
         sym together,
         pow-add 2 (b.looks - a.looks) (c.looks - b.looks),
@@ -53,14 +57,21 @@ taken_within {i} {j} {k} {m} {a} {b} some le more took =
     let count = pow-le-pow_right some.by_count more in
     record {
       text = took.text;
+      pieces = took.pieces;
       begins = took.begins;
       by_byte = took.by_byte;
       by_count = took.by_count;
+      apart = took.apart;
       looks = omega (arith, took.looks, mul-le-mul byte count);
       looks_kept = took.looks_kept;
       reads = omega (arith, took.reads, le, more);
       reads_kept = took.reads_kept;
     }
+
+-- some, and then others, at most these together
+pub taken_both : {i j k m p q : ℕ} {a b c : PartsState} → IsSearched a → Took i j a b → Took k m b c → i + k ≤ p → j + m ≤ q
+    → Took p q a c
+taken_both some first next le more = taken_within some le more (taken_after first next)
 
 -- a search leaves what another may take
 pub searched_before : {i j : ℕ} {a b : PartsState} → Took i j a b → IsSearched b → IsSearched a

@@ -11,17 +11,17 @@ use Rattle.position_mapper.specs.Encodings.{units_of}
 use Rattle.position_mapper.specs.declared.encodings.Encoding.{Encoding}
 use Rattle.position_mapper.specs.declared.encodings.Encoding.TheVariants.{Utf8, Utf16, Utf32}
 use Rattle.positions.proofs.lemmas.Callers.{none_before}
-use Rattle.positions.specs.Lines.{HasSameBreaks, scheme_of}
-use Rattle.positions.specs.Parts.{Took, HasByte, HasLine, HasUnits}
+use Rattle.positions.specs.Lines.{scheme_of}
+use Rattle.positions.specs.Parts.{HasOwn, Took, HasByte, HasLine}
 use Rattle.positions.specs.Parts as parts
-use Rattle.positions.specs.Units.{unit_scheme, HasSameUnits}
+use Rattle.positions.specs.Units.{unit_scheme}
+use Rattle.positions.specs.declared.parts.Own.{Own}
 use Rattle.positions.specs.declared.line_type.LineType.{LineType}
-use Rattle.positions.specs.declared.parts.Ends.{Ends}
 use Rattle.positions.specs.declared.parts.Part.{Part}
-use Rattle.text_index.proofs.lemmas.Common.{◌≡◌, ℕ, ◌+◌, ◌-◌, ◌*◌, ◌^◌, ◌≤◌, inl, inr, true, false, ◌++◌, sym, refl, ap, subst, ◌∙◌, arith, chars, Text, size, Scheme, Chars, Utf16, from_byte_idx, is_joined, stretches_of, count_at, IsBoundary, IsMark, IsPart, IsStretch, HasPlace, Reaches, Mark, Stretch, MarksState, parts_of, Asked}
-use Rattle.text_index.proofs.lemmas.Marking.{no_loss, nothing_before}
-use Rattle.text_index.proofs.lemmas.Placing.{join_of_middle}
-use Rattle.text_index.proofs.lemmas.Answering.{between, adds_up}
+use Rattle.text_index.proofs.lemmas.Common.{◌≡◌, ℕ, ◌+◌, ◌-◌, ◌*◌, ◌^◌, ◌≤◌, inl, inr, true, false, [], ◌∷◌, ◌++◌, sym, refl, ap, subst, ◌∙◌, arith, chars, Text, size, Scheme, Chars, Utf16, from_byte_idx, is_joined, stretches_of, count_at, IsBoundary, IsMark, IsPart, IsStretch, HasPlace, Reaches, Mark, Stretch, MarksState, parts_of, Asked}
+use Rattle.text_index.proofs.lemmas.Marking.{no_loss}
+use Rattle.positions.proofs.lemmas.Callers.{join_of_middle}
+use Rattle.text_index.proofs.lemmas.Answering.{between}
 
 -- a mark counts what ends at or before its place
 pub count_at_mark : (l : LineType) (text : Text) (mark : Mark) → IsMark text mark
@@ -59,45 +59,44 @@ module _ (text : Text) (mark : Mark) (is : IsMark text mark) where
       let same : s ≡ Chars = cc in
       rw same (is.counts Chars ∙ count_characters is.front ∙ sym (weighed_at (λ _. 1) text mark.byte at_mark))
 
+-- the units of its own are those that its marks differ by
+pub units_between : (e : Encoding) (text own : Text) (stretch : Stretch) → IsStretch text stretch
+    → IsPart text stretch.start.now.byte stretch.end.now.byte own
+    → weighed (units_of e) text stretch.start.now.byte + sum_by (units_of e) own ≡ weighed (units_of e) text stretch.end.now.byte
+units_between e text own stretch is part =
+    let w = units_of e in
+    let first = is.start in
+    let last = is.end in
+    omega (
+      arith,
+      weighed_at w text stretch.start.now.byte (at_mark text stretch.start.now first),
+      weighed_at w text stretch.end.now.byte (at_mark text stretch.end.now last),
+      ap (sum_by w) (between text own stretch is part).front,
+      sum_by-append w first.front own,
+    )
+
 -- a stretch is a part of the text, by the counts of its marks
 pub part_of_stretch : (l : LineType) (e : Encoding) (text : Text) (stretch : Stretch) (part : Part) → IsStretch text stretch
     → IsPart text stretch.start.now.byte stretch.end.now.byte (chars part.text.now)
     → part.start ≡ stretch.start.now.byte → part.lines ≡ count_at stretch.start.now (scheme_of l)
-    → part.units ≡ weighed (units_of e) text stretch.start.now.byte → part.in_crlf ≡ false
-    → (ends : Ends) → part.ends ≡ Some ends → ends.lines ≡ count_at stretch.end.now (scheme_of l)
-    → ends.units ≡ weighed (units_of e) text stretch.end.now.byte → HasSameBreaks l ends.kind (chars part.text.now)
-    → HasSameUnits e ends.encoding (chars part.text.now) → parts.IsPart text l e part
-part_of_stretch l e text stretch part is own start lines units in_crlf ends some ends_lines ends_units kind encoding =
-    let adds = adds_up text (chars part.text.now) stretch is own in
+    → (units : ℕ) → part.units ≡ Some units → units ≡ weighed (units_of e) text stretch.start.now.byte → part.in_crlf ≡ false
+    → (own : Own) → part.own ≡ Some own → HasOwn l e (chars part.text.now) own → parts.IsPart text l e part
+part_of_stretch l e text stretch part is own start lines units has units_is in_crlf has_own told are =
     let first = is.start in
-    let last = is.end in
-    let w = units_of e in
     record {
       front = own.front;
       back = own.back;
       split = own.parts;
       start = own.start ∙ sym start;
       lines = lines ∙ count_at_mark l text stretch.start.now first ∙ ap (from_byte_idx (scheme_of l) text) (sym start);
-      units = units ∙ ap (weighed (units_of e) text) (sym start);
+      units = subst (λ may. IfSome may (λ n. n ≡ weighed (units_of e) text part.start)) (sym has)
+          (units_is ∙ ap (weighed (units_of e) text) (sym start));
       in_crlf = (
         λ middle. let clash : true ≡ false = sym middle ∙ in_crlf in cc,
         λ middle. absurd (true≢false (sym (join_of_middle text first.front first.back part.start first.split
             (sym first.byte ∙ sym start) middle) ∙ first.whole)),
       );
-      ends = subst (λ may. IfSome may (parts.HasEnds l e part)) (sym some) (record {
-        lines = omega (arith, lines, ends_lines, adds.counts (scheme_of l));
-        units = omega (
-          arith,
-          units,
-          ends_units,
-          weighed_at w text stretch.start.now.byte (at_mark text stretch.start.now first),
-          weighed_at w text stretch.end.now.byte (at_mark text stretch.end.now last),
-          ap (sum_by w) (between text (chars part.text.now) stretch is own).front,
-          sum_by-append w first.front (chars part.text.now),
-        );
-        kind = kind;
-        encoding = encoding;
-      });
+      own = subst (λ may. IfSome may (HasOwn l e (chars part.text.now))) (sym told) are;
     }
 
 -- the part has what is asked for
@@ -140,93 +139,41 @@ has_line l text line stretch part reaches lines start end =
       ];
     }
 
-pub has_units : (e : Encoding) (s : Scheme) (text : Text) (k : ℕ) (stretch : Stretch) (part : Part)
-    → unit_scheme e ≡ Some s → Reaches s text k stretch → part.units ≡ weighed (units_of e) text part.start
-    → part.start ≡ stretch.start.now.byte → part.start + size (chars part.text.now) ≡ stretch.end.now.byte
-    → HasUnits text e k part
-has_units e s text k stretch part some reaches units start end =
-    let w = units_of e in
-    let first = units_by_scheme text stretch.start.now reaches.is.start e s some in
-    let last = units_by_scheme text stretch.end.now reaches.is.end e s some in
-    record {
-      after = elim reaches.past [
-        | inl past ↦ omega (arith, past, units, first, ap (weighed w text) start)
-        | inr none ↦ omega (
-          arith,
-          units,
-          first,
-          ap (weighed w text) start,
-          nothing_before text stretch.start.now reaches.is.start none s,
-        )
-      ];
-      before = elim reaches.reached [
-        | inl reached ↦ inl (omega (arith, reached, last, ap (weighed w text) end))
-        | inr all ↦ inr (end ∙ all)
-      ];
-    }
-
-pub has_bytes : (e : Encoding) (text : Text) (k : ℕ) (stretch : Stretch) (part : Part) → unit_scheme e ≡ None
-    → HasPlace text k stretch → part.units ≡ weighed (units_of e) text part.start
-    → part.start ≡ stretch.start.now.byte → part.start + size (chars part.text.now) ≡ stretch.end.now.byte
-    → HasUnits text e k part
-has_bytes e text k stretch part none place units start end =
-    let w = units_of e in
-    record {
-      after = omega (
-        arith,
-        place.after,
-        units,
-        units_by_bytes text stretch.start.now place.is.start e none,
-        ap (weighed w text) start,
-      );
-      before = elim place.before [
-        | inl inside ↦ inl (omega (
-          arith,
-          inside,
-          units_by_bytes text stretch.end.now place.is.end e none,
-          ap (weighed w text) end,
-        ))
-        | inr last ↦ inr (end ∙ last)
-      ];
-    }
-
 -- what a search takes
-module _ (old mid new : MarksState) (text : mid.text ≡ old.text) (kept : old.looks ≤ mid.looks) (reads : mid.reads ≡ old.reads)
-    (state : new ≡ record mid { reads = mid.reads + 1 }) where
+module _ (old new : MarksState) (text : new.text ≡ old.text) (kept : old.looks ≤ new.looks) (reads : new.reads ≤ old.reads + 1)
+    (reads_kept : old.reads ≤ new.reads) where
   abbrev most : ℕ
   most = 2 * stretches_of old.text
 
-  looks_are : new.looks - old.looks ≡ mid.looks - old.looks
-  looks_are = ap (λ m. m.looks - old.looks) state
-
-  read_one : new.reads ≡ old.reads + 1
-  read_one = ap (λ m. m.reads) state ∙ ap (λ n. n + 1) reads
-
-  pub took_byte : mid.looks ≤ old.looks + 2 → Took 1 0 (parts_of old) (parts_of new)
+  pub took_byte : new.looks ≤ old.looks + 2 → Took 1 0 (parts_of old) (parts_of new)
   took_byte few =
-      let two : new.looks - old.looks ≤ 2 = omega (arith, looks_are, few) in
+      let two : new.looks - old.looks ≤ 2 = omega (arith, few) in
       let four : 2 ^ (new.looks - old.looks) ≤ 2 ^ 2 = pow-le-pow_right (omega arith) two in
       record {
-        text = ap (λ m. m.text) state ∙ text;
+        text = text;
+        pieces = ap (λ t. t ∷ []) text;
         begins = refl;
         by_byte = refl;
-        by_count = ap (λ t. 2 * stretches_of t) (ap (λ m. m.text) state ∙ text);
+        by_count = ap (λ t. 2 * stretches_of t) text;
+        apart = refl;
         looks = omega (arith, four, ap (λ n. 4 * n) (pow-zero most));
-        looks_kept = omega (arith, kept, ap (λ m. m.looks) state);
-        reads = omega (arith, read_one);
-        reads_kept = omega (arith, read_one);
+        looks_kept = kept;
+        reads = omega (arith, reads);
+        reads_kept = reads_kept;
       }
 
-  pub took_count : 2 ^ (mid.looks - old.looks) ≤ most → Took 0 1 (parts_of old) (parts_of new)
+  pub took_count : 2 ^ (new.looks - old.looks) ≤ most → Took 0 1 (parts_of old) (parts_of new)
   took_count few = record {
-    text = ap (λ m. m.text) state ∙ text;
+    text = text;
+    pieces = ap (λ t. t ∷ []) text;
     begins = refl;
     by_byte = refl;
-    by_count = ap (λ t. 2 * stretches_of t) (ap (λ m. m.text) state ∙ text);
-    looks = omega (arith, ap (λ n. 2 ^ n) looks_are, few, pow-suc most 0, ap (λ n. n * most) (pow-zero most));
-    looks_kept = omega (arith, kept, ap (λ m. m.looks) state);
-    reads = omega (arith, read_one);
-    reads_kept = omega (arith, read_one);
+    by_count = ap (λ t. 2 * stretches_of t) text;
+    apart = refl;
+    looks = omega (arith, few, pow-suc most 0, ap (λ n. n * most) (pow-zero most));
+    looks_kept = kept;
+    reads = omega (arith, reads);
+    reads_kept = reads_kept;
   }
 
 -- what searches took, by the marks

@@ -1,5 +1,9 @@
-use Rattle.positions.proofs.lemmas.{◌≡◌, ◌-◌, ◌∙◌, ap, arith, take, chars, size, before_first, is_break, cut, byte_on_first, chars-take}
+use Rattle.positions.proofs.lemmas.{◌≡◌, ◌-◌, ◌∙◌, ap, arith, take, chars, size, before_first, is_break, cut, byte_on_first, byte_of_plain, chars-take}
 use Rattle.positions.proofs.first_lines.place_within.Goals as goal
+
+pub returns-then-is_after_plain : goal.returns-then-is_after_plain
+returns-then-is_after_plain c = byte_of_plain c.args.lines c.args.encoding (chars c.args.text.now) c.args.character
+    (c.is_after_plain.ensures c.if-is_after_plain.true).1
 
 pub returns : goal.returns
 returns c =

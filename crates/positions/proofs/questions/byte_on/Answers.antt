@@ -1,4 +1,4 @@
-use Rattle.positions.proofs.lemmas.{sym, subst, refl, arith, chars, byte_at, IsBoundary, part_within, place_told, boundary_within, IsBoundary-byte_at, none_taken, taken_within}
+use Rattle.positions.proofs.lemmas.{◌∙◌, ap, sym, subst, refl, arith, chars, byte_at, IsBoundary, part_within, place_told, boundary_within, IsBoundary-byte_at, add-zero, none_taken, taken_within, taken_after}
 use Rattle.positions.proofs.questions.byte_on.Goals as goal
 
 pub tells-requires : goal.tells-requires
@@ -51,7 +51,10 @@ returns-then-tells-clause-cost g c =
 pub units_up_to-before_line-requires : goal.units_up_to-before_line-requires
 units_up_to-before_line-requires g c = λ k. (
   (refl, tt),
-  (c.requires.part, boundary_within (chars c.args.start.now.part.text.now) c.args.start.now.own c.requires.boundary),
+  (
+    c.requires.part,
+    (c.requires.units, boundary_within (chars c.args.start.now.part.text.now) c.args.start.now.own c.requires.boundary),
+  ),
 )
 
 pub returns-clause-boundary : goal.returns-clause-boundary
@@ -59,4 +62,10 @@ returns-clause-boundary g c =
     let cs = (g.P.Parts.state c.args.parts.now).text in
     let l = c.args.lines in
     let e = c.args.encoding in
-    subst (IsBoundary cs) (sym c.byte_after.ensures.answer) (IsBoundary-byte_at l e cs c.args.position)
+    let is = c.byte_after.ensures.answer ∙ ap (λ t. byte_at l e t c.args.position) c.units_up_to-before_line.ensures.cost.text in
+    subst (IsBoundary cs) (sym is) (IsBoundary-byte_at l e cs c.args.position)
+
+pub returns-clause-cost : goal.returns-clause-cost
+returns-clause-cost g c =
+    let before = c.units_up_to-before_line.ensures.cost in
+    rw (add-zero) at (taken_after before c.byte_after.ensures.cost)

@@ -1,4 +1,4 @@
-use Rattle.positions.proofs.lemmas.{◌≡◌, ◌∙◌, ap, arith, byte_at, byte_at-le, none_taken, taken_within, taken_after}
+use Rattle.positions.proofs.lemmas.{◌≡◌, ◌∙◌, ap, arith, byte_at, byte_at-le, none_taken, taken_within, taken_after, taken_both}
 use Rattle.positions.proofs.questions.byte_range.Goals as goal
 
 pub returns-then-not-is_at_or_before-clause-cost : goal.returns-then-not-is_at_or_before-clause-cost
@@ -21,8 +21,10 @@ returns-then-start-end-clause-ordered g c =
 
 pub returns-then-start-end-clause-cost : goal.returns-then-start-end-clause-cost
 returns-then-start-end-clause-cost g c =
-    taken_within c.len-len.ensures.searched (omega arith) (omega arith)
-    (taken_after (taken_after c.line_in-first.ensures.cost c.byte_on-from.ensures.cost) c.byte_on-to.ensures.cost)
+    let first = c.line_in-first.ensures.cost in
+    let from = c.byte_on-from.ensures.cost in
+    taken_both c.len-len.ensures.searched (taken_after first from) c.byte_on-to.ensures.cost
+    (omega (arith, first.apart, from.apart)) (omega arith)
 
 pub returns-clause-ordered : goal.returns-clause-ordered
 returns-clause-ordered g c =
@@ -40,5 +42,7 @@ returns-clause-ordered g c =
 
 pub returns-clause-cost : goal.returns-clause-cost
 returns-clause-cost g c =
-    taken_within c.len-len.ensures.searched (omega arith) (omega arith)
-    (taken_after (taken_after c.line_in-first.ensures.cost c.byte_on-from.ensures.cost) c.byte_of-to.ensures.cost)
+    let first = c.line_in-first.ensures.cost in
+    let from = c.byte_on-from.ensures.cost in
+    taken_both c.len-len.ensures.searched (taken_after first from) c.byte_of-to.ensures.cost
+    (omega (arith, first.apart, from.apart)) (omega arith)

@@ -1,4 +1,4 @@
-use Rattle.positions.proofs.lemmas.{◌∙◌, ap, sym, same_behind, weighed_same, subst, refl, arith, chars, byte_at, exact_byte_at, IsBoundary, boundary_within, IsBoundary-byte_at, part_within, place_told, exact_place, no_place, none_taken, taken_within, taken_after}
+use Rattle.positions.proofs.lemmas.{◌∙◌, ap, sym, same_behind, weighed_same, subst, refl, arith, chars, byte_at, exact_byte_at, IsBoundary, boundary_within, IsBoundary-byte_at, part_within, place_told, exact_place, no_place, none_taken, taken_within, taken_both}
 use Rattle.positions.proofs.questions.exact_byte_of.Goals as goal
 
 pub returns-then-count-position-clause-cost : goal.returns-then-count-position-clause-cost
@@ -93,4 +93,6 @@ pub returns-clause-boundary : goal.returns-clause-boundary
 returns-clause-boundary g c = rw c.line_in-start.ensures.cost.text at c.exact_byte_after.ensures.boundary
 
 pub returns-clause-cost : goal.returns-clause-cost
-returns-clause-cost g c = taken_after c.line_in-start.ensures.cost c.exact_byte_after.ensures.cost
+returns-clause-cost g c =
+    let first = c.line_in-start.ensures.cost in
+    taken_both c.len-len.ensures.searched first c.exact_byte_after.ensures.cost (omega (arith, first.apart)) (omega arith)

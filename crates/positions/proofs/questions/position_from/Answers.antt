@@ -1,4 +1,4 @@
-use Rattle.positions.proofs.lemmas.{◌≡◌, ◌+◌, ◌-◌, ◌<◌, ◌⊎◌, ◌∙◌, min, ap, sym, refl, same_behind, weighed_same, inl, inr, arith, chars, size, units_of, weighed, to_byte_idx, from_byte_idx, scheme_of, at_within, at_round, line_told, lines_short, line_before, return_before, position_told, start_before, units_from_start, return_and_line, position_cut, taken_within, none_taken}
+use Rattle.positions.proofs.lemmas.{◌≡◌, ◌+◌, ◌-◌, ◌<◌, ◌⊎◌, ◌∙◌, min, ap, sym, refl, same_behind, weighed_same, inl, inr, arith, chars, size, units_of, weighed, to_byte_idx, from_byte_idx, scheme_of, at_within, at_round, line_told, lines_short, line_before, return_before, position_told, start_before, units_from_start, return_and_line, position_cut, taken_within, taken_both, none_taken}
 use Rattle.positions.proofs.questions.position_from.Goals as goal
 
 pub overflow_sub-byte : goal.overflow_sub-byte
@@ -10,7 +10,7 @@ overflow_add-line g c =
     let l = c.args.lines in
     let e = c.args.encoding in
     let byte = c.args.byte in
-    let part = c.args.part in
+    let part = c.args.part.now in
     let is = c.requires.part in
     let round = c.requires.round in
     let at = c.min-at.result in
@@ -26,7 +26,7 @@ line_start-start-requires g c =
     let l = c.args.lines in
     let e = c.args.encoding in
     let byte = c.args.byte in
-    let part = c.args.part in
+    let part = c.args.part.now in
     let is = c.requires.part in
     let round = c.requires.round in
     let at = c.min-at.result in
@@ -42,7 +42,7 @@ overflow_sub-at g c =
     let l = c.args.lines in
     let e = c.args.encoding in
     let byte = c.args.byte in
-    let part = c.args.part in
+    let part = c.args.part.now in
     let is = c.requires.part in
     let round = c.requires.round in
     let at = c.min-at.result in
@@ -59,7 +59,7 @@ overflow_sub-result g c =
     let l = c.args.lines in
     let e = c.args.encoding in
     let byte = c.args.byte in
-    let part = c.args.part in
+    let part = c.args.part.now in
     let is = c.requires.part in
     let round = c.requires.round in
     let at = c.min-at.result in
@@ -90,7 +90,7 @@ returns-then-own-gt0-clause-answer g c =
     let l = c.args.lines in
     let e = c.args.encoding in
     let byte = c.args.byte in
-    let part = c.args.part in
+    let part = c.args.part.now in
     let is = c.requires.part in
     let round = c.requires.round in
     let at = c.min-at.result in
@@ -128,7 +128,7 @@ overflow_sub-units g c =
     let l = c.args.lines in
     let e = c.args.encoding in
     let byte = c.args.byte in
-    let part = c.args.part in
+    let part = c.args.part.now in
     let is = c.requires.part in
     let round = c.requires.round in
     let at = c.min-at.result in
@@ -139,7 +139,7 @@ overflow_sub-units g c =
     let line_is : part.lines + c.breaks_up_to-own.result ≡ from_byte_idx (scheme_of l) cs byte =
     omega (arith, counted, line_told cs l e part is byte round at at_is) in
     let behind = c.return_behind-behind.ensures cs l e is (at_round cs l e part is byte round at at_is) in
-    let units : c.units_up_to.result ≡ weighed (units_of e) cs (part.start + at) = c.units_up_to.ensures in
+    let units : c.units_up_to.result ≡ weighed (units_of e) cs (part.start + at) = c.units_up_to.ensures.answer in
     let begins = to_byte_idx (scheme_of l) cs (part.lines + c.breaks_up_to-own.result) in
     omega (
       arith,
@@ -153,7 +153,7 @@ overflow_sub-result-2 g c =
     let l = c.args.lines in
     let e = c.args.encoding in
     let byte = c.args.byte in
-    let part = c.args.part in
+    let part = c.args.part.now in
     let is = c.requires.part in
     let round = c.requires.round in
     let at = c.min-at.result in
@@ -164,11 +164,10 @@ overflow_sub-result-2 g c =
     let line_is : part.lines + c.breaks_up_to-own.result ≡ from_byte_idx (scheme_of l) cs byte =
     omega (arith, counted, line_told cs l e part is byte round at at_is) in
     let behind = c.return_behind-behind.ensures cs l e is (at_round cs l e part is byte round at at_is) in
-    let units : c.units_up_to.result ≡ weighed (units_of e) cs (part.start + at) = c.units_up_to.ensures in
-    let start = c.line_in-start in
-    let place = start.ensures.place in
-    let before = rw start.ensures.cost.text at c.units_up_to-before_line.ensures ∙ ap (weighed (units_of e) cs) place in
-    omega (arith, return_and_line cs l e part is byte round at at_is c.return_behind-behind.result behind (part.lines + c.breaks_up_to-own.result) c.units_up_to-before_line.result c.units_up_to.result line_is before units)
+    let units : c.units_up_to.result ≡ weighed (units_of e) cs (part.start + at) = c.units_up_to.ensures.answer in
+    let before = c.units_before_line-before_line.ensures.answer
+    ∙ ap (λ t. weighed (units_of e) t (to_byte_idx (scheme_of l) t (part.lines + c.breaks_up_to-own.result))) c.units_up_to.ensures.cost.text in
+    omega (arith, return_and_line cs l e part is byte round at at_is c.return_behind-behind.result behind (part.lines + c.breaks_up_to-own.result) c.units_before_line-before_line.result c.units_up_to.result line_is before units)
 
 pub returns-clause-answer : goal.returns-clause-answer
 returns-clause-answer g c =
@@ -176,7 +175,7 @@ returns-clause-answer g c =
     let l = c.args.lines in
     let e = c.args.encoding in
     let byte = c.args.byte in
-    let part = c.args.part in
+    let part = c.args.part.now in
     let is = c.requires.part in
     let round = c.requires.round in
     let at = c.min-at.result in
@@ -187,14 +186,16 @@ returns-clause-answer g c =
     let line_is : part.lines + c.breaks_up_to-own.result ≡ from_byte_idx (scheme_of l) cs byte =
     omega (arith, counted, line_told cs l e part is byte round at at_is) in
     let behind = c.return_behind-behind.ensures cs l e is (at_round cs l e part is byte round at at_is) in
-    let units : c.units_up_to.result ≡ weighed (units_of e) cs (part.start + at) = c.units_up_to.ensures in
-    let start = c.line_in-start in
-    let place = start.ensures.place in
-    let before = rw start.ensures.cost.text at c.units_up_to-before_line.ensures ∙ ap (weighed (units_of e) cs) place in
-    position_cut cs l e part is byte round at at_is c.return_behind-behind.result behind (part.lines + c.breaks_up_to-own.result) c.units_up_to-before_line.result c.units_up_to.result line_is before units
+    let units : c.units_up_to.result ≡ weighed (units_of e) cs (part.start + at) = c.units_up_to.ensures.answer in
+    let before = c.units_before_line-before_line.ensures.answer
+    ∙ ap (λ t. weighed (units_of e) t (to_byte_idx (scheme_of l) t (part.lines + c.breaks_up_to-own.result))) c.units_up_to.ensures.cost.text in
+    position_cut cs l e part is byte round at at_is c.return_behind-behind.result behind (part.lines + c.breaks_up_to-own.result) c.units_before_line-before_line.result c.units_up_to.result line_is before units
 
 pub returns-clause-cost : goal.returns-clause-cost
-returns-clause-cost g c = c.line_in-start.ensures.cost
+returns-clause-cost g c =
+    let first = c.units_up_to.ensures.cost in
+    taken_both c.len-len.ensures.searched first c.units_before_line-before_line.ensures.cost (omega (arith, first.apart))
+    (omega arith)
 
 pub returns-clause-near : goal.returns-clause-near
 returns-clause-near g c =
@@ -202,7 +203,7 @@ returns-clause-near g c =
     let l = c.args.lines in
     let e = c.args.encoding in
     let byte = c.args.byte in
-    let part = c.args.part in
+    let part = c.args.part.now in
     let is = c.requires.part in
     let round = c.requires.round in
     let at = c.min-at.result in
@@ -213,5 +214,5 @@ returns-clause-near g c =
     let none : from_byte_idx (scheme_of l) own at ≡ 0 = omega (arith, counted, c.if-own-gt0.false) in
     λ near. absurd (elim near [
       | inl before ↦ omega (arith, before, line_before cs l e part is byte round at at_is none)
-      | inr first ↦ c.if-part-eq0.false (first)
+      | inr first ↦ c.if-first.false (first)
     ])

@@ -2,7 +2,9 @@ use Rattle.positions.proofs.lemmas.{◌<◌, ◌⊎◌, ◌≡◌, inl, inr, ari
 use Rattle.positions.proofs.questions.position_of.Goals as goal
 
 pub returns-clause-cost : goal.returns-clause-cost
-returns-clause-cost g c = taken_after c.part_of_byte-part.ensures.cost c.position_from.ensures.cost
+returns-clause-cost g c =
+    let first = c.part_of_byte-part.ensures.cost in
+    rw first.apart at (taken_after first c.position_from.ensures.cost)
 
 pub returns-clause-near : goal.returns-clause-near
 returns-clause-near g c near =

@@ -26,7 +26,9 @@ returns-clause-some g c =
     ((λ _. place.0 c.if-not-is_place.false), λ _. refl)
 
 pub returns-clause-cost : goal.returns-clause-cost
-returns-clause-cost g c = taken_after c.part_of_byte-part.ensures.cost c.position_from.ensures.cost
+returns-clause-cost g c =
+    let first = c.part_of_byte-part.ensures.cost in
+    rw first.apart at (taken_after first c.position_from.ensures.cost)
 
 pub returns-then-not-is_place-clause-near : goal.returns-then-not-is_place-clause-near
 returns-then-not-is_place-clause-near g c near = c.part_of_byte-part.ensures.cost

@@ -1,5 +1,6 @@
+use Rattle.positions.proofs.lemmas.Callers.{join_of_middle, middle_of_join}
 use Rattle.std.proofs.Common.{true≢false}
-use Rattle.text_index.proofs.lemmas.{chars, sym, ◌∙◌, and_from, IsCharBoundary-from_boundary, IsBoundary-from_char_boundary, middle_of_join, join_of_middle, middle_is_boundary, and_parts}
+use Rattle.text_index.proofs.lemmas.{chars, sym, ◌∙◌, and_from, IsCharBoundary-from_boundary, IsBoundary-from_char_boundary, middle_is_boundary, and_parts}
 use Rattle.text_index.proofs.places.is_middle.Goals as goal
 
 pub returns-then-not-is_char_boundary : goal.returns-then-not-is_char_boundary

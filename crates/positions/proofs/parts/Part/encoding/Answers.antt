@@ -1,9 +1,14 @@
-use Rattle.positions.proofs.lemmas.{refl, HasEnds, some_is}
+use Rattle.positions.proofs.lemmas.{◌∙◌, sym, chars, own_is, as_bytes, as_chars}
 use Rattle.positions.proofs.parts.Part.encoding.Goals as goal
 
-pub returns-in-Some : goal.returns-in-Some
-returns-in-Some c = λ cs l is.
-    (some_is (HasEnds l c.args.encoding c.args.self.now) c.args.self.now.ends c.in-Some.ends is.ends c.in-Some.is).encoding
+pub returns-then-own-len_of : goal.returns-then-own-len_of
+returns-then-own-len_of c = λ cs l is.
+    let e = c.args.encoding in
+    let own = own_is cs l e c.args.self.now c.in-Some.own is c.in-Some.is in
+    as_bytes e (chars c.args.self.now.text.now) (sym own.units ∙ c.if-own-len_of.true ∙ c.len_of.ensures)
 
-pub returns-in-None : goal.returns-in-None
-returns-in-None c = λ cs l is front own back split. refl
+pub returns-then-own : goal.returns-then-own
+returns-then-own c = λ cs l is.
+    let e = c.args.encoding in
+    let own = own_is cs l e c.args.self.now c.in-Some.own is c.in-Some.is in
+    as_chars e (chars c.args.self.now.text.now) (sym own.units ∙ c.if-own.true ∙ own.chars)

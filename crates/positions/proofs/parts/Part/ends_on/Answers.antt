@@ -1,7 +1,11 @@
-use Rattle.std.proofs.lemmas.Bool.{eqb-true}
-use Rattle.positions.proofs.lemmas.{◌∙◌, HasEnds, some_is}
+use Rattle.std.proofs.lemmas.Bool.{leb-true}
+use Rattle.positions.proofs.lemmas.{arith, own_is}
 use Rattle.positions.proofs.parts.Part.ends_on.Goals as goal
 
 pub returns-in-Some : goal.returns-in-Some
-returns-in-Some c = λ cs l e is same.
-    (some_is (HasEnds l e c.args.self.now) c.args.self.now.ends c.in-Some.ends is.ends c.in-Some.is).lines ∙ eqb-true _ _ same
+returns-in-Some c = λ cs l e is same. omega (
+  arith,
+  (own_is cs l e c.args.self.now c.in-Some.own is c.in-Some.is).breaks,
+  c.saturating_sub.ensures,
+  leb-true _ _ same,
+)

@@ -1,8 +1,7 @@
-use Rattle.positions.proofs.lemmas.{refl, HasEnds, some_is}
+use Rattle.positions.proofs.lemmas.{◌∙◌, sym, chars, own_is, as_feeds}
 use Rattle.positions.proofs.parts.Part.kind.Goals as goal
 
 pub returns-in-Some : goal.returns-in-Some
-returns-in-Some c = λ cs e is. (some_is (HasEnds c.args.lines e c.args.self.now) c.args.self.now.ends c.in-Some.ends is.ends c.in-Some.is).kind
-
-pub returns-in-None : goal.returns-in-None
-returns-in-None c = λ cs e is. record { from = λ b. refl; to = λ n. refl }
+returns-in-Some c = λ cs e is.
+    let own = own_is cs c.args.lines e c.args.self.now c.in-Some.own is c.in-Some.is in
+    as_feeds c.args.lines (chars c.args.self.now.text.now) (sym own.breaks ∙ sym c.if-own.true ∙ own.lf)

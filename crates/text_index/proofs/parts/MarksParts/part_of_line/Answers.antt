@@ -1,4 +1,4 @@
-use Rattle.text_index.proofs.lemmas.{has_line, took_count}
+use Rattle.text_index.proofs.lemmas.{◌-◌, ◌*◌, ◌^◌, ◌≤◌, ◌∙◌, ap, arith, stretches_of, has_line, took_count}
 use Rattle.text_index.proofs.parts.MarksParts.part_of_line.Goals as goal
 
 pub returns-clause-round : goal.returns-clause-round
@@ -11,6 +11,10 @@ returns-clause-round c =
 
 pub returns-clause-cost : goal.returns-clause-cost
 returns-clause-cost c =
-    let stretch = c.stretch_up_to-stretch in
-    took_count c.args.self.now stretch.new.m c.part_in.new.m stretch.ensures.text stretch.ensures.looks_kept
-    stretch.ensures.reads c.part_in.ensures.state stretch.ensures.looks
+    let old = c.args.self.now in
+    let stretch = c.stretch_up_to-stretch.ensures in
+    let part = c.part_in.ensures in
+    let few : 2 ^ (c.part_in.new.m.looks - old.looks) ≤ 2 * stretches_of old.text =
+    omega (arith, stretch.looks, ap (λ n. 2 ^ (n - old.looks)) part.looks) in
+    took_count old c.part_in.new.m (part.kept ∙ stretch.text) (omega (arith, part.looks, stretch.looks_kept))
+    (omega (arith, part.reads, stretch.reads)) (omega (arith, part.reads, stretch.reads)) few
