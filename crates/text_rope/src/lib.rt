@@ -11,6 +11,7 @@ mod iter;
 mod joins;
 mod lines;
 mod loads;
+mod parts;
 mod queries;
 mod refusals;
 mod rope;

@@ -1,3 +1,4 @@
 -- What the proofs of other crates may cite of this one.
 pub use Rattle.text_rope.proofs.lemmas.Counts.{count-replaced, count-inserted, count-removed}
 pub use Rattle.text_rope.proofs.lemmas.Asking.{none_asked, asked_after, asked_within}
+pub use Rattle.text_rope.proofs.lemmas.Lending.{asks}

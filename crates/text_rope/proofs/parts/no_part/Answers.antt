@@ -1,0 +1,19 @@
+use Rattle.positions.proofs.lemmas.Callers.{middle_above, none_before, weighed_none}
+use Rattle.position_mapper.specs.Encodings.{units_of}
+use Rattle.text_rope.proofs.lemmas.{[], sym, refl, arith, chars-nil}
+use Rattle.text_rope.proofs.parts.no_part.Goals as goal
+
+pub returns-clause-text : goal.returns-clause-text
+returns-clause-text c = chars-nil
+
+pub returns-clause-part : goal.returns-clause-part
+returns-clause-part c = λ l e. record {
+  front = [];
+  back = [];
+  split = rw chars-nil refl;
+  start = refl;
+  lines = sym (none_before l []);
+  units = sym (weighed_none (units_of e) []);
+  in_crlf = (λ is. cc, λ middle. absurd (omega (arith, middle_above [] 0 middle)));
+  own = tt;
+}

@@ -1,0 +1,13 @@
+use Rattle.positions.specs.Lines.{scheme_of}
+use Rattle.text_rope.proofs.lemmas.{◌∙◌, ap, count_of, count_of-summary}
+use Rattle.text_rope.proofs.parts.own_in.Goals as goal
+
+pub returns : goal.returns
+returns c = λ text is.
+    let s = scheme_of c.args.lines in
+    record {
+      chars = ap (λ own. own.chars) is;
+      units = c.own_units.ensures text is;
+      lf = ap (λ own. own.lf) is;
+      breaks = c.count.ensures ∙ ap (count_of c.args.own.now) c.scheme.ensures ∙ ap (λ own. count_of own s) is ∙ count_of-summary s text;
+    }

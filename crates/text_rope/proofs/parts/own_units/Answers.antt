@@ -1,0 +1,12 @@
+use Rattle.positions.proofs.lemmas.Callers.{bytes_are, units_are}
+use Rattle.text_rope.proofs.lemmas.{◌∙◌, sym, ap, count_of, count_of-summary}
+use Rattle.text_rope.proofs.parts.own_units.Goals as goal
+
+pub returns-in-None : goal.returns-in-None
+returns-in-None c = λ text is.
+    ap (λ own. own.len) is ∙ bytes_are c.args.encoding text (sym c.unit_scheme.ensures ∙ c.in-None.is)
+
+pub returns-in-Some : goal.returns-in-Some
+returns-in-Some c = λ text is.
+    c.count.ensures ∙ ap (λ own. count_of own c.in-Some.s) is ∙ count_of-summary c.in-Some.s text
+    ∙ units_are c.args.encoding c.in-Some.s text (sym c.unit_scheme.ensures ∙ c.in-Some.is)

@@ -1,0 +1,19 @@
+-- The rows of a text as the parts in which positions are searched.
+--     parts_of state    what contracts see of a view as a text in parts
+use Rattle.std.specs.Prelude.{◌+◌, ◌*◌, length}
+use Rattle.text_summary.specs.Pieces.{joined}
+use Rattle.positions.specs.Parts.{PartsState}
+use Rattle.text_rope.specs.States.{RowsState}
+
+-- a search takes as many looks as a question, and the units before a row another one
+abbrev pub parts_of : RowsState → PartsState
+parts_of state = record {
+  text = joined state.texts;
+  pieces = state.texts;
+  begins = λ byte. byte;
+  by_byte = (length state.texts + 1) * (length state.texts + 1);
+  by_count = (length state.texts + 1) * (length state.texts + 1);
+  apart = 1;
+  looks = state.looks;
+  reads = state.reads;
+}
