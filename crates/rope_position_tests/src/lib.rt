@@ -5,4 +5,6 @@
 #![tactic(auto)]
 
 #[cfg(test)]
+mod kinds;
+#[cfg(test)]
 mod positions;

@@ -1,3 +1,1 @@
-pub mod Characters
-pub mod Plain
 pub mod Changes

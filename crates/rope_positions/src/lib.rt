@@ -4,19 +4,19 @@
 //! the whole text, by a constant number of the rope's own questions.
 #![tactic(auto)]
 
-mod boundaries;
-mod breaks;
 mod changes;
 mod exact_changes;
-mod line_starts;
-mod pieces;
-mod plain;
 mod questions;
 mod ropes;
-mod units;
 
 pub use changes::{Change, apply};
 pub use exact_changes::apply_exact;
-pub use position_mapper::{Encoding, Position, Range};
-pub use questions::{byte_of_in, byte_range_in, exact_byte_of_in, line_end_in, position_of_in};
-pub use ropes::{byte_of, byte_range, exact_byte_of, line_end, position_of};
+pub use positions::{Encoding, LineType, Position, Range};
+pub use questions::{
+    byte_of_in, byte_range_in, exact_byte_of_in, exact_position_of_in, line_end_in, position_of_in,
+    range_of_in,
+};
+pub use ropes::{
+    byte_by, byte_of, byte_range, byte_range_by, exact_byte_by, exact_byte_of, exact_position_by,
+    exact_position_of, line_end, line_end_by, position_by, position_of, range_by, range_of,
+};

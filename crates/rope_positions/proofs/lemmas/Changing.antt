@@ -2,17 +2,20 @@
 use Rattle.std.specs.Prelude.{OnOk, IfNone, IsTrue, Option, Result}
 use Rattle.std.proofs.Common.{Ok, Err}
 use Rattle.std.specs.declared.ops.Range as bytes
-use Rattle.rope_positions.proofs.lemmas.Common.{Some, None, ◌≡◌, ◌≤◌, ℕ, [], ◌∷◌, ◌++◌, ◌∙◌, inl, inr, ap, arith, refl, append-nil, len_utf8_bounds, size-append, size-cons, Text, size, Position, Encoding, byte_at, exact_byte_at, byte_range_in_order, IsBoundary, IsBoundary-byte_at, subst, sym}
+use Rattle.std.proofs.Common.{Some, None, inl, inr, ◌≡◌, ◌≤◌, ℕ, ◌++◌, ◌∙◌, ap, arith, append-nil, subst, sym}
+use Rattle.str_indices.proofs.lemmas.Callers.{size-append}
+use Rattle.str_indices.specs.Relations.{IsBoundary}
+use Rattle.str_indices.specs.Text.{Text, size}
+use Rattle.text_summary.proofs.lemmas.Callers.{none_of}
+use Rattle.position_mapper.proofs.lemmas.Callers.{byte_range_in_order, IsBoundary-byte_at}
+use Rattle.position_mapper.specs.Positions.{byte_at, exact_byte_at}
+use Rattle.position_mapper.specs.declared.Position.{Position}
+use Rattle.position_mapper.specs.declared.encodings.Encoding.{Encoding}
 use Rattle.std.proofs.lemmas.Bool.{cases_Bool}
 use Rattle.position_mapper.specs.declared.Range.{Range}
 use Rattle.position_mapper.specs.Positions.{is_at_or_before, is_exact}
 use Rattle.text_summary.specs.Changes.{IsReplaced}
 use Rattle.rope_positions.specs.Changes.{exact_part_at, part_at}
-
--- a text of no byte is empty
-pub none_of : (cs : Text) → size cs ≡ 0 → cs ≡ []
-none_of [] none = refl
-none_of (c ∷ cs) none = absurd (omega (arith, none, size-cons c cs, len_utf8_bounds c))
 
 -- where all of a text is exchanged for another, that is all
 all_replaced : (old new text : Text) → IsReplaced old new 0 (size old) text → new ≡ text

@@ -1,4 +1,5 @@
-use Rattle.rope_positions.proofs.lemmas.{◌∙◌, sym, chars, on_ok, whole_changed}
+use Rattle.std.proofs.Common.{◌∙◌, sym, chars}
+use Rattle.rope_positions.proofs.lemmas.{on_ok, whole_changed}
 use Rattle.rope_positions.proofs.changes.apply.Goals as goal
 
 pub returns-clause-whole : goal.returns-clause-whole

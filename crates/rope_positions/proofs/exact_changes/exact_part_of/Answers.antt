@@ -1,5 +1,6 @@
 use Rattle.std.specs.Prelude.{IsTrue}
-use Rattle.rope_positions.proofs.lemmas.{subst, exact_in_order}
+use Rattle.std.proofs.Common.{subst}
+use Rattle.rope_positions.proofs.lemmas.{exact_in_order}
 use Rattle.rope_positions.specs.Changes.{is_ordered}
 use Rattle.rope_positions.proofs.exact_changes.exact_part_of.Goals as goal
 
