@@ -19,7 +19,7 @@ C_TYPES = {
 }
 ALLOCATOR = "Global"
 # a number of 32 bits is an enum of the library's: by the parameter's name, and of a result
-ENUMS = {"scheme": "scheme", "encoding": "encoding", "result": "status"}
+ENUMS = {"scheme": "scheme", "encoding": "encoding", "lines": "line_type", "result": "status"}
 
 
 class Function(NamedTuple):

@@ -31,6 +31,17 @@ ROWS = {
 }
 # of a text of twelve lines two, whose numbers have different lengths
 TWELVE = "".join(f"{number}\n" for number in range(1, 13)), (16, 19), "9:1\n 9 | 9\n   | ^\n10 | 10\n   | ^\n"
+# of a text with a break of each kind, and for what ends a line, the last word; after the number of a line it is printed as it is
+KINDS = "a\u2028b\fc\rd\r\ne\nf"
+BY_KIND = {
+    ((5, 6), "crlf"): "1:4\n1 | a\u2028b\fc\n  |    ^\n",
+    ((5, 6), "lines"): "2:2\n2 | b\n  |  ^\n",
+    ((11, 12), "lf"): "2:1\n2 | e\n  | ^\n",
+    ((11, 12), "crlf"): "3:1\n3 | e\n  | ^\n",
+    ((11, 12), "lines"): "5:1\n5 | e\n  | ^\n",
+    ((8, 14), "lf"): "1:7\n1 | a\u2028b\fc\rd\r\n  |       ^^\n2 | e\n  | ^\n3 | f\n  | ^\n",
+    ((8, 14), "lines"): "4:1\n4 | d\n  | ^\n5 | e\n  | ^\n6 | f\n  | ^\n",
+}
 
 
 def reports(command, text, span, **options):
@@ -44,5 +55,8 @@ def check_reports(tally, command, how, **options):
     """All that it prints, and that it takes no bytes that are no UTF-8, and the empty text."""
     rows = [*((TEXT, span, wanted) for span, wanted in ROWS.items()), TWELVE, ("", (0, 0), "1:1\n1 | \n  | ^\n")]
     wrong = [span for text, span, wanted in rows if reports(command, text, span, **options) != wanted]
+    wrong += [(span, kind) for (span, kind), wanted in BY_KIND.items()
+              if reports(command, KINDS, (*span, kind), **options) != wanted]
     right = not wrong and reports(command, b"\xe3\x81", (0, 1), **options) is None
-    tally.result(right, f"report_span {how}: {len(rows)} reports, and none of bytes that are no UTF-8 {wrong or ''}")
+    number = len(rows) + len(BY_KIND)
+    tally.result(right, f"report_span {how}: {number} reports, and none of bytes that are no UTF-8 {wrong or ''}")

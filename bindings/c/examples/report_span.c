@@ -1,10 +1,13 @@
 /*
  * Reports a span of the text on standard input, as a compiler does an error:
  * `report_span FROM TO < FILE`, by bytes. It prints the line and the column
- * where the span begins, both from 1, and its lines with carets below it.
+ * where the span begins, both from 1, and its lines with carets below it. With
+ * the word `lf` behind them lines end in LF alone, as rustc has them, and with
+ * `lines` in every break of Unicode.
  */
 #include <stdio.h>
 #include <stdlib.h>
+#include <string.h>
 
 #include <str_index.h>
 
@@ -22,17 +25,26 @@ static void print(size_t from, size_t to, char mark)
             putchar(mark);
 }
 
-static void report(const str_index *index, size_t from, size_t to)
+/* What ends a line, by the last word. */
+static str_index_line_type line_type(const char *word)
 {
-    str_indices_position start = str_index_position_of(index, STR_INDEX_ENCODING_UTF8, from);
-    str_indices_position end = str_index_position_of(index, STR_INDEX_ENCODING_UTF8, to > from ? to : from);
-    size_t column = str_index_position_of(index, STR_INDEX_ENCODING_UTF32, from).character;
+    return strcmp(word, "lf") == 0      ? STR_INDEX_LINE_TYPE_LF
+           : strcmp(word, "lines") == 0 ? STR_INDEX_LINE_TYPE_LINES
+                                        : STR_INDEX_LINE_TYPE_CRLF;
+}
+
+static void report(const str_index *index, str_index_line_type lines, size_t from, size_t to)
+{
+    str_indices_bytes span = {from, to > from ? to : from};
+    str_indices_range range = str_index_range_by(index, lines, STR_INDEX_ENCODING_UTF8, span);
+    str_indices_position start = range.start, end = range.end;
+    size_t column = str_index_position_by(index, lines, STR_INDEX_ENCODING_UTF32, from).character;
     /* the line that the span ends on, but not where it ends at that line's beginning */
     size_t last = end.line - (end.line > start.line && end.character == 0);
     int width = snprintf(NULL, 0, "%zu", last + 1);
     printf("%zu:%zu\n", start.line + 1, column + 1);
     for (size_t line = start.line; line <= last; line++) {
-        str_indices_bytes content = str_index_line(index, line);
+        str_indices_bytes content = str_index_line_by(index, lines, line);
         size_t left = line == start.line ? content.start + start.character : content.start;
         size_t right = line == end.line ? content.start + end.character : content.end;
         printf("%*zu | ", width, line + 1);
@@ -48,11 +60,12 @@ int main(int number, char **words)
 {
     str_index *index;
     size_t len = fread(text, 1, sizeof text, stdin);
-    if (number != 3 || ferror(stdin) || len == sizeof text || str_index_make(&index, text, len) != STR_INDEX_OK) {
-        fprintf(stderr, "usage: report_span FROM TO < FILE, which is UTF-8 below 1 MiB\n");
+    if (number < 3 || number > 4 || ferror(stdin) || len == sizeof text ||
+        str_index_make(&index, text, len) != STR_INDEX_OK) {
+        fprintf(stderr, "usage: report_span FROM TO [lf | lines] < FILE, which is UTF-8 below 1 MiB\n");
         return 1;
     }
-    report(index, strtoull(words[1], NULL, 10), strtoull(words[2], NULL, 10));
+    report(index, line_type(number == 4 ? words[3] : ""), strtoull(words[1], NULL, 10), strtoull(words[2], NULL, 10));
     str_index_free(index);
     return 0;
 }

@@ -85,6 +85,14 @@ typedef enum str_index_encoding {
     STR_INDEX_ENCODING_UTF32  /* chars */
 } str_index_encoding;
 
+/* What ends a line. The first is the protocol's. A greater number counts as
+ * STR_INDEX_LINE_TYPE_LINES. */
+typedef enum str_index_line_type {
+    STR_INDEX_LINE_TYPE_CRLF, /* LF, CR, and CR LF, which is one break */
+    STR_INDEX_LINE_TYPE_LF,   /* LF alone: a CR before it is of the line */
+    STR_INDEX_LINE_TYPE_LINES /* all line breaks of Unicode */
+} str_index_line_type;
+
 /* Whether an index was made. */
 typedef enum str_index_status {
     STR_INDEX_OK,        /* it was */
@@ -173,6 +181,43 @@ size_t str_index_exact_byte_of(const str_index *index,
 str_indices_bytes str_index_byte_range(const str_index *index,
                                        str_index_encoding encoding,
                                        str_indices_range range);
+
+/*
+ * Lines and positions by what ends a line. With STR_INDEX_LINE_TYPE_CRLF the
+ * first three answer as the calls above do.
+ */
+
+/* The bytes of the content of a line, without its break. Past the last line
+ * they are none, at the end of the text. */
+str_indices_bytes str_index_line_by(const str_index *index,
+                                    str_index_line_type lines, size_t line_idx);
+
+/* The position of a byte: its line, and the units from that line's beginning
+ * to the byte. */
+str_indices_position str_index_position_by(const str_index *index,
+                                           str_index_line_type lines,
+                                           str_index_encoding encoding,
+                                           size_t byte_idx);
+
+/* The byte index where the char at a position begins, or the line's end. */
+size_t str_index_byte_by(const str_index *index, str_index_line_type lines,
+                         str_index_encoding encoding,
+                         str_indices_position position);
+
+/* The position of a byte that is a place on a line: SIZE_MAX twice where it is
+ * inside a char, between the CR and the LF of one break, or past the end. So a
+ * compiler notices a span that is wrong. */
+str_indices_position str_index_exact_position_by(const str_index *index,
+                                                 str_index_line_type lines,
+                                                 str_index_encoding encoding,
+                                                 size_t byte_idx);
+
+/* The positions of both ends of a span of bytes, each as str_index_position_by
+ * answers it. Ends that are near each other share a search. */
+str_indices_range str_index_range_by(const str_index *index,
+                                     str_index_line_type lines,
+                                     str_index_encoding encoding,
+                                     str_indices_bytes span);
 
 #ifdef __cplusplus
 }

@@ -23,7 +23,14 @@ enum { APART = 1024, MOST_BYTES = 200000, MOST_TOLD = 20 };
 /* Past the end by so many indices a question is asked too. */
 enum { PAST = 3 };
 
+/* The kinds of line break, and what counts them. */
+enum { KINDS = 3 };
+static const size_t breaks_of_kind[KINDS] = {STR_INDEX_CRLF, STR_INDEX_LF, STR_INDEX_LINES};
+
 static size_t passed, failed, every = 1;
+
+/* What ends the lines of the model. */
+static size_t kind;
 
 static void same(int right, const char *call, size_t first, size_t second)
 {
@@ -60,10 +67,12 @@ static int is_one_of(const char *at, size_t size, const char *const *chars, size
     return 0;
 }
 
+/* What ends a line by Unicode alone. */
+static const char *const unicode[] = {"\v", "\f", "\302\205", "\342\200\250", "\342\200\251"};
+
 /* How much of a scheme ends with the char of that size at that byte. */
 static size_t weight(size_t scheme, size_t at, size_t size)
 {
-    static const char *const unicode[] = {"\v", "\f", "\302\205", "\342\200\250", "\342\200\251"};
     const char *here = model_text + at;
     int is_cr = *here == '\r' && !(at + 1 < model_len && here[1] == '\n');
     switch (scheme) {
@@ -126,12 +135,26 @@ static int model_is_boundary(size_t byte)
     return byte == model_len || (byte < model_len && (model_text[byte] & 0xC0) != 0x80);
 }
 
+/* The scheme that counts the breaks of the model's lines. */
+static size_t line_scheme(void)
+{
+    return breaks_of_kind[kind < KINDS ? kind : KINDS - 1];
+}
+
+/* Whether a break of the model's lines begins at a char. */
+static int model_is_break(size_t at)
+{
+    char here = model_text[at];
+    return here == '\n' || (line_scheme() != STR_INDEX_LF && here == '\r') ||
+           (line_scheme() == STR_INDEX_LINES && is_one_of(model_text + at, size_of(here), unicode, NUMBER_OF(unicode)));
+}
+
 static str_indices_bytes model_line(size_t line)
 {
     str_indices_bytes bytes;
-    bytes.start = bytes.end = model_to_byte(STR_INDEX_CRLF, line);
-    while (bytes.end < model_len && model_text[bytes.end] != '\r' && model_text[bytes.end] != '\n')
-        bytes.end++;
+    bytes.start = bytes.end = model_to_byte(line_scheme(), line);
+    while (bytes.end < model_len && !model_is_break(bytes.end))
+        bytes.end += size_of(model_text[bytes.end]);
     return bytes;
 }
 
@@ -145,7 +168,7 @@ static size_t model_units(size_t encoding, size_t from, size_t to)
 static str_indices_position model_position(size_t encoding, size_t byte)
 {
     size_t place = byte < model_len ? byte : model_len;
-    str_indices_position position = {model_from_byte(STR_INDEX_CRLF, byte), 0};
+    str_indices_position position = {model_from_byte(line_scheme(), byte), 0};
     str_indices_bytes content = model_line(position.line);
     while (!model_is_boundary(place))
         place--;
@@ -157,7 +180,7 @@ static size_t model_byte_of(size_t encoding, str_indices_position position)
 {
     str_indices_bytes content = model_line(position.line);
     size_t place = content.start;
-    if (position.line > before[STR_INDEX_CRLF][model_len])
+    if (position.line > before[line_scheme()][model_len])
         return model_len;
     for (size_t at = place; at <= content.end; at += at < model_len ? size_of(model_text[at]) : 1)
         if (model_units(encoding, content.start, at) <= position.character)
@@ -170,6 +193,20 @@ static size_t model_exact_byte_of(size_t encoding, str_indices_position position
     size_t byte = model_byte_of(encoding, position);
     str_indices_position there = model_position(encoding, byte);
     return there.line == position.line && there.character == position.character ? byte : NONE;
+}
+
+/* The position of a byte that is a place on a line, or none. */
+static str_indices_position model_exact_position(size_t encoding, size_t byte)
+{
+    static const str_indices_position none = {NONE, NONE};
+    int is_middle = line_scheme() != STR_INDEX_LF && byte > 0 && byte < model_len && model_text[byte] == '\n' &&
+                    model_text[byte - 1] == '\r';
+    return byte > model_len || !model_is_boundary(byte) || is_middle ? none : model_position(encoding, byte);
+}
+
+static int same_positions(str_indices_position one, str_indices_position other)
+{
+    return one.line == other.line && one.character == other.character;
 }
 
 static int model_is_reversed(str_indices_range range)
@@ -241,6 +278,43 @@ static void try_positions(const str_index *index, size_t encoding, size_t line)
     }
 }
 
+/* Lines of a kind: the place of a byte and of the byte of its position, and of a span from there. */
+static void try_byte_by(const str_index *index, size_t byte)
+{
+    str_index_line_type lines = (str_index_line_type)kind;
+    for (size_t number = 0; number <= ENCODINGS; number++) {
+        str_index_encoding encoding = (str_index_encoding)number;
+        str_indices_position wanted = model_position(number, byte), next = wanted;
+        str_indices_bytes span = {byte, byte < MOST - 9 ? byte + 9 : MOST};
+        str_indices_range range = str_index_range_by(index, lines, encoding, span);
+        same(same_positions(str_index_position_by(index, lines, encoding, byte), wanted), "position_by", kind, byte);
+        same(same_positions(str_index_exact_position_by(index, lines, encoding, byte),
+                            model_exact_position(number, byte)),
+             "exact_position_by", kind, byte);
+        same(same_positions(range.start, wanted) && same_positions(range.end, model_position(number, span.end)),
+             "range_by", kind, byte);
+        for (size_t more = 0; more < 2; more++, next.character++)
+            same(str_index_byte_by(index, lines, encoding, next) == model_byte_of(number, next), "byte_by", kind, byte);
+    }
+}
+
+/* All lines by what ends them, and the place of each byte on them. */
+static void try_lines_by(const str_index *index)
+{
+    for (kind = 0; kind <= KINDS; kind++) {
+        str_index_line_type lines = (str_index_line_type)kind;
+        for (size_t byte = 0; byte <= model_len + PAST; byte += 7 * every)
+            try_byte_by(index, byte);
+        try_byte_by(index, model_len);
+        try_byte_by(index, MOST);
+        for (size_t line = 0; line <= before[line_scheme()][model_len] + PAST; line += every) {
+            str_indices_bytes bytes = str_index_line_by(index, lines, line), wanted = model_line(line);
+            same(bytes.start == wanted.start && bytes.end == wanted.end, "line_by", kind, line);
+        }
+    }
+    kind = 0;
+}
+
 /* All questions of a text, and those far past its end. */
 static void try_questions(const str_index *index)
 {
@@ -292,6 +366,7 @@ static void try_text(const char *text, size_t len)
     str_index *index = indexed(text, len, &copy);
     make_model(copy, len);
     try_questions(index);
+    try_lines_by(index);
     str_index_free(index);
     free(copy);
 }
@@ -374,6 +449,31 @@ static void worked_lines(void)
     free(copy);
 }
 
+/* A text with a break of each kind, by what ends its lines: where their contents are, and positions. */
+static void worked_kinds(void)
+{
+    static const char text[] = "a\342\200\250b\fc\rd\r\ne\nf";
+    static const size_t line_ends_of[KINDS][7] = {
+        {7, 9, 12, 14, 14, 14, 14}, {10, 12, 14, 14, 14, 14, 14}, {1, 5, 7, 9, 12, 14, 14}};
+    static const size_t bytes[] = {2, 5, 8, 10, 11};
+    static const str_indices_position positions[KINDS][5] = {{{0, 1}, {0, 3}, {1, 0}, {1, 1}, {2, 0}},
+                                                             {{0, 1}, {0, 3}, {0, 6}, {0, 8}, {1, 0}},
+                                                             {{0, 1}, {1, 1}, {3, 0}, {3, 1}, {4, 0}}};
+    char *copy;
+    str_index *index = indexed(text, sizeof text - 1, &copy);
+    for (size_t number = 0; number < KINDS; number++) {
+        str_index_line_type lines = (str_index_line_type)number;
+        for (size_t line = 0; line < 7; line++)
+            same(str_index_line_by(index, lines, line).end == line_ends_of[number][line], "line_by", number, line);
+        for (size_t i = 0; i < NUMBER_OF(bytes); i++)
+            same(same_positions(str_index_position_by(index, lines, STR_INDEX_ENCODING_UTF16, bytes[i]),
+                                positions[number][i]),
+                 "position_by", number, bytes[i]);
+    }
+    str_index_free(index);
+    free(copy);
+}
+
 /* Bytes that are no UTF-8, alone and where the text is else of many marks. */
 static void refused_bytes(void)
 {
@@ -451,6 +551,7 @@ int main(int number, char **words)
     worked_indices();
     worked_positions();
     worked_lines();
+    worked_kinds();
     refused_bytes();
     for (size_t i = 0; i < NUMBER_OF(across); i++)
         try_across(across[i]);

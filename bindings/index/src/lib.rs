@@ -33,4 +33,4 @@ mod library;
 mod positions;
 
 pub use index::{NoMemory, TextIndex};
-pub use str_indices_positions::{Encoding, Position, Range, Scheme};
+pub use str_indices_positions::{Encoding, LineType, Position, Range, Scheme};

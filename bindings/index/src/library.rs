@@ -40,4 +40,9 @@ extern "C" {
     pub fn str_index_byte_of(index: *const Opaque, encoding: u32, position: Position) -> usize;
     pub fn str_index_exact_byte_of(index: *const Opaque, encoding: u32, position: Position) -> usize;
     pub fn str_index_byte_range(index: *const Opaque, encoding: u32, range: Range) -> Bytes;
+    pub fn str_index_line_by(index: *const Opaque, lines: u32, line_idx: usize) -> Bytes;
+    pub fn str_index_position_by(index: *const Opaque, lines: u32, encoding: u32, byte_idx: usize) -> Position;
+    pub fn str_index_exact_position_by(index: *const Opaque, lines: u32, encoding: u32, byte_idx: usize) -> Position;
+    pub fn str_index_byte_by(index: *const Opaque, lines: u32, encoding: u32, position: Position) -> usize;
+    pub fn str_index_range_by(index: *const Opaque, lines: u32, encoding: u32, span: Bytes) -> Range;
 }

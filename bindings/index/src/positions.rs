@@ -2,7 +2,7 @@
 use crate::library::*;
 use crate::TextIndex;
 use core::ops;
-use str_indices_positions::{Encoding, Position, Range};
+use str_indices_positions::{Encoding, LineType, Position, Range};
 
 /// Lines, and positions of the Language Server Protocol 3.17, whose lines end in LF, CR or CR LF. The answers are those of the
 /// crate `str_indices_positions` for the whole text, which may be sliced at each byte index that is answered. What one costs is
@@ -87,5 +87,72 @@ impl<'a> TextIndex<'a> {
         // SAFETY: as `library` says.
         let bytes = unsafe { str_index_byte_range(self.handle(), encoding as u32, range) };
         (bytes.start != NONE).then_some(bytes.start..bytes.end)
+    }
+}
+
+/// The same by what ends a line: a [`LineType`] for the compilers and editors that have other lines than the protocol.
+///
+/// ```
+/// use str_indices_index::{Encoding, LineType, Position, TextIndex};
+///
+/// # fn main() -> Result<(), str_indices_index::NoMemory> {
+/// let index = TextIndex::of("a\u{2028}b\r\nc")?;
+/// let lines = [LineType::Lf, LineType::Crlf, LineType::Lines].map(|lines| index.line_by(lines, 0));
+/// assert_eq!(lines, ["a\u{2028}b\r", "a\u{2028}b", "a"]);
+/// let here = Position { line: 1, character: 0 };
+/// assert_eq!(index.position_by(LineType::Lines, Encoding::Utf16, 4), here);
+/// # Ok(())
+/// # }
+/// ```
+impl<'a> TextIndex<'a> {
+    /// The content of a line, without its break. Past the last line it is empty, at the end of the text.
+    pub fn line_by(&self, lines: LineType, line_idx: usize) -> &'a str {
+        // SAFETY: as `library` says.
+        let bytes = unsafe { str_index_line_by(self.handle(), lines as u32, line_idx) };
+        &self.text()[bytes.start..bytes.end]
+    }
+
+    /// The position of a byte: its line, and the units from that line's beginning to the byte.
+    pub fn position_by(&self, lines: LineType, encoding: Encoding, byte_idx: usize) -> Position {
+        // SAFETY: as `library` says.
+        unsafe { str_index_position_by(self.handle(), lines as u32, encoding as u32, byte_idx) }
+    }
+
+    /// The position of a byte that is a place on a line, or `None`: where it is inside a char, between the CR and the LF of one
+    /// break, or past the end. So a compiler notices a span that is wrong.
+    ///
+    /// ```
+    /// use str_indices_index::{Encoding, LineType, Position, TextIndex};
+    ///
+    /// # fn main() -> Result<(), str_indices_index::NoMemory> {
+    /// let index = TextIndex::of("a\r\n🐸")?;
+    /// let places = [1, 2, 3, 4].map(|byte| index.exact_position_by(LineType::Crlf, Encoding::Utf8, byte));
+    /// let at = |line, character| Some(Position { line, character });
+    /// assert_eq!(places, [at(0, 1), None, at(1, 0), None]);
+    /// # Ok(())
+    /// # }
+    /// ```
+    pub fn exact_position_by(&self, lines: LineType, encoding: Encoding, byte_idx: usize) -> Option<Position> {
+        let (lines, encoding) = (lines as u32, encoding as u32);
+        // SAFETY: as `library` says.
+        let position = unsafe { str_index_exact_position_by(self.handle(), lines, encoding, byte_idx) };
+        (position.line != NONE).then_some(position)
+    }
+
+    /// The byte index where the char at a position begins; past the end of the line, that end.
+    pub fn byte_by(&self, lines: LineType, encoding: Encoding, position: Position) -> usize {
+        // SAFETY: as `library` says.
+        unsafe { str_index_byte_by(self.handle(), lines as u32, encoding as u32, position) }
+    }
+
+    /// The positions of both ends of a span of bytes, each as `position_by` answers it. Ends that are near each other share a
+    /// search.
+    pub fn range_by(&self, lines: LineType, encoding: Encoding, span: ops::Range<usize>) -> Range {
+        let span = Bytes {
+            start: span.start,
+            end: span.end,
+        };
+        // SAFETY: as `library` says.
+        unsafe { str_index_range_by(self.handle(), lines as u32, encoding as u32, span) }
     }
 }

@@ -6,7 +6,7 @@ use plain::{Numbers, ENCODINGS, SCHEMES};
 use std::error::Error as _;
 use std::thread;
 use str_indices::{chars, lines, lines_crlf, lines_lf, utf16};
-use str_indices_index::{Encoding, NoMemory, Position, Range, Scheme, TextIndex};
+use str_indices_index::{Encoding, LineType, NoMemory, Position, Range, Scheme, TextIndex};
 
 /// 17 bytes: CR LF, a surrogate pair, CR, a char of three bytes, LF and LS.
 const BREAKS: &str = "a\r\n🐸b\rせ\n\u{2028}x";
@@ -127,6 +127,48 @@ fn worked_lines_and_ranges() {
         ENCODINGS.map(|encoding| index.byte_range(encoding, reversed)),
         [None, None, None]
     );
+}
+
+#[test]
+fn worked_kinds_of_lines() {
+    // a break of each kind, and between CR and LF a byte that is a place where LF alone ends a line
+    let index = index("a\u{2028}b\u{C}c\rd\r\ne\nf");
+    let at = |line, character| Position { line, character };
+    for (lines, contents, positions, middle) in [
+        (
+            LineType::Crlf,
+            ["a\u{2028}b\u{C}c", "d", "e"],
+            [at(0, 1), at(0, 3), at(1, 0), at(2, 0)],
+            None,
+        ),
+        (
+            LineType::Lf,
+            ["a\u{2028}b\u{C}c\rd\r", "e", "f"],
+            [at(0, 1), at(0, 3), at(0, 6), at(1, 0)],
+            Some(at(0, 8)),
+        ),
+        (
+            LineType::Lines,
+            ["a", "b", "c"],
+            [at(0, 1), at(1, 1), at(3, 0), at(4, 0)],
+            None,
+        ),
+    ] {
+        let e = Encoding::Utf16;
+        assert_eq!([0, 1, 2].map(|line| index.line_by(lines, line)), contents);
+        assert_eq!([2, 5, 8, 11].map(|byte| index.position_by(lines, e, byte)), positions);
+        assert_eq!(index.exact_position_by(lines, e, 10), middle);
+        assert_eq!(
+            [2, MOST].map(|byte| index.exact_position_by(lines, e, byte)),
+            [None, None]
+        );
+        let range = Range {
+            start: positions[1],
+            end: positions[3],
+        };
+        assert_eq!(index.range_by(lines, e, 5..11), range);
+        assert_eq!([1, 2, 3].map(|i| index.byte_by(lines, e, positions[i])), [5, 8, 11]);
+    }
 }
 
 /// What the plain functions answer for a scheme: a count, an index of a byte, and a byte of an index.

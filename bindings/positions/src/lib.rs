@@ -113,6 +113,19 @@ pub enum Scheme {
     Lines = 4,
 }
 
+/// What ends a line, in the crate of an index. The number is that of the header for C.
+#[derive(Clone, Copy, Debug, Default, PartialEq, Eq, Hash)]
+#[repr(u32)]
+pub enum LineType {
+    /// LF, CR and CR LF, which is one break, as the protocol has it.
+    #[default]
+    Crlf = 0,
+    /// LF alone: a CR before it is of the line.
+    Lf = 1,
+    /// The line breaks of Unicode: LF, VT, FF, CR, CR LF, U+0085, U+2028 and U+2029.
+    Lines = 2,
+}
+
 /// How an offset on a line is counted, on which a server and its client agree: the protocol's `PositionEncodingKind`. The
 /// number is that of the headers for C.
 #[derive(Clone, Copy, Debug, Default, PartialEq, Eq, Hash)]

@@ -1,11 +1,14 @@
 -- What the numbers stand for that cross to C and back.
 --     scheme_of n      the scheme of a number: 0 to 4 in the order of `Scheme`, and each greater number `Lines` too
 --     encoding_of n    the encoding of a number: 0 UTF-16, the protocol's default, 1 UTF-8, 2 and each greater one UTF-32
+--     kind_of n        the kind of line break of a number: 0 that of the protocol, 1 LF alone, 2 and each greater one all breaks
 use Rattle.std.specs.Prelude.{ℕ, zero, suc}
 use Rattle.str_indices.specs.declared.Scheme.{Scheme}
 use Rattle.str_indices.specs.declared.Scheme.TheVariants.{Chars, Utf16, Lf, Crlf, Lines}
 use Rattle.position_mapper.specs.declared.encodings.Encoding.{Encoding}
 use Rattle.position_mapper.specs.declared.encodings.Encoding.TheVariants as encodings
+use Rattle.positions.specs.declared.line_type.LineType.{LineType}
+use Rattle.positions.specs.declared.line_type.LineType.TheVariants as kinds
 
 abbrev pub scheme_of : ℕ → Scheme
 scheme_of zero = Chars
@@ -18,6 +21,11 @@ abbrev pub encoding_of : ℕ → Encoding
 encoding_of zero = encodings.Utf16
 encoding_of (suc zero) = encodings.Utf8
 encoding_of (suc (suc n)) = encodings.Utf32
+
+abbrev pub kind_of : ℕ → LineType
+kind_of zero = kinds.Crlf
+kind_of (suc zero) = kinds.Lf
+kind_of (suc (suc n)) = kinds.Lines
 
 -- the statuses of making an index; 1 is that of memory, which C takes
 abbrev pub done : ℕ

@@ -6,6 +6,7 @@
 #![tactic(auto)]
 
 mod handle;
+mod index_lines;
 mod index_positions;
 mod making;
 mod numbers;

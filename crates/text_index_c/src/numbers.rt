@@ -1,9 +1,10 @@
 // The numbers that cross to C and back.
 ghost use Rattle.std.specs.Prelude.{◌≡◌};
-ghost use Rattle.text_index_c.specs.Numbers.{encoding_of, scheme_of};
+ghost use Rattle.text_index_c.specs.Numbers.{encoding_of, kind_of, scheme_of};
 
 use position_mapper::Encoding;
 use str_indices::Scheme;
+use text_index::LineType;
 
 /// The status of a call that did what it was asked.
 pub(crate) const DONE: u32 = 0;
@@ -35,5 +36,16 @@ pub(crate) fn encoding_at(number: u32) -> Encoding
         0 => Encoding::Utf16,
         1 => Encoding::Utf8,
         _ => Encoding::Utf32,
+    }
+}
+
+/// The kind of line break of a number.
+pub(crate) fn kind_at(number: u32) -> LineType
+    ensures { result ≡ kind_of number }
+{
+    match number {
+        0 => LineType::Crlf,
+        1 => LineType::Lf,
+        _ => LineType::Lines,
     }
 }
