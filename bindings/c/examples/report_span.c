@@ -2,8 +2,8 @@
  * Reports a span of the text on standard input, as a compiler does an error:
  * `report_span FROM TO < FILE`, by bytes. It prints the line and the column
  * where the span begins, both from 1, and its lines with carets below it. With
- * the word `lf` behind them lines end in LF alone, as rustc has them, and with
- * `lines` in every break of Unicode.
+ * a third word `lf` lines end in LF alone, and with `lines` in every break of
+ * Unicode.
  */
 #include <stdio.h>
 #include <stdlib.h>

@@ -5,8 +5,8 @@
  * without going over the text.
  *
  * Each question is proved to answer by a definition, for every text, index and
- * position. The answers are those of str_indices.h and
- * str_indices_positions.h for the whole text.
+ * position. Where str_indices.h or str_indices_positions.h has the question,
+ * the answer is theirs for the whole text.
  *
  *     str_index *index;
  *     if (str_index_make(&index, text, len) != STR_INDEX_OK) ...
@@ -42,8 +42,10 @@
  * the counts of what is before them. To make an index goes over the text twice,
  * once for whether it is UTF-8. A count takes one step. A conversion from a
  * byte looks at two marks, and one to a byte halves the marks; each reads at
- * most 1,028 bytes of the text. A line or its end takes two conversions at
- * most, a position five, and a range eight.
+ * most 1,028 bytes of the text. At most, the end of a line takes one such
+ * conversion; a line, the position of a byte, and that of one that is a place
+ * two; the byte of a position three; an exact byte, and the positions of a
+ * span four; the bytes of a range six.
  *
  * An index is one block of memory: 48 bytes for each mark, and 80 besides.
  */
@@ -183,8 +185,9 @@ str_indices_bytes str_index_byte_range(const str_index *index,
                                        str_indices_range range);
 
 /*
- * Lines and positions by what ends a line. With STR_INDEX_LINE_TYPE_CRLF the
- * first three answer as the calls above do.
+ * Lines and positions by what ends a line. With STR_INDEX_LINE_TYPE_CRLF a
+ * line, a position and its byte are those of str_index_line,
+ * str_index_position_of and str_index_byte_of.
  */
 
 /* The bytes of the content of a line, without its break. Past the last line
@@ -193,13 +196,18 @@ str_indices_bytes str_index_line_by(const str_index *index,
                                     str_index_line_type lines, size_t line_idx);
 
 /* The position of a byte: its line, and the units from that line's beginning
- * to the byte. */
+ * to the byte. A byte inside a char has the position where the char begins,
+ * the byte between the CR and the LF of one break that of the line's end, and a
+ * byte past the end that of the text's end. */
 str_indices_position str_index_position_by(const str_index *index,
                                            str_index_line_type lines,
                                            str_index_encoding encoding,
                                            size_t byte_idx);
 
-/* The byte index where the char at a position begins, or the line's end. */
+/* The byte index where the char at a position begins. An offset inside a char
+ * belongs to it. An offset past the end of the line gives the line's end,
+ * before its break, and a line past the last one the length of the text in
+ * bytes. */
 size_t str_index_byte_by(const str_index *index, str_index_line_type lines,
                          str_index_encoding encoding,
                          str_indices_position position);
@@ -213,7 +221,7 @@ str_indices_position str_index_exact_position_by(const str_index *index,
                                                  size_t byte_idx);
 
 /* The positions of both ends of a span of bytes, each as str_index_position_by
- * answers it. Ends that are near each other share a search. */
+ * answers it, also where the end is before the start. */
 str_indices_range str_index_range_by(const str_index *index,
                                      str_index_line_type lines,
                                      str_index_encoding encoding,

@@ -53,7 +53,7 @@
  * STR_ROPE_MAX_PIECE bytes, and of 509 or more where there are several: a
  * question looks at no more nodes of the tree than twice the logarithm to base
  * 2 of n + 1, and reads the text of one piece at most; one about positions asks
- * up to 16 such questions. A read goes down the tree once for each block of up
+ * up to 8 such questions. A read goes down the tree once for each block of up
  * to 32 pieces. A change takes a number of steps of that order too, and more
  * with the length of what is put in. It copies the text that is put in, and
  * three pieces at most that stand round it, a cut as many for each part. Where

@@ -47,7 +47,7 @@ impl<'a> TextIndex<'a> {
     /// The position of a byte: its line, and the units from that line's beginning to the byte.
     ///
     /// A byte inside a char has the position where the char begins, the byte between CR and LF that of the line's end,
-    /// and a byte past the end that of the text's end. Takes four conversions.
+    /// and a byte past the end that of the text's end. Takes two conversions.
     pub fn position_of(&self, encoding: Encoding, byte_idx: usize) -> Position {
         // SAFETY: as `library` says.
         unsafe { str_index_position_of(self.handle(), encoding as u32, byte_idx) }
@@ -56,14 +56,14 @@ impl<'a> TextIndex<'a> {
     /// The byte index where the char at a position begins.
     ///
     /// An offset inside a char belongs to its char. An offset past the end of the line gives the line's end, before its
-    /// break, and a line past the last one the length of the text in bytes. Takes four conversions.
+    /// break, and a line past the last one the length of the text in bytes. Takes three conversions.
     pub fn byte_of(&self, encoding: Encoding, position: Position) -> usize {
         // SAFETY: as `library` says.
         unsafe { str_index_byte_of(self.handle(), encoding as u32, position) }
     }
 
     /// The byte index of a position that names a place, or `None`: where the text has no such line, the offset is past
-    /// the end of the line, or the unit is inside a char. Takes five conversions.
+    /// the end of the line, or the unit is inside a char. Takes four conversions.
     ///
     /// ```
     /// use str_indices_index::{Encoding, Position, TextIndex};
@@ -81,7 +81,7 @@ impl<'a> TextIndex<'a> {
         (byte != NONE).then_some(byte)
     }
 
-    /// The byte indices of a range, each as `byte_of` answers it, or `None` where its end is before its start. Takes eight
+    /// The byte indices of a range, each as `byte_of` answers it, or `None` where its end is before its start. Takes six
     /// conversions.
     pub fn byte_range(&self, encoding: Encoding, range: Range) -> Option<ops::Range<usize>> {
         // SAFETY: as `library` says.
@@ -105,7 +105,8 @@ impl<'a> TextIndex<'a> {
 /// # }
 /// ```
 impl<'a> TextIndex<'a> {
-    /// The content of a line, without its break. Past the last line it is empty, at the end of the text.
+    /// The content of a line, without its break. Past the last line it is empty, at the end of the text. Takes two
+    /// conversions.
     pub fn line_by(&self, lines: LineType, line_idx: usize) -> &'a str {
         // SAFETY: as `library` says.
         let bytes = unsafe { str_index_line_by(self.handle(), lines as u32, line_idx) };
@@ -113,13 +114,16 @@ impl<'a> TextIndex<'a> {
     }
 
     /// The position of a byte: its line, and the units from that line's beginning to the byte.
+    ///
+    /// A byte inside a char has the position where the char begins, the byte between the CR and the LF of one break that of
+    /// the line's end, and a byte past the end that of the text's end. Takes two conversions.
     pub fn position_by(&self, lines: LineType, encoding: Encoding, byte_idx: usize) -> Position {
         // SAFETY: as `library` says.
         unsafe { str_index_position_by(self.handle(), lines as u32, encoding as u32, byte_idx) }
     }
 
     /// The position of a byte that is a place on a line, or `None`: where it is inside a char, between the CR and the LF of one
-    /// break, or past the end. So a compiler notices a span that is wrong.
+    /// break, or past the end. So a compiler notices a span that is wrong. Takes two conversions.
     ///
     /// ```
     /// use str_indices_index::{Encoding, LineType, Position, TextIndex};
@@ -139,14 +143,17 @@ impl<'a> TextIndex<'a> {
         (position.line != NONE).then_some(position)
     }
 
-    /// The byte index where the char at a position begins; past the end of the line, that end.
+    /// The byte index where the char at a position begins.
+    ///
+    /// An offset inside a char belongs to its char. An offset past the end of the line gives the line's end, before its
+    /// break, and a line past the last one the length of the text in bytes. Takes three conversions.
     pub fn byte_by(&self, lines: LineType, encoding: Encoding, position: Position) -> usize {
         // SAFETY: as `library` says.
         unsafe { str_index_byte_by(self.handle(), lines as u32, encoding as u32, position) }
     }
 
-    /// The positions of both ends of a span of bytes, each as `position_by` answers it. Ends that are near each other share a
-    /// search.
+    /// The positions of both ends of a span of bytes, each as `position_by` answers it, also where the end is before the start.
+    /// Takes four conversions.
     pub fn range_by(&self, lines: LineType, encoding: Encoding, span: ops::Range<usize>) -> Range {
         let span = Bytes {
             start: span.start,
