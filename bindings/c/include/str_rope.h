@@ -109,6 +109,14 @@ typedef enum str_rope_encoding {
     STR_ROPE_ENCODING_UTF32  /* chars */
 } str_rope_encoding;
 
+/* What ends a line. The first is the protocol's. A greater number counts as
+ * STR_ROPE_LINE_TYPE_LINES. */
+typedef enum str_rope_line_type {
+    STR_ROPE_LINE_TYPE_CRLF, /* LF, CR, and CR LF, which is one break */
+    STR_ROPE_LINE_TYPE_LF,   /* LF alone: a CR before it is of the line */
+    STR_ROPE_LINE_TYPE_LINES /* all line breaks of Unicode */
+} str_rope_line_type;
+
 /* Whether a call did what it was asked. Where two reasons hold, the status is
  * the one that stands first here; but STR_ROPE_NOT_UTF8 comes before all
  * others. */
@@ -280,6 +288,48 @@ str_rope_status str_rope_change_exact(str_rope *rope,
                                       str_rope_encoding encoding,
                                       str_indices_range range, const char *text,
                                       size_t len);
+
+/*
+ * Lines and positions by what ends a line. With STR_ROPE_LINE_TYPE_CRLF the end
+ * of a line, a position and its byte are those of str_rope_line_end,
+ * str_rope_position_of and str_rope_byte_of.
+ */
+
+/* The bytes of the content of a line, without its break. Past the last line
+ * they are none, at the end of the text. */
+str_indices_bytes str_rope_line_by(str_rope *rope, str_rope_line_type lines,
+                                   size_t line_idx);
+
+/* The position of a byte: its line, and the units from that line's beginning
+ * to the byte. A byte inside a char has the position where the char begins,
+ * the byte between the CR and the LF of one break that of the line's end, and a
+ * byte past the end that of the text's end. */
+str_indices_position str_rope_position_by(str_rope *rope,
+                                          str_rope_line_type lines,
+                                          str_rope_encoding encoding,
+                                          size_t byte_idx);
+
+/* The byte index where the char at a position begins. An offset inside a char
+ * belongs to it. An offset past the end of the line gives the line's end,
+ * before its break, and a line past the last one the length of the text in
+ * bytes. */
+size_t str_rope_byte_by(str_rope *rope, str_rope_line_type lines,
+                        str_rope_encoding encoding,
+                        str_indices_position position);
+
+/* The position of a byte that is a place on a line: SIZE_MAX twice where it is
+ * inside a char, between the CR and the LF of one break, or past the end. So a
+ * compiler notices a span that is wrong. */
+str_indices_position str_rope_exact_position_by(str_rope *rope,
+                                                str_rope_line_type lines,
+                                                str_rope_encoding encoding,
+                                                size_t byte_idx);
+
+/* The positions of both ends of a span of bytes, each as str_rope_position_by
+ * answers it, also where the end is before the start. */
+str_indices_range str_rope_range_by(str_rope *rope, str_rope_line_type lines,
+                                    str_rope_encoding encoding,
+                                    str_indices_bytes span);
 
 #ifdef __cplusplus
 }

@@ -16,7 +16,16 @@
 
 #include <str_rope.h>
 
-enum { BLOCK = 1 << 16, CHECKPOINTS = 5, SAMPLES = 400, SCHEMES = 5, ENCODINGS = 3, LONGEST = 3000, PEEKED = 64 };
+enum {
+    BLOCK = 1 << 16,
+    CHECKPOINTS = 5,
+    SAMPLES = 400,
+    LONGEST = 3000,
+    PEEKED = 64,
+    SCHEMES = 5,
+    ENCODINGS = 3,
+    KINDS = 3
+};
 /* how many snapshots are kept, and one of how many changes has one taken before it */
 enum { KEPT = 4, SNAPSHOTS = 30 };
 
@@ -202,8 +211,11 @@ typedef struct walk {
     const char *text;
     size_t len, at;
     size_t counts[SCHEMES], starts[SCHEMES]; /* by scheme, what ended up to `at`, and where the last one did */
-    size_t chars_at_line, units_at_line;     /* these counts where the line of `at` begins */
+    size_t chars_at_line[KINDS], units_at_line[KINDS]; /* these counts where the line of `at` begins */
 } walk;
+
+/* The scheme that counts the breaks of a kind of lines. */
+static const int line_scheme[KINDS] = {STR_ROPE_CRLF, STR_ROPE_LF, STR_ROPE_LINES};
 
 static int ends_with(const walk *on, const char *bytes)
 {
@@ -241,20 +253,27 @@ static void step(walk *on)
         if (more > 0)
             on->starts[scheme] = on->at;
     }
-    if (on->starts[STR_ROPE_CRLF] == on->at) {
-        on->chars_at_line = on->counts[STR_ROPE_CHARS];
-        on->units_at_line = on->counts[STR_ROPE_UTF16];
-    }
+    for (int kind = 0; kind < KINDS; kind++)
+        if (on->starts[line_scheme[kind]] == on->at) {
+            on->chars_at_line[kind] = on->counts[STR_ROPE_CHARS];
+            on->units_at_line[kind] = on->counts[STR_ROPE_UTF16];
+        }
+}
+
+/* Whether the walk is between the CR and the LF of one break. */
+static size_t is_in_break(const walk *on, int kind)
+{
+    return kind != STR_ROPE_LINE_TYPE_LF && ends_with(on, "\r") && is_followed_by(on, '\n');
 }
 
 /* The position where the walk is: in a CR LF, that of its beginning. */
-static str_indices_position position(const walk *on, int encoding)
+static str_indices_position position(const walk *on, int kind, int encoding)
 {
-    size_t less = ends_with(on, "\r") && is_followed_by(on, '\n');
-    size_t chars = on->counts[STR_ROPE_CHARS] - on->chars_at_line;
-    size_t units = on->counts[STR_ROPE_UTF16] - on->units_at_line;
-    size_t bytes = on->starts[STR_ROPE_CHARS] - on->starts[STR_ROPE_CRLF];
-    str_indices_position here = {on->counts[STR_ROPE_CRLF], units - less};
+    size_t less = is_in_break(on, kind);
+    size_t chars = on->counts[STR_ROPE_CHARS] - on->chars_at_line[kind];
+    size_t units = on->counts[STR_ROPE_UTF16] - on->units_at_line[kind];
+    size_t bytes = on->starts[STR_ROPE_CHARS] - on->starts[line_scheme[kind]];
+    str_indices_position here = {on->counts[line_scheme[kind]], units - less};
     if (encoding == STR_ROPE_ENCODING_UTF8)
         here.character = bytes - less;
     if (encoding == STR_ROPE_ENCODING_UTF32)
@@ -262,12 +281,53 @@ static str_indices_position position(const walk *on, int encoding)
     return here;
 }
 
-static size_t content_end(const walk *on)
+/* Whether a break begins at a byte. */
+static int begins_break(const walk *on, int kind, size_t at)
 {
-    size_t end = on->starts[STR_ROPE_CRLF];
-    while (end < on->len && on->text[end] != '\r' && on->text[end] != '\n')
+    static const char *const breaks[] = {"\n", "\r", "\v", "\f", "\302\205", "\342\200\250", "\342\200\251"};
+    static const size_t number[KINDS] = {2, 1, 7};
+    for (size_t i = 0; i < number[kind]; i++) {
+        size_t len = strlen(breaks[i]);
+        if (len <= on->len - at && memcmp(on->text + at, breaks[i], len) == 0)
+            return 1;
+    }
+    return 0;
+}
+
+static size_t content_end(const walk *on, int kind)
+{
+    size_t end = on->starts[line_scheme[kind]];
+    while (end < on->len && !begins_break(on, kind, end))
         end++;
     return end;
+}
+
+static int are_same(str_indices_position one, str_indices_position other)
+{
+    return one.line == other.line && one.character == other.character;
+}
+
+/* By what ends a line; another kind at each byte. */
+static void ask_lines_by(str_rope *rope, const walk *on)
+{
+    int kind = (int)(on->at % KINDS);
+    str_rope_line_type lines = (str_rope_line_type)kind;
+    size_t less = is_in_break(on, kind), begin = on->starts[STR_ROPE_CHARS] - less;
+    str_indices_bytes content = str_rope_line_by(rope, lines, on->counts[line_scheme[kind]]);
+    same(content.start == on->starts[line_scheme[kind]] && content.end == content_end(on, kind), "line_by", on->at);
+    for (int number = 0; number < ENCODINGS; number++) {
+        str_rope_encoding encoding = (str_rope_encoding)number;
+        static const str_indices_position none = {SIZE_MAX, SIZE_MAX};
+        str_indices_position right = position(on, kind, number);
+        str_indices_bytes span = {on->at, content.start};
+        str_indices_range range = str_rope_range_by(rope, lines, encoding, span);
+        str_indices_position exact = str_rope_exact_position_by(rope, lines, encoding, on->at);
+        same(are_same(str_rope_position_by(rope, lines, encoding, on->at), right), "position_by", on->at);
+        same(str_rope_byte_by(rope, lines, encoding, right) == begin, "byte_by", on->at);
+        same(are_same(exact, begin == on->at ? right : none), "exact_position_by", on->at);
+        same(are_same(range.start, right) && range.end.line == right.line && range.end.character == 0, "range_by",
+             on->at);
+    }
 }
 
 static void ask_positions(str_rope *rope, const walk *on)
@@ -275,15 +335,18 @@ static void ask_positions(str_rope *rope, const walk *on)
     size_t less = ends_with(on, "\r") && is_followed_by(on, '\n'), begin = on->starts[STR_ROPE_CHARS] - less;
     for (int number = 0; number < ENCODINGS; number++) {
         str_rope_encoding encoding = (str_rope_encoding)number;
-        str_indices_position right = position(on, number), answer = str_rope_position_of(rope, encoding, on->at);
+        str_indices_position right = position(on, STR_ROPE_LINE_TYPE_CRLF, number);
+        str_indices_position answer = str_rope_position_of(rope, encoding, on->at);
         str_indices_range range = {right, right};
         str_indices_bytes bytes = str_rope_byte_range(rope, encoding, range);
-        same(answer.line == right.line && answer.character == right.character, "position_of", on->at);
+        same(are_same(answer, right), "position_of", on->at);
         same(str_rope_byte_of(rope, encoding, right) == begin, "byte_of", on->at);
         same(str_rope_exact_byte_of(rope, encoding, right) == begin, "exact_byte_of", on->at);
         same(bytes.start == begin && bytes.end == begin, "byte_range", on->at);
     }
-    same(str_rope_line_end(rope, on->counts[STR_ROPE_CRLF]) == content_end(on), "line_end", on->at);
+    same(str_rope_line_end(rope, on->counts[STR_ROPE_CRLF]) == content_end(on, STR_ROPE_LINE_TYPE_CRLF), "line_end",
+         on->at);
+    ask_lines_by(rope, on);
 }
 
 static void ask(str_rope *rope, const walk *on)
@@ -307,7 +370,7 @@ static int by_size(const void *one, const void *other)
 /* Asks at random bytes and at the end, and in the end for each count. */
 static void ask_all(str_rope *rope, const char *text, size_t len)
 {
-    walk on = {text, len, 0, {0}, {0}, 0, 0};
+    walk on = {text, len, 0, {0}, {0}, {0}, {0}};
     size_t samples[SAMPLES];
     for (size_t i = 0; i + 1 < SAMPLES; i++)
         samples[i] = pick(len);

@@ -44,6 +44,11 @@ static str_rope with(const char *text, size_t len)
 
 #define WITH(text) with(text, sizeof text - 1)
 
+static int are_same(str_indices_position one, str_indices_position other)
+{
+    return one.line == other.line && one.character == other.character;
+}
+
 static void counts(void)
 {
     str_rope rope = WITH(breaks);
@@ -102,6 +107,9 @@ static void ask_the_empty_text(str_rope *rope)
                  str_rope_exact_byte_of(rope, encoding, begin) == 0 &&
                  str_rope_exact_byte_of(rope, encoding, behind) == NONE,
              "no text, by encoding", i, 0);
+        str_indices_bytes bytes = str_rope_line_by(rope, (str_rope_line_type)i, 9);
+        end = str_rope_exact_position_by(rope, (str_rope_line_type)i, encoding, 1);
+        same(bytes.start == 0 && bytes.end == 0 && end.line == NONE && end.character == NONE, "no text, by line", i, 0);
     }
     same(str_rope_len(rope) == 0 && str_rope_line_end(rope, 9) == 0, "no text, len and line_end", 0, 0);
     same(str_rope_is_char_boundary(rope, 0) && !str_rope_is_char_boundary(rope, 1), "no text, is_char_boundary", 0, 0);
@@ -314,6 +322,43 @@ static void ranges_and_lines(void)
     str_rope_free(&rope);
 }
 
+/* By what ends a line, in the order of the header, of a text with a break of each kind. */
+static void lines_by_kind(void)
+{
+    static const char text[] = "a\342\200\250b\fc\rd\r\ne\nf";
+    static const struct {
+        str_indices_bytes lines[7];
+        str_indices_position at_form_feed, at_line_feed, exact;
+        size_t byte;
+    } rows[] = {
+        {{{0, 7}, {8, 9}, {11, 12}, {13, 14}, {14, 14}, {14, 14}, {14, 14}}, {0, 3}, {1, 1}, {NONE, NONE}, 9},
+        {{{0, 10}, {11, 12}, {13, 14}, {14, 14}, {14, 14}, {14, 14}, {14, 14}}, {0, 3}, {0, 8}, {0, 8}, 12},
+        {{{0, 1}, {4, 5}, {6, 7}, {8, 9}, {11, 12}, {13, 14}, {14, 14}}, {1, 1}, {3, 1}, {NONE, NONE}, 5},
+    };
+    str_rope rope = WITH(text);
+    for (size_t kind = 0; kind <= NUMBER_OF(rows); kind++) {
+        str_rope_line_type lines = (str_rope_line_type)kind;
+        size_t row = kind < NUMBER_OF(rows) ? kind : NUMBER_OF(rows) - 1;
+        str_indices_position far_right = {1, 9};
+        str_indices_bytes span = {5, 10};
+        str_indices_range range = str_rope_range_by(&rope, lines, STR_ROPE_ENCODING_UTF16, span);
+        for (size_t line = 0; line < NUMBER_OF(rows[row].lines); line++) {
+            str_indices_bytes bytes = str_rope_line_by(&rope, lines, line), wanted = rows[row].lines[line];
+            same(bytes.start == wanted.start && bytes.end == wanted.end, "line_by", kind, line);
+        }
+        same(are_same(str_rope_position_by(&rope, lines, STR_ROPE_ENCODING_UTF16, 5), rows[row].at_form_feed),
+             "position_by", kind, 5);
+        same(are_same(str_rope_position_by(&rope, lines, STR_ROPE_ENCODING_UTF16, 10), rows[row].at_line_feed),
+             "position_by", kind, 10);
+        same(are_same(str_rope_exact_position_by(&rope, lines, STR_ROPE_ENCODING_UTF16, 10), rows[row].exact),
+             "exact_position_by", kind, 10);
+        same(are_same(range.start, rows[row].at_form_feed) && are_same(range.end, rows[row].at_line_feed), "range_by",
+             kind, 10);
+        same(str_rope_byte_by(&rope, lines, STR_ROPE_ENCODING_UTF16, far_right) == rows[row].byte, "byte_by", kind, 9);
+    }
+    str_rope_free(&rope);
+}
+
 static void changes_by_positions(void)
 {
     static const char text[] = "ab\r\n" FROG "c";
@@ -397,6 +442,7 @@ int main(void)
     positions_of_bytes();
     bytes_of_positions();
     ranges_and_lines();
+    lines_by_kind();
     changes_by_positions();
     exact_changes();
     refusals_by_positions();

@@ -113,7 +113,7 @@ pub enum Scheme {
     Lines = 4,
 }
 
-/// What ends a line, for the crate `str_indices_index`. The number is that of `str_index_line_type` in C.
+/// What ends a line, for the crates of a rope and an index. The number is that of the headers for C.
 #[derive(Clone, Copy, Debug, Default, PartialEq, Eq, Hash)]
 #[repr(u32)]
 pub enum LineType {

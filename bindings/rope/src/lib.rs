@@ -54,6 +54,6 @@ mod traits;
 pub use chunks::{Chunk, Chunks, MAX_CHUNK};
 pub use errors::Error;
 pub use rope::Rope;
-pub use str_indices_positions::{Encoding, Position, Range, Scheme};
+pub use str_indices_positions::{Encoding, LineType, Position, Range, Scheme};
 
 use positions::Bytes;

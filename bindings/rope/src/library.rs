@@ -44,6 +44,11 @@ extern "C" {
     pub fn str_rope_byte_of(rope: *mut Handle, encoding: u32, position: Position) -> usize;
     pub fn str_rope_exact_byte_of(rope: *mut Handle, encoding: u32, position: Position) -> usize;
     pub fn str_rope_byte_range(rope: *mut Handle, encoding: u32, range: Range) -> Bytes;
+    pub fn str_rope_line_by(rope: *mut Handle, lines: u32, line_idx: usize) -> Bytes;
+    pub fn str_rope_position_by(rope: *mut Handle, lines: u32, encoding: u32, byte_idx: usize) -> Position;
+    pub fn str_rope_exact_position_by(rope: *mut Handle, lines: u32, encoding: u32, byte_idx: usize) -> Position;
+    pub fn str_rope_byte_by(rope: *mut Handle, lines: u32, encoding: u32, position: Position) -> usize;
+    pub fn str_rope_range_by(rope: *mut Handle, lines: u32, encoding: u32, span: Bytes) -> Range;
     pub fn str_rope_change(rope: *mut Handle, encoding: u32, range: Range, text: *const u8, len: usize) -> u32;
     pub fn str_rope_change_exact(rope: *mut Handle, encoding: u32, range: Range, text: *const u8, len: usize) -> u32;
 }

@@ -3,7 +3,7 @@ use crate::errors::result_of;
 use crate::library::*;
 use crate::{Error, Rope};
 use core::ops;
-use str_indices_positions::{Encoding, Position, Range};
+use str_indices_positions::{Encoding, LineType, Position, Range};
 
 /// The byte indices of a range, as the library has them.
 #[repr(C)]
@@ -128,5 +128,77 @@ impl Rope {
         let number = encoding as u32;
         // SAFETY: as `library` says.
         result_of(unsafe { str_rope_change_exact(self.handle(), number, range, text.as_ptr(), text.len()) })
+    }
+}
+
+/// The same by what ends a line: a [`LineType`] for the compilers and editors that have other lines than the protocol.
+///
+/// ```
+/// use str_rope::{Encoding, LineType, Position, Rope};
+///
+/// # fn main() -> Result<(), str_rope::Error> {
+/// let rope: Rope = "a\u{2028}b\r\nc".parse()?;
+/// let lines = [LineType::Lf, LineType::Crlf, LineType::Lines].map(|lines| rope.line_by(lines, 0));
+/// assert_eq!(lines, [0..6, 0..5, 0..1]);
+/// let here = Position { line: 1, character: 0 };
+/// assert_eq!(rope.position_by(LineType::Lines, Encoding::Utf16, 4), here);
+/// # Ok(())
+/// # }
+/// ```
+impl Rope {
+    /// The byte indices of the content of a line, without its break. Past the last line they are none, at the end of the text.
+    pub fn line_by(&self, lines: LineType, line_idx: usize) -> ops::Range<usize> {
+        // SAFETY: as `library` says.
+        let bytes = unsafe { str_rope_line_by(self.handle(), lines as u32, line_idx) };
+        bytes.start..bytes.end
+    }
+
+    /// The position of a byte: its line, and the units from that line's beginning to the byte.
+    ///
+    /// A byte inside a char has the position where the char begins, the byte between the CR and the LF of one break that of
+    /// the line's end, and a byte past the end that of the text's end.
+    pub fn position_by(&self, lines: LineType, encoding: Encoding, byte_idx: usize) -> Position {
+        // SAFETY: as `library` says.
+        unsafe { str_rope_position_by(self.handle(), lines as u32, encoding as u32, byte_idx) }
+    }
+
+    /// The position of a byte that is a place on a line, or `None`: where it is inside a char, between the CR and the LF of one
+    /// break, or past the end. So a compiler notices a span that is wrong.
+    ///
+    /// ```
+    /// use str_rope::{Encoding, LineType, Position, Rope};
+    ///
+    /// # fn main() -> Result<(), str_rope::Error> {
+    /// let rope: Rope = "a\r\n🐸".parse()?;
+    /// let places = [1, 2, 3, 4].map(|byte| rope.exact_position_by(LineType::Crlf, Encoding::Utf8, byte));
+    /// let at = |line, character| Some(Position { line, character });
+    /// assert_eq!(places, [at(0, 1), None, at(1, 0), None]);
+    /// # Ok(())
+    /// # }
+    /// ```
+    pub fn exact_position_by(&self, lines: LineType, encoding: Encoding, byte_idx: usize) -> Option<Position> {
+        let (lines, encoding) = (lines as u32, encoding as u32);
+        // SAFETY: as `library` says.
+        let position = unsafe { str_rope_exact_position_by(self.handle(), lines, encoding, byte_idx) };
+        (position.line != NONE).then_some(position)
+    }
+
+    /// The byte index where the char at a position begins.
+    ///
+    /// An offset inside a char belongs to its char. An offset past the end of the line gives the line's end, before its
+    /// break, and a line past the last one the length of the text in bytes.
+    pub fn byte_by(&self, lines: LineType, encoding: Encoding, position: Position) -> usize {
+        // SAFETY: as `library` says.
+        unsafe { str_rope_byte_by(self.handle(), lines as u32, encoding as u32, position) }
+    }
+
+    /// The positions of both ends of a span of bytes, each as `position_by` answers it, also where the end is before the start.
+    pub fn range_by(&self, lines: LineType, encoding: Encoding, span: ops::Range<usize>) -> Range {
+        let span = Bytes {
+            start: span.start,
+            end: span.end,
+        };
+        // SAFETY: as `library` says.
+        unsafe { str_rope_range_by(self.handle(), lines as u32, encoding as u32, span) }
     }
 }

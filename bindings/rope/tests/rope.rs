@@ -5,7 +5,7 @@ use std::error::Error as _;
 use std::fs;
 use std::ops;
 use std::thread;
-use str_rope::{Chunk, Encoding, Error, Position, Range, Rope, MAX_CHUNK};
+use str_rope::{Chunk, Encoding, Error, LineType, Position, Range, Rope, MAX_CHUNK};
 
 /// Nine bytes: a break of two, and a char of four.
 const TEXT: &str = "a\r\n🐸bc";
@@ -248,4 +248,46 @@ fn many_ropes_at_once() {
         ropes.swap_remove(numbers.below(ropes.len()));
     }
     assert!(ropes.iter().all(|rope| texts.contains(&joined(rope))));
+}
+
+#[test]
+fn worked_kinds_of_lines() {
+    // a break of each kind, and between CR and LF a byte that is a place where LF alone ends a line
+    let rope: Rope = "a\u{2028}b\u{C}c\rd\r\ne\nf".parse().unwrap();
+    let at = |line, character| Position { line, character };
+    for (lines, contents, positions, middle) in [
+        (
+            LineType::default(),
+            [0..7, 8..9, 11..12],
+            [at(0, 1), at(0, 3), at(1, 0), at(2, 0)],
+            None,
+        ),
+        (
+            LineType::Lf,
+            [0..10, 11..12, 13..14],
+            [at(0, 1), at(0, 3), at(0, 6), at(1, 0)],
+            Some(at(0, 8)),
+        ),
+        (
+            LineType::Lines,
+            [0..1, 4..5, 6..7],
+            [at(0, 1), at(1, 1), at(3, 0), at(4, 0)],
+            None,
+        ),
+    ] {
+        let e = Encoding::Utf16;
+        assert_eq!([0, 1, 2].map(|line| rope.line_by(lines, line)), contents);
+        assert_eq!([2, 5, 8, 11].map(|byte| rope.position_by(lines, e, byte)), positions);
+        assert_eq!(rope.exact_position_by(lines, e, 10), middle);
+        assert_eq!(
+            [2, usize::MAX].map(|byte| rope.exact_position_by(lines, e, byte)),
+            [None, None]
+        );
+        let range = Range {
+            start: positions[1],
+            end: positions[3],
+        };
+        assert_eq!(rope.range_by(lines, e, 5..11), range);
+        assert_eq!([1, 2, 3].map(|i| rope.byte_by(lines, e, positions[i])), [5, 8, 11]);
+    }
 }
