@@ -5,6 +5,6 @@
 #![tactic(auto)]
 
 #[cfg(test)]
-mod kinds;
+mod answers;
 #[cfg(test)]
-mod positions;
+mod kinds;
