@@ -113,7 +113,7 @@ pub enum Scheme {
     Lines = 4,
 }
 
-/// What ends a line, for the crates of a rope and an index. The number is that of the headers for C.
+/// The kinds of line break by which a rope and an index tell lines. Each number is that of the headers for C.
 #[derive(Clone, Copy, Debug, Default, PartialEq, Eq, Hash)]
 #[repr(u32)]
 pub enum LineType {
