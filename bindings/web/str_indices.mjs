@@ -1,6 +1,6 @@
 // Counts the chars, UTF-16 code units and line breaks of a text, converts between those indices and byte indices of its
 // UTF-8 form, and maps byte indices to and from positions of a language server, by the proved functions of `str_indices`
-// and `position_mapper` as WebAssembly.
+// and `positions` as WebAssembly.
 //
 //     import { load } from "./str_indices.mjs";
 //

@@ -66,6 +66,7 @@ STR_INDICES = Library(
 STR_ROPE = Library("str_rope", "text_rope_c", "build_rope", ())
 STR_INDEX = Library("str_index", "text_index_c", "build_index", (
     Function("str_index_make", "str_index_status", "str_index **, const char *, size_t"),
+    Function("str_index_make_in", "str_index_status", "str_index **, void *, size_t, const char *, size_t"),
     Function("str_index_free", "void", "str_index *")))
 
 # those that are built here

@@ -7,4 +7,4 @@
 #[cfg(test)]
 mod pieces;
 #[cfg(test)]
-mod positions;
+mod text_positions;

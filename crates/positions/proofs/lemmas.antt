@@ -1,9 +1,12 @@
 pub mod Common
+pub mod Cuts
+pub mod Encodings
 pub mod Kinds
 pub mod Firsts
 pub mod Lines
 pub mod Starts
 pub mod Units
+pub mod Ordered
 pub mod OnLines
 pub mod Breaks
 pub mod Encoded
@@ -16,6 +19,7 @@ pub mod Known
 pub mod Alike
 pub mod Plain
 pub mod Answering
+pub mod Laws
 pub mod Bytes
 pub mod Callers
 pub use Common.*
@@ -24,6 +28,7 @@ pub use Firsts.*
 pub use Lines.*
 pub use Starts.*
 pub use Units.*
+pub use Ordered.*
 pub use OnLines.*
 pub use Encoded.*
 pub use PartsOf.*
@@ -33,9 +38,9 @@ pub use Characters.*
 pub use Known.*
 pub use Alike.*
 pub use Plain.*
-pub use Answering.{weighed_within, weighed_from, part_within, units_at, lines_within, line_place, next_in_part, last_inside, return_within, end_is, place_told, exact_place, no_place, here_is, at_within, at_round, line_told, lines_short, line_begins, line_before, return_before, position_told, start_before, units_from_start, return_and_line, position_cut, line_within, exact_made, none_made, byte_made, begins_of_back}
-pub use Breaks.{first_line_end, all_content, next_above, ends_before_return, ends_before_last}
-pub use Rattle.position_mapper.proofs.lemmas.Callers.{nearest_is_greatest}
-pub use Rattle.position_mapper.proofs.lemmas.Callers.{chars-take}
-pub use Rattle.position_mapper.proofs.lemmas.Callers.{boundary_within}
+pub use Answering.{weighed_within, weighed_from, part_within, units_at, lines_within, line_place, next_in_part, last_inside, return_within, end_is, line_end_told, place_told, exact_place, no_place, here_is, at_within, at_round, line_told, lines_short, line_begins, line_before, return_before, position_told, start_before, units_from_start, return_and_line, position_cut, line_within, exact_made, none_made, byte_made, begins_of_back}
+pub use Breaks.{first_line_end, all_content, none_before_end, some_in_back, some_before_end, none_at_end, next_above, ends_before_return, ends_before_last}
+pub use Encodings.*
+pub use Cuts.*
+pub use Laws.*
 pub use Bytes.*

@@ -1,5 +1,7 @@
+pub mod Encodings
 pub mod Lines
 pub mod Positions
+pub mod Relations
 pub mod Parts
 pub mod Units
 pub mod Characters

@@ -1,20 +1,20 @@
 -- The lines of a text, by what ends them. Which line a byte index is on, and where a line begins, the scheme says.
 --     scheme_of l              the scheme that counts these line breaks
 --     is_break l c             whether a line break begins with a character
+--     behind text byte         the characters that end behind a byte index
 --     line_content l text k    the characters of line k, without its break
 --     line_end l text k        the byte index where they end
 --     HasSameBreaks l k text   the text has the same breaks of both kinds
 --     IsReturnBehind l text p n   n is 1 where p is between a CR that begins a break and LF, and else 0
 --     IsPlace l text p         p is between characters, and not between a CR that begins a break and LF
-use Rattle.std.specs.Prelude.{ℕ, ◌≡◌, ◌+◌, ◌⊎◌, Bool, true}
+use Rattle.std.specs.Prelude.{ℕ, ◌≡◌, ◌+◌, ◌⊎◌, Bool, true, length, drop}
 use Rattle.std.specs.Char.{char_set_contains}
 use Rattle.std.specs.List.{before_first}
-use Rattle.str_indices.specs.Text.{Text, size, carriage_return}
+use Rattle.str_indices.specs.Text.{Text, size, carriage_return, cut}
 use Rattle.str_indices.specs.Schemes.{break_characters, from_byte_idx, to_byte_idx}
 use Rattle.str_indices.specs.Relations.{IsBoundary, IsCrlfMiddle}
 use Rattle.str_indices.specs.declared.Scheme.{Scheme}
 use Rattle.str_indices.specs.declared.Scheme.TheVariants as schemes
-use Rattle.position_mapper.specs.Lines.{behind}
 use Rattle.positions.specs.declared.line_type.LineType.{LineType}
 use Rattle.positions.specs.declared.line_type.LineType.TheVariants.{Lf, Crlf, Lines}
 
@@ -27,6 +27,10 @@ scheme_of Lines = schemes.Lines
 -- whether a line break begins with the character
 abbrev pub is_break : LineType → ℕ → Bool
 is_break l c = char_set_contains (break_characters (scheme_of l)) c
+
+-- the characters that end after the byte index: the text without what is cut off there
+abbrev pub behind : Text → ℕ → Text
+behind text byte = drop (length (cut text byte)) text
 
 -- the characters of a line, without its break: those from its beginning on, before the first that begins a break
 abbrev pub line_content : LineType → Text → ℕ → Text

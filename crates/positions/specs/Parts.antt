@@ -11,8 +11,8 @@ use Rattle.str_indices.specs.Text.{Text, size}
 use Rattle.str_indices.specs.Relations.{IsCrlfMiddle}
 use Rattle.str_indices.specs.Schemes.{count, from_byte_idx, weighed}
 use Rattle.str_indices.specs.declared.Scheme.TheVariants.{Chars, Lf}
-use Rattle.position_mapper.specs.Encodings.{units_of}
-use Rattle.position_mapper.specs.declared.encodings.Encoding.{Encoding}
+use Rattle.positions.specs.Encodings.{units_of}
+use Rattle.positions.specs.declared.encodings.Encoding.{Encoding}
 use Rattle.positions.specs.Lines.{scheme_of}
 use Rattle.positions.specs.declared.line_type.LineType.{LineType}
 use Rattle.positions.specs.declared.parts.Own.{Own}

@@ -1,20 +1,20 @@
 -- The positions on the lines of a text, and their byte indices, where offsets are counted in an encoding. Where lines end
--- in LF, CR or CRLF they are those of `position_mapper`.
+-- in LF, CR or CRLF they are those of the Language Server Protocol 3.17, "Position".
 --     units_on_line l e text k byte     the units of the content of line k up to a byte index
 --     position_at l e text byte         the position of a byte index
 --     byte_at l e text position         the byte index of a position
 --     is_exact l e text position        whether the position names a place, and not one that is cut to another
 --     exact_byte_at l e text position   the byte index of a position that names a place
+--     is_at_or_before p q               whether position p is at or before position q
 --     byte_range_at l e text range      the byte indices of a range whose end is not before its start
-use Rattle.std.specs.Prelude.{ℕ, ◌+◌, ◌-◌, ◌&&◌, ◌==◌, Bool, Option, Some, None, if◌then◌else◌, nat_le}
+use Rattle.std.specs.Prelude.{ℕ, ◌+◌, ◌-◌, ◌&&◌, ◌||◌, ◌==◌, Bool, Option, Some, None, if◌then◌else◌, nat_le, nat_lt}
 use Rattle.std.specs.declared.ops.Range as bytes
 use Rattle.str_indices.specs.Text.{Text}
 use Rattle.str_indices.specs.Schemes.{count, from_byte_idx, to_byte_idx, weighed, boundary_weighed}
-use Rattle.position_mapper.specs.Encodings.{units_of}
-use Rattle.position_mapper.specs.Positions.{is_at_or_before}
-use Rattle.position_mapper.specs.declared.Position.{Position}
-use Rattle.position_mapper.specs.declared.Range.{Range}
-use Rattle.position_mapper.specs.declared.encodings.Encoding.{Encoding}
+use Rattle.positions.specs.Encodings.{units_of}
+use Rattle.positions.specs.declared.Position.{Position}
+use Rattle.positions.specs.declared.Range.{Range}
+use Rattle.positions.specs.declared.encodings.Encoding.{Encoding}
 use Rattle.positions.specs.Lines.{scheme_of, line_content}
 use Rattle.positions.specs.declared.line_type.LineType.{LineType}
 
@@ -45,6 +45,10 @@ is_exact l e text position = let content = line_content l text position.line in
 abbrev pub exact_byte_at : LineType → Encoding → Text → Position → Option ℕ
 exact_byte_at l e text position =
     if is_exact l e text position then Some (byte_at l e text position) else None
+
+-- whether position p is on an earlier line than q, or on the same line and no further on it
+abbrev pub is_at_or_before : Position → Position → Bool
+is_at_or_before p q = nat_lt p.line q.line || ((p.line == q.line) && nat_le p.character q.character)
 
 -- the byte indices of a range's start and end, where its end is not before its start
 abbrev pub byte_range_at : LineType → Encoding → Text → Range → Option (bytes.Range ℕ)

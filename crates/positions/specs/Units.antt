@@ -5,9 +5,9 @@ use Rattle.std.specs.Prelude.{◌≡◌, ◌++◌, Option, Some, None, sum_by}
 use Rattle.str_indices.specs.Text.{Text}
 use Rattle.str_indices.specs.declared.Scheme.{Scheme}
 use Rattle.str_indices.specs.declared.Scheme.TheVariants.{Chars, Utf16}
-use Rattle.position_mapper.specs.Encodings.{units_of}
-use Rattle.position_mapper.specs.declared.encodings.Encoding.{Encoding}
-use Rattle.position_mapper.specs.declared.encodings.Encoding.TheVariants as encodings
+use Rattle.positions.specs.Encodings.{units_of}
+use Rattle.positions.specs.declared.encodings.Encoding.{Encoding}
+use Rattle.positions.specs.declared.encodings.Encoding.TheVariants as encodings
 
 -- the scheme that counts the units of an encoding, none for bytes
 abbrev pub unit_scheme : Encoding → Option Scheme

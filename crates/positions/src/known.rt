@@ -1,26 +1,27 @@
 //! A part, asked beside what it is known to have.
 ghost use Rattle.std.specs.Prelude.{◌≡◌, ◌-◌, ◌≤◌, ℕ, IsTrue, chars, sum_by};
+ghost use Rattle.std.specs.List.{before_first};
 ghost use Rattle.str_indices.specs.Schemes.{count, from_byte_idx, to_byte_idx};
-ghost use Rattle.str_indices.specs.Text.{Text};
-ghost use Rattle.position_mapper.specs.Encodings.{units_of};
-ghost use Rattle.position_mapper.specs.declared.encodings.Encoding.{Encoding};
+ghost use Rattle.str_indices.specs.Text.{Text, size};
+ghost use Rattle.positions.specs.Encodings.{units_of};
+ghost use Rattle.positions.specs.declared.encodings.Encoding.{Encoding};
 ghost use Rattle.positions.specs.Characters.{IsBackOf};
-ghost use Rattle.positions.specs.Lines.{HasSameBreaks, scheme_of};
+ghost use Rattle.positions.specs.Lines.{HasSameBreaks, is_break, scheme_of};
 ghost use Rattle.positions.specs.Parts.{IsPart};
 ghost use Rattle.positions.specs.Positions.{byte_at};
 ghost use Rattle.positions.specs.Units.{HasSameUnits};
 ghost use Rattle.positions.specs.declared.line_type.LineType.{LineType};
 
-use crate::first_lines::{NEAR, place_on_first_line};
+use crate::first_lines::{NEAR, content_end, place_on_first_line};
 use crate::plain::is_after_plain;
 use crate::texts::len_of;
 use crate::units::place_of;
-use crate::{LineType, Part};
-use position_mapper::Encoding;
+use crate::{Encoding, LineType, Part, kernels};
+use byte_chunk::ByteChunk;
 
 impl Part<'_> {
     /// Whether it is known that no later line than `line` begins in it.
-    fn ends_on(&self, line: usize) -> bool
+    pub(crate) fn ends_on(&self, line: usize) -> bool
         ensures { (cs : Text) (l : LineType) (e : Encoding) → IsPart cs l e self.now → IsTrue result
             → count (scheme_of l) (chars self.now.text.now) ≤ line - self.now.lines }
     {
@@ -79,19 +80,38 @@ impl Part<'_> {
     }
 
     /// How many line breaks end in it up to a place, for which none of it is read where it is known to have none.
-    pub(crate) fn breaks_up_to(&self, lines: LineType, at: usize) -> usize
+    pub(crate) fn breaks_up_to<T: ByteChunk>(&self, lines: LineType, at: usize) -> usize
         ensures { (cs : Text) (e : Encoding) → IsPart cs lines e self.now
             → result ≡ from_byte_idx (scheme_of lines) (chars self.now.text.now) at }
     {
         if self.ends_on(self.lines) {
             return 0;
         }
-        self.kind(lines).scheme().from_byte_idx(self.text, at)
+        kernels::from_byte_idx::<T>(self.kind(lines).scheme(), self.text, at)
+    }
+
+    /// The byte index where the content of a line ends, in the rest of it from the line's beginning on: where the line does
+    /// not end in it, its own end. It is read up to the answer where the line ends in it, and else not where it has no break.
+    pub(crate) fn content_end<T: ByteChunk>(
+        &self,
+        lines: LineType,
+        line: usize,
+        rest: &str,
+    ) -> usize
+        ensures { (cs : Text) (e : Encoding) (at : ℕ) → IsPart cs lines e self.now
+            → at ≡ to_byte_idx (scheme_of lines) (chars self.now.text.now) (line - self.now.lines)
+            → IsBackOf (chars self.now.text.now) (chars rest.now) at
+            → result ≡ size (before_first (is_break lines) (chars rest.now)) }
+    {
+        if !self.ends_on(line) {
+            return content_end::<T>(lines, rest);
+        }
+        len_of(rest)
     }
 
     /// The byte index where the char at an offset on a line begins, or the end of the line's content, in the rest of it from the
     /// line's beginning on. It is read up to the answer where the line ends in it, and else not where it has too few units.
-    pub(crate) fn place_on_line(
+    pub(crate) fn place_on_line<T: ByteChunk>(
         &self,
         lines: LineType,
         encoding: Encoding,
@@ -108,11 +128,11 @@ impl Part<'_> {
             if self.has_at_most(character) {
                 return len_of(rest);
             }
-            return place_of(self.encoding(encoding), rest, character);
+            return place_of::<T>(self.encoding(encoding), rest, character);
         }
         if character < NEAR && self.may_be_ascii() && is_after_plain(rest, character) {
             return character;
         }
-        place_on_first_line(lines, self.encoding(encoding), rest, character)
+        place_on_first_line::<T>(lines, self.encoding(encoding), rest, character)
     }
 }

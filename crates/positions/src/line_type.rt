@@ -1,8 +1,10 @@
 //! The kinds of line break.
-ghost use Rattle.std.specs.Prelude.{◌≡◌};
+ghost use Rattle.std.specs.Prelude.{◌≡◌, IsCharBoundary, chars};
 ghost use Rattle.str_indices.specs.Text.{carriage_return};
-ghost use Rattle.positions.specs.Lines.{is_break, scheme_of};
+ghost use Rattle.positions.specs.Lines.{is_break, line_end, scheme_of};
 
+use crate::{Whole, starts};
+use byte_chunk::{ByteChunk, Chunk};
 use str_indices::Scheme;
 
 /// A kind of line break.
@@ -26,6 +28,25 @@ impl LineType {
             LineType::Crlf => Scheme::Crlf,
             LineType::Lines => Scheme::Lines,
         }
+    }
+
+    /// The byte index where the content of a line of a text ends, counted from 0: before its break, or the text's length in
+    /// bytes where it is the last line or past it.
+    ///
+    /// The text may be sliced at the answer.
+    pub fn line_end(self, text: &str, line: usize) -> usize
+        ensures answer { result ≡ line_end self (chars text.now) line }
+        ensures boundary { IsCharBoundary text.now result }
+    {
+        self.line_end_impl::<Chunk>(text, line)
+    }
+
+    /// The byte index where the content of a line ends, as [`LineType::line_end`], over chunks of any type.
+    pub fn line_end_impl<T: ByteChunk>(self, text: &str, line: usize) -> usize
+        ensures answer { result ≡ line_end self (chars text.now) line }
+        ensures boundary { IsCharBoundary text.now result }
+    {
+        starts::line(&mut Whole::<T>::of(text), self, line).end
     }
 
     /// Whether a CR begins a line break.

@@ -6,7 +6,9 @@ ghost use Rattle.str_indices.specs.Text.{size};
 ghost use Rattle.positions.specs.Lines.{scheme_of};
 
 use crate::LineType;
+use crate::kernels::{from_byte_idx, to_byte_idx};
 use crate::texts::{char_start, from_byte, len_of};
+use byte_chunk::ByteChunk;
 
 /// How many bytes the first window has: more than most lines.
 const FIRST_WINDOW: usize = 64;
@@ -14,7 +16,12 @@ const FIRST_WINDOW: usize = 64;
 /// The byte index where the line of a byte begins, of which the number is told. It is found in windows that end at the byte,
 /// each eight times as long as the one before: so it takes little more than the line's length, wherever in the text that is,
 /// and nothing on the first line.
-pub(crate) fn line_start(lines: LineType, text: &str, byte: usize, line: usize) -> usize
+pub(crate) fn line_start<T: ByteChunk>(
+    lines: LineType,
+    text: &str,
+    byte: usize,
+    line: usize,
+) -> usize
     requires line { line ≡ from_byte_idx (scheme_of lines) (chars text.now) byte }
     requires within { byte ≤ size (chars text.now) }
     ensures start { result ≡ to_byte_idx (scheme_of lines) (chars text.now) line }
@@ -29,9 +36,9 @@ pub(crate) fn line_start(lines: LineType, text: &str, byte: usize, line: usize) 
     'windows: loop {
         let from = char_start(text, byte.saturating_sub(window));
         let behind = from_byte(text, from);
-        let breaks = scheme.from_byte_idx(behind, byte - from);
+        let breaks = from_byte_idx::<T>(scheme, behind, byte - from);
         if from == 0 || breaks > 0 {
-            return from + scheme.to_byte_idx(behind, breaks);
+            return from + to_byte_idx::<T>(scheme, behind, breaks);
         }
         window = window.saturating_mul(8);
     }

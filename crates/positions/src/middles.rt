@@ -2,7 +2,7 @@
 ghost use Rattle.std.specs.Prelude.{◌≡◌, ◌+◌, ◌<◌, ◌≤◌, ◌⊎◌, ◌↔◌, IsTrue, chars, true};
 ghost use Rattle.str_indices.specs.Relations.{IsCrlfMiddle};
 ghost use Rattle.str_indices.specs.Text.{Text, size};
-ghost use Rattle.position_mapper.specs.declared.encodings.Encoding.{Encoding};
+ghost use Rattle.positions.specs.declared.encodings.Encoding.{Encoding};
 ghost use Rattle.positions.specs.Parts.{IsPart};
 ghost use Rattle.positions.specs.Lines.{IsReturnBehind};
 ghost use Rattle.positions.specs.declared.line_type.LineType.{LineType};

@@ -3,11 +3,11 @@ ghost use Rattle.std.specs.Prelude.{◌≡◌, ◌^◌, ◌<◌, ◌≤◌, IsSo
 ghost use Rattle.str_indices.specs.Schemes.{boundary_weighed, count, weighed};
 ghost use Rattle.str_indices.specs.Text.{size};
 ghost use Rattle.positions.specs.Lines.{scheme_of};
-ghost use Rattle.position_mapper.specs.Encodings.{units_of};
+ghost use Rattle.positions.specs.Encodings.{units_of};
 ghost use Rattle.positions.specs.Parts.{HasByte, HasLine, IsPart, IsSearched, PartsState, Took};
 
-use crate::LineType;
-use position_mapper::Encoding;
+use crate::{Encoding, LineType};
+use byte_chunk::ByteChunk;
 
 /// A part of a text, and what is before it.
 #[derive(Clone, Copy)]
@@ -22,11 +22,11 @@ pub struct Part<'a> {
     pub units: Option<usize>,
     /// Whether it starts between CR and LF.
     pub in_crlf: bool,
-    /// What it has, where the text tells that without reading the part.
+    /// The counts of the part itself, where the text knows them without reading the part.
     pub own: Option<Own>,
 }
 
-/// What a part has.
+/// The counts of a part.
 #[derive(Clone, Copy)]
 pub struct Own {
     /// How many chars.
@@ -42,6 +42,9 @@ pub struct Own {
 /// A text that lends the part round a place. A contract sees the text, how often it was searched and how many parts were
 /// read, and what a search may cost.
 pub trait Parts<'a> {
+    /// The chunk type by which its parts are read.
+    type Chunk: ByteChunk;
+
     ghost state: { Self → PartsState };
 
     /// How many bytes the text has.

@@ -3,18 +3,17 @@ ghost use Rattle.std.specs.Prelude.{◌≡◌, ◌+◌, ◌-◌, ◌*◌, ◌<�
 ghost use Rattle.str_indices.specs.Relations.{IsBoundary};
 ghost use Rattle.str_indices.specs.Schemes.{count, from_byte_idx, to_byte_idx, weighed};
 ghost use Rattle.str_indices.specs.Text.{size};
-ghost use Rattle.position_mapper.specs.Encodings.{units_of};
+ghost use Rattle.positions.specs.Encodings.{units_of};
 ghost use Rattle.positions.specs.Lines.{scheme_of};
 ghost use Rattle.positions.specs.Parts.{HasByte, IsPart, Took};
 ghost use Rattle.positions.specs.Positions.{byte_at, byte_range_at, exact_byte_at, position_at};
 
 use crate::look_back::line_start;
 use crate::middles::return_behind;
-use crate::starts::{Place, line_end, line_in, units_up_to};
+use crate::starts::{Place, has_line, later_line, line_end, line_in, tells, units_up_to};
 use crate::texts::{from_byte, len_of};
 use crate::units::units_before;
-use crate::{LineType, Part, Parts};
-use position_mapper::{Encoding, Position, Range};
+use crate::{Encoding, LineType, Part, Parts, Position, Range};
 use std::ops;
 
 /// The position of a byte: its line, and the units from that line's beginning to the byte.
@@ -57,14 +56,14 @@ pub(crate) fn position_from<'a, P: Parts<'a>>(
 {
     let first = part.start == 0;
     let at = (byte - part.start).min(len_of(part.text));
-    let own = part.breaks_up_to(lines, at);
+    let own = part.breaks_up_to::<P::Chunk>(lines, at);
     let _len = parts.len();
     let line = part.lines + own;
     let behind = return_behind(lines, part, at);
     if own > 0 || first {
-        let start = line_start(part.kind(lines), part.text, at, own);
+        let start = line_start::<P::Chunk>(part.kind(lines), part.text, at, own);
         let rest = from_byte(part.text, start);
-        let units = units_before(part.encoding(encoding), rest, at - start);
+        let units = units_before::<P::Chunk>(part.encoding(encoding), rest, at - start);
         return Position {
             line,
             character: units - behind,
@@ -130,16 +129,18 @@ pub fn exact_byte_of<'a, P: Parts<'a>>(
     ensures cost { Took ((P.state parts.old).apart + 1) 3 (P.state parts.old) (P.state parts.new) }
 {
     let _len = parts.len();
-    if parts.count(lines) < position.line {
+    let start = line_in(parts, lines, encoding, position.line);
+    if !has_line(parts, lines, &start, position.line) {
         return None;
     }
-    let start = line_in(parts, lines, encoding, position.line);
     let rest = from_byte(start.part.text, start.own);
     let own = start
         .part
-        .place_on_line(lines, encoding, position.line, rest, position.character);
+        .place_on_line::<P::Chunk>(lines, encoding, position.line, rest, position.character);
     if tells(parts, &start.part, rest, own) {
-        if units_before(start.part.encoding(encoding), rest, own) != position.character {
+        if units_before::<P::Chunk>(start.part.encoding(encoding), rest, own)
+            != position.character
+        {
             return None;
         }
         return Some(start.part.start + start.own + own);
@@ -148,7 +149,7 @@ pub fn exact_byte_of<'a, P: Parts<'a>>(
 }
 
 /// The byte indices of a range, or `None` where its end is before its start. Each is that of its position, as `byte_of`
-/// answers it. Positions on one line share the search by it.
+/// answers it. Positions on one line share the search by it, and in the text's last part no second one is needed either.
 pub fn byte_range<'a, P: Parts<'a>>(
     parts: &mut P,
     lines: LineType,
@@ -160,6 +161,8 @@ pub fn byte_range<'a, P: Parts<'a>>(
     ensures boundaries { let cs = (P.state parts.old).text in
         IfSome result (λ bytes. IsBoundary cs bytes.start × IsBoundary cs bytes.end) }
     ensures cost { Took (2 * (P.state parts.old).apart) 6 (P.state parts.old) (P.state parts.new) }
+    ensures on_line { range.start.line ≡ range.end.line
+        → Took (2 * (P.state parts.old).apart) 5 (P.state parts.old) (P.state parts.new) }
 {
     let _len = parts.len();
     let Range { start, end } = range;
@@ -167,24 +170,10 @@ pub fn byte_range<'a, P: Parts<'a>>(
         return None;
     }
     let first = line_in(parts, lines, encoding, start.line);
+    let last = later_line(parts, lines, encoding, &first, start.line, end.line);
     let from = byte_on(parts, lines, encoding, &first, start);
-    if start.line == end.line {
-        let to = byte_on(parts, lines, encoding, &first, end);
-        return Some(from..to);
-    }
-    let to = byte_of(parts, lines, encoding, end);
+    let to = byte_on(parts, lines, encoding, &last, end);
     Some(from..to)
-}
-
-/// Whether the part that a line begins in tells a place on the line, by the rest of it: the place is before the end of that, or
-/// the text ends there.
-fn tells<'a, P: Parts<'a>>(parts: &P, part: &Part<'a>, rest: &str, own: usize) -> bool
-    requires { part.now.start + size (chars part.now.text.now) ≤ size (P.state parts.now).text }
-    ensures { IsTrue result ↔ ((own < size (chars rest.now))
-        ⊎ (part.now.start + size (chars part.now.text.now) ≡ size (P.state parts.now).text)) }
-{
-    let len = parts.len();
-    own < len_of(rest) || part.start + len_of(part.text) == len
 }
 
 /// The byte index of a position on a line.
@@ -209,7 +198,7 @@ fn byte_on<'a, P: Parts<'a>>(
     let rest = from_byte(start.part.text, start.own);
     let own = start
         .part
-        .place_on_line(lines, encoding, position.line, rest, position.character);
+        .place_on_line::<P::Chunk>(lines, encoding, position.line, rest, position.character);
     if tells(parts, &start.part, rest, own) {
         return start.part.start + start.own + own;
     }

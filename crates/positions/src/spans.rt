@@ -2,7 +2,7 @@
 ghost use Rattle.std.specs.Prelude.{◌≡◌, ◌+◌, ◌*◌, ◌≤◌, ◌<◌, ◌⊎◌, ◌↔◌, IfSome, IsSome, IsTrue, chars};
 ghost use Rattle.str_indices.specs.Schemes.{from_byte_idx, to_byte_idx};
 ghost use Rattle.str_indices.specs.Text.{Text, size};
-ghost use Rattle.position_mapper.specs.declared.encodings.Encoding.{Encoding};
+ghost use Rattle.positions.specs.declared.encodings.Encoding.{Encoding};
 ghost use Rattle.positions.specs.Lines.{IsPlace, scheme_of};
 ghost use Rattle.positions.specs.Parts.{HasByte, IsPart, Took};
 ghost use Rattle.positions.specs.Positions.{position_at};
@@ -10,8 +10,7 @@ ghost use Rattle.positions.specs.Positions.{position_at};
 use crate::middles::return_behind;
 use crate::questions::{position_from, position_of};
 use crate::texts::{is_boundary, len_of};
-use crate::{LineType, Part, Parts};
-use position_mapper::{Encoding, Position, Range};
+use crate::{Encoding, LineType, Part, Parts, Position, Range};
 use std::ops;
 
 /// The positions of the two ends of a span, each as `position_of` answers it. Ends in one part share the search by it.

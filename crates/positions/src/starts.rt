@@ -1,17 +1,16 @@
 //! Where a line begins, in the part that it begins in.
-ghost use Rattle.std.specs.Prelude.{◌≡◌, ◌+◌, ◌-◌, ◌<◌, ◌≤◌, IsSome, chars};
+ghost use Rattle.std.specs.Prelude.{◌≡◌, ◌+◌, ◌-◌, ◌<◌, ◌≤◌, ◌⊎◌, ◌↔◌, IsSome, IsTrue, chars};
 ghost use Rattle.str_indices.specs.Relations.{IsBoundary};
 ghost use Rattle.str_indices.specs.Schemes.{count, to_byte_idx, weighed};
 ghost use Rattle.str_indices.specs.Text.{size};
-ghost use Rattle.position_mapper.specs.Encodings.{units_of};
+ghost use Rattle.positions.specs.Encodings.{units_of};
 ghost use Rattle.positions.specs.Lines.{line_end, scheme_of};
 ghost use Rattle.positions.specs.Parts.{HasLine, IsPart, Took};
 
 use crate::middles::return_behind;
-use crate::texts::char_start;
+use crate::texts::{char_start, from_byte, len_of};
 use crate::units::units_before;
-use crate::{LineType, Part, Parts};
-use position_mapper::Encoding;
+use crate::{Encoding, LineType, Part, Parts, kernels};
 use std::ops;
 
 /// A place in a part.
@@ -39,11 +38,73 @@ pub(crate) fn line_in<'a, P: Parts<'a>>(
     ensures cost { Took 0 1 (P.state parts.old) (P.state parts.new) }
 {
     let part = parts.part_of_line(lines, encoding, line);
-    let own = part
-        .kind(lines)
-        .scheme()
-        .to_byte_idx(part.text, line - part.lines);
+    let scheme = part.kind(lines).scheme();
+    let own = kernels::to_byte_idx::<P::Chunk>(scheme, part.text, line - part.lines);
     Place { part, own }
+}
+
+/// Whether the text has a line, which would begin at `start`.
+pub(crate) fn has_line<'a, P: Parts<'a>>(
+    parts: &P,
+    lines: LineType,
+    start: &Place<'a>,
+    line: usize,
+) -> bool
+    requires within { start.now.part.start + size (chars start.now.part.text.now) ≤ size (P.state parts.now).text }
+    requires own { start.now.own ≤ size (chars start.now.part.text.now) }
+    requires place { start.now.part.start + start.now.own ≡ to_byte_idx (scheme_of lines) (P.state parts.now).text line }
+    ensures { IsTrue result ↔ (line ≤ count (scheme_of lines) (P.state parts.now).text) }
+{
+    // A line that begins before the end is there, so the breaks are counted at the end alone.
+    let len = parts.len();
+    start.part.start + start.own < len || line <= parts.count(lines)
+}
+
+/// Where a later line begins, by where `line` does. It takes no search where that is the same line, or `line` begins in the
+/// text's last part, of which what is before it is not gone over again.
+pub(crate) fn later_line<'a, P: Parts<'a>>(
+    parts: &mut P,
+    lines: LineType,
+    encoding: Encoding,
+    start: &Place<'a>,
+    line: usize,
+    later: usize,
+) -> Place<'a>
+    requires part { IsPart (P.state parts.old).text lines encoding start.now.part }
+    requires round { HasLine (P.state parts.old).text lines line start.now.part }
+    requires own { let part = start.now.part in
+        start.now.own ≡ to_byte_idx (scheme_of lines) (chars part.text.now) (line - part.lines) }
+    requires boundary { IsBoundary (chars start.now.part.text.now) start.now.own }
+    requires units { (P.state parts.old).apart ≡ 0 → IsSome start.now.part.units }
+    requires order { line ≤ later }
+    ensures part { IsPart (P.state parts.old).text lines encoding result.part }
+    ensures place { result.part.start + result.own ≡ to_byte_idx (scheme_of lines) (P.state parts.old).text later }
+    ensures own { let part = result.part in
+        result.own ≡ to_byte_idx (scheme_of lines) (chars part.text.now) (later - part.lines) }
+    ensures boundary { IsBoundary (chars result.part.text.now) result.own }
+    ensures units { (P.state parts.old).apart ≡ 0 → IsSome result.part.units }
+    ensures cost { Took 0 1 (P.state parts.old) (P.state parts.new) }
+    ensures same { line ≡ later → Took 0 0 (P.state parts.old) (P.state parts.new) }
+{
+    let len = parts.len();
+    let part = start.part;
+    if line != later && part.start + len_of(part.text) < len {
+        return line_in(parts, lines, encoding, later);
+    }
+    let rest = from_byte(part.text, start.own);
+    let own = start.own + kernels::to_byte_idx::<P::Chunk>(lines.scheme(), rest, later - line);
+    Place { part, own }
+}
+
+/// Whether the part that a line begins in tells a place on the line, by the rest of it: the place is before the end of that, or
+/// the text ends there.
+pub(crate) fn tells<'a, P: Parts<'a>>(parts: &P, part: &Part<'a>, rest: &str, own: usize) -> bool
+    requires { part.now.start + size (chars part.now.text.now) ≤ size (P.state parts.now).text }
+    ensures { IsTrue result ↔ ((own < size (chars rest.now))
+        ⊎ (part.now.start + size (chars part.now.text.now) ≡ size (P.state parts.now).text)) }
+{
+    let len = parts.len();
+    own < len_of(rest) || part.start + len_of(part.text) == len
 }
 
 /// The units of the text's chars before a place in a part. It takes a search by the byte where the part does not have those
@@ -63,7 +124,7 @@ pub(crate) fn units_up_to<'a, P: Parts<'a>>(
 {
     let _len = parts.len();
     match part.units {
-        Some(before) => before + units_before(part.encoding(encoding), part.text, at),
+        Some(before) => before + units_before::<P::Chunk>(part.encoding(encoding), part.text, at),
         None => parts.units_of_byte(encoding, part.start + at),
     }
 }
@@ -104,7 +165,7 @@ pub fn line_end<'a, P: Parts<'a>>(parts: &mut P, lines: LineType, line: usize) -
 }
 
 /// The byte indices where a line begins, counted from 0, and where its content ends; the length of the text in bytes twice
-/// for a line past the last one. It takes two searches by the line.
+/// for a line past the last one. It takes one search by the line where that ends before the end of its part, and else two.
 pub fn line<'a, P: Parts<'a>>(parts: &mut P, lines: LineType, line: usize) -> ops::Range<usize>
     ensures start { result.start ≡ to_byte_idx (scheme_of lines) (P.state parts.old).text line }
     ensures end { result.end ≡ line_end lines (P.state parts.old).text line }
@@ -112,6 +173,11 @@ pub fn line<'a, P: Parts<'a>>(parts: &mut P, lines: LineType, line: usize) -> op
 {
     let _len = parts.len();
     let start = line_in(parts, lines, Encoding::Utf8, line);
-    let end = line_end(parts, lines, line);
-    start.part.start + start.own..end
+    let rest = from_byte(start.part.text, start.own);
+    let own = start.part.content_end::<P::Chunk>(lines, line, rest);
+    let begins = start.part.start + start.own;
+    if tells(parts, &start.part, rest, own) {
+        return begins..begins + own;
+    }
+    begins..line_end(parts, lines, line)
 }

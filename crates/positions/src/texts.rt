@@ -2,7 +2,7 @@
 ghost use Rattle.std.specs.Prelude.{◌≡◌, ◌↔◌, IsTrue, chars};
 ghost use Rattle.str_indices.specs.Relations.{IsBoundary};
 ghost use Rattle.str_indices.specs.Starts.{IsGreatestBoundary};
-ghost use Rattle.str_indices.specs.Text.{size};
+ghost use Rattle.str_indices.specs.Text.{cut, size};
 ghost use Rattle.positions.specs.Characters.{IsBackOf};
 
 /// How many bytes a text has.
@@ -24,6 +24,14 @@ pub(crate) fn char_start(text: &str, byte: usize) -> usize
     ensures { IsGreatestBoundary (chars text.now) byte result }
 {
     text.floor_char_boundary(byte)
+}
+
+/// The text up to a byte index.
+pub(crate) fn up_to(text: &str, at: usize) -> &str
+    requires boundary { IsBoundary (chars text.now) at }
+    ensures { chars result.now ≡ cut (chars text.now) at }
+{
+    &text[..at]
 }
 
 /// The text from a byte index on.

@@ -1,11 +1,12 @@
 //! The units of an encoding, in a text by itself.
 ghost use Rattle.std.specs.Prelude.{◌≡◌, IsCharBoundary, chars};
 ghost use Rattle.str_indices.specs.Schemes.{boundary_weighed, weighed};
-ghost use Rattle.position_mapper.specs.Encodings.{units_of};
+ghost use Rattle.positions.specs.Encodings.{units_of};
 ghost use Rattle.positions.specs.Units.{unit_scheme};
 
 use crate::texts::char_start;
-use position_mapper::Encoding;
+use crate::{Encoding, kernels};
+use byte_chunk::ByteChunk;
 use str_indices::Scheme;
 
 /// The scheme that counts the units of an encoding, or `None` for bytes.
@@ -20,23 +21,23 @@ pub fn unit_scheme(encoding: Encoding) -> Option<Scheme>
 }
 
 /// The units of the chars before a byte index.
-pub(crate) fn units_before(encoding: Encoding, text: &str, byte: usize) -> usize
+pub(crate) fn units_before<T: ByteChunk>(encoding: Encoding, text: &str, byte: usize) -> usize
     ensures { result ≡ weighed (units_of encoding) (chars text.now) byte }
 {
     match unit_scheme(encoding) {
         None => char_start(text, byte),
-        Some(scheme) => scheme.from_byte_idx(text, byte),
+        Some(scheme) => kernels::from_byte_idx::<T>(scheme, text, byte),
     }
 }
 
 /// The byte index before which the chars have `units` units, or where the char begins that has that unit inside it; past
 /// them all the text's length in bytes.
-pub(crate) fn place_of(encoding: Encoding, text: &str, units: usize) -> usize
+pub(crate) fn place_of<T: ByteChunk>(encoding: Encoding, text: &str, units: usize) -> usize
     ensures answer { result ≡ boundary_weighed (units_of encoding) (chars text.now) units }
     ensures boundary { IsCharBoundary text.now result }
 {
     match unit_scheme(encoding) {
         None => text.floor_char_boundary(units),
-        Some(scheme) => scheme.to_byte_idx(text, units),
+        Some(scheme) => kernels::to_byte_idx::<T>(scheme, text, units),
     }
 }

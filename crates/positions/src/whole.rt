@@ -1,23 +1,38 @@
 //! A text by itself.
 ghost use Rattle.std.specs.Prelude.{◌≡◌, ◌+◌, [], ◌∷◌, Some, chars};
 ghost use Rattle.str_indices.specs.Text.{Text, size};
-ghost use Rattle.position_mapper.specs.declared.encodings.Encoding.{Encoding};
 ghost use Rattle.positions.specs.Parts.{IsPart, PartsState};
+ghost use Rattle.positions.specs.declared.encodings.Encoding.{Encoding};
 ghost use Rattle.positions.specs.declared.line_type.LineType.{LineType};
 
 use crate::texts::len_of;
 use crate::units::{place_of, units_before};
-use crate::{LineType, Part, Parts};
-use position_mapper::Encoding;
+use crate::{Encoding, LineType, Part, Parts, kernels};
+use byte_chunk::ByteChunk;
+use std::marker::PhantomData;
 
-/// A text by itself, which is one part.
-#[derive(Clone, Copy)]
-pub struct Whole<'a> {
-    /// The text.
-    pub text: &'a str,
+/// A text by itself, which is one part, and is read by chunks of the type `T`.
+#[derive(Drop)]
+pub struct Whole<'a, T> {
+    text: &'a str,
+    chunk: PhantomData<T>,
 }
 
-impl<'a> Parts<'a> for Whole<'a> {
+impl<'a, T: ByteChunk> Whole<'a, T> {
+    /// The text as one part.
+    pub fn of(text: &'a str) -> Whole<'a, T>
+        ensures { result.text.now ≡ text.entry.now }
+    {
+        Whole {
+            text,
+            chunk: PhantomData,
+        }
+    }
+}
+
+impl<'a, T: ByteChunk> Parts<'a> for Whole<'a, T> {
+    type Chunk = T;
+
     ghost state = { λ t. record {
       text = chars t.text.now;
       pieces = chars t.text.now ∷ [];
@@ -34,7 +49,7 @@ impl<'a> Parts<'a> for Whole<'a> {
     }
 
     fn count(&self, lines: LineType) -> usize {
-        lines.scheme().count(self.text)
+        kernels::count::<T>(lines.scheme(), self.text)
     }
 
     fn part_of_byte(&mut self, _lines: LineType, _encoding: Encoding, _byte: usize) -> Part<'a> {
@@ -46,11 +61,11 @@ impl<'a> Parts<'a> for Whole<'a> {
     }
 
     fn units_of_byte(&mut self, encoding: Encoding, byte: usize) -> usize {
-        units_before(encoding, self.text, byte)
+        units_before::<T>(encoding, self.text, byte)
     }
 
     fn byte_of_units(&mut self, encoding: Encoding, units: usize) -> usize {
-        place_of(encoding, self.text, units)
+        place_of::<T>(encoding, self.text, units)
     }
 }
 

@@ -3,7 +3,7 @@ ghost use Rattle.std.specs.Prelude.{chars, IfOk, IfSome};
 ghost use Rattle.text_summary.specs.Changes.{IsReplaced};
 ghost use Rattle.rope_positions.specs.Changes.{part_at};
 
-use position_mapper::{Encoding, Position, Range};
+use positions::{Encoding, LineType, Position, Range};
 use rope_positions::{Change, apply, byte_of, byte_range, exact_byte_of, line_end, position_of};
 use std::alloc::{AllocError, Global};
 use std::process::Abort;
@@ -151,7 +151,7 @@ fn assert_same_in(
 
 fn assert_same_line_end(rt: &impl Abort, rope: &Rope, text: &str, line: usize) {
     let found = line_end(rope, line);
-    let wanted = position_mapper::line_end(text, line);
+    let wanted = LineType::Crlf.line_end(text, line);
     assert!(rt; found == wanted, "{text:?} {line}: {found}");
 }
 

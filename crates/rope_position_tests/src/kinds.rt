@@ -1,4 +1,5 @@
 //! Positions and lines of each kind of line break, beside those that `positions` answers for a text by itself.
+use byte_chunk::Chunk;
 use positions::{Encoding, LineType, Position, Range, Whole};
 use rope_positions::{
     byte_by, byte_range_by, exact_byte_by, exact_position_by, exact_position_of, line_end_by,
@@ -13,7 +14,7 @@ const KINDS: [LineType; 3] = [LineType::Lf, LineType::Crlf, LineType::Lines];
 
 const ENCODINGS: [Encoding; 3] = [Encoding::Utf8, Encoding::Utf16, Encoding::Utf32];
 
-/// What stands where one rope is put behind another: the first of the two ends the front one.
+/// Pairs of texts: the first ends a rope, and the second begins the rope that is put behind it.
 const SEAMS: [(&str, &str); 7] = [
     ("\r", "\n"),
     ("\r", "\r\n"),
@@ -32,7 +33,7 @@ fn assert_position(
     e: Encoding,
     position: Position,
 ) {
-    let whole = &mut Whole { text };
+    let whole = &mut Whole::<Chunk>::of(text);
     let start = Position {
         line: 0,
         character: 0,
@@ -66,7 +67,7 @@ fn assert_byte(
     e: Encoding,
     byte: usize,
 ) {
-    let whole = &mut Whole { text };
+    let whole = &mut Whole::<Chunk>::of(text);
     let position = positions::position_of(whole, l, e, byte);
     let span = byte..byte.saturating_add(7);
     assert_eq!(rt;

@@ -7,7 +7,7 @@ ghost use Rattle.text_rope.specs.declared.refusals.Refusal.TheVariants.{NotOrder
 ghost use Rattle.rope_positions.specs.Changes.{exact_part_at, is_ordered, part_at};
 
 use crate::{Change, exact_byte_of};
-use position_mapper::{Encoding, Range};
+use positions::{Encoding, Range};
 use std::ops;
 use text_rope::{Refusal, Rope};
 

@@ -1,6 +1,6 @@
 //! Positions of the Language Server Protocol 3.17 in a text that changes.
 //!
-//! A [`Rope`](text_rope::Rope) answers where a position is, and which position a byte has, as `position_mapper` does for
+//! A [`Rope`](text_rope::Rope) answers where a position is, and which position a byte has, as `positions` does for
 //! the whole text, by a constant number of the rope's own questions.
 #![tactic(auto)]
 

@@ -109,7 +109,7 @@ def asked(source, number):
 
 def run(lists, folder):
     """What the program prints for each list, by its number."""
-    libraries = ["rope_positions", "text_rope", "position_mapper"]
+    libraries = ["rope_positions", "text_rope", "positions"]
     source = (ROOT / "crates/rope_positions/tests/rope_positions.rt.txt").read_text(encoding="utf-8")
     crate = copy_program("rope_changes", libraries, source, folder, left_out=("out",))
     cases = folder / "cases"

@@ -1,5 +1,5 @@
 //! The functions of `str_indices` for C, as a static library: one export for each of them, and one that tells whether
-//! bytes are UTF-8; and those of `position_mapper`, in `positions`.
+//! bytes are UTF-8; and, in the module `text_positions`, positions and the ends of lines.
 //!
 //! C hands a text over as the address of its first byte and the number of its bytes.
 //! `bindings/c/include/str_indices.h`, at the top of the repository, says what a caller owes. It declares the exports
@@ -11,7 +11,7 @@ ghost use Rattle.std.specs.Prelude.{◌≡◌, ◌↔◌, IsCharBoundary, IsTrue
 ghost use Rattle.str_indices.specs.Schemes.{count, from_byte_idx, surrogates, to_byte_idx};
 ghost use Rattle.str_indices.specs.declared.Scheme.TheVariants.{Chars, Crlf, Lf, Lines, Utf16};
 
-mod positions;
+mod text_positions;
 
 use str_indices::{chars, lines, lines_crlf, lines_lf, utf16};
 

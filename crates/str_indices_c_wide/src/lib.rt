@@ -1,5 +1,5 @@
 //! The functions of `str_indices` for C once more, over chunks of thirty-two lanes: one export for each of them; and those
-//! of `position_mapper`, in `positions`.
+//! of positions and the ends of lines, in the module `text_positions`.
 //!
 //! They promise what those of `str_indices_c` do, for a processor of the level x86-64-v3, where such a chunk is one
 //! vector. So this crate is checked and built for that level, by `bindings/c/build_library` at the top of the
@@ -10,7 +10,7 @@ ghost use Rattle.std.specs.Prelude.{◌≡◌, IsCharBoundary, IsUtf8, chars};
 ghost use Rattle.str_indices.specs.Schemes.{count, from_byte_idx, surrogates, to_byte_idx};
 ghost use Rattle.str_indices.specs.declared.Scheme.TheVariants.{Chars, Crlf, Lf, Lines, Utf16};
 
-mod positions;
+mod text_positions;
 
 use byte_chunk::Probe;
 use std::simd::u8x32;

@@ -1,10 +1,8 @@
 //! Positions of the Language Server Protocol 3.17 and lines in an indexed text.
 ghost use Rattle.std.specs.Prelude.{◌≡◌, ◌≤◌, ◌↔◌, IfSome, IsSome, chars};
 ghost use Rattle.str_indices.specs.Relations.{IsBoundary, IsCrlfMiddle};
-ghost use Rattle.position_mapper.specs.Lines.{line_content, line_end};
-ghost use Rattle.position_mapper.specs.Positions.{byte_at, byte_range_at, exact_byte_at, position_at};
-ghost use Rattle.positions.specs.Lines as by;
-ghost use Rattle.positions.specs.Positions as by_lines;
+ghost use Rattle.positions.specs.Lines.{IsPlace, line_content, line_end};
+ghost use Rattle.positions.specs.Positions.{byte_at, byte_range_at, exact_byte_at, position_at};
 
 use crate::places::part_of;
 use crate::{
@@ -18,15 +16,15 @@ impl<'a> TextIndex<'a> {
     /// The byte index where the content of a line ends, counted from 0: before its break, or the length of the text in
     /// bytes where it is the last line or past it. Lines end in LF, CR or CRLF. It asks `line_end_in`.
     pub fn line_end(&self, line: usize) -> usize
-        ensures answer { result ≡ line_end self.now line }
+        ensures answer { result ≡ line_end LineType.Crlf self.now line }
         ensures boundary { IsBoundary self.now result }
     {
         self.line_end_by(LineType::Crlf, line)
     }
 
-    /// The same, where lines end in breaks of the kind `lines`.
+    /// As `line_end`, where lines end in breaks of the kind `lines`.
     pub fn line_end_by(&self, lines: LineType, line: usize) -> usize
-        ensures answer { result ≡ by.line_end lines self.now line }
+        ensures answer { result ≡ line_end lines self.now line }
         ensures boundary { IsBoundary self.now result }
     {
         line_end_in(&mut self.view(), lines, line)
@@ -35,14 +33,14 @@ impl<'a> TextIndex<'a> {
     /// The content of a line, counted from 0: without its break, and empty past the last one. Lines end in LF, CR or CRLF.
     /// It asks `line_in`.
     pub fn line(&self, line: usize) -> &'a str
-        ensures { chars result.now ≡ line_content self.now line }
+        ensures { chars result.now ≡ line_content LineType.Crlf self.now line }
     {
         self.line_by(LineType::Crlf, line)
     }
 
-    /// The same, where lines end in breaks of the kind `lines`.
+    /// As `line`, where lines end in breaks of the kind `lines`.
     pub fn line_by(&self, lines: LineType, line: usize) -> &'a str
-        ensures { chars result.now ≡ by.line_content lines self.now line }
+        ensures { chars result.now ≡ line_content lines self.now line }
     {
         let ops::Range { start, end } = line_in(&mut self.view(), lines, line);
         part_of(self.text(), start, end)
@@ -54,14 +52,14 @@ impl<'a> TextIndex<'a> {
     /// A byte inside a char has the position where the char begins, a byte in a line break that of the line's end, and a byte
     /// past the end that of the text's end.
     pub fn position_of(&self, encoding: Encoding, byte: usize) -> Position
-        ensures { result ≡ position_at encoding self.now byte }
+        ensures { result ≡ position_at LineType.Crlf encoding self.now byte }
     {
         self.position_by(LineType::Crlf, encoding, byte)
     }
 
-    /// The same, where lines end in breaks of the kind `lines`.
+    /// As `position_of`, where lines end in breaks of the kind `lines`.
     pub fn position_by(&self, lines: LineType, encoding: Encoding, byte: usize) -> Position
-        ensures { result ≡ by_lines.position_at lines encoding self.now byte }
+        ensures { result ≡ position_at lines encoding self.now byte }
     {
         position_in(&mut self.view(), lines, encoding, byte)
     }
@@ -71,15 +69,15 @@ impl<'a> TextIndex<'a> {
     /// A unit inside a char belongs to it. An offset past the end of the line gives the line's end, before its break,
     /// and a line past the last one the text's length in bytes.
     pub fn byte_of(&self, encoding: Encoding, position: Position) -> usize
-        ensures answer { result ≡ byte_at encoding self.now position }
+        ensures answer { result ≡ byte_at LineType.Crlf encoding self.now position }
         ensures boundary { IsBoundary self.now result }
     {
         self.byte_by(LineType::Crlf, encoding, position)
     }
 
-    /// The same, where lines end in breaks of the kind `lines`.
+    /// As `byte_of`, where lines end in breaks of the kind `lines`.
     pub fn byte_by(&self, lines: LineType, encoding: Encoding, position: Position) -> usize
-        ensures answer { result ≡ by_lines.byte_at lines encoding self.now position }
+        ensures answer { result ≡ byte_at lines encoding self.now position }
         ensures boundary { IsBoundary self.now result }
     {
         byte_in(&mut self.view(), lines, encoding, position)
@@ -88,20 +86,20 @@ impl<'a> TextIndex<'a> {
     /// The byte index of a position that names a place, or `None`: where the text has no such line, the offset is past
     /// the end of the line, or the unit is inside a char. Lines end in LF, CR or CRLF. It asks `exact_byte_in`.
     pub fn exact_byte_of(&self, encoding: Encoding, position: Position) -> Option<usize>
-        ensures answer { result ≡ exact_byte_at encoding self.now position }
+        ensures answer { result ≡ exact_byte_at LineType.Crlf encoding self.now position }
         ensures boundary { IfSome result (λ byte. IsBoundary self.now byte) }
     {
         self.exact_byte_by(LineType::Crlf, encoding, position)
     }
 
-    /// The same, where lines end in breaks of the kind `lines`.
+    /// As `exact_byte_of`, where lines end in breaks of the kind `lines`.
     pub fn exact_byte_by(
         &self,
         lines: LineType,
         encoding: Encoding,
         position: Position,
     ) -> Option<usize>
-        ensures answer { result ≡ by_lines.exact_byte_at lines encoding self.now position }
+        ensures answer { result ≡ exact_byte_at lines encoding self.now position }
         ensures boundary { IfSome result (λ byte. IsBoundary self.now byte) }
     {
         exact_byte_in(&mut self.view(), lines, encoding, position)
@@ -110,7 +108,7 @@ impl<'a> TextIndex<'a> {
     /// The byte indices of a range, or `None` where its end is before its start. Each is that of its position, as
     /// `byte_of` answers it. It asks `byte_range_in`.
     pub fn byte_range(&self, encoding: Encoding, range: Range) -> Option<ops::Range<usize>>
-        ensures answer { result ≡ byte_range_at encoding self.now range }
+        ensures answer { result ≡ byte_range_at LineType.Crlf encoding self.now range }
         ensures ordered { IfSome result (λ bytes. bytes.start ≤ bytes.end) }
         ensures boundaries { IfSome result (λ bytes.
             IsBoundary self.now bytes.start × IsBoundary self.now bytes.end) }
@@ -118,14 +116,14 @@ impl<'a> TextIndex<'a> {
         self.byte_range_by(LineType::Crlf, encoding, range)
     }
 
-    /// The same, where lines end in breaks of the kind `lines`.
+    /// As `byte_range`, where lines end in breaks of the kind `lines`.
     pub fn byte_range_by(
         &self,
         lines: LineType,
         encoding: Encoding,
         range: Range,
     ) -> Option<ops::Range<usize>>
-        ensures answer { result ≡ by_lines.byte_range_at lines encoding self.now range }
+        ensures answer { result ≡ byte_range_at lines encoding self.now range }
         ensures ordered { IfSome result (λ bytes. bytes.start ≤ bytes.end) }
         ensures boundaries { IfSome result (λ bytes.
             IsBoundary self.now bytes.start × IsBoundary self.now bytes.end) }
@@ -135,16 +133,16 @@ impl<'a> TextIndex<'a> {
 
     /// The positions of the two ends of a span, as `position_of` answers them. Lines end in LF, CR or CRLF. It asks `range_in`.
     pub fn range_of(&self, encoding: Encoding, span: ops::Range<usize>) -> Range
-        ensures start { result.start ≡ position_at encoding self.now span.start }
-        ensures end { result.end ≡ position_at encoding self.now span.end }
+        ensures start { result.start ≡ position_at LineType.Crlf encoding self.now span.start }
+        ensures end { result.end ≡ position_at LineType.Crlf encoding self.now span.end }
     {
         self.range_by(LineType::Crlf, encoding, span)
     }
 
-    /// The same, where lines end in breaks of the kind `lines`.
+    /// As `range_of`, where lines end in breaks of the kind `lines`.
     pub fn range_by(&self, lines: LineType, encoding: Encoding, span: ops::Range<usize>) -> Range
-        ensures start { result.start ≡ by_lines.position_at lines encoding self.now span.start }
-        ensures end { result.end ≡ by_lines.position_at lines encoding self.now span.end }
+        ensures start { result.start ≡ position_at lines encoding self.now span.start }
+        ensures end { result.end ≡ position_at lines encoding self.now span.end }
     {
         range_in(&mut self.view(), lines, encoding, span)
     }
@@ -152,21 +150,21 @@ impl<'a> TextIndex<'a> {
     /// The position of a byte that is a place on a line, or `None`: where it is inside a char, between CR and LF, or past the
     /// text's end. So a compiler notices a span that is wrong. Lines end in LF, CR or CRLF. It asks `exact_position_in`.
     pub fn exact_position_of(&self, encoding: Encoding, byte: usize) -> Option<Position>
-        ensures answer { IfSome result (λ position. position ≡ position_at encoding self.now byte) }
+        ensures answer { IfSome result (λ position. position ≡ position_at LineType.Crlf encoding self.now byte) }
         ensures some { IsSome result ↔ (IsBoundary self.now byte × ¬ (IsCrlfMiddle self.now byte)) }
     {
         self.exact_position_by(LineType::Crlf, encoding, byte)
     }
 
-    /// The same, where lines end in breaks of the kind `lines`: where CR is no break, the byte between CR and LF is a place too.
+    /// As `exact_position_of`, where lines end in breaks of the kind `lines`: where CR is no break, the byte between CR and LF is a place too.
     pub fn exact_position_by(
         &self,
         lines: LineType,
         encoding: Encoding,
         byte: usize,
     ) -> Option<Position>
-        ensures answer { IfSome result (λ position. position ≡ by_lines.position_at lines encoding self.now byte) }
-        ensures some { IsSome result ↔ by.IsPlace lines self.now byte }
+        ensures answer { IfSome result (λ position. position ≡ position_at lines encoding self.now byte) }
+        ensures some { IsSome result ↔ IsPlace lines self.now byte }
     {
         exact_position_in(&mut self.view(), lines, encoding, byte)
     }

@@ -3,7 +3,7 @@ ghost use Rattle.std.specs.Prelude.{◌≡◌, ◌≤◌, chars, false};
 ghost use Rattle.str_indices.specs.Relations.{IsBoundary};
 ghost use Rattle.str_indices.specs.Schemes.{weighed};
 ghost use Rattle.str_indices.specs.Text.{Text, size};
-ghost use Rattle.position_mapper.specs.Encodings.{units_of};
+ghost use Rattle.positions.specs.Encodings.{units_of};
 ghost use Rattle.text_index.specs.Marks.{IsMark, count_at};
 ghost use Rattle.text_index.specs.Places.{IsWholeAt};
 

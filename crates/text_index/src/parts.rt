@@ -8,9 +8,12 @@ ghost use Rattle.text_index.specs.Stretches.{IsStretch};
 use crate::Marks;
 use crate::queries::{char_start_in, from_in, stretch_at, stretch_up_to, to_in};
 use crate::stretch::Stretch;
+use byte_chunk::Chunk;
 use positions::{Encoding, LineType, Own, Part, Parts, unit_scheme};
 
 impl<'a> Parts<'a> for Marks<'a> {
+    type Chunk = Chunk;
+
     ghost state = { λ m. parts_of m };
 
     fn len(&self) -> usize {

@@ -5,8 +5,8 @@
 use Rattle.std.specs.Prelude.{ℕ, zero, suc}
 use Rattle.str_indices.specs.declared.Scheme.{Scheme}
 use Rattle.str_indices.specs.declared.Scheme.TheVariants.{Chars, Utf16, Lf, Crlf, Lines}
-use Rattle.position_mapper.specs.declared.encodings.Encoding.{Encoding}
-use Rattle.position_mapper.specs.declared.encodings.Encoding.TheVariants as encodings
+use Rattle.positions.specs.declared.encodings.Encoding.{Encoding}
+use Rattle.positions.specs.declared.encodings.Encoding.TheVariants as encodings
 use Rattle.positions.specs.declared.line_type.LineType.{LineType}
 use Rattle.positions.specs.declared.line_type.LineType.TheVariants as kinds
 

@@ -10,11 +10,11 @@ ghost use Rattle.text_index_c.specs.Numbers.{encoding_of, kind_of};
 use crate::handle::{Handle, view_of};
 use crate::index_positions::Bytes;
 use crate::numbers::{encoding_at, kind_at};
-use position_mapper::{Position, Range};
+use positions::{Position, Range};
 use std::ops;
 use text_index::{byte_in, exact_position_in, line_in, position_in, range_in};
 
-/// What stands for no position: no text has such a line.
+/// The answer for a byte that is no place. No text has such a line.
 const NO_POSITION: Position = Position {
     line: usize::MAX,
     character: usize::MAX,

@@ -3,14 +3,14 @@ ghost use Rattle.std.specs.Prelude.{◌≡◌, ◌-◌, ◌^◌, unwrap_or, IfSo
 ghost use Rattle.str_indices.specs.Relations.{IsBoundary};
 ghost use Rattle.str_indices.specs.Schemes.{to_byte_idx};
 ghost use Rattle.str_indices.specs.declared.Scheme.TheVariants.{Crlf};
-ghost use Rattle.position_mapper.specs.Lines.{line_end};
-ghost use Rattle.position_mapper.specs.Positions.{byte_at, byte_range_at, exact_byte_at, position_at};
+ghost use Rattle.positions.specs.Lines.{line_end};
+ghost use Rattle.positions.specs.Positions.{byte_at, byte_range_at, exact_byte_at, position_at};
 ghost use Rattle.text_index_c.specs.Handles.{IsIndex, text_of};
 ghost use Rattle.text_index_c.specs.Numbers.{encoding_of};
 
 use crate::handle::{Handle, view_of};
 use crate::numbers::encoding_at;
-use position_mapper::{Position, Range};
+use positions::{Position, Range};
 use std::ops;
 use text_index::{
     LineType, byte_in, byte_range_in, exact_byte_in, line_end_in, line_in, position_in,
@@ -28,7 +28,7 @@ pub struct Bytes {
 #[unsafe(no_mangle)]
 pub extern "C" fn str_index_line_end(handle: &Handle<'_>, line_idx: usize) -> usize
     requires { IsIndex handle.now }
-    ensures answer { result ≡ line_end (text_of handle.now) line_idx }
+    ensures answer { result ≡ line_end LineType.Crlf (text_of handle.now) line_idx }
     ensures boundary { IsBoundary (text_of handle.now) result }
 {
     line_end_in(&mut view_of(handle), LineType::Crlf, line_idx)
@@ -39,7 +39,7 @@ pub extern "C" fn str_index_line_end(handle: &Handle<'_>, line_idx: usize) -> us
 pub extern "C" fn str_index_line(handle: &Handle<'_>, line_idx: usize) -> Bytes
     requires { IsIndex handle.now }
     ensures start { result.start ≡ to_byte_idx Crlf (text_of handle.now) line_idx }
-    ensures end { result.end ≡ line_end (text_of handle.now) line_idx }
+    ensures end { result.end ≡ line_end LineType.Crlf (text_of handle.now) line_idx }
 {
     let ops::Range { start, end } = line_in(&mut view_of(handle), LineType::Crlf, line_idx);
     Bytes { start, end }
@@ -53,7 +53,7 @@ pub extern "C" fn str_index_position_of(
     byte_idx: usize,
 ) -> Position
     requires { IsIndex handle.now }
-    ensures { result ≡ position_at (encoding_of encoding) (text_of handle.now) byte_idx }
+    ensures { result ≡ position_at LineType.Crlf (encoding_of encoding) (text_of handle.now) byte_idx }
 {
     let m = &mut view_of(handle);
     position_in(m, LineType::Crlf, encoding_at(encoding), byte_idx)
@@ -63,7 +63,7 @@ pub extern "C" fn str_index_position_of(
 #[unsafe(no_mangle)]
 pub extern "C" fn str_index_byte_of(handle: &Handle<'_>, encoding: u32, position: Position) -> usize
     requires { IsIndex handle.now }
-    ensures answer { result ≡ byte_at (encoding_of encoding) (text_of handle.now) position }
+    ensures answer { result ≡ byte_at LineType.Crlf (encoding_of encoding) (text_of handle.now) position }
     ensures boundary { IsBoundary (text_of handle.now) result }
 {
     let m = &mut view_of(handle);
@@ -79,7 +79,7 @@ pub extern "C" fn str_index_exact_byte_of(
 ) -> usize
     requires { IsIndex handle.now }
     ensures { result
-        ≡ unwrap_or (exact_byte_at (encoding_of encoding) (text_of handle.now) position) (2 ^ 64 - 1) }
+        ≡ unwrap_or (exact_byte_at LineType.Crlf (encoding_of encoding) (text_of handle.now) position) (2 ^ 64 - 1) }
 {
     let m = &mut view_of(handle);
     exact_byte_in(m, LineType::Crlf, encoding_at(encoding), position).unwrap_or(usize::MAX)
@@ -89,9 +89,9 @@ pub extern "C" fn str_index_exact_byte_of(
 #[unsafe(no_mangle)]
 pub extern "C" fn str_index_byte_range(handle: &Handle<'_>, encoding: u32, range: Range) -> Bytes
     requires { IsIndex handle.now }
-    ensures some { IfSome (byte_range_at (encoding_of encoding) (text_of handle.now) range)
+    ensures some { IfSome (byte_range_at LineType.Crlf (encoding_of encoding) (text_of handle.now) range)
         (λ bytes. result ≡ record { start = bytes.start; end = bytes.end }) }
-    ensures none { IfNone (byte_range_at (encoding_of encoding) (text_of handle.now) range)
+    ensures none { IfNone (byte_range_at LineType.Crlf (encoding_of encoding) (text_of handle.now) range)
         (result ≡ record { start = 2 ^ 64 - 1; end = 2 ^ 64 - 1 }) }
 {
     let none = usize::MAX..usize::MAX;

@@ -2,7 +2,7 @@
 ghost use Rattle.std.specs.Prelude.{◌≡◌};
 ghost use Rattle.text_index_c.specs.Numbers.{encoding_of, kind_of, scheme_of};
 
-use position_mapper::Encoding;
+use positions::Encoding;
 use str_indices::Scheme;
 use text_index::LineType;
 

@@ -1,5 +1,6 @@
 //! Positions and lines of each kind of line break, beside those that `positions` answers for a text by itself.
 use crate::texts::{mixed, round_marks};
+use byte_chunk::Chunk;
 use positions::{Encoding, LineType, Position, Range, Whole};
 use std::process::Abort;
 use std::test::Fail;
@@ -17,7 +18,7 @@ fn assert_position(
     e: Encoding,
     position: Position,
 ) {
-    let whole = &mut Whole { text: index.text() };
+    let whole = &mut Whole::<Chunk>::of(index.text());
     let start = Position {
         line: 0,
         character: 0,
@@ -45,7 +46,7 @@ fn assert_position(
 
 /// Compares the position of a byte, it and the one behind it on its line, and the line.
 fn assert_byte(rt: &impl Abort, index: &TextIndex<'_>, l: LineType, byte: usize) {
-    let whole = &mut Whole { text: index.text() };
+    let whole = &mut Whole::<Chunk>::of(index.text());
     for e in ENCODINGS {
         let position = index.position_by(l, e, byte);
         assert_eq!(rt;

@@ -1,7 +1,7 @@
-//! Positions, beside those of `position_mapper`.
+//! Positions, beside those of a text by itself.
 use crate::STRETCH;
 use crate::texts::{BEFORE, mixed, round_marks};
-use position_mapper::{Encoding, Position, Range, line_end};
+use positions::{Encoding, LineType, Position, Range};
 use std::process::Abort;
 use std::test::Fail;
 use text_index::TextIndex;
@@ -77,7 +77,7 @@ fn assert_byte(rt: &impl Abort, index: &TextIndex<'_>, byte: usize) {
 /// Compares the content and the end of a line, and positions on it.
 fn assert_line(rt: &impl Abort, index: &TextIndex<'_>, line: usize) {
     let text = index.text();
-    let end = line_end(text, line);
+    let end = LineType::Crlf.line_end(text, line);
     assert_eq!(rt; index.line_end(line), end, "{line}");
     let start = Encoding::Utf8.byte_of(text, Position { line, character: 0 });
     assert!(rt; Some(index.line(line)) == text.get(start..end), "{line}");

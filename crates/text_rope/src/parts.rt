@@ -6,8 +6,8 @@ ghost use Rattle.str_indices.specs.Text.{Text};
 ghost use Rattle.str_indices.specs.declared.Scheme.TheVariants.{Chars};
 ghost use Rattle.text_summary.specs.Pieces.{joined, joined_size};
 ghost use Rattle.text_summary.specs.Summaries.{summary_of};
-ghost use Rattle.position_mapper.specs.Encodings.{units_of};
-ghost use Rattle.position_mapper.specs.declared.encodings.Encoding.{Encoding};
+ghost use Rattle.positions.specs.Encodings.{units_of};
+ghost use Rattle.positions.specs.declared.encodings.Encoding.{Encoding};
 ghost use Rattle.positions.specs.Lines.{scheme_of};
 ghost use Rattle.positions.specs.Parts.{HasOwn, IsPart, PartsState};
 ghost use Rattle.positions.specs.Units.{unit_scheme};
@@ -20,10 +20,13 @@ ghost use Rattle.text_rope.specs.States.{RowsState};
 use crate::chunks::chunk_in;
 use crate::queries::{Place, from_in, place_at, place_of, to_in};
 use crate::tree::View;
+use byte_chunk::Chunk;
 use positions::{Encoding, LineType, Own, Part, Parts, unit_scheme};
 use text_summary::{Front, Summary};
 
 impl<'a> Parts<'a> for View<'a> {
+    type Chunk = Chunk;
+
     ghost state = { λ v. parts_of v };
 
     fn len(&self) -> usize {
@@ -81,7 +84,7 @@ impl<'a> Parts<'a> for View<'a> {
     }
 }
 
-/// Whether the text has ASCII chars alone, of which bytes are units in every encoding.
+/// Whether all chars of the text are ASCII: then each byte is a unit in every encoding.
 fn is_ascii(v: &View) -> bool
     ensures { IsTrue result → count Chars (joined v.now.texts) ≡ joined_size v.now.texts }
 {
@@ -114,7 +117,7 @@ fn part_in<'a>(v: &View<'_>, lines: LineType, encoding: Encoding, place: &Place<
     }
 }
 
-/// What a row has, by its summary.
+/// The counts of a row, taken from its summary.
 fn own_in(lines: LineType, encoding: Encoding, own: &Summary) -> Own
     ensures { (cs : Text) → own.now ≡ summary_of cs → HasOwn lines encoding cs result }
 {
@@ -182,7 +185,7 @@ fn char_start_in(v: &mut View, byte: usize) -> usize
     chunk.start + char_start(chunk.text, byte - chunk.start)
 }
 
-/// The same in a row.
+/// The greatest byte index between characters in a row that is at most this one.
 fn char_start(text: &str, byte: usize) -> usize
     ensures { IsGreatestBoundary (chars text.now) byte result }
 {

@@ -1,16 +1,17 @@
 // Changes of a text whose range has to name a place.
 ghost use Rattle.std.specs.Prelude.{◌≡◌, ◌≢◌, ◌+◌, ◌-◌, ◌^◌, ◌<◌, ◌≤◌, ◌↔◌, ◌⊎◌, [], length, chars, Some, IfSome, IsSome, IsNone, IsSomeAnd, IsErrOf, IsUtf8, OnOk, OnErr};
 ghost use Rattle.str_indices.specs.Text.{size};
-ghost use Rattle.position_mapper.specs.Positions.{byte_range_at};
+ghost use Rattle.positions.specs.Positions.{byte_range_at};
 ghost use Rattle.rope_positions.specs.Changes.{exact_part_at};
 ghost use Rattle.text_summary.specs.Changes.{IsReplaced};
 ghost use Rattle.text_rope.specs.declared.refusals.Refusal.TheVariants.{NotOrdered, NotBoundary, TooLong, NoMemory};
 ghost use Rattle.text_rope_c.specs.Numbers.{done, encoding_of, no_memory, not_boundary, not_ordered, not_utf8, too_long};
+ghost use Rattle.positions.specs.declared.line_type.LineType.TheVariants.{Crlf};
 
 use crate::handles::{kept, put, taken};
 use crate::numbers::{NOT_UTF8, encoding_at, status_at};
 use crate::slot::Slot;
-use position_mapper::{Encoding, Range};
+use positions::{Encoding, Range};
 use rope_positions::{Change, apply_exact};
 use std::alloc::Global;
 use text_rope::{Refusal, Rope};
@@ -33,9 +34,9 @@ pub extern "C" fn str_rope_change_exact(
     ensures refused { result ≢ done → rope.new.text ≡ rope.old.text }
     ensures not_utf8 { (result ≡ not_utf8) ↔ (¬ (IsUtf8 text.now)) }
     ensures not_ordered { (result ≡ not_ordered)
-        ↔ (IsUtf8 text.now × IsNone (byte_range_at (encoding_of encoding) rope.old.text range)) }
+        ↔ (IsUtf8 text.now × IsNone (byte_range_at Crlf (encoding_of encoding) rope.old.text range)) }
     ensures not_boundary { (result ≡ not_boundary)
-        ↔ (IsUtf8 text.now × (IsSome (byte_range_at (encoding_of encoding) rope.old.text range)
+        ↔ (IsUtf8 text.now × (IsSome (byte_range_at Crlf (encoding_of encoding) rope.old.text range)
         × IsNone (exact_part_at (encoding_of encoding) rope.old.text (Some range)))) }
     ensures too_long { (result ≡ too_long) ↔ (IsUtf8 text.now
         × IsSomeAnd (exact_part_at (encoding_of encoding) rope.old.text (Some range)) (λ part.
@@ -60,8 +61,8 @@ fn changed(
     ensures ok { OnOk result (IfSome (exact_part_at encoding rope.old.text (Some range)) (λ part.
         IsReplaced rope.old.text rope.new.text part.start part.end (chars text.now))) }
     ensures err { OnErr result (rope.new.text ≡ rope.old.text) }
-    ensures not_ordered { IsErrOf result NotOrdered ↔ IsNone (byte_range_at encoding rope.old.text range) }
-    ensures not_boundary { IsErrOf result NotBoundary ↔ (IsSome (byte_range_at encoding rope.old.text range)
+    ensures not_ordered { IsErrOf result NotOrdered ↔ IsNone (byte_range_at Crlf encoding rope.old.text range) }
+    ensures not_boundary { IsErrOf result NotBoundary ↔ (IsSome (byte_range_at Crlf encoding rope.old.text range)
         × IsNone (exact_part_at encoding rope.old.text (Some range))) }
     ensures too_long { IsErrOf result TooLong ↔ IsSomeAnd (exact_part_at encoding rope.old.text (Some range)) (λ part.
         2 ^ 63 + (part.end - part.start) ≤ size rope.old.text + length text.now) }

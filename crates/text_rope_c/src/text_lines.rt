@@ -10,12 +10,12 @@ use crate::handles::asked;
 use crate::numbers::{encoding_at, kind_at};
 use crate::slot::Slot;
 use crate::text_positions::Bytes;
-use position_mapper::{Position, Range};
+use positions::{Position, Range};
 use rope_positions::{LineType, byte_by, exact_position_by, line_end_by, position_by, range_by};
 use std::alloc::Global;
 use text_rope::Rope;
 
-/// What stands for no position: no text has such a line.
+/// The answer for a byte that is no place. No text has such a line.
 const NO_POSITION: Position = Position {
     line: usize::MAX,
     character: usize::MAX,

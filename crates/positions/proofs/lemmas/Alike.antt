@@ -1,11 +1,12 @@
 -- Units that are bytes or characters, where there are as many.
-use Rattle.position_mapper.specs.declared.encodings.Encoding.TheVariants.{Utf8, Utf16, Utf32}
-use Rattle.position_mapper.proofs.lemmas.Callers.{boundary_within}
+use Rattle.positions.specs.declared.encodings.Encoding.TheVariants.{Utf8, Utf16, Utf32}
+use Rattle.positions.proofs.lemmas.Cuts.{boundary_within}
 use Rattle.positions.specs.Units.{HasSameUnits}
 use Rattle.str_indices.proofs.lemmas.Callers.{count-units, count_characters}
 use Rattle.str_indices.specs.declared.Scheme.TheVariants as schemes
 use Rattle.text_summary.proofs.lemmas.Callers.{each_byte_is_boundary}
-use Rattle.positions.proofs.lemmas.Common.{Some, None, refl, ◌≡◌, ℕ, min, sym, ◌∙◌, arith, sum_by, sum_by-le-sum_by, weighed_bytes, boundary_of_bytes, IsGreatestBoundary, Text, size, count, weighed, boundary_weighed, units_of, units_of-le, units_of-some, unit_scheme, Scheme, Encoding}
+use Rattle.positions.proofs.lemmas.Encodings.{weighed_bytes, boundary_of_bytes, units_of-le, units_of-some}
+use Rattle.positions.proofs.lemmas.Common.{Some, None, refl, ◌≡◌, ℕ, min, sym, ◌∙◌, arith, sum_by, sum_by-le-sum_by, IsGreatestBoundary, Text, size, count, weighed, boundary_weighed, units_of, unit_scheme, Scheme, Encoding}
 use Rattle.positions.proofs.lemmas.Known.{units_alike, weighed_same, placed_same}
 
 -- what a scheme counts of a text are the units of its encoding

@@ -1,10 +1,11 @@
 -- What a part tells of the text, as the functions ask it.
-use Rattle.position_mapper.proofs.lemmas.Callers.{boundary_within}
-use Rattle.position_mapper.proofs.lemmas.Callers.{place_of_least}
+use Rattle.positions.proofs.lemmas.Cuts.{boundary_within}
+use Rattle.positions.proofs.lemmas.Units.{place_of_least}
 use Rattle.positions.specs.Characters.{IsBackOf}
 use Rattle.positions.specs.Lines.{IsReturnBehind}
-use Rattle.position_mapper.specs.declared.encodings.Encoding.TheVariants.{Utf8, Utf16, Utf32}
-use Rattle.positions.proofs.lemmas.Common.{Some, None, ◌≡◌, ◌≢◌, ℕ, ◌+◌, ◌-◌, ◌<◌, ◌≤◌, ◌⊎◌, min, [], ◌∷◌, ◌++◌, inl, inr, sym, refl, ap, ap₂, ◌∙◌, arith, append_assoc, cases_lt, size-append, sum_by-append, sum_by-cons, sum_by-le-sum_by, len_utf8, line_feed, Scheme, cut, cut_is_longest, weighed_at, weighed-le-weighed, from-to, to-from_is_greatest, to_byte_idx-le-size, from_byte_idx-all, from_byte_idx-le, from_byte_idx-le-count, count-le-size, IsBoundary, IsGreatestBoundary, Text, size, count, from_byte_idx, to_byte_idx, weighed, boundary_weighed, units_of, units_of-le, carriage_return, chars, scheme_of, line_end, position_at, byte_at, exact_byte_at, IsPart, HasByte, HasLine, Part, Position, Encoding, LineType}
+use Rattle.positions.specs.declared.encodings.Encoding.TheVariants.{Utf8, Utf16, Utf32}
+use Rattle.positions.proofs.lemmas.Encodings.{units_of-le}
+use Rattle.positions.proofs.lemmas.Common.{Some, None, ◌≡◌, ◌≢◌, ℕ, ◌+◌, ◌-◌, ◌<◌, ◌≤◌, ◌⊎◌, min, [], ◌∷◌, ◌++◌, inl, inr, sym, refl, ap, ap₂, ◌∙◌, arith, append_assoc, cases_lt, size-append, sum_by-append, sum_by-cons, sum_by-le-sum_by, len_utf8, line_feed, Scheme, cut, cut_is_longest, weighed_at, weighed-le-weighed, from-to, to-from_is_greatest, to_byte_idx-le-size, from_byte_idx-all, from_byte_idx-le, from_byte_idx-le-count, count-le-size, IsBoundary, IsGreatestBoundary, Text, size, count, from_byte_idx, to_byte_idx, weighed, boundary_weighed, units_of, carriage_return, chars, before_first, is_break, scheme_of, line_end, position_at, byte_at, exact_byte_at, IsPart, HasByte, HasLine, Part, Position, Encoding, LineType}
 use Rattle.positions.proofs.lemmas.Kinds.{not_utf16, none_before}
 use Rattle.positions.proofs.lemmas.Lines.{IsBoundary-line_end, begins_behind}
 use Rattle.positions.proofs.lemmas.Starts.{weighed_behind, weighed_none}
@@ -12,7 +13,7 @@ use Rattle.positions.proofs.lemmas.Units.{units_of_position, byte_of_units, unit
 use Rattle.positions.proofs.lemmas.OnLines.{middle_above, weighed_on_line, weighed_behind_line}
 use Rattle.positions.proofs.lemmas.Breaks.{next_above, ends_before_return, ends_before_last}
 use Rattle.positions.proofs.lemmas.PartsOf.{ends_within, greatest_in_part, line_in_part, start_in_part, units_in_part}
-use Rattle.positions.proofs.lemmas.Rests.{byte_told, exact_told, none_told}
+use Rattle.positions.proofs.lemmas.Rests.{byte_told, end_told, exact_told, none_told}
 
 -- a text has no more units than bytes
 pub weighed_within : (e : Encoding) (cs : Text) (n : ℕ) → weighed (units_of e) cs n ≤ size cs
@@ -132,6 +133,12 @@ module _ (cs : Text) (l : LineType) (e : Encoding) (part : Part) (is : IsPart cs
     rest_told k (inl inside) = inl inside
     rest_told k (inr last) =
         inr (omega (arith, last, ap size behind.parts, size-append behind.front rest, behind.place))
+
+    -- a line that begins there ends where its content in the rest does, where the rest tells that
+    pub line_end_told : (line k : ℕ) → part.start + at ≡ to_byte_idx s cs line → k ≡ size (before_first (is_break l) rest)
+        → (k < size rest) ⊎ (part.start + size own ≡ size cs) → part.start + at + k ≡ line_end l cs line
+    line_end_told line k place k_is told = end_told l e cs (record { line = line; character = 0 }) (is.front ++ behind.front) rest
+        is.back (part.start + at) rest_split rest_place place k k_is (rest_told k told)
 
     -- a place on a line that begins there is that of the text, where the rest tells it
     module _ (p : Position) (place : part.start + at ≡ to_byte_idx s cs p.line) (k : ℕ)

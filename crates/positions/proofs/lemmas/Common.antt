@@ -16,16 +16,13 @@ pub use Rattle.str_indices.specs.Starts.{IsGreatestBoundary}
 pub use Rattle.str_indices.specs.Text.{Text, size, line_feed, carriage_return, is_crlf_middle, cut, weight}
 pub use Rattle.str_indices.specs.declared.Scheme.{Scheme}
 pub use Rattle.str_indices.specs.declared.Scheme.TheVariants.{Chars, Utf16}
-pub use Rattle.position_mapper.proofs.lemmas.Callers.{weighed_bytes, boundary_of_bytes, units_of-some, units_of-le}
-pub use Rattle.position_mapper.specs.Encodings.{units_of}
-pub use Rattle.position_mapper.specs.Lines.{behind}
-pub use Rattle.position_mapper.specs.Positions.{is_at_or_before}
-pub use Rattle.position_mapper.specs.Relations.{IsAtOrBefore}
-pub use Rattle.position_mapper.specs.declared.Position.{Position}
-pub use Rattle.position_mapper.specs.declared.Range.{Range}
-pub use Rattle.position_mapper.specs.declared.encodings.Encoding.{Encoding}
-pub use Rattle.positions.specs.Lines.{scheme_of, is_break, line_content, line_end}
-pub use Rattle.positions.specs.Positions.{units_on_line, position_at, byte_at, is_exact, exact_byte_at, byte_range_at}
+pub use Rattle.positions.specs.Encodings.{units_of}
+pub use Rattle.positions.specs.Relations.{IsBreakStart, IsLineEnd, IsGreatestPlace, IsAtOrBefore}
+pub use Rattle.positions.specs.declared.Position.{Position}
+pub use Rattle.positions.specs.declared.Range.{Range}
+pub use Rattle.positions.specs.declared.encodings.Encoding.{Encoding}
+pub use Rattle.positions.specs.Lines.{behind, scheme_of, is_break, line_content, line_end}
+pub use Rattle.positions.specs.Positions.{is_at_or_before, units_on_line, position_at, byte_at, is_exact, exact_byte_at, byte_range_at}
 pub use Rattle.positions.specs.Parts.{PartsState, IsSearched, Took, IsPart, HasByte, HasLine}
 pub use Rattle.positions.specs.Units.{unit_scheme}
 pub use Rattle.positions.specs.declared.line_type.LineType.{LineType}

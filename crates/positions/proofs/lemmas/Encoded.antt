@@ -1,6 +1,7 @@
 -- The units of an encoding, by what counts them.
-use Rattle.position_mapper.specs.declared.encodings.Encoding.TheVariants as encodings
-use Rattle.positions.proofs.lemmas.Common.{Some, None, ◌≡◌, ℕ, sym, refl, Text, Scheme, Chars, Utf16, from_byte_idx, to_byte_idx, weighed, boundary_weighed, characters_weighed, boundary_of_characters, weighed_bytes, boundary_of_bytes, IsGreatestBoundary, units_of, unit_scheme, Encoding}
+use Rattle.positions.specs.declared.encodings.Encoding.TheVariants as encodings
+use Rattle.positions.proofs.lemmas.Encodings.{weighed_bytes, boundary_of_bytes}
+use Rattle.positions.proofs.lemmas.Common.{Some, None, ◌≡◌, ℕ, sym, refl, Text, Scheme, Chars, Utf16, from_byte_idx, to_byte_idx, weighed, boundary_weighed, characters_weighed, boundary_of_characters, IsGreatestBoundary, units_of, unit_scheme, Encoding}
 
 pub weighed_by_bytes : (e : Encoding) (cs : Text) (byte p : ℕ) → unit_scheme e ≡ None → IsGreatestBoundary cs byte p
     → p ≡ weighed (units_of e) cs byte

@@ -1,5 +1,6 @@
 -- What is known of a part: where each char is one byte, and where no line ends.
-use Rattle.position_mapper.proofs.lemmas.Callers.{boundary_within, split_at_first}
+use Rattle.positions.proofs.lemmas.Cuts.{boundary_within}
+use Rattle.positions.proofs.lemmas.Firsts.{split_at_first}
 use Rattle.positions.specs.Characters.{IsBackOf}
 use Rattle.positions.specs.Units.{HasSameUnits}
 use Rattle.positions.specs.Parts.{HasOwn}

@@ -1,5 +1,5 @@
 -- What a part of a text tells of the text: what is counted in it adds to what is before it.
-use Rattle.position_mapper.proofs.lemmas.Callers.{boundary_within}
+use Rattle.positions.proofs.lemmas.Cuts.{boundary_within}
 use Rattle.positions.proofs.lemmas.Common.{◌≡◌, ℕ, ◌+◌, ◌-◌, ◌<◌, ◌≤◌, ◌⊎◌, [], ◌∷◌, ◌++◌, inl, inr, sym, refl, ap, ◌∙◌, arith, append-nil, size-append, size-cons, len_utf8_bounds, IsBoundary-before, IsBoundary-behind, IsBoundary-either, is_joined, seam_loss, cases_lt, IsGreatestBoundary, IsBoundary, Text, size, count, from_byte_idx, to_byte_idx, weighed, scheme_of, LineType}
 use Rattle.positions.proofs.lemmas.Kinds.{none_before}
 use Rattle.positions.proofs.lemmas.Starts.{weighed_before, weighed_behind, weighed_none}

@@ -2,10 +2,11 @@
 use Rattle.std.specs.Prelude.{false, not, sum_by, All}
 use Rattle.std.proofs.lemmas.Bool.Decides.{nat_tests}
 use Rattle.std.proofs.lemmas.List.Elements.{All-head, All-tail}
-use Rattle.position_mapper.specs.declared.encodings.Encoding.TheVariants.{Utf8, Utf16, Utf32}
+use Rattle.positions.specs.declared.encodings.Encoding.TheVariants.{Utf8, Utf16, Utf32}
 use Rattle.positions.specs.Plain.{IsPlain, BeginsPlain}
 use Rattle.positions.specs.declared.line_type.LineType.TheVariants.{Lf, Crlf, Lines}
-use Rattle.positions.proofs.lemmas.Common.{◌≡◌, ℕ, [], ◌∷◌, ◌++◌, refl, ap, ◌∙◌, arith, before_first, take_while-cons, sum_by-cons, size-cons, Text, size, to_byte_idx-zero, weighed_at, boundary_weighed, boundary_weighed_iff, weighed_is_greatest_boundary, IsBoundary, units_of, units_of-some, scheme_of, is_break, line_content, byte_at, Encoding, LineType}
+use Rattle.positions.proofs.lemmas.Encodings.{units_of-some}
+use Rattle.positions.proofs.lemmas.Common.{◌≡◌, ℕ, [], ◌∷◌, ◌++◌, refl, ap, ◌∙◌, arith, before_first, take_while-cons, sum_by-cons, size-cons, Text, size, to_byte_idx-zero, weighed_at, boundary_weighed, boundary_weighed_iff, weighed_is_greatest_boundary, IsBoundary, units_of, scheme_of, is_break, line_content, byte_at, Encoding, LineType}
 use Rattle.positions.proofs.lemmas.Starts.{first_content}
 
 -- such a character takes one byte, one unit, and is no break

@@ -1,11 +1,13 @@
 -- The byte of a position, by the rest of the part that its line begins in.
-use Rattle.position_mapper.proofs.lemmas.Callers.{boundary_within}
-use Rattle.positions.proofs.lemmas.Common.{Bool, Some, None, [], ◌≡◌, ◌≢◌, ℕ, ◌+◌, ◌<◌, ◌≤◌, ◌⊎◌, ◌++◌, min, sym, refl, ap, ◌∙◌, inl, inr, arith, size-append, cut, cut_front, Text, size, count, weighed, boundary_weighed, boundary_weighed_is_greatest, to_byte_idx, to_byte_idx-zero, IsBoundary, units_of, byte_at, exact_byte_at, line_content, before_first, scheme_of, is_break, Position, Encoding, LineType}
-use Rattle.position_mapper.proofs.lemmas.Callers.{split_at_first}
-use Rattle.positions.proofs.lemmas.Firsts.{first_of}
+use Rattle.positions.proofs.lemmas.Cuts.{boundary_within}
+use Rattle.positions.specs.Characters.{IsBackOf}
+use Rattle.positions.proofs.lemmas.Common.{cut_goes_on, boundary_weighed_iff, weighed_at, IsGreatestBoundary, Bool, Some, None, [], ◌≡◌, ◌≢◌, ℕ, ◌+◌, ◌<◌, ◌≤◌, ◌⊎◌, ◌++◌, min, sym, refl, ap, ◌∙◌, inl, inr, arith, size-append, cut, cut_front, Text, size, count, weighed, boundary_weighed, boundary_weighed_is_greatest, to_byte_idx, to_byte_idx-zero, IsBoundary, units_of, byte_at, exact_byte_at, line_end, line_content, before_first, scheme_of, is_break, Position, Encoding, LineType}
+use Rattle.positions.proofs.lemmas.Firsts.{split_at_first}
+use Rattle.positions.proofs.lemmas.Firsts.{before_first-goes_on, first_of}
 use Rattle.positions.proofs.lemmas.Starts.{weighed_none, weighed_before, place_before, content_from, first_content}
-use Rattle.positions.proofs.lemmas.Units.{IsBoundary-byte_at, byte_of_units, units_at_place, exact_by_units, not_exact_by_units}
+use Rattle.positions.proofs.lemmas.Units.{IsBoundary-byte_at, units_le_bytes, byte_of_units, units_at_place, exact_by_units, not_exact_by_units}
 use Rattle.positions.proofs.lemmas.PartsOf.{rest_is}
+use Rattle.positions.proofs.lemmas.Breaks.{none_before_end}
 
 -- the content of a text's beginning is that of the text, up to where it ends
 pub content_of_front : (p : ℕ → Bool) (a b : Text) → size (before_first p a) ≡ min (size a) (size (before_first p (a ++ b)))
@@ -41,6 +43,64 @@ byte_on_first l e cs k =
       at.place,
     )
 
+-- the same, by the bytes that are no more than the units, and what comes behind them
+module _ (l : LineType) (e : Encoding) (cs : Text) (k near : ℕ) (greatest : IsGreatestBoundary cs k near) where
+  abbrev first_place : ℕ
+  first_place = boundary_weighed (units_of e) cs k
+
+  abbrev begin : Text
+  begin = greatest.boundary.front
+
+  within_place : near ≤ first_place
+  within_place = (boundary_weighed_iff (units_of e) cs near k greatest.boundary).1 (omega (
+    arith,
+    weighed_at (units_of e) cs near greatest.boundary,
+    units_le_bytes e begin,
+    greatest.boundary.place,
+    greatest.at_or_before,
+  ))
+
+  goes_on_to_place : (more : Text) × (cut cs first_place ≡ begin ++ more)
+  goes_on_to_place = cut_goes_on cs begin greatest.boundary.back first_place greatest.boundary.split
+      (omega (arith, within_place, greatest.boundary.place))
+
+  pub near_in_cut : IsBoundary (cut cs first_place) near
+  near_in_cut = let (more, is) = goes_on_to_place in
+      record { front = begin; back = more; split = is; place = greatest.boundary.place }
+
+  end_of_begin : (end : ℕ) → end ≡ size (before_first (is_break l) (cut cs near)) → end ≡ size (before_first (is_break l) begin)
+  end_of_begin end is = is ∙ ap (λ t. size (before_first (is_break l) t)) (cut_front cs near greatest.boundary)
+
+  pub end_near : (end : ℕ) → end ≡ size (before_first (is_break l) (cut cs near)) → end < near
+      → end ≡ byte_at l e cs (record { line = 0; character = k })
+  end_near end end_is before =
+      let (more, is) = goes_on_to_place in
+      let own = end_of_begin end end_is in
+      elim (first_of (is_break l) begin more) [
+        | inl (all, _) ↦ absurd (omega (arith, own, ap size all, greatest.boundary.place, before))
+        | inr same ↦
+            own ∙ ap size (sym same) ∙ ap (λ t. size (before_first (is_break l) t)) (sym is) ∙ byte_on_first l e cs k
+      ]
+
+  pub end_behind : (end own : ℕ) (rest : Text) → end ≡ size (before_first (is_break l) (cut cs near)) → near ≤ end
+      → IsBackOf (cut cs first_place) rest near → own ≡ size (before_first (is_break l) rest)
+      → near + own ≡ byte_at l e cs (record { line = 0; character = k })
+  end_behind end own rest end_is past behind own_is =
+      let (more, is) = goes_on_to_place in
+      let there : IsBoundary (cut cs first_place) near =
+      record { front = begin; back = more; split = is; place = greatest.boundary.place } in
+      let here : IsBoundary (cut cs first_place) near =
+      record { front = behind.front; back = rest; split = behind.parts; place = behind.place } in
+      let same : begin ≡ behind.front =
+      sym (cut_front (cut cs first_place) near there) ∙ cut_front (cut cs first_place) near here in
+      let split = split_at_first (is_break l) begin in
+      let sizes = ap size split.split ∙ size-append (before_first (is_break l) begin) split.after in
+      let none = none_before_end l begin (omega (arith, end_of_begin end end_is, past, greatest.boundary.place, sizes)) in
+      let goes_on = before_first-goes_on (is_break l) behind.front rest (rw same at none) in
+      let all = ap (λ t. size (before_first (is_break l) t)) behind.parts ∙ ap size goes_on
+      ∙ size-append behind.front (before_first (is_break l) rest) in
+      omega (arith, all, own_is, behind.place, byte_on_first l e cs k)
+
 module _ (l : LineType) (e : Encoding) (cs : Text) (p : Position) (front rest back : Text) (start : ℕ)
     (split : cs ≡ front ++ (rest ++ back)) (place : size front ≡ start) (start_is : start ≡ to_byte_idx (scheme_of l) cs p.line) where
   -- the content of the line, and what of it is in the rest
@@ -70,6 +130,14 @@ module _ (l : LineType) (e : Encoding) (cs : Text) (p : Position) (front rest ba
   part_at_end : start + size rest ≡ size cs → content ≡ part
   part_at_end ends =
       goes_on ∙ ap (before_first (is_break l)) (rest_is cs front rest back start split place ends)
+
+  -- so the line ends where that does, where the rest tells it
+  pub end_told : (k : ℕ) → k ≡ size part → (k < size rest) ⊎ (start + size rest ≡ size cs) → start + k ≡ line_end l cs p.line
+  end_told k is (inr ends) = omega (arith, is, start_is, ap size (part_at_end ends))
+  end_told k is (inl inside) = elim part_or_more [
+    | inl (none, more) ↦ absurd (omega (arith, is, inside, ap size none))
+    | inr same ↦ omega (arith, is, start_is, ap size same)
+  ]
 
   -- the byte of the position in the rest
   place_is : (own : ℕ) → own ≡ byte_at l e rest own_position → own ≡ boundary_weighed w part p.character

@@ -1,13 +1,14 @@
 -- Positions by the units of the whole text, where a position's own are those of its line's content.
 use Rattle.std.proofs.lemmas.Bool.{and_from, and_parts, eqb-true, false_from_ne_true, le-leb, leb-true}
 use Rattle.std.proofs.lemmas.Bool.Decides.{nat_tests}
-use Rattle.position_mapper.proofs.lemmas.Callers.{boundary_within}
-use Rattle.positions.proofs.lemmas.Common.{true, false, ◌==◌, nat_le, Some, None, ◌≡◌, ◌≢◌, ℕ, ◌+◌, ◌-◌, ◌<◌, ◌≤◌, ◌⊎◌, inl, inr, sym, ◌∙◌, ap, arith, refl, min, cases_lt, Text, size, cut, from_byte_idx, to_byte_idx, count, weighed, boundary_weighed, IsBoundary, IsGreatestBoundary, cut_is_longest, weighed_at, weighed-le-weighed, boundary_weighed_is_greatest, boundary_weighed_iff, boundary_weighed-le, weighed_is_greatest_boundary, to-from_is_greatest, units_of-some, units_of, Position, Encoding, IsAtOrBefore, scheme_of, line_content, line_end, units_on_line, position_at, byte_at, is_exact, exact_byte_at, LineType}
+use Rattle.positions.proofs.lemmas.Cuts.{boundary_within}
+use Rattle.positions.proofs.lemmas.Encodings.{units_of-some, units_of-le}
+use Rattle.positions.proofs.lemmas.Common.{[], ◌∷◌, append-nil, sum_by, sum_by-cons, size-cons, true, false, ◌==◌, nat_le, Some, None, ◌≡◌, ◌≢◌, ℕ, ◌+◌, ◌-◌, ◌<◌, ◌≤◌, ◌⊎◌, inl, inr, sym, ◌∙◌, ap, arith, refl, min, cases_lt, Text, size, cut, from_byte_idx, to_byte_idx, count, weighed, boundary_weighed, IsBoundary, IsGreatestBoundary, cut_is_longest, weighed_at, weighed-le-weighed, boundary_weighed_is_greatest, boundary_weighed_iff, boundary_weighed-le, weighed_is_greatest_boundary, to-from_is_greatest, units_of, Position, Encoding, IsAtOrBefore, scheme_of, line_content, line_end, units_on_line, position_at, byte_at, is_exact, exact_byte_at, LineType}
 use Rattle.positions.proofs.lemmas.Kinds.{not_utf16}
 use Rattle.positions.proofs.lemmas.Lines.{line_end_le, IsBoundary-from_content, weighed-from_content, IsBoundary-line_end, IsBoundary-in_content}
 
 -- the byte index of a position is a boundary, from the line's beginning to its end
-on_content : (l : LineType) (w : ℕ → ℕ) (cs : Text) (line k : ℕ)
+pub on_content : (l : LineType) (w : ℕ → ℕ) (cs : Text) (line k : ℕ)
     → IsBoundary cs (to_byte_idx (scheme_of l) cs line + boundary_weighed w (line_content l cs line) k)
 on_content l w cs line k =
     IsBoundary-from_content l cs line _ (boundary_weighed_is_greatest w (line_content l cs line) k).boundary
@@ -15,7 +16,7 @@ on_content l w cs line k =
 pub IsBoundary-byte_at : (l : LineType) (e : Encoding) (cs : Text) (p : Position) → IsBoundary cs (byte_at l e cs p)
 IsBoundary-byte_at l e cs p = on_content l (units_of e) cs p.line p.character
 
-within_content : (l : LineType) (w : ℕ → ℕ) (cs : Text) (line k : ℕ)
+pub within_content : (l : LineType) (w : ℕ → ℕ) (cs : Text) (line k : ℕ)
     → boundary_weighed w (line_content l cs line) k ≤ size (line_content l cs line)
 within_content l w cs line k =
     boundary_within (line_content l cs line) _ (boundary_weighed_is_greatest w (line_content l cs line) k).boundary
@@ -162,3 +163,29 @@ module _ (l : LineType) (e : Encoding) (cs : Text) (p : Position) where
       exact_none l e cs p _ refl (inl (false_from_ne_true _ (λ within. absurd (omega (arith, leb-true _ _ within, past)))))
   not_exact_by_units (inr not_reached) =
       exact_none l e cs p _ refl (inr (λ same. not_reached (omega (arith, units_at_place, same))))
+
+-- a text has no more units than bytes
+pub units_le_bytes : (e : Encoding) (cs : Text) → sum_by (units_of e) cs ≤ size cs
+units_le_bytes e [] = omega arith
+units_le_bytes e (c ∷ cs) =
+    omega (arith, units_of-le e c, units_le_bytes e cs, sum_by-cons (units_of e) c cs, size-cons c cs)
+
+-- past them all is the text's end
+place_past : (e : Encoding) (cs : Text) (k : ℕ) → size cs ≤ k → boundary_weighed (units_of e) cs k ≡ size cs
+place_past e cs k past =
+    let w = units_of e in
+    let whole : IsBoundary cs (size cs) =
+    record { front = cs; back = []; split = sym (append-nil cs); place = refl } in
+    let all = weighed_at w cs (size cs) whole in
+    let reached = (boundary_weighed_iff w cs (size cs) k whole).1 (omega (arith, all, units_le_bytes e cs)) in
+    omega (arith, reached, boundary_within cs _ (boundary_weighed_is_greatest w cs k).boundary)
+
+-- so no number above that is another place
+pub place_of_least : (e : Encoding) (cs : Text) (k most : ℕ) → size cs ≤ most
+    → boundary_weighed (units_of e) cs (min k most) ≡ boundary_weighed (units_of e) cs k
+place_of_least e cs k most long = elim (cases_lt most k) [
+  | inl past ↦
+      let is : min k most ≡ most = omega arith in
+      ap (boundary_weighed (units_of e) cs) is ∙ place_past e cs most long ∙ sym (place_past e cs k (omega arith))
+  | inr within ↦ let is : min k most ≡ k = omega arith in ap (boundary_weighed (units_of e) cs) is
+]

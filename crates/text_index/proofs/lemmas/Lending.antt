@@ -7,9 +7,9 @@ use Rattle.std.specs.Char.{len_utf8}
 use Rattle.str_indices.specs.Text.{weight}
 use Rattle.str_indices.proofs.lemmas.Callers.{weighed_at, count-units, count_characters}
 use Rattle.str_indices.specs.Schemes.{weighed}
-use Rattle.position_mapper.specs.Encodings.{units_of}
-use Rattle.position_mapper.specs.declared.encodings.Encoding.{Encoding}
-use Rattle.position_mapper.specs.declared.encodings.Encoding.TheVariants.{Utf8, Utf16, Utf32}
+use Rattle.positions.specs.Encodings.{units_of}
+use Rattle.positions.specs.declared.encodings.Encoding.{Encoding}
+use Rattle.positions.specs.declared.encodings.Encoding.TheVariants.{Utf8, Utf16, Utf32}
 use Rattle.positions.proofs.lemmas.Callers.{none_before}
 use Rattle.positions.specs.Lines.{scheme_of}
 use Rattle.positions.specs.Parts.{HasOwn, Took, HasByte, HasLine}

@@ -4,7 +4,7 @@ use Rattle.std.proofs.Math.Seq.{drop-append_seam}
 use Rattle.std.proofs.lemmas.List.Sums.{take_while-cons}
 use Rattle.std.specs.List.{before_first}
 use Rattle.str_indices.proofs.lemmas.Callers.{cut_front}
-use Rattle.position_mapper.specs.Lines.{behind}
+use Rattle.positions.specs.Lines.{behind}
 use Rattle.positions.specs.Lines.{scheme_of, is_break, line_content, line_end}
 use Rattle.positions.specs.declared.line_type.LineType.{LineType}
 use Rattle.text_index.proofs.lemmas.Common.{◌≡◌, ℕ, Bool, List, [], ◌∷◌, ◌++◌, length, sym, refl, ap, ◌∙◌, arith, cases_Bool, inl, inr, Text, size, to_byte_idx, IsBoundary, IsPart, same_cut}

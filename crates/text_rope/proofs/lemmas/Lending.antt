@@ -5,8 +5,8 @@ use Rattle.std.proofs.Math.Nat.{pow-zero}
 use Rattle.std.proofs.lemmas.Bool.{and_from, and_parts}
 use Rattle.str_indices.specs.Relations.{IsCrlfMiddle}
 use Rattle.str_indices.specs.Schemes.{weighed}
-use Rattle.position_mapper.specs.Encodings.{units_of}
-use Rattle.position_mapper.specs.declared.encodings.Encoding.{Encoding}
+use Rattle.positions.specs.Encodings.{units_of}
+use Rattle.positions.specs.declared.encodings.Encoding.{Encoding}
 use Rattle.positions.proofs.lemmas.Callers.{join_of_middle, middle_of_join, none_before, reached_by, weighed_by_bytes, weighed_none, none_taken, taken_within}
 use Rattle.positions.specs.Lines.{scheme_of}
 use Rattle.positions.specs.declared.parts.Own.{Own}

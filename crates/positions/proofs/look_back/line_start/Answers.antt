@@ -2,21 +2,21 @@ use Rattle.positions.proofs.lemmas.{◌≡◌, ◌<◌, ◌⊎◌, ◌∙◌, []
 use Rattle.positions.proofs.look_back.line_start.Goals as goal
 
 pub returns-then-line-eq0-clause-start : goal.returns-then-line-eq0-clause-start
-returns-then-line-eq0-clause-start c =
+returns-then-line-eq0-clause-start g c =
     let cs = chars c.args.text.now in
     sym (to_byte_idx-zero (scheme_of c.args.lines) cs) ∙ ap (to_byte_idx (scheme_of c.args.lines) cs) (sym c.if-line-eq0.true)
 
 pub returns-then-line-eq0-clause-boundary : goal.returns-then-line-eq0-clause-boundary
-returns-then-line-eq0-clause-boundary c = record { front = []; back = chars c.args.text.now; split = refl; place = refl }
+returns-then-line-eq0-clause-boundary g c = record { front = []; back = chars c.args.text.now; split = refl; place = refl }
 
 pub from_byte-behind-requires : goal.from_byte-behind-requires
-from_byte-behind-requires c = record { boundary = c.char_start-from.ensures.boundary }
+from_byte-behind-requires g c = record { boundary = c.char_start-from.ensures.boundary }
 
 pub overflow_sub-byte : goal.overflow_sub-byte
-overflow_sub-byte c = omega (arith, c.char_start-from.ensures.at_or_before)
+overflow_sub-byte g c = omega (arith, c.char_start-from.ensures.at_or_before)
 
 pub overflow_add-result : goal.overflow_add-result
-overflow_add-result c =
+overflow_add-result g c =
     let cs = chars c.args.text.now in
     let from = c.char_start-from in
     let behind = c.from_byte-behind in
@@ -31,7 +31,7 @@ overflow_add-result c =
     omega (arith, is, place, to_byte_idx-le-size (scheme_of c.args.lines) cs (from_byte_idx (scheme_of c.args.lines) cs c.args.byte), c.len_of-len.ensures)
 
 pub returns-then-from-eq0-clause-start : goal.returns-then-from-eq0-clause-start
-returns-then-from-eq0-clause-start c =
+returns-then-from-eq0-clause-start g c =
     let cs = chars c.args.text.now in
     let from = c.char_start-from in
     let behind = c.from_byte-behind in
@@ -46,6 +46,6 @@ returns-then-from-eq0-clause-start c =
     omega (arith, is, place, ap (to_byte_idx (scheme_of c.args.lines) cs) c.requires.line)
 
 pub returns-then-from-eq0-clause-boundary : goal.returns-then-from-eq0-clause-boundary
-returns-then-from-eq0-clause-boundary c =
+returns-then-from-eq0-clause-boundary g c =
     let cs = chars c.args.text.now in
-    subst (IsBoundary cs) (sym (returns-then-from-eq0-clause-start c)) (IsBoundary-to_byte_idx (scheme_of c.args.lines) cs c.args.line)
+    subst (IsBoundary cs) (sym (returns-then-from-eq0-clause-start g c)) (IsBoundary-to_byte_idx (scheme_of c.args.lines) cs c.args.line)

@@ -5,26 +5,9 @@ pub returns-then-not-is_at_or_before-clause-cost : goal.returns-then-not-is_at_o
 returns-then-not-is_at_or_before-clause-cost g c =
     taken_within c.len-len.ensures.searched (omega arith) (omega arith) (none_taken (g.P.Parts.state c.args.parts.now))
 
-pub returns-then-start-end-clause-ordered : goal.returns-then-start-end-clause-ordered
-returns-then-start-end-clause-ordered g c =
-    let cs = (g.P.Parts.state c.args.parts.now).text in
-    let l = c.args.lines in
-    let e = c.args.encoding in
-    let range = c.args.range in
-    let ordered = c.is_at_or_before.ensures.order.0 c.if-not-is_at_or_before.false in
-    let from : c.byte_on-from.result ≡ byte_at l e cs range.start =
-    c.byte_on-from.ensures.answer ∙ ap (λ t. byte_at l e t range.start) c.line_in-first.ensures.cost.text in
-    let text = c.byte_on-from.ensures.cost.text ∙ c.line_in-first.ensures.cost.text in
-    let to : c.byte_on-to.result ≡ byte_at l e cs range.end =
-    c.byte_on-to.ensures.answer ∙ ap (λ t. byte_at l e t range.end) text in
-    omega (arith, byte_at-le l e cs range.start range.end ordered, from, to)
-
-pub returns-then-start-end-clause-cost : goal.returns-then-start-end-clause-cost
-returns-then-start-end-clause-cost g c =
-    let first = c.line_in-first.ensures.cost in
-    let from = c.byte_on-from.ensures.cost in
-    taken_both c.len-len.ensures.searched (taken_after first from) c.byte_on-to.ensures.cost
-    (omega (arith, first.apart, from.apart)) (omega arith)
+pub returns-then-not-is_at_or_before-clause-on_line : goal.returns-then-not-is_at_or_before-clause-on_line
+returns-then-not-is_at_or_before-clause-on_line g c = λ _.
+    taken_within c.len-len.ensures.searched (omega arith) (omega arith) (none_taken (g.P.Parts.state c.args.parts.now))
 
 pub returns-clause-ordered : goal.returns-clause-ordered
 returns-clause-ordered g c =
@@ -33,16 +16,25 @@ returns-clause-ordered g c =
     let e = c.args.encoding in
     let range = c.args.range in
     let ordered = c.is_at_or_before.ensures.order.0 c.if-not-is_at_or_before.false in
+    let lines = c.later_line-last.ensures.cost.text ∙ c.line_in-first.ensures.cost.text in
     let from : c.byte_on-from.result ≡ byte_at l e cs range.start =
-    c.byte_on-from.ensures.answer ∙ ap (λ t. byte_at l e t range.start) c.line_in-first.ensures.cost.text in
-    let text = c.byte_on-from.ensures.cost.text ∙ c.line_in-first.ensures.cost.text in
-    let to : c.byte_of-to.result ≡ byte_at l e cs range.end =
-    c.byte_of-to.ensures.answer ∙ ap (λ t. byte_at l e t range.end) text in
+    c.byte_on-from.ensures.answer ∙ ap (λ t. byte_at l e t range.start) lines in
+    let to : c.byte_on-to.result ≡ byte_at l e cs range.end =
+    c.byte_on-to.ensures.answer ∙ ap (λ t. byte_at l e t range.end) (c.byte_on-from.ensures.cost.text ∙ lines) in
     omega (arith, byte_at-le l e cs range.start range.end ordered, from, to)
 
 pub returns-clause-cost : goal.returns-clause-cost
 returns-clause-cost g c =
     let first = c.line_in-first.ensures.cost in
+    let last = c.later_line-last.ensures.cost in
     let from = c.byte_on-from.ensures.cost in
-    taken_both c.len-len.ensures.searched (taken_after first from) c.byte_of-to.ensures.cost
-    (omega (arith, first.apart, from.apart)) (omega arith)
+    taken_both c.len-len.ensures.searched (taken_after (taken_after first last) from) c.byte_on-to.ensures.cost
+    (omega (arith, first.apart, last.apart, from.apart)) (omega arith)
+
+pub returns-clause-on_line : goal.returns-clause-on_line
+returns-clause-on_line g c = λ same.
+    let first = c.line_in-first.ensures.cost in
+    let last = c.later_line-last.ensures.same same in
+    let from = c.byte_on-from.ensures.cost in
+    taken_both c.len-len.ensures.searched (taken_after (taken_after first last) from) c.byte_on-to.ensures.cost
+    (omega (arith, first.apart, last.apart, from.apart)) (omega arith)

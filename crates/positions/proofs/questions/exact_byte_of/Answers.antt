@@ -1,9 +1,9 @@
-use Rattle.positions.proofs.lemmas.{◌∙◌, ap, sym, same_behind, weighed_same, subst, refl, arith, chars, byte_at, exact_byte_at, IsBoundary, boundary_within, IsBoundary-byte_at, part_within, place_told, exact_place, no_place, none_taken, taken_within, taken_both}
+use Rattle.positions.proofs.lemmas.{◌∙◌, ap, sym, same_behind, weighed_same, subst, refl, arith, chars, byte_at, exact_byte_at, IsBoundary, boundary_within, IsBoundary-byte_at, part_within, place_told, exact_place, no_place, taken_within, taken_both}
 use Rattle.positions.proofs.questions.exact_byte_of.Goals as goal
 
-pub returns-then-count-position-clause-cost : goal.returns-then-count-position-clause-cost
-returns-then-count-position-clause-cost g c =
-    taken_within c.len-len.ensures.searched (omega arith) (omega arith) (none_taken (g.P.Parts.state c.args.parts.now))
+pub returns-then-not-has_line-clause-cost : goal.returns-then-not-has_line-clause-cost
+returns-then-not-has_line-clause-cost g c =
+    taken_within c.len-len.ensures.searched (omega arith) (omega arith) c.line_in-start.ensures.cost
 
 pub tells-requires : goal.tells-requires
 tells-requires g c =
@@ -68,7 +68,7 @@ returns-then-tells-clause-answer g c =
     start.result.own c.from_byte-rest.ensures in
     let counted = c.units_before.ensures ∙ sym (weighed_same e c.encoding.result rest same own.result) in
     let told = rw start.ensures.cost.text at (c.tells.ensures.0 c.if-tells.true) in
-    exact_place cs l e start.result.part start.ensures.part start.result.own rest c.from_byte-rest.ensures c.args.position start.ensures.place own.result own_is told (omega (arith, c.count.ensures, c.if-count-position.false)) (sym counted ∙ c.if-units_before-position.false)
+    exact_place cs l e start.result.part start.ensures.part start.result.own rest c.from_byte-rest.ensures c.args.position start.ensures.place own.result own_is told (rw start.ensures.cost.text at (c.has_line.ensures.0 c.if-not-has_line.false)) (sym counted ∙ c.if-units_before-position.false)
 
 pub returns-then-tells-clause-boundary : goal.returns-then-tells-clause-boundary
 returns-then-tells-clause-boundary g c =

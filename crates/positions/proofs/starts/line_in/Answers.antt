@@ -12,7 +12,7 @@ returns-clause-own g c =
     let part = c.part_of_line-part in
     let own = chars part.result.text.now in
     let k = c.args.line - part.result.lines in
-    c.to_byte_idx-own.ensures.answer ∙ ap (λ s. to_byte_idx s own k) c.scheme.ensures
+    c.to_byte_idx-own.ensures.answer ∙ ap (λ s. to_byte_idx s own k) c.scheme-scheme.ensures
     ∙ sym ((c.kind.ensures (g.P.Parts.state c.args.parts.now).text c.args.encoding part.ensures.part).to k)
 
 pub returns-clause-place : goal.returns-clause-place
@@ -29,4 +29,4 @@ pub returns-clause-boundary : goal.returns-clause-boundary
 returns-clause-boundary g c =
     let own = chars c.part_of_line-part.result.text.now in
     subst (IsBoundary own) (sym c.to_byte_idx-own.ensures.answer)
-    (IsBoundary-to_byte_idx c.scheme.result own (c.args.line - c.part_of_line-part.result.lines))
+    (IsBoundary-to_byte_idx c.scheme-scheme.result own (c.args.line - c.part_of_line-part.result.lines))

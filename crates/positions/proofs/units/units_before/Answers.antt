@@ -2,9 +2,9 @@ use Rattle.positions.proofs.lemmas.{◌∙◌, sym, chars, weighed_by_bytes, wei
 use Rattle.positions.proofs.units.units_before.Goals as goal
 
 pub returns-in-None : goal.returns-in-None
-returns-in-None c = weighed_by_bytes c.args.encoding (chars c.args.text.now) c.args.byte c.char_start.result
+returns-in-None g c = weighed_by_bytes c.args.encoding (chars c.args.text.now) c.args.byte c.char_start.result
     (sym c.unit_scheme.ensures ∙ c.in-None.is) c.char_start.ensures
 
 pub returns-in-Some : goal.returns-in-Some
-returns-in-Some c = c.from_byte_idx.ensures
+returns-in-Some g c = c.from_byte_idx.ensures
     ∙ weighed_by_scheme c.args.encoding (chars c.args.text.now) c.args.byte c.in-Some.scheme (sym c.unit_scheme.ensures ∙ c.in-Some.is)

@@ -1,4 +1,4 @@
-use Rattle.position_mapper.proofs.lemmas.Callers.{nearest_is_greatest}
+use Rattle.positions.proofs.lemmas.Callers.{nearest_is_greatest}
 use Rattle.positions.proofs.lemmas.Callers.{greatest_in_part}
 use Rattle.text_index.proofs.lemmas.{◌+◌, ◌-◌, ◌<◌, ◌≡◌, ◌⊎◌, inl, inr, arith, chars, size}
 use Rattle.text_index.proofs.queries.char_start_in.Goals as goal

@@ -1,4 +1,4 @@
-use Rattle.position_mapper.proofs.lemmas.Callers.{nearest_is_greatest}
+use Rattle.positions.proofs.lemmas.Callers.{nearest_is_greatest}
 use Rattle.text_rope.proofs.parts.char_start.Goals as goal
 
 pub returns : goal.returns

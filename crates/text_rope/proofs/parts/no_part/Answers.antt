@@ -1,5 +1,5 @@
 use Rattle.positions.proofs.lemmas.Callers.{middle_above, none_before, weighed_none}
-use Rattle.position_mapper.specs.Encodings.{units_of}
+use Rattle.positions.specs.Encodings.{units_of}
 use Rattle.text_rope.proofs.lemmas.{[], sym, refl, arith, chars-nil}
 use Rattle.text_rope.proofs.parts.no_part.Goals as goal
 

@@ -1,12 +1,13 @@
 use Rattle.std.specs.Prelude.{Some, IfSome, IsErrOf, IsNone, IsSome, IsSomeAnd, OnOk}
 use Rattle.std.proofs.Common.{◌≢◌, ◌+◌, ◌-◌, ◌^◌, ◌<◌, ◌≤◌, ◌↔◌, ◌⊎◌, ◌∙◌, [], sym, subst, chars, length}
 use Rattle.str_indices.specs.Text.{Text, size}
-use Rattle.position_mapper.specs.Positions.{byte_range_at}
+use Rattle.positions.specs.Positions.{byte_range_at}
 use Rattle.rope_positions.specs.Changes.{exact_part_at}
 use Rattle.text_summary.specs.Changes.{IsReplaced}
 use Rattle.text_rope.specs.declared.refusals.Refusal.TheVariants.{NoMemory, NotBoundary, TooLong}
 use Rattle.text_rope_c.proofs.Refused.{never_too_long, refused_by}
 use Rattle.text_rope_c.proofs.exact_changes.changed.Goals as goal
+use Rattle.positions.specs.declared.line_type.LineType.TheVariants.{Crlf}
 
 pub returns-in_err-apply_exact-in-None-clause-too_long : goal.returns-in_err-apply_exact-in-None-clause-too_long
 returns-in_err-apply_exact-in-None-clause-too_long c =
@@ -40,7 +41,7 @@ returns-in-Some-clause-ok c =
 pub returns-in-Some-clause-not_boundary : goal.returns-in-Some-clause-not_boundary
 returns-in-Some-clause-not_boundary c =
     subst (λ whole. IsErrOf c.apply_exact-answer.result NotBoundary
-    ↔ (IsSome (byte_range_at c.args.encoding whole c.args.range)
+    ↔ (IsSome (byte_range_at Crlf c.args.encoding whole c.args.range)
     × IsNone (exact_part_at c.args.encoding whole (Some c.args.range)))) (c.deref_mut.ensures.value ∙ c.in-Some.ensures.some)
     c.apply_exact-answer.ensures.not_boundary
 

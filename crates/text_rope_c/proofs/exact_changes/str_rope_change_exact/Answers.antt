@@ -1,14 +1,15 @@
 use Rattle.std.specs.Prelude.{Some, IfSome, IsErrOf, IsNone, IsSome, IsSomeAnd}
 use Rattle.std.proofs.Common.{◌≡◌, ◌≢◌, ◌+◌, ◌-◌, ◌^◌, ◌<◌, ◌≤◌, ◌↔◌, ◌⊎◌, ◌∙◌, List, [], ℕ, IsUtf8, ap, chars, length, rules, subst, sym}
 use Rattle.str_indices.specs.Text.{size}
-use Rattle.position_mapper.specs.Positions.{byte_range_at}
+use Rattle.positions.specs.Positions.{byte_range_at}
 use Rattle.rope_positions.specs.Changes.{exact_part_at}
-use Rattle.position_mapper.specs.declared.encodings.Encoding.{Encoding}
+use Rattle.positions.specs.declared.encodings.Encoding.{Encoding}
 use Rattle.text_summary.specs.Changes.{IsReplaced}
 use Rattle.text_rope.specs.declared.refusals.Refusal.TheVariants.{NoMemory, NotBoundary, TooLong}
 use Rattle.text_rope_c.specs.Numbers.{status_of}
 use Rattle.text_rope_c.proofs.Refused.{is_no_memory, is_no_place, is_too_long, on_done}
 use Rattle.text_rope_c.proofs.exact_changes.str_rope_change_exact.Goals as goal
+use Rattle.positions.specs.declared.line_type.LineType.TheVariants.{Crlf}
 
 pub returns-in-Ok-clause-done : goal.returns-in-Ok-clause-done
 returns-in-Ok-clause-done c = λ is.
@@ -25,7 +26,7 @@ returns-in-Ok-clause-not_boundary c =
     let old = c.args.rope.now.text in
     let r = c.changed.result in
     let utf8 : IsUtf8 c.args.text.now = search rules in
-    let refused = λ (e : Encoding). IsErrOf r NotBoundary ↔ (IsSome (byte_range_at e old c.args.range)
+    let refused = λ (e : Encoding). IsErrOf r NotBoundary ↔ (IsSome (byte_range_at Crlf e old c.args.range)
     × IsNone (exact_part_at e old (Some c.args.range))) in
     let iff = subst refused c.encoding_at.ensures c.changed.ensures.not_boundary in
     (λ is. (utf8, iff.0 (is_no_place r (sym c.status_at.ensures ∙ is))), λ both. c.status_at.ensures ∙ ap status_of (iff.1 both.1))

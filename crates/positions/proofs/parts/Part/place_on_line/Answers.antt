@@ -2,7 +2,7 @@ use Rattle.positions.proofs.lemmas.{◌-◌, ◌∙◌, sym, arith, chars, same_
 use Rattle.positions.proofs.parts.Part.place_on_line.Goals as goal
 
 pub returns-then-has_at_most : goal.returns-then-has_at_most
-returns-then-has_at_most c = λ cs at is place behind.
+returns-then-has_at_most g c = λ cs at is place behind.
     let l = c.args.lines in
     let e = c.args.encoding in
     let own = chars c.args.self.now.text.now in
@@ -14,7 +14,7 @@ returns-then-has_at_most c = λ cs at is place behind.
     (none_behind_last l own rest at (c.args.line - c.args.self.now.lines) place (omega (arith, last)) behind)
 
 pub returns-then-ends_on : goal.returns-then-ends_on
-returns-then-ends_on c = λ cs at is place behind.
+returns-then-ends_on g c = λ cs at is place behind.
     let l = c.args.lines in
     let e = c.args.encoding in
     let own = chars c.args.self.now.text.now in
@@ -26,12 +26,12 @@ returns-then-ends_on c = λ cs at is place behind.
     (none_behind_last l own rest at (c.args.line - c.args.self.now.lines) place (omega (arith, last)) behind)
 
 pub returns-then-is_after_plain : goal.returns-then-is_after_plain
-returns-then-is_after_plain c = λ cs at is place behind.
+returns-then-is_after_plain g c = λ cs at is place behind.
     byte_of_plain c.args.lines c.args.encoding (chars c.args.rest.now) c.args.character
     (c.is_after_plain.ensures c.if-is_after_plain.true).1
 
 pub returns : goal.returns
-returns c = λ cs at is place behind.
+returns g c = λ cs at is place behind.
     let e = c.args.encoding in
     let rest = chars c.args.rest.now in
     let same = same_behind e c.encoding-2.result (chars c.args.self.now.text.now) (c.encoding-2.ensures cs c.args.lines is) rest at

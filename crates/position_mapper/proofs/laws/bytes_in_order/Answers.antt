@@ -1,5 +1,0 @@
-use Rattle.position_mapper.proofs.lemmas.{chars, byte_at-le}
-use Rattle.position_mapper.proofs.laws.bytes_in_order.Goals as goal
-
-pub returns : goal.returns
-returns c = byte_at-le c.args.encoding (chars c.args.text.now) c.args.p c.args.q

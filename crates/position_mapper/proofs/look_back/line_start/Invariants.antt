@@ -1,8 +1,0 @@
-use Rattle.position_mapper.proofs.lemmas.{◌-◌, ◌<◌}
-use Rattle.position_mapper.proofs.look_back.line_start.Given as goal
-
-abbrev pub invariant-windows : goal.invariant-windows
-invariant-windows g l = 0 < l.window
-
-abbrev pub decreases-windows : goal.decreases-windows
-decreases-windows g l = l.end - l.window

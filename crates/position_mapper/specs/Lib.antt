@@ -1,5 +1,0 @@
-pub mod Lines
-pub mod Encodings
-pub mod Positions
-pub mod Relations
-pub mod Examples
