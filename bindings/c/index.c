@@ -11,6 +11,7 @@
  */
 #include <stdint.h>
 #include <stdlib.h>
+#include <string.h>
 
 #include <str_index.h>
 
@@ -27,36 +28,57 @@ struct str_index {
     struct mark whole;
 };
 
-/* What index_fill answers where it has made the index. */
-enum { MADE = 0 };
-
-/* How many marks a text of so many bytes takes. */
+/* How many marks a text of `len` bytes takes. */
 size_t index_marks(size_t len);
 
-/* Makes the index that of a text, with marks in a room for so many as index_marks says,
- * and answers MADE. Where the bytes are no UTF-8, the index is as before. It has to be a
- * value before, with addresses that are not null. */
+/* Makes the index that of a text, with its marks in a room for `many` of them, which is
+ * what index_marks says, and answers STR_INDEX_OK. Else the index is as before. It has to
+ * be a value before, with addresses that are not null. */
 uint32_t index_fill(const char *text, size_t len, struct mark *room, size_t many, struct str_index *index);
 
-/* A text has at most PTRDIFF_MAX bytes, so the size of the block does not overflow. All
- * is zeroed, so that a value is handed on. Where there is no mark, the room for them is
- * the end of the block, which is not null either. */
+/* The block is zeroed, so that a value is handed on. Where there is no mark, the room for
+ * them is the end of the block, which is not null either. */
+static str_index_status filled(str_index **index, struct str_index *block, const char *text, size_t len)
+{
+    struct mark *room = (struct mark *)(block + 1);
+    str_index_status status;
+    if (text == NULL)
+        text = "";
+    block->text = text;
+    block->marks = room;
+    status = (str_index_status)index_fill(text, len, room, index_marks(len), block);
+    if (status == STR_INDEX_OK)
+        *index = block;
+    return status;
+}
+
 str_index_status str_index_make(str_index **index, const char *text, size_t len)
 {
-    size_t many = index_marks(len);
-    struct str_index *made = calloc(1, sizeof *made + many * sizeof(struct mark));
+    size_t size = str_index_size(len);
+    struct str_index *block;
+    str_index_status status;
     *index = NULL;
-    if (made == NULL)
+    if (size == 0)
+        return STR_INDEX_TOO_LONG;
+    block = calloc(1, size);
+    if (block == NULL)
         return STR_INDEX_NO_MEMORY;
-    struct mark *room = (struct mark *)(made + 1);
-    made->text = text;
-    made->marks = room;
-    if (index_fill(text, len, room, many, made) != MADE) {
-        free(made);
-        return STR_INDEX_NOT_UTF8;
-    }
-    *index = made;
-    return STR_INDEX_OK;
+    status = filled(index, block, text, len);
+    if (status != STR_INDEX_OK)
+        free(block);
+    return status;
+}
+
+str_index_status str_index_make_in(str_index **index, void *room, size_t size, const char *text, size_t len)
+{
+    size_t taken = str_index_size(len);
+    *index = NULL;
+    if (taken == 0)
+        return STR_INDEX_TOO_LONG;
+    if (size < taken)
+        return STR_INDEX_NO_ROOM;
+    memset(room, 0, taken);
+    return filled(index, room, text, len);
 }
 
 void str_index_free(str_index *index)

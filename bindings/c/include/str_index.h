@@ -20,13 +20,15 @@
  *
  *   - An index keeps the address of its text, and no copy. The `len` bytes from
  *     `text` on may be read, and no thread writes to them, from the call that
- *     makes the index until it is freed. `text` is not null, even where `len`
- *     is 0, and `len` is at most PTRDIFF_MAX. That the bytes are UTF-8 is
- *     checked.
- *   - An index that is handed over was made by str_index_make, answered
- *     STR_INDEX_OK, and was not freed since. No pointer is null, but for the
- *     one that str_index_free takes.
- *   - An index is freed once, and in no other call meanwhile or afterwards.
+ *     makes the index until it is freed. A `text` that is null is the empty
+ *     text, and then `len` is 0. That the bytes are UTF-8 is checked.
+ *   - An index that is handed over was made by str_index_make or
+ *     str_index_make_in, which answered STR_INDEX_OK, and was not freed since.
+ *     One that was made in memory of the caller's is there while that is, and
+ *     nothing else is written to it. No pointer is null, but for that of an
+ *     empty text and the one that str_index_free takes.
+ *   - An index that str_index_make has made is freed once, and in no other
+ *     call meanwhile or afterwards.
  *     Any number of threads may ask one index at once: a question writes
  *     nothing. An index may be freed by another thread than made it.
  *   - calloc and free are those of one allocator, and align a block as the C
@@ -99,7 +101,9 @@ typedef enum str_index_line_type {
 typedef enum str_index_status {
     STR_INDEX_OK,        /* it was */
     STR_INDEX_NO_MEMORY, /* memory was refused */
-    STR_INDEX_NOT_UTF8   /* the bytes handed over are not UTF-8 */
+    STR_INDEX_NOT_UTF8,  /* the bytes handed over are not UTF-8 */
+    STR_INDEX_NO_ROOM,   /* the memory handed over has too few bytes */
+    STR_INDEX_TOO_LONG   /* `len` is above PTRDIFF_MAX */
 } str_index_status;
 
 /*
@@ -109,9 +113,20 @@ typedef enum str_index_status {
 /* Makes the index of a text, for which `*index` then stands. It is NULL where
  * the status is another than STR_INDEX_OK. Takes time in the length of the
  * text. May answer STR_INDEX_NO_MEMORY, and then nothing is said of the bytes,
- * and STR_INDEX_NOT_UTF8. */
+ * STR_INDEX_NOT_UTF8, and STR_INDEX_TOO_LONG. */
 str_index_status str_index_make(str_index **index, const char *text,
                                 size_t len);
+
+/* How many bytes the index of a text of `len` bytes takes: 80, and 48 for each
+ * 1,024 bytes of the text. 0 where `len` is above PTRDIFF_MAX. */
+size_t str_index_size(size_t len);
+
+/* As str_index_make, in the `size` bytes from `room` on, of which it takes as
+ * many as str_index_size says. They are aligned as malloc aligns a block, and
+ * stay the caller's, who does not free the index. May answer STR_INDEX_NO_ROOM,
+ * STR_INDEX_NOT_UTF8, and STR_INDEX_TOO_LONG; never STR_INDEX_NO_MEMORY. */
+str_index_status str_index_make_in(str_index **index, void *room, size_t size,
+                                   const char *text, size_t len);
 
 /* Frees an index, and leaves its text. NULL is none, and nothing is done. */
 void str_index_free(str_index *index);

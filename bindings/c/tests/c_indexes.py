@@ -3,8 +3,10 @@
 The first, and the example, as C and as C++. The tests once more with sanitizers and under valgrind, where these are there,
 which must report nothing. Many threads ask one index under helgrind, which sees what the library does too, and must find no
 race; it finds the one that the program makes when it is told to. Each function is exchanged for each other one of its
-shape. The archive gives a linker no name but the functions'.
+shape. The archive gives a linker no name but the functions'. The structs and the two functions that index.c declares for
+itself are those of Rattle's, and one with another field or parameter is seen.
 """
+import re
 import shutil
 import subprocess
 
@@ -17,6 +19,17 @@ INDEXES, FAILING, SHARED = TESTS / "indexes.c", TESTS / "failing_indexes.c", TES
 REPORT = ROOT / "bindings/c/examples/report_span.c"
 # each so many-th index, and so many rounds of each thread, where a run is watched
 FEW_INDICES, FEW_ROUNDS = ["31"], ["100"]
+# where Rattle has the structs and functions of index.c
+GLUE = ROOT / "bindings/c/index.c"
+PROVED = [ROOT / "crates" / path
+          for path in ["text_index/src/mark.rt", "text_index_c/src/handle.rt", "text_index_c/src/making.rt"]]
+STRUCTS = {"mark": "Mark", "str_index": "Handle"}
+FUNCTIONS = ["index_marks", "index_fill"]
+C_TYPES = {
+    "usize": ["size_t"], "u32": ["uint32_t"], "Mark": ["struct mark"], "&mut Handle": ["struct str_index *"],
+    "&[u8]": ["const char *", "size_t"], "&[Mark]": ["const struct mark *", "size_t"],
+    "&mut [Mark]": ["struct mark *", "size_t"],
+}
 HELGRIND = ["valgrind", "-q", "--tool=helgrind", "--error-exitcode=9"]
 
 
@@ -53,6 +66,43 @@ def try_index_exchanges(tally, archive, folder):
         try_exchanges(tally, [program.path], pairs(STR_INDEX), "", "the index", "exchanges of the index")
 
 
+def rattle_types(fields):
+    """How C says the types of fields or parameters of Rattle's."""
+    named = re.findall(r"\w+: ((?:&'?\w* ?)?(?:mut )?[\[\w\]]+(?:<'\w>)?)", fields)
+    return [name for rattle in named for name in C_TYPES[re.sub(r"'\w |<'\w>", "", rattle)]]
+
+
+def c_types(fields):
+    """The types of fields or parameters of C's, without their names."""
+    typed = [re.match(r"(.*?[ *])((?:\w+, )*\w+)$", " ".join(field.split())) for field in fields]
+    return [match[1].strip() for match in typed for _ in match[2].split(", ")]
+
+
+def shapes(glue, proved):
+    """Each struct and function of index.c, by its name: its types and fields there, and in Rattle."""
+    for name, rattle in STRUCTS.items():
+        own = re.search(rf"^struct {name} \{{(.*?)\}};", glue, re.MULTILINE | re.DOTALL)[1]
+        other = re.search(rf"pub struct {rattle}(?:<'a>)? \{{(.*?)\}}", proved, re.DOTALL)[1]
+        fields = re.findall(r"(\w+):", other)
+        named = [field for field in re.findall(r"\w+", own) if field in fields]
+        yield name, [*c_types(own.strip(" \n;").split(";")), *named], [*rattle_types(other), *fields]
+    for name in FUNCTIONS:
+        result, own = re.search(rf"^(\w+) {name}\(([^)]*)\);", glue, re.MULTILINE).groups()
+        other, answer = re.search(rf"fn {name}(?:<'a>)?\(([^)]*)\) -> (\w+)", proved).groups()
+        yield name, [result, *c_types(own.split(","))], [*C_TYPES[answer], *rattle_types(other)]
+
+
+def try_glue(tally):
+    """What index.c has in common with the proved side."""
+    glue, proved = GLUE.read_text(encoding="utf-8"), "".join(path.read_text(encoding="utf-8") for path in PROVED)
+    for name, own, other in shapes(glue, proved):
+        tally.result(own == other, f"{name} of index.c has the types of Rattle's: {', '.join(own)}")
+    for old, new in [("lf, crlf", "crlf, lf"), ("size_t many;", "uint32_t many;"), ("*room, size_t many", "*room")]:
+        edited = glue.replace(old, new, 1)
+        seen = edited != glue and any(own != other for _, own, other in shapes(edited, proved))
+        tally.result(seen, f"index.c with {new} in the place of {old} is refused")
+
+
 def try_names(tally, archive):
     """What is seen of the archive by a linker."""
     told = subprocess.run(["nm", "-g", "--defined-only", archive], capture_output=True, text=True, check=True).stdout
@@ -64,6 +114,7 @@ def try_names(tally, archive):
 def try_indexes(tally, archive, folder):
     """All of it, in a folder of its own."""
     folder.mkdir()
+    try_glue(tally)
     built = compiled(tally, programs(archive, folder))
     for program in built:
         program.run(tally, f"as {program.language}")

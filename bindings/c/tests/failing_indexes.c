@@ -13,8 +13,8 @@
 
 #include "refused_memory.h"
 
-/* The bytes of a mark and of an index without one, as the header says, and how far marks are from each other. */
-enum { MARK = 48, WITHOUT_MARKS = 80, APART = 1024 };
+/* How far marks are from each other. */
+enum { APART = 1024 };
 
 enum { LINE = 20, WHOLE = 100 * LINE * APART };
 
@@ -53,7 +53,7 @@ static void try_made(size_t len)
     allocations = 0;
     same(str_index_make(&index, whole, len) == STR_INDEX_OK && index != NULL, "make", len);
     same(allocations == 1 && living == before + 1, "one block is taken", len);
-    same(asked == WITHOUT_MARKS + len / APART * MARK, "the size of the block", len);
+    same(asked == str_index_size(len), "the size of the block", len);
     refused = ALWAYS;
     same(str_index_len(index) == len && str_index_count(index, STR_INDEX_CRLF) == lines, "len and count", len);
     same(str_index_to_byte_idx(index, STR_INDEX_CRLF, lines) == lines * LINE, "to_byte_idx", len);

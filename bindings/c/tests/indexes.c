@@ -360,6 +360,26 @@ static str_index *indexed(const char *text, size_t len, char **copy)
     return index;
 }
 
+/* An index of the text in a block of as many bytes as it takes: in one with a byte less none is made. */
+static void try_in_room(const char *text, size_t len)
+{
+    size_t size = str_index_size(len);
+    str_index *index = (str_index *)text;
+    void *room = malloc(size);
+    if (room == NULL)
+        exit(2);
+    same(size == 80 + len / APART * 48, "size", len, size);
+    same(str_index_make_in(&index, room, size - 1, text, len) == STR_INDEX_NO_ROOM && index == NULL, "no room", len,
+         size);
+    same(str_index_make_in(&index, room, size, text, len) == STR_INDEX_OK && (void *)index == room, "make_in", len,
+         size);
+    for (size_t scheme = 0; index != NULL && scheme <= SCHEMES; scheme++) {
+        try_index(index, scheme, len / 2);
+        try_index(index, scheme, MOST);
+    }
+    free(room);
+}
+
 static void try_text(const char *text, size_t len)
 {
     char *copy;
@@ -367,8 +387,28 @@ static void try_text(const char *text, size_t len)
     make_model(copy, len);
     try_questions(index);
     try_lines_by(index);
+    try_in_room(copy, len);
     str_index_free(index);
     free(copy);
+}
+
+/* A text without an address is the empty one, and none is above PTRDIFF_MAX. */
+static void no_text_and_a_long_one(void)
+{
+    str_index *index = NULL;
+    same(str_index_make(&index, NULL, 0) == STR_INDEX_OK && index != NULL, "make of no text", 0, 0);
+    same(index != NULL && str_index_len(index) == 0 && str_index_count(index, STR_INDEX_LINES) == 0, "no text", 0, 0);
+    same(index != NULL && str_index_position_of(index, STR_INDEX_ENCODING_UTF16, 1).line == 0, "position of no text", 0,
+         0);
+    str_index_free(index);
+    for (size_t len = (size_t)PTRDIFF_MAX + 1, i = 0; i < 2; len = SIZE_MAX, i++) {
+        index = (str_index *)&index;
+        same(str_index_size(len) == 0, "size of a long text", len, 0);
+        same(str_index_make(&index, "", len) == STR_INDEX_TOO_LONG && index == NULL, "make of a long text", len, 0);
+        index = (str_index *)&index;
+        same(str_index_make_in(&index, &index, sizeof index, "", len) == STR_INDEX_TOO_LONG && index == NULL,
+             "make_in of a long text", len, 0);
+    }
 }
 
 /*
@@ -553,6 +593,7 @@ int main(int number, char **words)
     worked_lines();
     worked_kinds();
     refused_bytes();
+    no_text_and_a_long_one();
     for (size_t i = 0; i < NUMBER_OF(across); i++)
         try_across(across[i]);
     for (size_t i = 0; i < NUMBER_OF(lens); i++) {

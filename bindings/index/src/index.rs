@@ -1,5 +1,6 @@
 //! An index: how it is made, and what is counted.
 use crate::library::*;
+use alloc::sync::Arc;
 use core::error;
 use core::fmt;
 use core::ptr::{self, NonNull};
@@ -171,6 +172,63 @@ impl fmt::Debug for TextIndex<'_> {
         f.debug_struct("TextIndex")
             .field("len", &self.len())
             .finish_non_exhaustive()
+    }
+}
+
+/// A text, and an index beside it, in one value: for a text that is kept for long, or handed to another thread.
+///
+/// ```
+/// use std::sync::Arc;
+/// use str_indices_index::{NoMemory, OwnedIndex};
+///
+/// # fn main() -> Result<(), NoMemory> {
+/// let index = OwnedIndex::of(Arc::from("one\ntwo"))?;
+/// let index = std::thread::spawn(move || index).join().unwrap();
+/// assert_eq!(index.as_index().line(1), "two");
+/// # Ok(())
+/// # }
+/// ```
+///
+/// What it lends of the text lives no longer than it does:
+///
+/// ```compile_fail,E0597
+/// # use std::sync::Arc;
+/// # use str_indices_index::{NoMemory, OwnedIndex};
+/// # fn main() -> Result<(), NoMemory> {
+/// let line;
+/// {
+///     let index = OwnedIndex::of(Arc::from("one\ntwo"))?;
+///     line = index.as_index().line(1);
+/// }
+/// assert_eq!(line, "two");
+/// # Ok(())
+/// # }
+/// ```
+#[derive(Debug)]
+pub struct OwnedIndex {
+    // before the text, since fields are dropped in this order
+    index: TextIndex<'static>,
+    text: Arc<str>,
+}
+
+impl OwnedIndex {
+    /// The index of a text, or [`NoMemory`] where memory was refused. Copies no text.
+    pub fn of(text: Arc<str>) -> Result<OwnedIndex, NoMemory> {
+        // SAFETY: the text of an `Arc` stays where it is and as it is while there is one, and this one is dropped after the
+        // index. `as_index` lends nothing of the text for longer than it is borrowed.
+        let lent: &'static str = unsafe { &*Arc::as_ptr(&text) };
+        let index = TextIndex::of(lent)?;
+        Ok(OwnedIndex { index, text })
+    }
+
+    /// The index, which has all questions.
+    pub fn as_index(&self) -> &TextIndex<'_> {
+        &self.index
+    }
+
+    /// The text.
+    pub fn text(&self) -> &Arc<str> {
+        &self.text
     }
 }
 

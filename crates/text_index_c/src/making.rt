@@ -1,14 +1,33 @@
 // An index that is made of a text.
-ghost use Rattle.std.specs.Prelude.{◌≡◌, ◌≢◌, ◌/◌, ◌≤◌, ◌↔◌, ◌⊎◌, IsUtf8, chars, length};
+ghost use Rattle.std.specs.Prelude.{◌≡◌, ◌≢◌, ◌+◌, ◌*◌, ◌/◌, ◌^◌, ◌<◌, ◌≤◌, ◌↔◌, ◌⊎◌, IsUtf8, chars, length};
 ghost use Rattle.text_index.specs.Marks.{stretch_size};
 ghost use Rattle.text_index_c.specs.Handles.{IsIndex, text_of};
 ghost use Rattle.text_index_c.specs.Numbers.{done, no_room, not_utf8};
 
 use crate::handle::Handle;
 use crate::numbers::{DONE, NO_ROOM, NOT_UTF8};
+use std::mem::size_of;
 use text_index::{Mark, fill, marks_for};
 
-/// How many marks a text of so many bytes takes.
+/// How many bytes a handle takes, and a mark.
+const HANDLE: usize = size_of::<Handle<'static>>();
+
+const MARK: usize = size_of::<Mark>();
+
+/// How many bytes a handle takes with the marks of a text of `len` bytes; 0 where `len` is above `isize::MAX`, which the length
+/// of no text is.
+#[unsafe(no_mangle)]
+pub extern "C" fn str_index_size(len: usize) -> usize
+    ensures size { len < 2 ^ 63 → result ≡ 80 + 48 * (len / stretch_size) }
+    ensures long { 2 ^ 63 ≤ len → result ≡ 0 }
+{
+    if len > isize::MAX as usize {
+        return 0;
+    }
+    HANDLE + MARK * marks_for(len)
+}
+
+/// How many marks a text of `len` bytes takes.
 #[unsafe(no_mangle)]
 pub extern "C" fn index_marks(len: usize) -> usize
     ensures { result ≡ len / stretch_size }
