@@ -121,9 +121,10 @@ str_index_status str_index_make(str_index **index, const char *text,
  * 1,024 bytes of the text. 0 where `len` is above PTRDIFF_MAX. */
 size_t str_index_size(size_t len);
 
-/* As str_index_make, in the `size` bytes from `room` on, of which it takes as
- * many as str_index_size says. They are aligned as malloc aligns a block, and
- * stay the caller's, who does not free the index. May answer STR_INDEX_NO_ROOM,
+/* Makes the index of a text as str_index_make does, but in memory of the
+ * caller's: the `size` bytes from `room` on, of which it takes the first
+ * str_index_size(len). They are aligned as malloc aligns a block, and stay the
+ * caller's, who does not free the index. May answer STR_INDEX_NO_ROOM,
  * STR_INDEX_NOT_UTF8, and STR_INDEX_TOO_LONG; never STR_INDEX_NO_MEMORY. */
 str_index_status str_index_make_in(str_index **index, void *room, size_t size,
                                    const char *text, size_t len);

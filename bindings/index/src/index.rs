@@ -189,7 +189,7 @@ impl fmt::Debug for TextIndex<'_> {
 /// # }
 /// ```
 ///
-/// What it lends of the text lives no longer than it does:
+/// A line that it lends lives no longer than it does:
 ///
 /// ```compile_fail,E0597
 /// # use std::sync::Arc;

@@ -1,10 +1,10 @@
 //! An index beside a text that does not change: counts, conversions and positions of a language server, without going over
 //! the text for each.
 //!
-//! [`TextIndex::of`] goes over the text twice, once for whether it is UTF-8, and keeps a mark for each 1,024 bytes, with the counts of what is before it.
-//! A question looks at marks, and reads at most 1,028 bytes of the text for each conversion that it takes. Where the crates
-//! `str_indices` and `str_indices_positions` have the question, the answer is theirs for the whole text. All are proved: each
-//! question is one call into a static library of proved functions.
+//! [`TextIndex::of`] goes over the text twice, once for whether it is UTF-8, and keeps a mark for each 1,024 bytes, with the
+//! counts of what is before it. A question looks at marks, and reads at most 1,028 bytes of the text for each conversion that
+//! it takes. Where the crates `str_indices` and `str_indices_positions` have the question, the answer is theirs for the whole
+//! text. All are proved: each question is one call into a static library of proved functions.
 //!
 //! Every index and position has an answer, past the end too. Nothing panics, and only [`TextIndex::of`] takes memory. An
 //! [`OwnedIndex`] has its text in it.

@@ -149,7 +149,7 @@ pub fn exact_byte_of<'a, P: Parts<'a>>(
 }
 
 /// The byte indices of a range, or `None` where its end is before its start. Each is that of its position, as `byte_of`
-/// answers it. Positions on one line share the search by it, and in the text's last part no second one is needed either.
+/// answers it. Positions on one line share the search by it.
 pub fn byte_range<'a, P: Parts<'a>>(
     parts: &mut P,
     lines: LineType,

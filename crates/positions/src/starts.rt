@@ -60,8 +60,8 @@ pub(crate) fn has_line<'a, P: Parts<'a>>(
     start.part.start + start.own < len || line <= parts.count(lines)
 }
 
-/// Where a later line begins, by where `line` does. It takes no search where that is the same line, or `line` begins in the
-/// text's last part, of which what is before it is not gone over again.
+/// Where the line `later` begins, by where `line` does. A search is needed only where the two differ and the text goes on
+/// behind the part. Else the part is gone over from `line` on.
 pub(crate) fn later_line<'a, P: Parts<'a>>(
     parts: &mut P,
     lines: LineType,
@@ -165,7 +165,7 @@ pub fn line_end<'a, P: Parts<'a>>(parts: &mut P, lines: LineType, line: usize) -
 }
 
 /// The byte indices where a line begins, counted from 0, and where its content ends; the length of the text in bytes twice
-/// for a line past the last one. It takes one search by the line where that ends before the end of its part, and else two.
+/// for a line past the last one. It takes two searches by the line at most.
 pub fn line<'a, P: Parts<'a>>(parts: &mut P, lines: LineType, line: usize) -> ops::Range<usize>
     ensures start { result.start ≡ to_byte_idx (scheme_of lines) (P.state parts.old).text line }
     ensures end { result.end ≡ line_end lines (P.state parts.old).text line }

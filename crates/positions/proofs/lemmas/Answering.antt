@@ -9,19 +9,19 @@ use Rattle.positions.proofs.lemmas.Common.{Some, None, ◌≡◌, ◌≢◌, ℕ
 use Rattle.positions.proofs.lemmas.Kinds.{not_utf16, none_before}
 use Rattle.positions.proofs.lemmas.Lines.{IsBoundary-line_end, begins_behind}
 use Rattle.positions.proofs.lemmas.Starts.{weighed_behind, weighed_none}
-use Rattle.positions.proofs.lemmas.Units.{units_of_position, byte_of_units, units_at_place, exact_by_units, not_exact_by_units}
+use Rattle.positions.proofs.lemmas.Units.{units_le_bytes, units_of_position, byte_of_units, units_at_place, exact_by_units, not_exact_by_units}
 use Rattle.positions.proofs.lemmas.OnLines.{middle_above, weighed_on_line, weighed_behind_line}
 use Rattle.positions.proofs.lemmas.Breaks.{next_above, ends_before_return, ends_before_last}
 use Rattle.positions.proofs.lemmas.PartsOf.{ends_within, greatest_in_part, line_in_part, start_in_part, units_in_part}
 use Rattle.positions.proofs.lemmas.Rests.{byte_told, end_told, exact_told, none_told}
 
--- a text has no more units than bytes
+-- up to a place it has no more either
 pub weighed_within : (e : Encoding) (cs : Text) (n : ℕ) → weighed (units_of e) cs n ≤ size cs
 weighed_within e cs n =
     let longest = cut_is_longest cs n in
     omega (
       arith,
-      sum_by-le-sum_by (units_of e) len_utf8 (cut cs n) (units_of-le e),
+      units_le_bytes e (cut cs n),
       ap size longest.split,
       size-append (cut cs n) longest.back,
     )

@@ -246,40 +246,6 @@ module _ (l : LineType) (cs : Text) (line : ℕ) where
             ]
       ]) refl
 
-  -- from a boundary of its content on, the text has the rest of the content before its first break
-  pub content_onwards : (front rest : Text) → cs ≡ front ++ rest → start ≤ size front → size front ≤ line_end l cs line
-      → size front + size (before_first (is_break l) rest) ≡ line_end l cs line
-  content_onwards front rest split from to =
-      let parts = line_parts in
-      let at : IsBoundary cs (size front) = record { front = front; back = rest; split = split; place = refl } in
-      let own = IsBoundary-in_content (size front) at from to in
-      let there : cs ≡ (parts.before ++ own.front) ++ (own.back ++ parts.after) = split_in_content (size front - start) own in
-      let here : IsBoundary cs (size front) = record {
-        front = parts.before ++ own.front;
-        back = own.back ++ parts.after;
-        split = there;
-        place = omega (arith, size-append parts.before own.front, parts.place, own.place, from);
-      } in
-      let same : front ≡ parts.before ++ own.front = sym (cut_front cs (size front) at) ∙ cut_front cs (size front) here in
-      let rests : rest ≡ own.back ++ parts.after =
-      append_cancel_left front rest (own.back ++ parts.after) (sym split ∙ there ∙ ap (λ f. f ++ (own.back ++ parts.after)) (sym same)) in
-      let none : count_by (is_break l) own.back ≡ 0 = omega (
-        arith,
-        parts.none,
-        ap (count_by (is_break l)) own.split,
-        sum_by-append (λ d. cond (is_break l d) 1 0) own.front own.back,
-      ) in
-      let first = before_first-seam (is_break l) own.back parts.after none parts.next in
-      omega (
-        arith,
-        ap (λ r. size (before_first (is_break l) r)) rests,
-        ap size first,
-        ap size own.split,
-        size-append own.front own.back,
-        own.place,
-        from,
-      )
-
   -- past the last break it ends where the text does
   pub line_end_past : count (scheme_of l) cs ≤ line → line_end l cs line ≡ size cs
   line_end_past past =

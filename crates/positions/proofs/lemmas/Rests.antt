@@ -148,10 +148,6 @@ module _ (l : LineType) (e : Encoding) (cs : Text) (p : Position) (front rest ba
     to_byte_idx-zero (scheme_of l) rest,
   )
 
-  -- it is in the rest
-  pub place_within : (own : ℕ) → own ≡ byte_at l e rest own_position → own ≤ size rest
-  place_within own is = omega (arith, is, boundary_within rest (byte_at l e rest own_position) (IsBoundary-byte_at l e rest own_position))
-
   byte_in_rest : (own : ℕ) → own ≡ byte_at l e rest own_position → own < size rest → start + own ≡ byte_at l e cs p
   byte_in_rest own is inside =
       let here_is = place_is own is in
@@ -219,15 +215,3 @@ module _ (l : LineType) (e : Encoding) (cs : Text) (p : Position) (front rest ba
       → weighed w rest own ≢ p.character → None ≡ exact_byte_at l e cs p
   none_told own is told other =
       not_exact_by_units l e cs p (inr (λ same. other (omega (arith, units_in_rest own is told, same))))
-
--- the place of an offset on the first line of a text's beginning is that of the text, where it is before the end of that
-pub first_told : (l : LineType) (e : Encoding) (cs : Text) (k end : ℕ) (at : IsBoundary cs end) (own : ℕ)
-    → own ≡ byte_at l e at.front (record { line = 0; character = k }) → (own < end) ⊎ (size cs ≤ end)
-    → own ≡ byte_at l e cs (record { line = 0; character = k })
-first_told l e cs k end at own is told =
-    let zero : 0 ≡ to_byte_idx (scheme_of l) cs 0 = sym (to_byte_idx-zero (scheme_of l) cs) in
-    let told' : (own < size at.front) ⊎ (0 + size at.front ≡ size cs) = elim told [
-      | inl inside ↦ inl (omega (arith, inside, at.place))
-      | inr all ↦ inr (omega (arith, all, at.place, ap size at.split, size-append at.front at.back))
-    ] in
-    omega (arith, byte_told l e cs (record { line = 0; character = k }) [] at.front at.back 0 at.split refl zero own is told')
