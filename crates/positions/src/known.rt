@@ -111,6 +111,7 @@ impl Part<'_> {
 
     /// The byte index where the char at an offset on a line begins, or the end of the line's content, in the rest of it from the
     /// line's beginning on. It is read up to the answer where the line ends in it, and else not where it has too few units.
+    #[inline(always)]
     pub(crate) fn place_on_line<T: ByteChunk>(
         &self,
         lines: LineType,

@@ -177,6 +177,7 @@ pub fn byte_range<'a, P: Parts<'a>>(
 }
 
 /// The byte index of a position on a line.
+#[inline(always)]
 fn byte_on<'a, P: Parts<'a>>(
     parts: &mut P,
     lines: LineType,
@@ -207,6 +208,7 @@ fn byte_on<'a, P: Parts<'a>>(
 }
 
 /// The byte index of a position, by the units before its line.
+#[inline(always)]
 fn byte_after<'a, P: Parts<'a>>(
     parts: &mut P,
     lines: LineType,

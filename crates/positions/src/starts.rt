@@ -109,6 +109,7 @@ pub(crate) fn tells<'a, P: Parts<'a>>(parts: &P, part: &Part<'a>, rest: &str, ow
 
 /// The units of the text's chars before a place in a part. It takes a search by the byte where the part does not have those
 /// before its start.
+#[inline(always)]
 pub(crate) fn units_up_to<'a, P: Parts<'a>>(
     parts: &mut P,
     lines: LineType,

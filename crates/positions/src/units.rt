@@ -24,6 +24,9 @@ pub fn unit_scheme(encoding: Encoding) -> Option<Scheme>
 pub(crate) fn units_before<T: ByteChunk>(encoding: Encoding, text: &str, byte: usize) -> usize
     ensures { result ≡ weighed (units_of encoding) (chars text.now) byte }
 {
+    if byte == 0 {
+        return 0;
+    }
     match unit_scheme(encoding) {
         None => char_start(text, byte),
         Some(scheme) => kernels::from_byte_idx::<T>(scheme, text, byte),

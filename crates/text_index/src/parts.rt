@@ -29,6 +29,7 @@ impl<'a> Parts<'a> for Marks<'a> {
         part_in(self, lines, encoding, &stretch)
     }
 
+    #[inline(always)]
     fn part_of_line(&mut self, lines: LineType, encoding: Encoding, line: usize) -> Part<'a> {
         let stretch = stretch_up_to(self, lines.scheme(), line);
         part_in(self, lines, encoding, &stretch)
@@ -50,6 +51,7 @@ impl<'a> Parts<'a> for Marks<'a> {
 }
 
 /// The part that a stretch is, for one read. Its marks tell what is counted before it and in it.
+#[inline(always)]
 fn part_in<'a>(
     m: &mut Marks<'a>,
     lines: LineType,

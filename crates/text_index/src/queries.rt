@@ -156,6 +156,7 @@ pub(crate) fn stretch_at<'a>(m: &mut Marks<'a>, b: usize) -> Stretch<'a>
 }
 
 /// The stretch in which a count is reached; the last one, where the text has fewer.
+#[inline(always)]
 pub(crate) fn stretch_up_to<'a>(m: &mut Marks<'a>, s: Scheme, k: usize) -> Stretch<'a>
     ensures reaches { Reaches s m.old.text k result }
     ensures text { m.new.text ≡ m.old.text }

@@ -4,8 +4,7 @@ use Rattle.positions.proofs.lemmas.Units.{place_of_least}
 use Rattle.positions.specs.Characters.{IsBackOf}
 use Rattle.positions.specs.Lines.{IsReturnBehind}
 use Rattle.positions.specs.declared.encodings.Encoding.TheVariants.{Utf8, Utf16, Utf32}
-use Rattle.positions.proofs.lemmas.Encodings.{units_of-le}
-use Rattle.positions.proofs.lemmas.Common.{Some, None, ◌≡◌, ◌≢◌, ℕ, ◌+◌, ◌-◌, ◌<◌, ◌≤◌, ◌⊎◌, min, [], ◌∷◌, ◌++◌, inl, inr, sym, refl, ap, ap₂, ◌∙◌, arith, append_assoc, cases_lt, size-append, sum_by-append, sum_by-cons, sum_by-le-sum_by, len_utf8, line_feed, Scheme, cut, cut_is_longest, weighed_at, weighed-le-weighed, from-to, to-from_is_greatest, to_byte_idx-le-size, from_byte_idx-all, from_byte_idx-le, from_byte_idx-le-count, count-le-size, IsBoundary, IsGreatestBoundary, Text, size, count, from_byte_idx, to_byte_idx, weighed, boundary_weighed, units_of, carriage_return, chars, before_first, is_break, scheme_of, line_end, position_at, byte_at, exact_byte_at, IsPart, HasByte, HasLine, Part, Position, Encoding, LineType}
+use Rattle.positions.proofs.lemmas.Common.{Some, None, ◌≡◌, ◌≢◌, ℕ, ◌+◌, ◌-◌, ◌<◌, ◌≤◌, ◌⊎◌, min, [], ◌∷◌, ◌++◌, inl, inr, sym, refl, ap, ap₂, ◌∙◌, arith, append_assoc, cases_lt, size-append, sum_by-append, sum_by-cons, line_feed, Scheme, cut, cut_is_longest, weighed_at, weighed-le-weighed, from-to, to-from_is_greatest, to_byte_idx-le-size, from_byte_idx-all, from_byte_idx-le, from_byte_idx-le-count, count-le-size, IsBoundary, IsGreatestBoundary, Text, size, count, from_byte_idx, to_byte_idx, weighed, boundary_weighed, units_of, carriage_return, chars, before_first, is_break, scheme_of, line_end, position_at, byte_at, exact_byte_at, IsPart, HasByte, HasLine, Part, Position, Encoding, LineType}
 use Rattle.positions.proofs.lemmas.Kinds.{not_utf16, none_before}
 use Rattle.positions.proofs.lemmas.Lines.{IsBoundary-line_end, begins_behind}
 use Rattle.positions.proofs.lemmas.Starts.{weighed_behind, weighed_none}

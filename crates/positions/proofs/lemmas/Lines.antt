@@ -1,9 +1,8 @@
 -- A text, split at one of its lines: what stands before it, its content, and what is after that.
 use Rattle.positions.proofs.lemmas.Firsts.{split_at_first}
-use Rattle.positions.proofs.lemmas.Firsts.{before_first-seam}
 use Rattle.positions.proofs.lemmas.Cuts.{behind_boundary, boundary_within}
 use Rattle.std.proofs.lemmas.Bool.{and_parts, eqb-true}
-use Rattle.positions.proofs.lemmas.Common.{◌≡◌, ℕ, ◌+◌, ◌-◌, ◌<◌, ◌≤◌, true, [], ◌∷◌, ◌++◌, ◌⊎◌, inl, inr, sym, ◌∙◌, ap, arith, cond, refl, min, append_assoc, append-nil, count_by, len_utf8, cases_Bool, cases_lt, append_cancel_left, sum_by-append, len_utf8_bounds, Text, size, line_feed, carriage_return, is_crlf_middle, from_byte_idx, to_byte_idx, count, weighed, IsBoundary, IsEnd, IsEndOf, IsCrlfMiddle, size-append, size-cons, boundary_beside, cut_front, cut_goes_on, is_crlf_middle_iff, weighed_at, IsBoundary-to_byte_idx, from-to, to-from_is_greatest, from_byte_idx-le, from_byte_idx-le-count, is_joined, seam_loss, to_byte_idx-le, to_byte_idx-zero, to_byte_idx-le-size, before_first, behind, scheme_of, is_break, line_content, line_end, LineType}
+use Rattle.positions.proofs.lemmas.Common.{◌≡◌, ℕ, ◌+◌, ◌-◌, ◌<◌, ◌≤◌, true, [], ◌∷◌, ◌++◌, ◌⊎◌, inl, inr, sym, ◌∙◌, ap, arith, cond, refl, min, append_assoc, append-nil, count_by, len_utf8, cases_Bool, cases_lt, append_cancel_left, sum_by-append, len_utf8_bounds, Text, size, line_feed, carriage_return, is_crlf_middle, from_byte_idx, to_byte_idx, count, weighed, IsBoundary, IsEnd, IsEndOf, IsCrlfMiddle, size-append, size-cons, boundary_beside, cut_front, cut_goes_on, is_crlf_middle_iff, weighed_at, IsBoundary-to_byte_idx, from-to, to-from_is_greatest, from_byte_idx-le, from_byte_idx-le-count, is_joined, seam_loss, to_byte_idx-le, to_byte_idx-zero, to_byte_idx-le-size, behind, scheme_of, is_break, line_content, line_end, LineType}
 use Rattle.positions.proofs.lemmas.Kinds.{not_utf16, break_of_end, end_of_break, feed_breaks, past_last, none_before}
 
 -- no end stands between CR and LF, and neither does the text's beginning

@@ -1,11 +1,10 @@
 -- The byte of a position, by the rest of the part that its line begins in.
-use Rattle.positions.proofs.lemmas.Cuts.{boundary_within}
 use Rattle.positions.specs.Characters.{IsBackOf}
-use Rattle.positions.proofs.lemmas.Common.{cut_goes_on, boundary_weighed_iff, weighed_at, IsGreatestBoundary, Bool, Some, None, [], ◌≡◌, ◌≢◌, ℕ, ◌+◌, ◌<◌, ◌≤◌, ◌⊎◌, ◌++◌, min, sym, refl, ap, ◌∙◌, inl, inr, arith, size-append, cut, cut_front, Text, size, count, weighed, boundary_weighed, boundary_weighed_is_greatest, to_byte_idx, to_byte_idx-zero, IsBoundary, units_of, byte_at, exact_byte_at, line_end, line_content, before_first, scheme_of, is_break, Position, Encoding, LineType}
+use Rattle.positions.proofs.lemmas.Common.{cut_goes_on, boundary_weighed_iff, weighed_at, IsGreatestBoundary, Bool, Some, None, ◌≡◌, ◌≢◌, ℕ, ◌+◌, ◌<◌, ◌≤◌, ◌⊎◌, ◌++◌, min, sym, ap, ◌∙◌, inl, inr, arith, size-append, cut, cut_front, Text, size, count, weighed, boundary_weighed, boundary_weighed_is_greatest, to_byte_idx, to_byte_idx-zero, IsBoundary, units_of, byte_at, exact_byte_at, line_end, line_content, before_first, scheme_of, is_break, Position, Encoding, LineType}
 use Rattle.positions.proofs.lemmas.Firsts.{split_at_first}
 use Rattle.positions.proofs.lemmas.Firsts.{before_first-goes_on, first_of}
 use Rattle.positions.proofs.lemmas.Starts.{weighed_none, weighed_before, place_before, content_from, first_content}
-use Rattle.positions.proofs.lemmas.Units.{IsBoundary-byte_at, units_le_bytes, byte_of_units, units_at_place, exact_by_units, not_exact_by_units}
+use Rattle.positions.proofs.lemmas.Units.{units_le_bytes, byte_of_units, units_at_place, exact_by_units, not_exact_by_units}
 use Rattle.positions.proofs.lemmas.PartsOf.{rest_is}
 use Rattle.positions.proofs.lemmas.Breaks.{none_before_end}
 

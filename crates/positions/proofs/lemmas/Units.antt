@@ -3,7 +3,7 @@ use Rattle.std.proofs.lemmas.Bool.{and_from, and_parts, eqb-true, false_from_ne_
 use Rattle.std.proofs.lemmas.Bool.Decides.{nat_tests}
 use Rattle.positions.proofs.lemmas.Cuts.{boundary_within}
 use Rattle.positions.proofs.lemmas.Encodings.{units_of-some, units_of-le}
-use Rattle.positions.proofs.lemmas.Common.{[], ◌∷◌, append-nil, sum_by, sum_by-cons, size-cons, true, false, ◌==◌, nat_le, Some, None, ◌≡◌, ◌≢◌, ℕ, ◌+◌, ◌-◌, ◌<◌, ◌≤◌, ◌⊎◌, inl, inr, sym, ◌∙◌, ap, arith, refl, min, cases_lt, Text, size, cut, from_byte_idx, to_byte_idx, count, weighed, boundary_weighed, IsBoundary, IsGreatestBoundary, cut_is_longest, weighed_at, weighed-le-weighed, boundary_weighed_is_greatest, boundary_weighed_iff, boundary_weighed-le, weighed_is_greatest_boundary, to-from_is_greatest, units_of, Position, Encoding, IsAtOrBefore, scheme_of, line_content, line_end, units_on_line, position_at, byte_at, is_exact, exact_byte_at, LineType, sum_by-le-sum_by, len_utf8}
+use Rattle.positions.proofs.lemmas.Common.{[], append-nil, sum_by, true, false, ◌==◌, nat_le, Some, None, ◌≡◌, ◌≢◌, ℕ, ◌+◌, ◌-◌, ◌<◌, ◌≤◌, ◌⊎◌, inl, inr, sym, ◌∙◌, ap, arith, refl, min, cases_lt, Text, size, cut, from_byte_idx, to_byte_idx, count, weighed, boundary_weighed, IsBoundary, IsGreatestBoundary, cut_is_longest, weighed_at, weighed-le-weighed, boundary_weighed_is_greatest, boundary_weighed_iff, boundary_weighed-le, weighed_is_greatest_boundary, to-from_is_greatest, units_of, Position, Encoding, IsAtOrBefore, scheme_of, line_content, line_end, units_on_line, position_at, byte_at, is_exact, exact_byte_at, LineType, sum_by-le-sum_by, len_utf8}
 use Rattle.positions.proofs.lemmas.Kinds.{not_utf16}
 use Rattle.positions.proofs.lemmas.Lines.{line_end_le, IsBoundary-from_content, weighed-from_content, IsBoundary-line_end, IsBoundary-in_content}
 
