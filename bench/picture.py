@@ -1,12 +1,17 @@
 """Draws tables of ratios as an SVG: for each call a bar of each table, and a line at 1.
 
-As a program it draws the ratios to the original that the benchmark printed, from a file or from standard input, on standard
-output: for each function the mean of our time over the original's, by each half of the library that was measured.
+    picture.py TABLES FILE.svg [COMMIT]
+
+As a program it takes the ratios to the original that the benchmark printed into the file TABLES. It draws for each function the
+mean of our time over the original's, by each half of the library that was measured, and writes all rows into FILE.csv. Both
+name the commit that was measured, where one is given.
 """
 
-import fileinput
+import csv
 import html
+import pathlib
 import sys
+from typing import NamedTuple
 
 WIDTH, BAR, GAP, TOP, LEFT, RIGHT = 800, 13, 8, 84, 220, 70
 PLOT = WIDTH - LEFT - RIGHT
@@ -15,26 +20,45 @@ TITLE = "Our time / that of the original, "
 COLOURS = [("#c4dcd3", "#c9cad2"), ("#8fb8a8", "#9a9cab"), ("#2a7f62", "#44475a")]
 
 
+class Ratios(NamedTuple):
+    """A printed table of ratios to the original: how the library answered, and the rows, that of the headings first."""
+
+    how: str
+    rows: list
+
+    def means(self):
+        """The names and means of the functions, and that of all last. The mean stands before the spread."""
+        last = [row[0] for row in self.rows].index("mean")
+        return [(row[0], float(row[-2])) for row in self.rows[1:last + 1]]
+
+
 def cells(line):
     """The cells of a row of a Markdown table."""
     return [cell.strip() for cell in line.strip().strip("|").split("|")]
 
 
 def read(lines):
-    """The heading line, and of each table of ratios to the original how the library answered, and the names and means,
-    that of all functions last."""
-    heading, tables, inside = None, [], False
+    """The line on top, which says what was measured on, and the tables of ratios to the original."""
+    heading, tables, inside = "", [], False
     for line in lines:
         heading = heading or line.strip()
         if line.startswith(TITLE):
-            tables.append((line[len(TITLE):].split(",")[0], []))
-            inside = True
-        elif inside and line.startswith("| ") and not line.startswith("| function "):
-            row = cells(line)
-            # the mean stands before the spread
-            tables[-1][1].append((row[0], float(row[-2])))
-            inside = row[0] != "mean"
+            tables.append(Ratios(line[len(TITLE):].split(",")[0], []))
+        if line.strip() and not line.startswith("|"):
+            inside = line.startswith(TITLE)
+        elif inside and line.startswith("| "):
+            tables[-1].rows.append(cells(line))
     return heading, tables
+
+
+def write_rows(file, tables, commit):
+    """All rows of the tables, as CSV."""
+    writer = csv.writer(file, lineterminator="\n")
+    function, *others = tables[0].rows[0]
+    writer.writerow([function, "half", *others, "commit"])
+    for how, (_, *rows) in tables:
+        for name, *ratios, spread in rows:
+            writer.writerow([name, how.removeprefix("by the "), *ratios, spread.removeprefix("±"), commit])
 
 
 def scale(tables):
@@ -104,12 +128,20 @@ def draw(title, heading, tables, at_one):
     return "\n".join(parts)
 
 
-def main():
-    heading, tables = read(fileinput.input(encoding="utf-8"))
+def main(words):
+    if len(words) not in (2, 3):
+        sys.exit("usage: picture.py TABLES FILE.svg [COMMIT]")
+    source, picture, commit = pathlib.Path(words[0]), pathlib.Path(words[1]), "".join(words[2:])
+    heading, tables = read(source.read_text(encoding="utf-8").splitlines())
     if not tables:
         sys.exit("picture.py: no table of ratios to the original")
-    print(draw("Our time / the original's, geometric means", heading, tables, "as fast as the original"))
+    heading = f"{heading}, commit {commit}" if commit else heading
+    means = [(table.how, table.means()) for table in tables]
+    drawn = draw("Our time / the original's, geometric means", heading, means, "as fast as the original")
+    picture.write_text(f"{drawn}\n", encoding="utf-8")
+    with picture.with_suffix(".csv").open("w", encoding="utf-8", newline="") as file:
+        write_rows(file, tables, commit)
 
 
 if __name__ == "__main__":
-    main()
+    main(sys.argv[1:])
