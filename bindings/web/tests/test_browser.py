@@ -4,8 +4,8 @@
 Every function on worked answers and on random texts beside the engine's own strings, served as a site serves them; the
 module's types, bundles of it, and the program of its README; then the page as it is opened from the disk, driven by the
 browser's own protocol: what it shows at some cursors, what goes into its field, and what those have of it who hear it, or
-use a phone. Where no Chromium is on the path, it says so. With `--pictures` it makes those of the page in docs/ anew. The
-last line printed is 'N passed, M failed', with what is left out.
+use a phone. Where no Chromium is on the path, it says so. With `--picture` it makes docs/page.png anew. The last line printed
+is 'N passed, M failed', with what is left out.
 """
 import functools
 import http.server
@@ -32,10 +32,10 @@ from web_package import BUNDLERS, OF_BUNDLER, try_bundles, try_types  # noqa: E4
 NAMES = ["chromium", "chromium-browser", "google-chrome"]
 # how many results there are of what Node and of what a Chromium is asked
 IN_NODE = 7 + OF_BUNDLER * len(BUNDLERS)
-IN_BROWSER = 107
+IN_BROWSER = 106
 # no time is judged: an engine that hangs ends the script, also on a slow machine
 SECONDS = 600
-PICTURES = {"page.png": 1280, "page-390.png": 390}
+PICTURE_WIDTH = 1280
 
 COMPARE = 'import("./compare.mjs").then((module) => module.compareAll()).then(JSON.stringify)'
 EXCHANGE = 'import("./exchanges.mjs").then((module) => module.tryExchanges()).then(JSON.stringify)'
@@ -162,19 +162,17 @@ def check_types():
     tally.result(len(names) == 18 and not missing, f"the types name the module's functions; missing: {missing}")
 
 
-def take_pictures(browser, page_file, folder):
-    """A picture of the page at each width."""
-    for name, width in PICTURES.items():
-        page = page_tests.opened(browser, page_file.as_uri(), width)
-        page.value("document.activeElement.blur()")
-        page.settle()
-        page.picture(folder / name, width)
-        header = (folder / name).read_bytes()[:24]
-        size = [int.from_bytes(header[16:20], "big"), int.from_bytes(header[20:24], "big")]
-        tally.result(size[0] == width and size[1] > 400, f"a picture of the page, {size[0]} by {size[1]}")
+def take_picture(browser, page_file, file):
+    page = page_tests.opened(browser, page_file.as_uri(), PICTURE_WIDTH)
+    page.value("document.activeElement.blur()")
+    page.settle()
+    page.picture(file, PICTURE_WIDTH)
+    header = file.read_bytes()[:24]
+    size = [int.from_bytes(header[16:20], "big"), int.from_bytes(header[20:24], "big")]
+    tally.result(size[0] == PICTURE_WIDTH and size[1] > 400, f"a picture of the page, {size[0]} by {size[1]}")
 
 
-def try_in_browser(program, built, pictures):
+def try_in_browser(program, built, anew):
     modules = build_web().MODULES
     with tempfile.TemporaryDirectory() as folder, Browser(program) as browser:
         folder = pathlib.Path(folder)
@@ -183,7 +181,7 @@ def try_in_browser(program, built, pictures):
         compare_in_browser(browser, address)
         server.shutdown()
         page_tests.try_all(browser, built / "index.html", tally, folder)
-        take_pictures(browser, built / "index.html", ROOT / "docs" if pictures else folder)
+        take_picture(browser, built / "index.html", (ROOT / "docs" if anew else folder) / "page.png")
 
 
 def try_package(built):
@@ -211,7 +209,7 @@ def main():
     if browser is None:
         tally.leave_out(IN_BROWSER, "no Chromium is on the path (Debian's package chromium)")
     elif right:
-        try_in_browser(browser, pathlib.Path(built.stdout.splitlines()[-1]), "--pictures" in sys.argv)
+        try_in_browser(browser, pathlib.Path(built.stdout.splitlines()[-1]), "--picture" in sys.argv)
     return tally.end()
 
 
