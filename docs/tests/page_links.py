@@ -31,7 +31,7 @@ BRACES = re.compile(r"\{([^}]*)\}")
 SCHEMES = ROOT / "crates/str_indices/src/schemes.rt"
 VARIANT = re.compile(r"^    (\w+),$", re.MULTILINE)
 WORD = re.compile(r"[A-Z]?[a-z]+(?:16)?|(?<=_)[A-Z]+(?:16)?")
-NO_CODE = {".md", ".svg", ".png", ".edit", ".edits"}
+NO_CODE = {".md", ".svg", ".png", ".csv", ".edit", ".edits"}
 
 # links of the README, and whether each leads somewhere
 ROWS = {"docs/GATE.md": True, "docs/GATE.md#what-is-kept": True, "#use-it": True, "docs": True, "docs/GATES.md": False,
