@@ -1,8 +1,9 @@
 #!/usr/bin/env python3
 """Runs what the README and the pages for C, C++ and Rust print, as it stands there, in a clone with nothing set or built.
 
-An entry for Cargo goes into a project beside the clone, with the page's program where it has one. What the README quotes
-of Rattle is compared elsewhere. The last line printed is 'N passed, M failed', with what is left out.
+An entry for Cargo goes into a project beside the clone, with the page's program or statements where it has some. What the
+README quotes of Rattle is compared elsewhere, and its program in JavaScript is run where the page for the web has it. The last
+line printed is 'N passed, M failed', with what is left out.
 """
 import os
 import pathlib
@@ -25,7 +26,9 @@ PAGES = {
     "README.md": ".", "bindings/c/README.md": ".",
     **{f"bindings/{name}/README.md": f"bindings/{name}" for name in ("rust", "positions", "rope", "index")},
 }
-LANGUAGES = {"sh", "c", "toml", "rust", "text"}
+LANGUAGES = {"sh", "c", "toml", "rust", "js", "text"}
+# the page whose program in JavaScript test_browser.py runs
+WEB_PAGE = "bindings/web/README.md"
 # the project that an entry goes into; one that replaces the original is for a project that has that
 PROJECT = '[package]\nname = "project"\nversion = "0.1.0"\nedition = "2021"\n\n'
 TAKES_ORIGINAL = '[dependencies]\nstr_indices = "0.4"\n\n'
@@ -45,13 +48,21 @@ def clone(folder):
     return folder
 
 
+def program_of(found):
+    """The program among the blocks of a page in Rust, or one of its statements, which are no Rattle; else an empty one."""
+    rust = [text for language, text in found if language == "rust"]
+    statements = "".join(text for text in rust if "fn " not in text)
+    [program] = [text for text in rust if "fn main" in text] or [f"fn main() {{\n{statements}}}\n" if statements else EMPTY]
+    return program
+
+
 def try_entry(page, found, folder):
     """The entry that a page has for a project, in one beside the clone."""
     if not shutil.which("cargo"):
         tally.leave_out(1, f"{page}: its entry, as cargo is not on the path")
         return
     [entry] = [text for language, text in found if language == "toml"]
-    [program] = [text for language, text in found if language == "rust" and "fn main" in text] or [EMPTY]
+    program = program_of(found)
     project = folder / page.replace("/", "_")
     (project / "src").mkdir(parents=True)
     (project / "Cargo.toml").write_text(PROJECT + TAKES_ORIGINAL * ("[patch" in entry) + entry, encoding="utf-8")
@@ -73,6 +84,9 @@ def try_page(page, top, folder, place):
     fences = (top / page).read_text(encoding="utf-8").count("```")
     right = not others and fences == 2 * len(found)
     tally.result(right, f"{page}: {fences} fences of {len(found)} blocks, all of known languages {' '.join(others)}")
+    scripts = {block for block in found if block[0] == "js"}
+    if scripts:
+        tally.result(scripts <= set(blocks(top / WEB_PAGE)), f"{page}: its program in JavaScript is that of {WEB_PAGE}")
     try_lines(tally, page, found, top / PAGES[page], place, os.environ["PATH"])
     if any(language == "toml" for language, _ in found):
         try_entry(page, found, folder)

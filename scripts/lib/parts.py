@@ -80,7 +80,7 @@ PARTS = (
     Part("docs/tests/test_pages.py", 60, (*ALL_FOR_C, "idx"),
          (*FUNCTIONS, *ROPE, *INDEX, *CARGO_CRATES, "bindings/c/install", "bindings/c/examples/*", "examples/rust/**/*",
           "VERSION", "scripts/test", "README.md",
-          *(f"bindings/{name}/README.md" for name in ("c", "rust", "positions", "rope", "index"))),
+          *(f"bindings/{name}/README.md" for name in ("c", "rust", "positions", "rope", "index", "web"))),
          (*SHELL, *BINUTILS, *RUST, "c++", "cmake", "make")),
     Part("release/tests/test_release.py", 90, (*ALL_FOR_C, "positions", "idx"),
          (*FUNCTIONS, *ROPE, *INDEX, *CARGO_CRATES, *RELEASED),
