@@ -3,11 +3,11 @@
  * free. All else of the library is proved, and takes no memory.
  *
  * The proved functions read and write these structs, so each is as Rattle declares it:
- * struct mark as Mark in `crates/text_index`, struct str_index as Handle in
- * `crates/text_index_c`, where a slice is an address and a number. Each question has one
- * condition, that index_fill has made the index and that its text and marks are as they
- * were then. So no other function makes one, and none changes one. This file is read
- * and not proved.
+ * struct counts as Counts in `crates/str_indices`, struct mark as Mark in
+ * `crates/text_index`, struct str_index as Handle in `crates/text_index_c`, where a slice
+ * is an address and a number. Each question has one condition, that index_fill has made
+ * the index and that its text and marks are as they were then. So no other function makes
+ * one, and none changes one. This file is read and not proved.
  */
 #include <stdint.h>
 #include <stdlib.h>
@@ -15,9 +15,15 @@
 
 #include <str_index.h>
 
+/* A count of each scheme, in their order. */
+struct counts {
+    size_t numbers[5];
+};
+
 /* A byte index, and what is counted of the text before it. */
 struct mark {
-    size_t byte, chars, utf16, lf, crlf, lines;
+    size_t byte;
+    struct counts counts;
 };
 
 struct str_index {

@@ -8,7 +8,6 @@ use std::alloc::Global;
 use std::process::Abort;
 use std::test::Fail;
 use str_indices::chars;
-use test_support::SCHEMES;
 
 const TEXT: &str = "Hel🐸lo world! こん🐸にち🐸🐸は!";
 
@@ -43,7 +42,7 @@ fn answers_by(text: &PieceText, s: Scheme) -> [(usize, usize); 20] {
 fn answers(text: &PieceText) -> ([[(usize, usize); 20]; 5], usize) {
     let mut all = [[(0, 0); 20]; 5];
     for i in 0..5 {
-        all[i] = answers_by(text, SCHEMES[i]);
+        all[i] = answers_by(text, Scheme::ALL[i]);
     }
     (all, text.pieces())
 }
@@ -74,7 +73,7 @@ fn assert_as_joined_by(rt: &impl Abort, text: &PieceText, joined: &str, s: Schem
 
 /// Compares all answers with those for the joined text, up to past its end.
 fn assert_as_joined(rt: &impl Abort, text: &PieceText, joined: &str) {
-    for s in SCHEMES {
+    for s in Scheme::ALL {
         assert_as_joined_by(rt, text, joined, s);
     }
 }

@@ -11,7 +11,6 @@ mod two_ropes;
 use std::alloc::{AllocError, Global};
 use std::process::Abort;
 use std::test::Fail;
-use test_support::SCHEMES;
 use text_rope::{Line, MAX_PIECE, Refusal, Rope, Scheme};
 
 /// A line with characters of every length.
@@ -154,7 +153,7 @@ fn assert_same_by(rt: &impl Abort, rope: &Rope, text: &str, s: Scheme, byte_idx:
 fn assert_same_at(rt: &impl Abort, rope: &Rope, text: &str, byte_idx: usize) {
     let is_same = rope.is_char_boundary(byte_idx) == text.is_char_boundary(byte_idx);
     assert!(rt; is_same, "{byte_idx}");
-    for s in SCHEMES {
+    for s in Scheme::ALL {
         assert_same_by(rt, rope, text, s, byte_idx);
     }
 }
@@ -169,7 +168,7 @@ fn assert_same_count(rt: &impl Abort, rope: &Rope, text: &str, s: Scheme) {
 fn assert_same_counts(rt: &impl Abort, rope: &Rope, text: &str) {
     let found = (rope.len(), rope.is_empty());
     assert!(rt; found == (text.len(), text.is_empty()), "{found:?}");
-    for s in SCHEMES {
+    for s in Scheme::ALL {
         assert_same_count(rt, rope, text, s);
     }
 }

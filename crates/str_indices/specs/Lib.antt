@@ -1,5 +1,6 @@
 pub mod Text
 pub mod Schemes
+pub mod ByScheme
 pub mod Relations
 pub mod Examples
 pub mod Bytes

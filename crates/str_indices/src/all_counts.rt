@@ -1,30 +1,24 @@
 //! All counts of a text at once. Bytes that it hasn't tell first which of them are the same.
 ghost use Rattle.std.specs.Prelude.{◌≡◌, ◌⊎◌, chars, IsTrue};
-ghost use Rattle.str_indices.specs.Prelude.{count, Chars, Utf16, Lf, Crlf, Lines};
+ghost use Rattle.str_indices.specs.Prelude.{count, Scheme, Chars, Utf16, Lf, Crlf, Lines};
+ghost use Rattle.str_indices.specs.ByScheme.{number_of};
 ghost use Rattle.str_indices.specs.Kinds.{AreKinds, HasNoVtFf, HasNoWideLead, HasNoWidePair};
 
+use crate::by_scheme::Counts;
 use crate::kinds::{Kinds, kinds_of, no_wide_break};
-use crate::schemes::Counts;
 use crate::{chars, lines, lines_crlf, lines_lf, utf16};
 
 /// The counts of a text by every scheme.
 pub fn counts(text: &str) -> Counts
-    ensures chars { result.chars ≡ count Chars (chars text.now) }
-    ensures utf16 { result.utf16 ≡ count Utf16 (chars text.now) }
-    ensures lf { result.lf ≡ count Lf (chars text.now) }
-    ensures crlf { result.crlf ≡ count Crlf (chars text.now) }
-    ensures lines { result.lines ≡ count Lines (chars text.now) }
+    ensures { (s : Scheme) → number_of result s ≡ count s (chars text.now) }
 {
     let kinds = kinds_of(text.as_bytes());
     let characters = characters_of(text, kinds);
+    let units = units_of(text, kinds, characters);
     let lf = lines_lf::count_breaks(text);
-    let breaks = line_breaks_of(text, kinds, lf);
+    let LineBreaks { crlf, lines } = line_breaks_of(text, kinds, lf);
     Counts {
-        chars: characters,
-        utf16: units_of(text, kinds, characters),
-        lf,
-        crlf: breaks.crlf,
-        lines: breaks.lines,
+        numbers: [characters, units, lf, crlf, lines],
     }
 }
 

@@ -9,6 +9,7 @@
 #![tactic(auto)]
 
 mod all_counts;
+mod by_scheme;
 pub mod chars;
 mod chunk_search;
 mod kinds;
@@ -25,5 +26,6 @@ pub mod utf16;
 mod weights;
 
 pub use all_counts::counts;
+pub use by_scheme::Counts;
 pub use byte_chunk;
-pub use schemes::{Counts, Scheme};
+pub use schemes::Scheme;

@@ -20,6 +20,15 @@ pub enum Scheme {
 }
 
 impl Scheme {
+    /// Every scheme, in the order of its declaration.
+    pub const ALL: [Scheme; 5] = [
+        Scheme::Chars,
+        Scheme::Utf16,
+        Scheme::Lf,
+        Scheme::Crlf,
+        Scheme::Lines,
+    ];
+
     /// How many characters, UTF-16 code units or line breaks the text has.
     pub fn count(self, text: &str) -> usize
         ensures { result ≡ count self (chars text.now) }
@@ -60,19 +69,4 @@ impl Scheme {
             Scheme::Lines => lines::to_byte_idx(text, idx),
         }
     }
-}
-
-/// How many of each scheme a text has.
-#[derive(Clone, Copy, PartialEq, Eq, Debug)]
-pub struct Counts {
-    /// How many characters, the Unicode scalar values.
-    pub chars: usize,
-    /// How many UTF-16 code units.
-    pub utf16: usize,
-    /// How many line breaks by LF alone.
-    pub lf: usize,
-    /// How many by LF, CR and CRLF.
-    pub crlf: usize,
-    /// How many by all of the Rust crate's list.
-    pub lines: usize,
 }

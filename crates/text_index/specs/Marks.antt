@@ -15,7 +15,7 @@ use Rattle.str_indices.specs.Text.{Text, size}
 use Rattle.str_indices.specs.Schemes.{count}
 use Rattle.str_indices.specs.Joins.{joins_crlf}
 use Rattle.str_indices.specs.declared.Scheme.{Scheme}
-use Rattle.str_indices.specs.declared.Scheme.TheVariants.{Chars, Utf16, Lf, Crlf, Lines}
+use Rattle.str_indices.specs.ByScheme.{number_of}
 use Rattle.positions.specs.Parts.{PartsState}
 use Rattle.text_index.specs.declared.mark.Mark.{Mark}
 
@@ -29,11 +29,7 @@ stretches_of text = size text / stretch_size + 1
 
 -- what a mark says of a scheme
 abbrev pub count_at : Mark → Scheme → ℕ
-count_at mark Chars = mark.chars
-count_at mark Utf16 = mark.utf16
-count_at mark Lf = mark.lf
-count_at mark Crlf = mark.crlf
-count_at mark Lines = mark.lines
+count_at mark s = number_of mark.counts s
 
 -- the text before the mark and the text after it, where the mark is, what it counts, and that it parts no CR from its LF
 pub record IsMark (text : Text) (mark : Mark) : Type 0 where

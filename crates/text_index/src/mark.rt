@@ -9,28 +9,20 @@ ghost use Rattle.text_index.specs.Places.{IsWholeAt};
 
 use crate::places::part_of;
 use positions::{Encoding, unit_scheme};
-use str_indices::{Scheme, counts};
+use str_indices::{Counts, Scheme, counts};
 
 /// A byte index, and how many characters, UTF-16 code units and line breaks are before it.
 #[derive(Clone, Copy)]
 #[repr(C)]
 pub struct Mark {
     pub(crate) byte: usize,
-    pub(crate) chars: usize,
-    pub(crate) utf16: usize,
-    pub(crate) lf: usize,
-    pub(crate) crlf: usize,
-    pub(crate) lines: usize,
+    pub(crate) counts: Counts,
 }
 
 /// The mark at the beginning of a text.
 pub(crate) const BEGINNING: Mark = Mark {
     byte: 0,
-    chars: 0,
-    utf16: 0,
-    lf: 0,
-    crlf: 0,
-    lines: 0,
+    counts: Counts::NONE,
 };
 
 impl Mark {
@@ -38,13 +30,7 @@ impl Mark {
     pub(crate) fn count(&self, s: Scheme) -> usize
         ensures { result ≡ count_at self.now s }
     {
-        match s {
-            Scheme::Chars => self.chars,
-            Scheme::Utf16 => self.utf16,
-            Scheme::Lf => self.lf,
-            Scheme::Crlf => self.crlf,
-            Scheme::Lines => self.lines,
-        }
+        self.counts.get(s)
     }
 
     /// The units of an encoding before it.
@@ -69,11 +55,7 @@ impl Mark {
         let own = counts(part_of(text, self.byte, to));
         Mark {
             byte: to,
-            chars: self.chars + own.chars,
-            utf16: self.utf16 + own.utf16,
-            lf: self.lf + own.lf,
-            crlf: self.crlf + own.crlf,
-            lines: self.lines + own.lines,
+            counts: self.counts.plus(own),
         }
     }
 }

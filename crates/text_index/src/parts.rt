@@ -10,6 +10,7 @@ use crate::queries::{char_start_in, from_in, stretch_at, stretch_up_to, to_in};
 use crate::stretch::Stretch;
 use byte_chunk::Chunk;
 use positions::{Encoding, LineType, Own, Part, Parts, unit_scheme};
+use str_indices::Scheme;
 
 impl<'a> Parts<'a> for Marks<'a> {
     type Chunk = Chunk;
@@ -77,9 +78,9 @@ fn part_in<'a>(
         units: Some(units),
         in_crlf: false,
         own: Some(Own {
-            chars: end.chars - start.chars,
+            chars: end.count(Scheme::Chars) - start.count(Scheme::Chars),
             units: end.units(encoding) - units,
-            lf: end.lf - start.lf,
+            lf: end.count(Scheme::Lf) - start.count(Scheme::Lf),
             breaks: end.count(s) - breaks,
         }),
     }

@@ -6,7 +6,7 @@ ghost use Rattle.text_index.specs.Stretches.{AddsUp};
 
 use crate::mark::Mark;
 use str_indices::Scheme;
-use text_summary::{Summary, ends_cr, starts_lf};
+use text_summary::Summary;
 
 /// Two marks, between which a stretch of the text stands.
 #[derive(Clone, Copy)]
@@ -37,16 +37,6 @@ impl Stretch<'_> {
         requires { AddsUp self.now (chars text.now) }
         ensures { result ≡ summary_of (chars text.now) }
     {
-        let Stretch { start, end } = *self;
-        Summary {
-            len: end.byte - start.byte,
-            chars: end.chars - start.chars,
-            utf16: end.utf16 - start.utf16,
-            lf: end.lf - start.lf,
-            crlf: end.crlf - start.crlf,
-            lines: end.lines - start.lines,
-            starts_lf: starts_lf(text),
-            ends_cr: ends_cr(text),
-        }
+        Summary::with_counts(text, &self.end.counts.minus(self.start.counts))
     }
 }

@@ -3,7 +3,6 @@ use crate::STRETCH;
 use crate::texts::{BEFORE, mixed, round_marks};
 use std::process::Abort;
 use std::test::Fail;
-use test_support::SCHEMES;
 use text_index::{Scheme, TextIndex};
 
 /// Compares an answer with the plain function's.
@@ -14,7 +13,7 @@ fn assert_same(rt: &impl Abort, found: usize, wanted: usize, s: Scheme, i: usize
 /// Compares all answers for an index.
 fn assert_at(rt: &impl Abort, index: &TextIndex<'_>, i: usize) {
     let text = index.text();
-    for s in SCHEMES {
+    for s in Scheme::ALL {
         assert_same(
             rt,
             index.from_byte_idx(s, i),
@@ -29,7 +28,7 @@ fn assert_at(rt: &impl Abort, index: &TextIndex<'_>, i: usize) {
 
 /// Compares the counts.
 fn assert_counts(rt: &impl Abort, index: &TextIndex<'_>) {
-    for s in SCHEMES {
+    for s in Scheme::ALL {
         assert_same(rt, index.count(s), s.count(index.text()), s, 0);
     }
 }

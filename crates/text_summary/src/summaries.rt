@@ -1,9 +1,12 @@
 //! The summary of a text: its length, its counts, and how it starts and ends.
 ghost use Rattle.std.specs.Prelude.{◌≡◌, ◌<◌, [], ◌∷◌, chars};
+ghost use Rattle.str_indices.specs.declared.Scheme.{Scheme};
+ghost use Rattle.str_indices.specs.Schemes.{count};
+ghost use Rattle.str_indices.specs.ByScheme.{number_of};
 ghost use Rattle.str_indices.specs.Joins.{starts_with_feed, ends_in_return};
 
 use crate::Scheme;
-use str_indices::counts;
+use str_indices::{Counts, counts};
 
 const LF: u8 = 0x0A;
 
@@ -68,14 +71,22 @@ impl Summary {
     fn counted(text: &str) -> Summary
         ensures { result ≡ summary_of (chars text.now) }
     {
-        let counts = counts(text);
+        Summary::with_counts(text, &counts(text))
+    }
+
+    /// The summary of a text, of which `counts` are the counts.
+    #[inline(always)]
+    pub fn with_counts(text: &str, counts: &Counts) -> Summary
+        requires { (s : Scheme) → number_of counts.now s ≡ count s (chars text.now) }
+        ensures { result ≡ summary_of (chars text.now) }
+    {
         Summary {
             len: text.len(),
-            chars: counts.chars,
-            utf16: counts.utf16,
-            lf: counts.lf,
-            crlf: counts.crlf,
-            lines: counts.lines,
+            chars: counts.get(Scheme::Chars),
+            utf16: counts.get(Scheme::Utf16),
+            lf: counts.get(Scheme::Lf),
+            crlf: counts.get(Scheme::Crlf),
+            lines: counts.get(Scheme::Lines),
             starts_lf: starts_lf(text),
             ends_cr: ends_cr(text),
         }

@@ -47,14 +47,6 @@ const MIDDLES: [&str; 16] = [
     "\u{1F438}",
 ];
 
-const SCHEMES: [Scheme; 5] = [
-    Scheme::Chars,
-    Scheme::Utf16,
-    Scheme::Lf,
-    Scheme::Crlf,
-    Scheme::Lines,
-];
-
 /// Characters, and how often each is repeated, so that they fill all lanes of many rounds.
 const REPEATED: [(&str, usize); 6] = [
     ("\n", 4097),
@@ -127,7 +119,7 @@ fn compare_front(rt: &impl Abort, call: Call, text: &str, end: usize, leads: &[u
 /// Compares the counts of all of the text.
 fn compare_counts(rt: &impl Abort, text: &str, leads: &[usize]) {
     compare_whole(rt, Call::Surrogates, text, text.len(), leads);
-    for scheme in SCHEMES {
+    for scheme in Scheme::ALL {
         compare_whole(rt, Call::Count(scheme), text, text.len(), leads);
     }
 }
@@ -135,7 +127,7 @@ fn compare_counts(rt: &impl Abort, text: &str, leads: &[usize]) {
 /// Compares what is answered at an index, and counted before it.
 fn compare(rt: &impl Abort, text: &str, index: usize, leads: &[usize]) {
     compare_front(rt, Call::Surrogates, text, index, leads);
-    for scheme in SCHEMES {
+    for scheme in Scheme::ALL {
         compare_front(rt, Call::Count(scheme), text, index, leads);
         compare_whole(rt, Call::From(scheme, index), text, index, leads);
         compare_whole(rt, Call::To(scheme, index), text, index, leads);

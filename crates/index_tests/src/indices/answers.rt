@@ -4,7 +4,6 @@ use super::walk::{self, cut, surrogate_pairs};
 use byte_chunk::ByteChunk;
 use std::process::Abort;
 use str_indices::Scheme;
-use test_support::SCHEMES;
 
 /// What the kernels of a scheme are to answer for an index.
 #[derive(Clone, Copy)]
@@ -81,7 +80,7 @@ pub fn all_answer_as_the_walk<T: ByteChunk>(
     leads: &[usize],
 ) {
     count_pairs_as_the_walk::<T>(rt, text, index, leads);
-    for scheme in SCHEMES {
+    for scheme in Scheme::ALL {
         answer_as_the_walk::<T>(rt, scheme, text, index, leads);
     }
 }

@@ -9,9 +9,8 @@ use std::process::Abort;
 use std::simd::{u8x16, u8x32};
 use std::test::Fail;
 use str_indices::Scheme;
-use test_support::SCHEMES;
 
-/// A character repeated, and its count in each scheme, in the order of `SCHEMES`.
+/// A character repeated, and its count in each scheme, in the order of `Scheme::ALL`.
 const REPEATED: [(&str, usize, [usize; 5]); 7] = [
     ("", 1, [0, 0, 0, 0, 0]),
     ("é", 4097, [4097, 4097, 0, 0, 0]),
@@ -87,7 +86,7 @@ fn count_whole<T: ByteChunk>(rt: &impl Abort, scheme: Scheme, text: &str, count:
 
 fn count_in_each_scheme<T: ByteChunk>(rt: &impl Abort, text: &str, counts: [usize; 5]) {
     for i in 0..5 {
-        count_whole::<T>(rt, SCHEMES[i], text, counts[i]);
+        count_whole::<T>(rt, Scheme::ALL[i], text, counts[i]);
     }
 }
 

@@ -1,10 +1,9 @@
 //! A text of several megabytes, in thousands of pieces, one of them longer than a page of memory.
 use super::assert_same;
-use piece_text::PieceText;
+use piece_text::{PieceText, Scheme};
 use std::alloc::{AllocError, Global};
 use std::process::Abort;
 use std::test::Fail;
-use test_support::SCHEMES;
 
 const LINE: &str = "Zeile – über 🐸 und せかい, und so weiter\r\n";
 
@@ -25,7 +24,7 @@ fn push(text: &mut PieceText, joined: &mut String, piece: &str) -> Result<(), Fa
 
 /// Compares the counts of all schemes, and their answers at a byte, with those for the joined text.
 fn assert_as_joined_at(rt: &impl Abort, text: &PieceText, joined: &str, at: usize) {
-    for s in SCHEMES {
+    for s in Scheme::ALL {
         assert_same(rt, text.count(s), s.count(joined), "", s, 0);
         let k = s.from_byte_idx(joined, at);
         assert_same(rt, text.from_byte_idx(s, at), k, "", s, at);

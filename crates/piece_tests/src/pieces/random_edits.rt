@@ -1,10 +1,10 @@
 //! A long list of changes, chosen from a seed, beside a model that keeps the pieces as plain texts.
 use super::{Change, assert_as_joined, assert_same, make};
-use piece_text::{PieceText, Refusal};
+use piece_text::{PieceText, Refusal, Scheme};
 use std::alloc::{AllocError, Global};
 use std::process::Abort;
 use std::test::Fail;
-use test_support::{Random, SCHEMES};
+use test_support::Random;
 
 /// How many changes there are.
 const CHANGES: usize = 300;
@@ -161,7 +161,7 @@ fn answers_stay_those_of_the_joined_text(rt: HostRuntime) -> Result<(), Fail> {
 
 /// Compares some answers at places chosen from a seed with those for the joined text.
 fn assert_some(rt: &impl Abort, text: &PieceText, joined: &str, random: &mut Random) {
-    for s in SCHEMES {
+    for s in Scheme::ALL {
         let at = random.next() % joined.len().saturating_add(2);
         let (count, from, to) = (
             s.count(joined),

@@ -82,16 +82,6 @@ counts_at_end text mark is at_end s =
 pub mark_within : (text : Text) (mark : Mark) → IsMark text mark → mark.byte ≤ size text
 mark_within text mark is = omega (arith, is.byte, ap size is.split, size-append is.front is.back)
 
--- what a mark says of a scheme, by what it says of each
-pub each_scheme : (mark : Mark) (t : Text) → mark.chars ≡ count Chars t → mark.utf16 ≡ count Utf16 t
-    → mark.lf ≡ count Lf t → mark.crlf ≡ count Crlf t → mark.lines ≡ count Lines t
-    → (s : Scheme) → count_at mark s ≡ count s t
-each_scheme mark t chars utf16 lf crlf lines Chars = chars
-each_scheme mark t chars utf16 lf crlf lines Utf16 = utf16
-each_scheme mark t chars utf16 lf crlf lines Lf = lf
-each_scheme mark t chars utf16 lf crlf lines Crlf = crlf
-each_scheme mark t chars utf16 lf crlf lines Lines = lines
-
 -- nothing is counted before the beginning
 pub nothing_before : (text : Text) (mark : Mark) → IsMark text mark → mark.byte ≡ 0 → (s : Scheme) → count_at mark s ≡ 0
 nothing_before text mark is zero s =

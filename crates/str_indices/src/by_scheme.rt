@@ -1,0 +1,61 @@
+//! A number for each scheme, as a text's counts are.
+ghost use Rattle.std.specs.Prelude.{◌≡◌, ◌+◌, ◌^◌, ◌<◌, ◌≤◌};
+ghost use Rattle.str_indices.specs.ByScheme.{number_of};
+ghost use Rattle.str_indices.specs.Prelude.{Scheme};
+
+use crate::schemes::Scheme;
+
+/// A count of each scheme.
+#[derive(Clone, Copy, PartialEq, Eq, Debug)]
+#[repr(C)]
+pub struct Counts {
+    /// In the order of `Scheme::ALL`.
+    pub(crate) numbers: [usize; 5],
+}
+
+impl Counts {
+    /// The counts of the empty text.
+    pub const NONE: Counts = Counts { numbers: [0; 5] };
+
+    /// The count of a scheme.
+    #[inline(always)]
+    pub fn get(&self, s: Scheme) -> usize
+        ensures { result ≡ number_of self.now s }
+    {
+        self.numbers[s as usize]
+    }
+
+    /// In each scheme both counts together.
+    #[inline(always)]
+    pub fn plus(self, other: Counts) -> Counts
+        requires { (s : Scheme) → number_of self s + number_of other s < 2 ^ 64 }
+        ensures { (s : Scheme) → number_of result s ≡ number_of self s + number_of other s }
+    {
+        Counts {
+            numbers: [
+                self.get(Scheme::Chars) + other.get(Scheme::Chars),
+                self.get(Scheme::Utf16) + other.get(Scheme::Utf16),
+                self.get(Scheme::Lf) + other.get(Scheme::Lf),
+                self.get(Scheme::Crlf) + other.get(Scheme::Crlf),
+                self.get(Scheme::Lines) + other.get(Scheme::Lines),
+            ],
+        }
+    }
+
+    /// In each scheme what is left of a count without the other.
+    #[inline(always)]
+    pub fn minus(self, other: Counts) -> Counts
+        requires { (s : Scheme) → number_of other s ≤ number_of self s }
+        ensures { (s : Scheme) → number_of result s + number_of other s ≡ number_of self s }
+    {
+        Counts {
+            numbers: [
+                self.get(Scheme::Chars) - other.get(Scheme::Chars),
+                self.get(Scheme::Utf16) - other.get(Scheme::Utf16),
+                self.get(Scheme::Lf) - other.get(Scheme::Lf),
+                self.get(Scheme::Crlf) - other.get(Scheme::Crlf),
+                self.get(Scheme::Lines) - other.get(Scheme::Lines),
+            ],
+        }
+    }
+}
