@@ -21,6 +21,7 @@ pub mod Plain
 pub mod Answering
 pub mod Laws
 pub mod Bytes
+pub mod Pieces
 pub mod Callers
 pub use Common.*
 pub use Kinds.*
@@ -44,3 +45,4 @@ pub use Encodings.*
 pub use Cuts.*
 pub use Laws.*
 pub use Bytes.*
+pub use Pieces.{piece_is_part}

@@ -22,6 +22,7 @@ mod line_type;
 mod look_back;
 mod middles;
 mod parts;
+mod pieces;
 mod plain;
 mod questions;
 mod spans;
@@ -36,6 +37,7 @@ pub use parts::{Own, Part, Parts};
 pub use questions::{byte_of, byte_range, exact_byte_of, position_of};
 pub use spans::{exact_position_of, range_of};
 pub use starts::{line, line_end};
+pub use texts::char_start;
 pub use units::unit_scheme;
 pub use whole::Whole;
 

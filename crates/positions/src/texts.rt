@@ -20,7 +20,7 @@ pub(crate) fn is_boundary(text: &str, at: usize) -> bool
 }
 
 /// The greatest byte index between chars that is at most this one; past the end, the text's length.
-pub(crate) fn char_start(text: &str, byte: usize) -> usize
+pub fn char_start(text: &str, byte: usize) -> usize
     ensures { IsGreatestBoundary (chars text.now) byte result }
 {
     text.floor_char_boundary(byte)

@@ -1,17 +1,11 @@
 //! The rows of a text, as the parts in which positions are searched.
-ghost use Rattle.std.specs.Prelude.{◌≡◌, ◌≢◌, ◌⊎◌, ◌↔◌, [], IfSome, IsSome, IsTrue, None, chars, sum_by, true};
+ghost use Rattle.std.specs.Prelude.{◌≡◌, ◌≢◌, [], IsTrue, chars};
 ghost use Rattle.str_indices.specs.Starts.{IsGreatestBoundary};
 ghost use Rattle.str_indices.specs.Schemes.{count};
-ghost use Rattle.str_indices.specs.Text.{Text};
 ghost use Rattle.str_indices.specs.declared.Scheme.TheVariants.{Chars};
 ghost use Rattle.text_summary.specs.Pieces.{joined, joined_size};
-ghost use Rattle.text_summary.specs.Summaries.{summary_of};
-ghost use Rattle.positions.specs.Encodings.{units_of};
-ghost use Rattle.positions.specs.declared.encodings.Encoding.{Encoding};
 ghost use Rattle.positions.specs.Lines.{scheme_of};
-ghost use Rattle.positions.specs.Parts.{HasOwn, IsPart, PartsState};
-ghost use Rattle.positions.specs.Units.{unit_scheme};
-ghost use Rattle.positions.specs.declared.line_type.LineType.{LineType};
+ghost use Rattle.positions.specs.Parts.{IsPart, PartsState};
 ghost use Rattle.text_rope.specs.Looks.{Asks};
 ghost use Rattle.text_rope.specs.Parts.{parts_of};
 ghost use Rattle.text_rope.specs.Places.{IsPlaced};
@@ -21,8 +15,7 @@ use crate::chunks::chunk_in;
 use crate::queries::{Place, from_in, place_at, place_of, to_in};
 use crate::tree::View;
 use byte_chunk::Chunk;
-use positions::{Encoding, LineType, Own, Part, Parts, unit_scheme};
-use text_summary::{Front, Summary};
+use positions::{Encoding, LineType, Part, Parts, char_start, unit_scheme};
 
 impl<'a> Parts<'a> for View<'a> {
     type Chunk = Chunk;
@@ -42,7 +35,7 @@ impl<'a> Parts<'a> for View<'a> {
 
     fn part_of_byte(&mut self, lines: LineType, encoding: Encoding, byte: usize) -> Part<'a> {
         let Some(side) = self.root() else {
-            return no_part();
+            return Part::of_nothing();
         };
         // the last row has the text's end too
         let last = side.summary().len - 1;
@@ -56,7 +49,7 @@ impl<'a> Parts<'a> for View<'a> {
             return self.part_of_byte(lines, encoding, 0);
         }
         let Some(side) = self.root() else {
-            return no_part();
+            return Part::of_nothing();
         };
         let place = place_of(self, side, lines.scheme(), line);
         self.read();
@@ -107,70 +100,7 @@ fn part_in<'a>(v: &View<'_>, lines: LineType, encoding: Encoding, place: &Place<
     let _len = v.len();
     let Place { row, before } = *place;
     let own = row.summary();
-    Part {
-        text: row.text(),
-        start: before.len,
-        lines: before.look(lines.scheme(), own).reached,
-        units: units_in(encoding, before.len),
-        in_crlf: is_between(&before, &own),
-        own: Some(own_in(lines, encoding, &own)),
-    }
-}
-
-/// The counts of a row, taken from its summary.
-fn own_in(lines: LineType, encoding: Encoding, own: &Summary) -> Own
-    ensures { (cs : Text) → own.now ≡ summary_of cs → HasOwn lines encoding cs result }
-{
-    Own {
-        chars: own.chars,
-        units: own_units(encoding, own),
-        lf: own.lf,
-        breaks: own.count(lines.scheme()),
-    }
-}
-
-/// How many units of an encoding it has.
-fn own_units(encoding: Encoding, own: &Summary) -> usize
-    ensures { (cs : Text) → own.now ≡ summary_of cs → result ≡ sum_by (units_of encoding) cs }
-{
-    match unit_scheme(encoding) {
-        None => own.len,
-        Some(s) => own.count(s),
-    }
-}
-
-/// The units of an encoding that `bytes` bytes of chars are, where it counts bytes or there are none.
-fn units_in(encoding: Encoding, bytes: usize) -> Option<usize>
-    ensures bytes { IfSome result (λ units. units ≡ bytes) }
-    ensures some { IsSome result → (unit_scheme encoding ≡ None) ⊎ (bytes ≡ 0) }
-{
-    match unit_scheme(encoding) {
-        Some(_) if 0 < bytes => None,
-        _ => Some(bytes),
-    }
-}
-
-/// Whether a text ends in CR, and LF comes after it.
-fn is_between(before: &Front, own: &Summary) -> bool
-    ensures { IsTrue result ↔ ((before.now.ends_cr ≡ true) × (own.now.starts_lf ≡ true)) }
-{
-    before.ends_cr && own.starts_lf
-}
-
-/// The one part of the empty text.
-fn no_part<'a>() -> Part<'a>
-    ensures part { (l : LineType) (e : Encoding) → IsPart [] l e result }
-    ensures start { result.start ≡ 0 }
-    ensures text { chars result.text.now ≡ [] }
-{
-    Part {
-        text: "",
-        start: 0,
-        lines: 0,
-        units: Some(0),
-        in_crlf: false,
-        own: None,
-    }
+    Part::of_piece(lines, encoding, row.text(), &before, &own)
 }
 
 /// The greatest byte index between characters that is at most this one, in as many looks and reads at most as a question.
@@ -183,11 +113,4 @@ fn char_start_in(v: &mut View, byte: usize) -> usize
         return len;
     };
     chunk.start + char_start(chunk.text, byte - chunk.start)
-}
-
-/// The greatest byte index between characters in a row that is at most this one.
-fn char_start(text: &str, byte: usize) -> usize
-    ensures { IsGreatestBoundary (chars text.now) byte result }
-{
-    text.floor_char_boundary(byte)
 }

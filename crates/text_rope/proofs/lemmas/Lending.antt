@@ -1,114 +1,20 @@
 -- A row as the part in which positions are searched, and what the searches cost.
-use Rattle.std.specs.Prelude.{Option, Some, None, min, IfSome, IsSome, IsTrue, true, ◌⊎◌, ◌↔◌}
+use Rattle.std.specs.Prelude.{min}
 use Rattle.std.proofs.Common.{pow-add}
 use Rattle.std.proofs.Math.Nat.{pow-zero}
-use Rattle.std.proofs.lemmas.Bool.{and_from, and_parts}
-use Rattle.str_indices.specs.Relations.{IsCrlfMiddle}
-use Rattle.str_indices.specs.Schemes.{weighed}
-use Rattle.positions.specs.Encodings.{units_of}
 use Rattle.positions.specs.declared.encodings.Encoding.{Encoding}
-use Rattle.positions.proofs.lemmas.Callers.{join_of_middle, middle_of_join, none_before, reached_by, weighed_by_bytes, weighed_none, none_taken, taken_within}
+use Rattle.positions.proofs.lemmas.Callers.{lines_before, reached_by, none_taken, taken_within}
 use Rattle.positions.specs.Lines.{scheme_of}
-use Rattle.positions.specs.declared.parts.Own.{Own}
-use Rattle.positions.specs.Parts.{HasOwn, HasByte, HasLine, IsPart, Took}
-use Rattle.positions.specs.Units.{unit_scheme}
+use Rattle.positions.specs.Parts.{HasByte, HasLine, IsPart, Took}
 use Rattle.positions.specs.declared.line_type.LineType.{LineType}
 use Rattle.positions.specs.declared.parts.Part.{Part}
-use Rattle.text_rope.proofs.lemmas.Common.{◌≡◌, ◌≢◌, ℕ, ◌+◌, ◌-◌, ◌*◌, ◌^◌, ◌<◌, ◌≤◌, List, [], ◌++◌, length, refl, sym, ap, ◌∙◌, inl, inr, arith, cases_lt, chars, Text, size, size-append, from_byte_idx, to_byte_idx-le-size, seam_loss, seam_loss-same, is_joined, starts_with_feed, starts_with_feed-append, ends_in_return, joined, IsLook, Front, Look, Scheme, Summary, summary_of}
+use Rattle.text_rope.proofs.lemmas.Common.{◌≡◌, ◌≢◌, ℕ, ◌+◌, ◌-◌, ◌*◌, ◌^◌, ◌<◌, ◌≤◌, List, [], ◌++◌, length, refl, ap, ◌∙◌, inl, inr, arith, cases_lt, chars, Text, size, size-append, from_byte_idx, to_byte_idx-le-size, seam_loss, joined, Front, Scheme}
 use Rattle.text_rope.proofs.lemmas.Asking.{power_one}
 use Rattle.text_rope.proofs.lemmas.Places.{text_of_place}
 use Rattle.text_rope.specs.Looks.{Asks}
 use Rattle.text_rope.specs.Parts.{parts_of}
-use Rattle.text_rope.specs.Places.{IsPlaceAt, IsPlaceOf, IsPlaced}
+use Rattle.text_rope.specs.Places.{IsPlaceAt, IsPlaceOf}
 use Rattle.text_rope.specs.States.{RowsState}
-
--- a place of either kind is one
-abbrev pub placed_at : {s : Scheme} {texts : List Text} {row : Text} {before : Front} {at : ℕ} → IsPlaceAt s [] texts row before at
-    → IsPlaced s texts row before
-placed_at is = record { front = is.front; back = is.back; parts = is.parts; before_is = is.before_is }
-
-abbrev pub placed_of : {s : Scheme} {texts : List Text} {row : Text} {before : Front} {k : ℕ} → IsPlaceOf s [] texts row before k
-    → IsPlaced s texts row before
-placed_of is = record { front = is.front; back = is.back; parts = is.parts; before_is = is.before_is }
-
-module _ (l : LineType) (texts : List Text) (row : Text) (before : Front) (is : IsPlaced (scheme_of l) texts row before)
-    (some : row ≢ []) where
-  abbrev s : Scheme
-  s = scheme_of l
-
-  abbrev a : Text
-  a = joined is.front
-
-  abbrev rest : Text
-  rest = row ++ joined is.back
-
-  split : joined texts ≡ a ++ rest
-  split = text_of_place texts is.front row is.back is.parts
-
-  -- the breaks of the text before the row
-  lines_before : before.total - seam_loss s a row ≡ from_byte_idx s (joined texts) before.len
-  lines_before =
-      let seam = is_joined s a rest in
-      let same : seam_loss s a rest ≡ seam_loss s a row =
-      seam_loss-same s a rest a row refl (starts_with_feed-append row (joined is.back) some) in
-      let here : size a + 0 ≡ before.len = omega (arith, is.before_is.len) in
-      omega (
-        arith,
-        is.before_is.total,
-        same,
-        seam.from_behind 0,
-        seam.loss_within,
-        none_before l rest,
-        ap (from_byte_idx s (a ++ rest)) here,
-        ap (λ t. from_byte_idx s t before.len) split,
-      )
-
-  -- whether it stands between CR and LF
-  middle_before : (own : Summary) → own ≡ summary_of row
-      → ((before.ends_cr ≡ true) × (own.starts_lf ≡ true)) ↔ IsCrlfMiddle (joined texts) before.len
-  middle_before own own_is =
-      let starts : starts_with_feed rest ≡ own.starts_lf =
-      starts_with_feed-append row (joined is.back) some ∙ sym (ap (λ o. o.starts_lf) own_is) in
-      let ends = sym is.before_is.ends_cr in
-      let place = sym is.before_is.len in (
-        λ both. middle_of_join (joined texts) a rest before.len split place
-            (and_from (ends_in_return a) (starts_with_feed rest) (ends ∙ both.0) (starts ∙ both.1)),
-        λ middle. let both = and_parts (ends_in_return a) (starts_with_feed rest)
-            (join_of_middle (joined texts) a rest before.len split place middle) in
-            (sym ends ∙ both.0, sym starts ∙ both.1),
-      )
-
-  -- the bytes before it are units of the encoding that counts bytes
-  units_before : (e : Encoding) (may : Option ℕ) → IfSome may (λ n. n ≡ before.len)
-      → (IsSome may → (unit_scheme e ≡ None) ⊎ (before.len ≡ 0))
-      → IfSome may (λ n. n ≡ weighed (units_of e) (joined texts) before.len)
-  units_before e None told bytes = tt
-  units_before e (Some n) told bytes = elim (bytes refl) [
-    | inl none ↦ told ∙ weighed_by_bytes e (joined texts) before.len before.len none (record {
-      boundary = record { front = a; back = rest; split = split; place = sym is.before_is.len };
-      at_or_before = omega arith;
-      greatest = λ q there le. le;
-    })
-    | inr first ↦ told ∙ first ∙ sym (ap (weighed (units_of e) (joined texts)) first ∙ weighed_none (units_of e) (joined texts))
-  ]
-
-  pub row_is_part : (e : Encoding) (part : Part) (own : Summary) → chars part.text.now ≡ row → part.start ≡ before.len
-      → (look : Look) → IsLook s a row look → part.lines ≡ look.reached → IfSome part.units (λ n. n ≡ before.len) → (IsSome part.units → (unit_scheme e ≡ None) ⊎ (before.len ≡ 0))
-      → IsTrue part.in_crlf ↔ ((before.ends_cr ≡ true) × (own.starts_lf ≡ true)) → own ≡ summary_of row → (its : Own)
-      → part.own ≡ Some its → HasOwn l e row its
-      → IsPart (joined texts) l e part
-  row_is_part e part own text start look told lines units bytes in_crlf own_is its told_own has =
-      let middle = middle_before own own_is in
-      record {
-        front = a;
-        back = joined is.back;
-        split = rw text split;
-        start = sym is.before_is.len ∙ sym start;
-        lines = rw start (omega (arith, lines, told.reached, is.before_is.total, lines_before));
-        units = rw start (units_before e part.units units bytes);
-        in_crlf = rw start (λ yes. middle.0 (in_crlf.0 yes), λ there. in_crlf.1 (middle.1 there));
-        own = rw (told_own, text) has;
-      }
 
 -- a byte is in its row, and one past the end in the last
 pub row_has_byte : {s : Scheme} {texts : List Text} {row : Text} {before : Front} {at : ℕ} (byte : ℕ) (part : Part)
@@ -146,7 +52,8 @@ row_has_line l e texts row before line part is place some text start =
     let s = scheme_of l in
     let reached = before.total - seam_loss s a row in
     let sizes = ap size (text_of_place texts place.front row place.back place.parts) ∙ size-append a (row ++ back) in
-    let counted : reached ≡ from_byte_idx s (joined texts) before.len = lines_before l texts row before (placed_of place) some in
+    let counted : reached ≡ from_byte_idx s (joined texts) before.len =
+    lines_before l (joined texts) a row back before (text_of_place texts place.front row place.back place.parts) place.before_is some in
     let past : reached < line = place.past in
     record {
       after = inl (omega (arith, is.lines, ap (from_byte_idx s (joined texts)) start, counted, past));

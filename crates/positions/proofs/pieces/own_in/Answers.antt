@@ -1,6 +1,7 @@
-use Rattle.positions.specs.Lines.{scheme_of}
-use Rattle.text_rope.proofs.lemmas.{◌∙◌, ap, count_of, count_of-summary}
-use Rattle.text_rope.proofs.parts.own_in.Goals as goal
+use Rattle.text_summary.proofs.lemmas.Callers.{count_of-summary}
+use Rattle.text_summary.specs.Summaries.{count_of}
+use Rattle.positions.proofs.lemmas.{◌∙◌, ap, scheme_of}
+use Rattle.positions.proofs.pieces.own_in.Goals as goal
 
 pub returns : goal.returns
 returns c = λ text is.

@@ -1,7 +1,6 @@
-use Rattle.positions.proofs.lemmas.Callers.{middle_above, none_before, weighed_none}
-use Rattle.positions.specs.Encodings.{units_of}
-use Rattle.text_rope.proofs.lemmas.{[], sym, refl, arith, chars-nil}
-use Rattle.text_rope.proofs.parts.no_part.Goals as goal
+use Rattle.std.proofs.lemmas.Str.{chars-nil}
+use Rattle.positions.proofs.lemmas.{[], sym, refl, arith, middle_above, none_before, weighed_none, units_of}
+use Rattle.positions.proofs.parts.Part.of_nothing.Goals as goal
 
 pub returns-clause-text : goal.returns-clause-text
 returns-clause-text c = chars-nil

@@ -1,0 +1,99 @@
+//! The part that a piece of a text is, by its summary and what is known of the text before it.
+ghost use Rattle.std.specs.Prelude.{◌≡◌, ◌⊎◌, ◌↔◌, [], ◌++◌, IfSome, IsSome, IsTrue, None, chars, sum_by, true};
+ghost use Rattle.str_indices.specs.Text.{Text};
+ghost use Rattle.text_summary.specs.Fronts.{IsFollowed, IsFront};
+ghost use Rattle.text_summary.specs.Summaries.{summary_of};
+ghost use Rattle.positions.specs.Encodings.{units_of};
+ghost use Rattle.positions.specs.Lines.{scheme_of};
+ghost use Rattle.positions.specs.Parts.{HasOwn, IsPart};
+ghost use Rattle.positions.specs.Units.{unit_scheme};
+ghost use Rattle.positions.specs.declared.encodings.Encoding.{Encoding};
+ghost use Rattle.positions.specs.declared.line_type.LineType.{LineType};
+
+use crate::{Encoding, LineType, Own, Part, unit_scheme};
+use text_summary::{Front, Summary};
+
+impl<'a> Part<'a> {
+    /// The one part of the empty text.
+    pub fn of_nothing() -> Part<'a>
+        ensures part { (l : LineType) (e : Encoding) → IsPart [] l e result }
+        ensures start { result.start ≡ 0 }
+        ensures text { chars result.text.now ≡ [] }
+    {
+        Part {
+            text: "",
+            start: 0,
+            lines: 0,
+            units: Some(0),
+            in_crlf: false,
+            own: None,
+        }
+    }
+
+    /// The part that a piece is, by its summary and what is known of the text before it: its line breaks and its bytes, and so
+    /// its units only where these are bytes.
+    #[inline(always)]
+    pub fn of_piece(
+        lines: LineType,
+        encoding: Encoding,
+        text: &'a str,
+        before: &Front,
+        own: &Summary,
+    ) -> Part<'a>
+        requires own { own.now ≡ summary_of (chars text.now) }
+        requires followed { IsFollowed (scheme_of lines) before.now own.now }
+        ensures part { (front back : Text) → IsFront (scheme_of lines) front before.now →
+            IsPart (front ++ (chars text.now ++ back)) lines encoding result }
+        ensures start { result.start ≡ before.now.len }
+        ensures text { chars result.text.now ≡ chars text.now }
+    {
+        Part {
+            text,
+            start: before.len,
+            lines: before.look(lines.scheme(), *own).reached,
+            units: units_in(encoding, before.len),
+            in_crlf: is_between(before, own),
+            own: Some(own_in(lines, encoding, own)),
+        }
+    }
+}
+
+/// The counts of a piece, taken from its summary.
+fn own_in(lines: LineType, encoding: Encoding, own: &Summary) -> Own
+    ensures { (cs : Text) → own.now ≡ summary_of cs → HasOwn lines encoding cs result }
+{
+    Own {
+        chars: own.chars,
+        units: own_units(encoding, own),
+        lf: own.lf,
+        breaks: own.count(lines.scheme()),
+    }
+}
+
+/// How many units of an encoding it has.
+fn own_units(encoding: Encoding, own: &Summary) -> usize
+    ensures { (cs : Text) → own.now ≡ summary_of cs → result ≡ sum_by (units_of encoding) cs }
+{
+    match unit_scheme(encoding) {
+        None => own.len,
+        Some(s) => own.count(s),
+    }
+}
+
+/// The units of an encoding that `bytes` bytes of chars are, where it counts bytes or there are none.
+fn units_in(encoding: Encoding, bytes: usize) -> Option<usize>
+    ensures bytes { IfSome result (λ units. units ≡ bytes) }
+    ensures some { IsSome result → (unit_scheme encoding ≡ None) ⊎ (bytes ≡ 0) }
+{
+    match unit_scheme(encoding) {
+        Some(_) if 0 < bytes => None,
+        _ => Some(bytes),
+    }
+}
+
+/// Whether a text ends in CR, and LF comes after it.
+fn is_between(before: &Front, own: &Summary) -> bool
+    ensures { IsTrue result ↔ ((before.now.ends_cr ≡ true) × (own.now.starts_lf ≡ true)) }
+{
+    before.ends_cr && own.starts_lf
+}
