@@ -56,7 +56,7 @@ impl PieceText {
     /// Puts a text after the last piece, as a piece of its own. An empty text changes nothing.
     ///
     /// After a refusal all is as it was. It is `TooLong` where the text would have more than `isize::MAX` bytes, and
-    /// else `NoMemory` where memory was refused.
+    /// else `NoMemory` where memory was refused. An empty text takes none.
     pub fn push(&mut self, text: &str) -> Result<(), Refusal>
         ensures ok { OnOk result (self.new ≡ self.old ++ as_pieces (chars text.now)) }
         ensures err { OnErr result (self.new ≡ self.old) }
@@ -71,7 +71,8 @@ impl PieceText {
     /// Makes a text piece `at`, before the piece that has that number. An empty text changes nothing.
     ///
     /// After a refusal all is as it was. It is `NoPiece` where `at` is above the number of pieces, or else `TooLong`
-    /// where the text would have more than `isize::MAX` bytes, and else `NoMemory` where memory was refused.
+    /// where the text would have more than `isize::MAX` bytes, and else `NoMemory` where memory was refused. An empty text
+    /// takes none.
     pub fn insert(&mut self, at: usize, text: &str) -> Result<(), Refusal>
         ensures ok { OnOk result
             (self.new ≡ take at self.old ++ (as_pieces (chars text.now) ++ drop at self.old)) }
@@ -257,14 +258,15 @@ impl PieceText {
         count_in(&mut self.view(), s)
     }
 
-    /// How many of them the joined text has up to a byte index.
+    /// How many chars, UTF-16 code units or line breaks of the joined text end at or before a byte index; past the end, all.
     pub fn from_byte_idx(&self, s: Scheme, b: usize) -> usize
         ensures { result ≡ from_byte_idx s (joined self.now) b }
     {
         from_in(&mut self.view(), s, b)
     }
 
-    /// The byte index in the joined text after the first `k` of them; its length where it has fewer.
+    /// The byte index where char `k`, the char of code unit `k` or line `k` of the joined text begins, counted from 0; its
+    /// length where it has fewer.
     pub fn to_byte_idx(&self, s: Scheme, k: usize) -> usize
         ensures { result ≡ to_byte_idx s (joined self.now) k }
     {

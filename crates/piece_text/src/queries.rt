@@ -32,7 +32,8 @@ pub fn count_in(p: &mut Pieces, s: Scheme) -> usize
     front.total
 }
 
-/// How many of them the joined text has up to a byte index. Reads one piece at most.
+/// How many chars, UTF-16 code units or line breaks of the joined text end at or before a byte index; past the end, all. Reads
+/// one piece at most.
 pub fn from_in(p: &mut Pieces, s: Scheme, b: usize) -> usize
     ensures answer { result ≡ from_byte_idx s (joined p.old.texts) b }
     ensures texts { p.new.texts ≡ p.old.texts }
@@ -53,8 +54,8 @@ pub fn from_in(p: &mut Pieces, s: Scheme, b: usize) -> usize
     front.total
 }
 
-/// The byte index in the joined text after the first `k` of them; its length where it has fewer. Reads one piece at
-/// most.
+/// The byte index where char `k`, the char of code unit `k` or line `k` of the joined text begins; its length where it has
+/// fewer. Reads one piece at most.
 pub fn to_in(p: &mut Pieces, s: Scheme, k: usize) -> usize
     ensures answer { result ≡ to_byte_idx s (joined p.old.texts) k }
     ensures texts { p.new.texts ≡ p.old.texts }

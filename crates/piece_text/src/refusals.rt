@@ -9,6 +9,6 @@ pub enum Refusal {
     NotBoundary,
     /// The text would have more bytes than a text can have, `isize::MAX`.
     TooLong,
-    /// A list could not grow.
+    /// Memory was refused.
     NoMemory,
 }

@@ -12,8 +12,7 @@ abbrev pub IsLookAt : Seen → Look → Type 0
 IsLookAt whole (Rows rows) = IsBlockOf whole rows.now
 IsLookAt whole (Sides left right) = IsForkOf whole left.now right.now
 
--- no more questions than this: of the looks that each takes, 2 to the power of them is at most the square of one more than the
--- rows, each reads one row at most, and the text is kept
+-- at most `questions` questions, each of at most 2 log₂ (rows + 1) looks and one read; the rows stay as they are
 pub record Asks (questions : ℕ) (old new : RowsState) : Type 0 where
   pub texts : new.texts ≡ old.texts
   pub looks : 2 ^ (new.looks - old.looks) ≤ ((length old.texts + 1) * (length old.texts + 1)) ^ questions

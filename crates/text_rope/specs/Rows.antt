@@ -1,9 +1,9 @@
 -- A row: one piece of a text.
 --     max_piece                 how many bytes a row has at most
 --     min_piece                 how many bytes a row has at least that is not alone
---     IsFull row                it has as many
---     AreFull rows              each has as many
---     IsFilled rows             each has as many, or there is one at most
+--     IsFull row                it has at least `min_piece` bytes
+--     AreFull rows              each has at least `min_piece` bytes
+--     IsFilled rows             each has at least `min_piece` bytes, or there is one at most
 --     IsSmall summary           it is that of a text that a row can have
 --     IsKept summary text       the summary is the text's, which is not empty and not too long
 use Rattle.std.specs.Prelude.{ℕ, ◌≡◌, ◌≢◌, ◌≤◌, ◌⊎◌, List, [], length}
@@ -16,16 +16,16 @@ use Rattle.text_summary.specs.declared.summaries.Summary.{Summary}
 abbrev pub max_piece : ℕ
 max_piece = 1024
 
--- how many bytes a row has at least that is not alone: half of that, less what a cut leaves off that may not go through a
--- character
+-- how many bytes a row has at least that is not alone: half of `max_piece`, less 3, since a cut moves by up to 3 bytes to a
+-- boundary
 abbrev pub min_piece : ℕ
 min_piece = 509
 
--- a row has as many
+-- a row has at least `min_piece` bytes
 abbrev pub IsFull : Text → Type 0
 IsFull row = min_piece ≤ size row
 
--- each row has as many
+-- each row has at least `min_piece` bytes
 abbrev pub AreFull : List Text → Type 0
 AreFull rows = All IsFull rows
 

@@ -1,4 +1,4 @@
-//! The row that a byte or a count is in, lent with what is known of the text before it.
+//! The chunk that a byte or a count is in, lent with what is known of the text before it.
 ghost use Rattle.std.specs.Prelude.{◌≡◌, ◌+◌, ◌-◌, ◌*◌, ◌^◌, ◌<◌, ◌≤◌, ◌↔◌, ◌⊎◌, [], IsSome, IfSome, chars, length};
 ghost use Rattle.str_indices.specs.SchemeGroups.{IsLineScheme};
 ghost use Rattle.str_indices.specs.Schemes.{count, to_byte_idx};
@@ -43,8 +43,8 @@ pub struct Found<'a> {
     pub chunk: Chunk<'a>,
 }
 
-/// The row that a byte is in, and where it starts, none from the end of the text on; in as many looks and reads at most as
-/// a question.
+/// A part of the text that a byte is in, of at most `MAX_PIECE` bytes, and where it starts; none from the end of the text on.
+/// One question: at most 2 log₂ (rows + 1) looks, and one read.
 pub fn chunk_in<'a>(v: &mut View<'a>, at: usize) -> Option<Chunk<'a>>
     ensures chunk { IfSome result (λ chunk. IsChunkAt (joined v.old.texts) (chars chunk.text.now) chunk.start at) }
     ensures piece { IfSome result (λ chunk. size (chars chunk.text.now) ≤ max_piece) }
@@ -57,8 +57,8 @@ pub fn chunk_in<'a>(v: &mut View<'a>, at: usize) -> Option<Chunk<'a>>
     }
 }
 
-/// The row that a byte is in, where it starts, and what is counted in a scheme before it, none from the end of the text
-/// on; in as many looks and reads at most.
+/// A part of the text that a byte is in, of at most `MAX_PIECE` bytes, its summary, where it starts, and what is counted in a
+/// scheme before it; none from the end of the text on. One question, as `chunk_in`.
 #[tactic(auto, using(crate::proofs::lemmas::Asking::power_one))]
 pub fn located_in<'a>(v: &mut View<'a>, s: Scheme, at: usize) -> Option<Located<'a>>
     ensures located { IfSome result (λ l.
@@ -98,9 +98,9 @@ fn lent(row: &Row, before: Front) -> Located<'_>
     }
 }
 
-/// The byte index in the text after the first `k` of them, its length where it has fewer, with the row round it: so what
-/// stands there is read without another way down. A break that ends there has its last byte in the row. As many looks and
-/// reads at most.
+/// The byte index where char `k`, the char of code unit `k` or line `k` begins, the text's length where it has fewer, with the
+/// chunk round it: so you read what stands there without another way down. A break that ends there has its last byte in the
+/// chunk. One question, as `chunk_in`.
 #[tactic(auto, using(crate::proofs::lemmas::Asking::power_one))]
 pub fn found_in<'a>(v: &mut View<'a>, s: Scheme, k: usize) -> Found<'a>
     ensures byte { result.byte ≡ to_byte_idx s (joined v.old.texts) k }

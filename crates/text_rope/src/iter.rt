@@ -72,7 +72,7 @@ impl<'a> Chunks<'a> {
         (chunks, at - rest.start)
     }
 
-    /// The next row's text, or as much of it as is asked for; none at the end, and from then on.
+    /// The next part of the text, of at most `MAX_PIECE` bytes; none at the end, and from then on.
     pub fn next_chunk(&mut self) -> Option<&'a str>
         ensures none { IsNone result ↔ (self.old.at ≡ self.old.end) }
         ensures part { IfSome result (λ chunk. IsPartAt self.old.text (chars chunk.now) self.old.at self.new.at) }

@@ -27,7 +27,7 @@ pub struct Line {
     pub next: usize,
 }
 
-/// The `k`-th line by a scheme, counted from 0; in three times as many looks and reads at most as a question.
+/// Line `k` by a scheme, counted from 0. Three questions: each at most 2 log₂ (rows + 1) looks, and one read.
 ///
 /// In `Lf`, `Crlf` and `Lines` a break is what the scheme counts. `Chars` and `Utf16` know no breaks: there `start` and
 /// `next` are the byte indices of `k` and `k + 1`. The last line ends where the text does, and past it all three are that.

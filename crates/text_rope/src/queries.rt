@@ -53,8 +53,8 @@ pub fn from_in(v: &mut View, s: Scheme, b: usize) -> usize
     look.reached + row.from_byte_idx(s, b - place.before.len)
 }
 
-/// The byte index in the text after the first `k` of them, its length where it has fewer; in as many looks and reads at
-/// most as `from_in`.
+/// The byte index where char `k`, the char of code unit `k` or line `k` begins, the text's length where it has fewer. As many
+/// looks and reads at most as `from_in`.
 #[tactic(auto, using(crate::proofs::lemmas::Asking::power_one))]
 pub fn to_in(v: &mut View, s: Scheme, k: usize) -> usize
     ensures answer { result ≡ to_byte_idx s (joined v.old.texts) k }

@@ -62,7 +62,8 @@ impl Rope {
         }
     }
 
-    /// A text, in rows of at most `MAX_PIECE` bytes. It is `NoMemory` where memory was refused.
+    /// A rope of a text, in chunks of at most `MAX_PIECE` bytes. It is `NoMemory` where memory was refused; an empty text takes
+    /// none.
     pub fn from_str(alloc: Global, text: &str) -> Result<Rope, Refusal>
         ensures ok { IfOk result (λ rope. rope ≡ chars text.now) }
         ensures empty { chars text.now ≡ [] → IsOk result }
@@ -81,7 +82,7 @@ impl Rope {
     }
 
     /// A second rope with this text, in one step, whatever its length: a change of either leaves the other. It is
-    /// `NoMemory` where as many ropes as can be counted share a node.
+    /// `NoMemory` where as many ropes as can be counted share a node; an empty rope has none.
     pub fn snapshot(&self) -> Result<Rope, Refusal>
         ensures ok { IfOk result (λ rope. rope ≡ self.now) }
         ensures empty { self.now ≡ [] → IsOk result }
@@ -131,14 +132,15 @@ impl Rope {
         count_in(&mut self.view(), s)
     }
 
-    /// How many of them the text has up to a byte index; past the end, all.
+    /// How many chars, UTF-16 code units or line breaks end at or before a byte index; past the end, all.
     pub fn from_byte_idx(&self, s: Scheme, byte_idx: usize) -> usize
         ensures { result ≡ from_byte_idx s self.now byte_idx }
     {
         from_in(&mut self.view(), s, byte_idx)
     }
 
-    /// The byte index after the first `idx` of them; the text's length where it has fewer.
+    /// The byte index where char `idx`, the char of code unit `idx` or line `idx` begins, counted from 0; the text's length
+    /// where it has fewer.
     pub fn to_byte_idx(&self, s: Scheme, idx: usize) -> usize
         ensures { result ≡ to_byte_idx s self.now idx }
     {
@@ -158,14 +160,15 @@ impl Rope {
         line_in(&mut self.view(), s, k)
     }
 
-    /// Whether a byte index is between characters, or at the beginning or end of the text; past the end it is not.
+    /// Whether a byte index is between chars, or at the beginning or end of the text; past the end it is not.
     pub fn is_char_boundary(&self, byte_idx: usize) -> bool
         ensures { IsTrue result ↔ IsBoundary self.now byte_idx }
     {
         is_boundary_in(&mut self.view(), byte_idx)
     }
 
-    /// The row that a byte is in, and where it starts; none from the end of the text on.
+    /// A part of the text that a byte is in, of at most `MAX_PIECE` bytes, and where it starts; none from the end of the text
+    /// on.
     pub fn chunk_at(&self, byte_idx: usize) -> Option<Chunk<'_>>
         ensures chunk { IfSome result (λ chunk. IsChunkAt self.now (chars chunk.text.now) chunk.start byte_idx) }
         ensures piece { IfSome result (λ chunk. size (chars chunk.text.now) ≤ max_piece) }
@@ -181,10 +184,10 @@ impl Rope {
         Chunks::of(&self.tree, 0, self.len())
     }
 
-    /// The text between two byte indices, each between characters, in the same way.
+    /// The text between two byte indices, each between chars, in order, in parts of at most `MAX_PIECE` bytes.
     ///
-    /// It is `NotOrdered` where the first index is above the second, and else `NotBoundary` where one is inside a
-    /// character or past the end.
+    /// It is `NotOrdered` where the first index is above the second, and else `NotBoundary` where one is inside a char or
+    /// past the end.
     pub fn chunks_in(&self, range: Range<usize>) -> Result<Chunks<'_>, Refusal>
         ensures ok { IfOk result (λ chunks. chunks ≡ record { text = self.now; at = range.start; end = range.end }) }
         ensures not_ordered { IsErrOf result NotOrdered ↔ (range.end < range.start) }
@@ -242,11 +245,12 @@ impl Rope {
         read_at(&self.tree, byte_idx, room)
     }
 
-    /// Exchanges what is between two byte indices, each between characters, for a text.
+    /// Replaces the text between two byte indices, each between chars.
     ///
     /// After a refusal every answer is as before. It is `NotOrdered` where the first index is above the second, or else
-    /// `NotBoundary` where one is inside a character or past the end, or else `TooLong` where the text would have more
-    /// than `isize::MAX` bytes, and else `NoMemory` where memory was refused: never where nothing is left of the text.
+    /// `NotBoundary` where one is inside a char or past the end, or else `TooLong` where the text would have more than
+    /// `isize::MAX` bytes, and else `NoMemory` where memory was refused. No memory is taken where `text` is empty and nothing
+    /// or all goes out.
     pub fn replace(&mut self, range: Range<usize>, text: &str) -> Result<(), Refusal>
         ensures ok { OnOk result (IsReplaced self.old self.new range.start range.end (chars text.now)) }
         ensures err { OnErr result (self.new ≡ self.old) }
@@ -265,11 +269,11 @@ impl Rope {
         self.exchange(&mut Work::none(), range.start, range.end, text)
     }
 
-    /// Puts a text in at a byte index between characters.
+    /// Inserts a text at a byte index between chars.
     ///
-    /// After a refusal every answer is as before. It is `NotBoundary` where the byte index is inside a character or past
-    /// the end, or else `TooLong` where the text would have more than `isize::MAX` bytes, and else `NoMemory` where
-    /// memory was refused.
+    /// After a refusal every answer is as before. It is `NotBoundary` where the byte index is inside a char or past the end,
+    /// or else `TooLong` where the text would have more than `isize::MAX` bytes, and else `NoMemory` where memory was
+    /// refused. An empty text takes none.
     pub fn insert(&mut self, at: usize, text: &str) -> Result<(), Refusal>
         ensures ok { OnOk result (IsReplaced self.old self.new at at (chars text.now)) }
         ensures err { OnErr result (self.new ≡ self.old) }
@@ -282,11 +286,11 @@ impl Rope {
         self.exchange(&mut Work::none(), at, at, text)
     }
 
-    /// Takes out what is between two byte indices, each between characters.
+    /// Removes the text between two byte indices, each between chars.
     ///
     /// After a refusal every answer is as before. It is `NotOrdered` where the first index is above the second, or else
-    /// `NotBoundary` where one is inside a character or past the end, and else `NoMemory` where memory was refused: never where
-    /// nothing is left of the text.
+    /// `NotBoundary` where one is inside a char or past the end, and else `NoMemory` where memory was refused. No memory is
+    /// taken where nothing or all goes out.
     pub fn remove(&mut self, range: Range<usize>) -> Result<(), Refusal>
         ensures ok { OnOk result (IsReplaced self.old self.new range.start range.end []) }
         ensures err { OnErr result (self.new ≡ self.old) }

@@ -20,11 +20,11 @@ use text_summary::{Scheme, Summary, changed};
 /// How many bytes a row has at most.
 pub const MAX_PIECE: usize = 1024;
 
-/// How many bytes a row has at least where it is not the only one: half of `MAX_PIECE`, less what a cut leaves off that may not
-/// go through a character.
+/// How many bytes a row has at least where it is not the only one: half of `MAX_PIECE`, less 3, since a cut moves by up to 3
+/// bytes to a boundary.
 pub const MIN_PIECE: usize = MAX_PIECE / 2 - 3;
 
-/// The memory of a row grows by so many bytes. Four times that is the most for which glibc has lists of one size.
+/// By how many bytes the memory of a row grows. Four times that is the most for which glibc has lists of one size.
 const STEP: usize = 248;
 
 /// A text that is neither empty nor longer than `MAX_PIECE`, in memory that may have several owners, and its counts. A
