@@ -1,12 +1,12 @@
 -- A number for each scheme.
---     place_of s           where the number of a scheme stands
+--     place_of s           the place of a scheme's number in `numbers`
 --     number_of counts s   the number of a scheme
 use Rattle.std.specs.Prelude.{ℕ, slice_index_or}
 use Rattle.str_indices.specs.declared.schemes.Scheme.{Scheme}
 use Rattle.str_indices.specs.declared.schemes.Scheme.TheVariants.{Chars, Utf16, Lf, Crlf, Lines}
 use Rattle.str_indices.specs.declared.by_scheme.Counts.{Counts}
 
--- where the number of a scheme stands
+-- the place of a scheme's number in `numbers`
 abbrev pub place_of : Scheme → ℕ
 place_of Chars = 0
 place_of Utf16 = 1

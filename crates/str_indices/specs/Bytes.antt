@@ -1,14 +1,14 @@
--- What the kernels count of a text's bytes.
+-- The counts that kernels make over the bytes of a text.
 --     sum_below f n                    f 0 + f 1 + .. up to n, without n
 --     flag b                           1 for true, 0 for false
 --     mark test b                      1 for a byte that passes the test, else 0
 --     weight_before weight bytes n     the weights of the first n bytes, added
 --     passing_before test bytes n      how many of the first n bytes pass the test
---     is_trailing b                    whether a byte doesn't begin its character
---     is_leading b                     whether a byte begins its character
---     begins_four_bytes b              whether a byte begins a character of four bytes, which takes a surrogate pair
---     units_begun b                    how many UTF-16 code units the character takes that a byte begins, else 0
---     units_before bytes n             how many UTF-16 code units the characters take that begin in the first n bytes
+--     is_trailing b                    whether a byte doesn't begin its char
+--     is_leading b                     whether a byte begins its char
+--     begins_four_bytes b              whether a byte begins a char of four bytes, which takes a surrogate pair
+--     units_begun b                    how many UTF-16 code units the char takes that a byte begins, else 0
+--     units_before bytes n             how many UTF-16 code units the chars take that begin in the first n bytes
 --     is_line_feed b                   whether a byte is LF
 --     is_carriage_return b             whether a byte is CR
 --     byte_before bytes n              the byte before place n
@@ -44,7 +44,7 @@ is_leading b = not (is_trailing b)
 abbrev pub begins_four_bytes : ℕ → Bool
 begins_four_bytes b = bit_and b 0xF0 == 0xF0
 
--- one at a byte that begins a character, and one more where it begins four bytes
+-- one at a byte that begins a char, and one more where it begins four bytes
 abbrev pub units_begun : ℕ → ℕ
 units_begun b = mark is_leading b + mark begins_four_bytes b
 

@@ -15,7 +15,7 @@ every_scheme = Chars ∷ Utf16 ∷ line_schemes
 abbrev greatest_index : ℕ
 greatest_index = 18446744073709551615
 
--- せかい, three characters of three bytes each
+-- せかい, three chars of three bytes each
 abbrev sekai : Text
 sekai = 0x305B ∷ 0x304B ∷ 0x3044 ∷ []
 
@@ -148,7 +148,7 @@ byte_behind_each_break = refl
 line_separator_is_no_break : to_byte_idx Crlf letters_around_line_separator 1 ≡ 5
 line_separator_is_no_break = refl
 
--- Lines, by all seven break characters
+-- Lines, by all seven break chars
 
 each_kind_of_break_counts : map (count Lines) (seven_breaks ∷ every_break ∷ []) ≡ 7 ∷ 8 ∷ []
 each_kind_of_break_counts = refl

@@ -1,6 +1,6 @@
 -- The seam of two texts, one after the other.
---     ends_in_return text      whether the last character is CR
---     starts_with_feed text    whether the first character is LF
+--     ends_in_return text      whether the last char is CR
+--     starts_with_feed text    whether the first char is LF
 --     joins_crlf a b           whether the seam makes one CRLF of a break of each text
 --     seam_loss s a b          how many ends fewer the joined text has in a scheme than both have alone
 use Rattle.std.specs.Prelude.{ℕ, Bool, [], ◌∷◌, ◌&&◌, if◌then◌else◌, nat_eq}
@@ -8,11 +8,11 @@ use Rattle.std.specs.List.{starts_with, ends_with}
 use Rattle.str_indices.specs.Text.{Text, line_feed, carriage_return}
 use Rattle.str_indices.specs.Schemes.{Scheme, Chars, Utf16, Lf, Crlf, Lines}
 
--- whether the last character is CR
+-- whether the last char is CR
 abbrev pub ends_in_return : Text → Bool
 ends_in_return text = ends_with nat_eq text (carriage_return ∷ [])
 
--- whether the first character is LF
+-- whether the first char is LF
 abbrev pub starts_with_feed : Text → Bool
 starts_with_feed text = starts_with nat_eq text (line_feed ∷ [])
 

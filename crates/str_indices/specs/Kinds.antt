@@ -1,11 +1,11 @@
--- Which bytes a text hasn't.
+-- Kinds of bytes that a text lacks.
 --     HasAsciiAlone bytes    each byte is ASCII
---     HasNoPair bytes        no byte begins a character of four bytes, which takes two UTF-16 code units
+--     HasNoPair bytes        no byte begins a char of four bytes, which takes two UTF-16 code units
 --     HasNoVtFf bytes        no byte is VT or FF
 --     HasNoReturn bytes      no byte is VT, FF or CR
---     HasNoWideLead bytes    no byte begins U+0085, U+2028 or U+2029, nor another character of the same first byte
+--     HasNoWideLead bytes    no byte begins U+0085, U+2028 or U+2029, nor another char of the same first byte
 --     IsWidePair b next      the two bytes of U+0085, or the last two of U+2028 or U+2029
---     HasNoWidePair bytes    no two bytes side by side are that
+--     HasNoWidePair bytes    no two bytes side by side are such a pair
 --     AreKinds kinds bytes   the kinds say of the bytes what their fields mean
 use Rattle.std.specs.Prelude.{ℕ, ◌≡◌, ◌+◌, ◌<◌, ◌≢◌, ◌⊎◌, ◌↔◌, List, All, IsTrue, length, slice_index}
 use Rattle.str_indices.specs.declared.kinds.Kinds.{Kinds}
@@ -14,7 +14,7 @@ use Rattle.str_indices.specs.declared.kinds.Kinds.{Kinds}
 abbrev pub HasAsciiAlone : List ℕ → Type 0
 HasAsciiAlone bytes = All (λ b. b < 0x80) bytes
 
--- no byte begins a character of four bytes, which takes two UTF-16 code units
+-- no byte begins a char of four bytes, which takes two UTF-16 code units
 abbrev pub HasNoPair : List ℕ → Type 0
 HasNoPair bytes = All (λ b. b < 0xF0) bytes
 
@@ -26,7 +26,7 @@ HasNoVtFf bytes = All (λ b. (b < 0x0B) ⊎ (0x0C < b)) bytes
 abbrev pub HasNoReturn : List ℕ → Type 0
 HasNoReturn bytes = All (λ b. (b < 0x0B) ⊎ (0x0D < b)) bytes
 
--- no byte begins U+0085, U+2028 or U+2029, nor another character of the same first byte
+-- no byte begins U+0085, U+2028 or U+2029, nor another char of the same first byte
 abbrev pub HasNoWideLead : List ℕ → Type 0
 HasNoWideLead bytes = All (λ b. (b ≢ 0xC2) × (b ≢ 0xE2)) bytes
 
@@ -34,7 +34,7 @@ HasNoWideLead bytes = All (λ b. (b ≢ 0xC2) × (b ≢ 0xE2)) bytes
 abbrev pub IsWidePair : ℕ → ℕ → Type 0
 IsWidePair b next = ((b ≡ 0xC2) × (next ≡ 0x85)) ⊎ ((b ≡ 0x80) × ((next ≡ 0xA8) ⊎ (next ≡ 0xA9)))
 
--- no two bytes side by side are that
+-- no two bytes side by side are such a pair
 abbrev pub HasNoWidePair : List ℕ → Type 0
 HasNoWidePair bytes = (k : ℕ) → 1 + k < length bytes → ¬ (IsWidePair (slice_index bytes k) (slice_index bytes (1 + k)))
 

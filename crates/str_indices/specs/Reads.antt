@@ -1,4 +1,4 @@
--- What code may read of a text, by the counters of its probe, and how much a pass of a kernel may.
+-- How much code reads of a text, by the counters of its probe, and how much a pass of a kernel may read.
 --     Reads old new first turns loads spare    what was read between two states of a probe
 --     Counts old new size lead n spare         what a pass that counts in n bytes may read
 --     Finds old new size lead n place spare    what a pass that finds a place in n bytes may read
@@ -12,9 +12,9 @@ pub record RisesWithin (old new most : ℕ) : Type 0 where
   pub rises : old ≤ new
   pub within : new ≤ old + most
 
--- From one state of a probe to a later one: the text is the same; at most so many turns and loads; the least place
--- loaded from is at least the lesser of `first` and what it was, and the same where nothing was loaded; and at most two
--- peeks for each turn, four for each load and `spare` more.
+-- From one state of a probe to a later one: the text is the same; there were at most `turns` turns and `loads` loads;
+-- the least place loaded from is at least the lesser of `first` and what it was, and the same if nothing was loaded;
+-- and there were at most two peeks for each turn, four for each load and `spare` more.
 pub record Reads (old new : ProbeState) (first turns loads spare : ℕ) : Type 0 where
   pub text_kept : new.text ≡ old.text
   pub turns_within : RisesWithin old.turns new.turns turns
@@ -23,7 +23,7 @@ pub record Reads (old new : ProbeState) (first turns loads spare : ℕ) : Type 0
   pub low_reached : min old.low first ≤ new.low
   pub low_kept : new.loads ≡ old.loads → new.low ≡ old.low
 
--- of `lead` leading bytes those that a pass over n bytes can cover
+-- how many of `lead` leading bytes a pass over n bytes covers
 abbrev pub leading_bytes : ℕ → ℕ → ℕ
 leading_bytes lead n = min lead n
 
@@ -35,12 +35,12 @@ pass_turns size lead n = leading_bytes lead n + size + 4
 abbrev pub pass_loads : ℕ → ℕ → ℕ → ℕ
 pass_loads size lead n = (n - leading_bytes lead n) / size
 
--- a pass that counts in n bytes: no more turns and loads than that, and so many peeks beside theirs
+-- a pass that counts in n bytes: at most `pass_turns` turns and `pass_loads` loads, and `spare` peeks beside theirs
 abbrev pub Counts : ProbeState → ProbeState → ℕ → ℕ → ℕ → ℕ → Type 0
 Counts old new size lead n spare =
     Reads old new (leading_bytes lead n) (pass_turns size lead n) (pass_loads size lead n) spare
 
--- a pass that finds a place in n bytes: no more loads than there are chunks before it, and five
+-- a pass that finds a place in n bytes: at most five loads more than there are chunks before the place
 abbrev pub Finds : ProbeState → ProbeState → ℕ → ℕ → ℕ → ℕ → ℕ → Type 0
 Finds old new size lead n place spare =
     Reads old new (leading_bytes lead n) (pass_turns size lead n) (place / size + 5) spare

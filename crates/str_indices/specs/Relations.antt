@@ -1,11 +1,11 @@
--- What boundaries, ends, cuts and the conversion from UTF-16 are, as relations that compute nothing. The contract of
+-- Boundaries, ends, cuts and the conversion from UTF-16, as relations that compute nothing. The contract of
 -- `laws::boundaries` ties three computations to them: the members of `ends s text` are the p with `IsEnd s text p`,
 -- `cut text end` is the front of `IsLongestCut`, and `to_byte_idx Utf16 text units` is the p of `IsGreatestWithin`.
 --     IsBoundary text p                p is the size of a beginning of the text
 --     IsCrlfMiddle text p              p is a boundary between CR and LF
 --     IsEnd s text p                   p is an end of the text in the scheme
---     IsGreatestWeighed w text k p     p is the greatest boundary before which the characters weigh at most k
---     IsGreatestWithin text units p    so by UTF-16 units: at most this many are before p
+--     IsGreatestWeighed w text k p     p is the greatest boundary before which the chars weigh at most k
+--     IsGreatestWithin text units p    p is the greatest boundary with at most `units` UTF-16 code units before it
 --     IsLongestCut text end front      front is the longest beginning of the text that takes at most `end` bytes
 use Rattle.std.specs.Prelude.{ℕ, ◌≡◌, ◌<◌, ◌≤◌, List, [], ◌∷◌, ◌++◌, IsTrue, sum_by, length}
 use Rattle.std.specs.Char.{char_set_contains}
@@ -19,21 +19,21 @@ pub record IsBoundary (text : Text) (p : ℕ) : Type 0 where
   pub split : text ≡ front ++ back
   pub place : size front ≡ p
 
--- p is a boundary, and c is the character before it
+-- p is a boundary, and c is the char before it
 pub record IsEndOf (text : Text) (c p : ℕ) : Type 0 where
   pub front : Text
   pub back : Text
   pub split : text ≡ (front ++ c ∷ []) ++ back
   pub place : size (front ++ c ∷ []) ≡ p
 
--- p is a boundary, CR is the character before it, and LF the one after it
+-- p is a boundary, CR is the char before it, and LF the one after it
 pub record IsCrlfMiddle (text : Text) (p : ℕ) : Type 0 where
   pub front : Text
   pub back : Text
   pub split : text ≡ (front ++ carriage_return ∷ []) ++ line_feed ∷ back
   pub place : size (front ++ carriage_return ∷ []) ≡ p
 
--- a character of the set ends at p, and p is no CRLF middle
+-- a char of the set ends at p, and p is no CRLF middle
 pub record IsBreakEnd (set : List ℕ) (text : Text) (p : ℕ) : Type 0 where
   pub character : ℕ
   pub end_of : IsEndOf text character p
@@ -53,13 +53,13 @@ IsEnd Lf text p = IsBreakEnd (break_characters Lf) text p
 IsEnd Crlf text p = IsBreakEnd (break_characters Crlf) text p
 IsEnd Lines text p = IsBreakEnd (break_characters Lines) text p
 
--- p is a boundary before which the characters weigh at most k, each by w, and no greater boundary is one
+-- p is a boundary before which the chars weigh at most k, each by w, and no greater boundary is one
 pub record IsGreatestWeighed (w : ℕ → ℕ) (text : Text) (k p : ℕ) : Type 0 where
   pub boundary : IsBoundary text p
   pub fits : sum_by w boundary.front ≤ k
   pub greatest : (q : ℕ) (other : IsBoundary text q) → sum_by w other.front ≤ k → q ≤ p
 
--- p is a boundary before which the text takes at most this many units, and no greater boundary is one
+-- p is a boundary before which the text takes at most `units` UTF-16 code units, and no greater boundary is one
 abbrev pub IsGreatestWithin : Text → ℕ → ℕ → Type 0
 IsGreatestWithin text units p = IsGreatestWeighed weight text units p
 

@@ -1,4 +1,4 @@
--- The schemes in two groups. In the line schemes ends are line breaks; in the character schemes every boundary above
+-- The schemes in two groups. In the line schemes ends are line breaks; in the char schemes every boundary above
 -- 0 is an end.
 use Rattle.std.specs.Prelude.{⊤}
 use Rattle.str_indices.specs.Schemes.{Scheme, Chars, Utf16, Lf, Crlf, Lines}
@@ -11,7 +11,7 @@ IsLineScheme Lf = ⊤
 IsLineScheme Crlf = ⊤
 IsLineScheme Lines = ⊤
 
--- the scheme counts characters, or their UTF-16 code units
+-- the scheme counts chars, or their UTF-16 code units
 abbrev pub IsCharacterScheme : Scheme → Type 0
 IsCharacterScheme Chars = ⊤
 IsCharacterScheme Utf16 = ⊤

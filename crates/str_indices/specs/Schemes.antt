@@ -1,11 +1,11 @@
--- What the five indexing schemes answer for a text.
+-- The answers of the five indexing schemes for a text.
 --     ends s text                  the ends of the text in a scheme, in increasing order
 --     count s text                 how many ends the text has
 --     from_byte_idx s text byte    how many of its ends are at or before a byte index
 --     to_byte_idx s text index     0, then each end in turn, and past the last end the text's size
---     weighed w text byte          what the characters up to a byte index weigh, each by w
+--     weighed w text byte          the weight of the chars up to a byte index, each by w
 --     boundary_weighed w text k    the greatest boundary before which they weigh at most k
--- In `Utf16` the three go by the weights of characters. `surrogates text` counts the surrogate pairs.
+-- In `Utf16` the three go by the weights of chars. `surrogates text` counts the surrogate pairs.
 use Rattle.std.specs.Prelude.{ℕ, zero, suc, Bool, true, not, List, [], ◌∷◌, ◌&&◌, ◌==◌, nat_le, filter, map, fold, max, length, sum_by, count_by, slice_index_or}
 use Rattle.std.specs.Char.{char_set_contains}
 pub use Rattle.str_indices.specs.declared.schemes.Scheme.{Scheme}
@@ -27,7 +27,7 @@ line_separator = 0x2028
 abbrev pub paragraph_separator : ℕ
 paragraph_separator = 0x2029
 
--- the characters that end a line; `Chars` and `Utf16` have none, since each character counts there
+-- the chars that end a line; `Chars` and `Utf16` have none, since each char counts there
 abbrev pub break_characters : Scheme → List ℕ
 break_characters Chars = []
 break_characters Utf16 = []
@@ -36,7 +36,7 @@ break_characters Crlf = line_feed ∷ carriage_return ∷ []
 break_characters Lines = line_feed ∷ vertical_tab ∷ form_feed ∷ carriage_return ∷ next_line ∷ line_separator ∷
     paragraph_separator ∷ []
 
--- whether a character of the set ends at p, which is no CRLF middle
+-- whether a char of the set ends at p, which is no CRLF middle
 abbrev pub is_break_end : List ℕ → Placed → Bool
 is_break_end set p = char_set_contains set p.character && not (is_crlf_middle p)
 
@@ -65,23 +65,23 @@ abbrev pub end_at : Scheme → Text → ℕ → ℕ
 end_at s text zero = 0
 end_at s text (suc k) = slice_index_or (ends s text) k (size text)
 
--- the byte indices between the characters, with 0 and the size
+-- the byte indices between the chars, with 0 and the size
 abbrev pub boundaries : Text → List ℕ
 boundaries text = 0 ∷ ends Chars text
 
--- what the characters that end at or before the byte index weigh, each by w
+-- the weight of the chars that end at or before the byte index, each by w
 abbrev pub weighed : (ℕ → ℕ) → Text → ℕ → ℕ
 weighed w text byte = sum_by w (cut text byte)
 
--- the greatest boundary before which the characters weigh at most k
+-- the greatest boundary before which the chars weigh at most k
 abbrev pub boundary_weighed : (ℕ → ℕ) → Text → ℕ → ℕ
 boundary_weighed w text k = fold max 0 (filter (λ p. nat_le (weighed w text p) k) (boundaries text))
 
--- the UTF-16 code units of the characters that end at or before the byte index
+-- the UTF-16 code units of the chars that end at or before the byte index
 abbrev pub units : Text → ℕ → ℕ
 units text byte = weighed weight text byte
 
--- the greatest boundary before which the characters take at most k units
+-- the greatest boundary before which the chars take at most k units
 abbrev pub boundary_at_units : Text → ℕ → ℕ
 boundary_at_units text k = boundary_weighed weight text k
 
@@ -106,6 +106,6 @@ to_byte_idx Lf text index = end_at Lf text index
 to_byte_idx Crlf text index = end_at Crlf text index
 to_byte_idx Lines text index = end_at Lines text index
 
--- how many characters take a surrogate pair
+-- how many chars take a surrogate pair
 abbrev pub surrogates : Text → ℕ
 surrogates text = count_by (λ c. weight c == 2) text

@@ -1,9 +1,8 @@
--- Where what is at an index begins: the character at a byte index, the line at a byte index, the surrogate pair at a
--- unit.
+-- Where the char at a byte index begins, where its line begins, and where the surrogate pair of a unit does.
 --     IsGreatestBoundary text byte p   p is the greatest boundary at or before the byte index
 --     IsGreatestEnd s text byte p      p is the greatest end at or before it, or 0 where there is none
 --     IsSecondUnit text k              the text has a surrogate pair whose first unit is unit k - 1
---     IsInside w text k                k falls inside a character, where each weighs by w
+--     IsInside w text k                k falls inside a char, where each weighs by w
 use Rattle.std.specs.Prelude.{ℕ, ◌≡◌, ◌+◌, ◌<◌, ◌≤◌, ◌⊎◌, ◌∷◌, ◌++◌, sum_by}
 use Rattle.str_indices.specs.Text.{Text, weight}
 use Rattle.str_indices.specs.Schemes.{Scheme}
@@ -22,7 +21,7 @@ pub record IsGreatestEnd (s : Scheme) (text : Text) (byte p : ℕ) : Type 0 wher
   pub at_or_before : p ≤ byte
   pub greatest : (q : ℕ) → IsEnd s text q → q ≤ byte → q ≤ p
 
--- the characters before some character of two units take k - 1 units, so that unit k is its second
+-- the chars before some char of two units take k - 1 units, so that unit k is its second
 pub record IsSecondUnit (text : Text) (k : ℕ) : Type 0 where
   pub front : Text
   pub character : ℕ
@@ -31,7 +30,7 @@ pub record IsSecondUnit (text : Text) (k : ℕ) : Type 0 where
   pub pair : weight character ≡ 2
   pub first_unit : sum_by weight front + 1 ≡ k
 
--- the characters before some character weigh less than k, and with it more
+-- the chars before some char weigh less than k, and with it more
 pub record IsInside (w : ℕ → ℕ) (text : Text) (k : ℕ) : Type 0 where
   pub front : Text
   pub character : ℕ

@@ -1,4 +1,4 @@
--- What the laws of the traits of this crate rest on.
+-- Lemmas for the laws of this crate's traits.
 --     flag-le b                a flag is at most 1
 --     mark-le test b           a byte marks 1 at most
 --     units_begun-le b         a byte begins 2 UTF-16 code units at most

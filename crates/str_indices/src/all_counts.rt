@@ -1,4 +1,4 @@
-//! All counts of a text at once. Bytes that it hasn't tell first which of them are the same.
+//! Counts a text in all schemes. First it finds which kinds of bytes the text lacks, and so which counts are equal.
 ghost use Rattle.std.specs.Prelude.{◌≡◌, ◌⊎◌, chars, IsTrue};
 ghost use Rattle.str_indices.specs.Prelude.{count, Scheme, Chars, Utf16, Lf, Crlf, Lines};
 ghost use Rattle.str_indices.specs.ByScheme.{number_of};
@@ -8,7 +8,7 @@ use crate::by_scheme::Counts;
 use crate::kinds::{Kinds, kinds_of, no_wide_break};
 use crate::{chars, lines, lines_crlf, lines_lf, utf16};
 
-/// The counts of a text by every scheme.
+/// Counts a text in every scheme.
 pub fn counts(text: &str) -> Counts
     ensures { (s : Scheme) → number_of result s ≡ count s (chars text.now) }
 {
@@ -22,7 +22,7 @@ pub fn counts(text: &str) -> Counts
     }
 }
 
-/// How many characters a text has, which are its bytes where each is ASCII.
+/// Counts the chars of a text: its bytes, if each is ASCII.
 fn characters_of(text: &str, kinds: Kinds) -> usize
     requires { AreKinds kinds text.now }
     ensures { result ≡ count Chars (chars text.now) }
@@ -34,7 +34,7 @@ fn characters_of(text: &str, kinds: Kinds) -> usize
     }
 }
 
-/// How many UTF-16 code units a text has, which are its characters where none takes two.
+/// Counts the UTF-16 code units of a text: its chars, if none takes two.
 fn units_of(text: &str, kinds: Kinds, characters: usize) -> usize
     requires kinds { AreKinds kinds text.now }
     requires characters { characters ≡ count Chars (chars text.now) }
@@ -47,7 +47,7 @@ fn units_of(text: &str, kinds: Kinds, characters: usize) -> usize
     }
 }
 
-/// How many line breaks a text has.
+/// The numbers of line breaks of a text.
 #[derive(Clone, Copy)]
 struct LineBreaks {
     /// By LF, CR and CRLF.
@@ -56,7 +56,7 @@ struct LineBreaks {
     lines: usize,
 }
 
-/// How many line breaks a text has, which are of one kind where it has no break of another.
+/// Counts the line breaks of a text. Both numbers are equal if it has no break but LF, CR and CRLF.
 fn line_breaks_of(text: &str, kinds: Kinds, lf: usize) -> LineBreaks
     requires kinds { AreKinds kinds text.now }
     requires lf { lf ≡ count Lf (chars text.now) }
@@ -74,7 +74,8 @@ fn line_breaks_of(text: &str, kinds: Kinds, lf: usize) -> LineBreaks
     }
 }
 
-/// Whether a text has no other line break than LF, CR and CRLF, where that is told soon.
+/// Whether a text is found to have no line break but LF, CR and CRLF. It is `false` too where finding out takes more
+/// time than counting.
 fn has_narrow_breaks(text: &str, kinds: Kinds) -> bool
     requires { AreKinds kinds text.now }
     ensures narrow { IsTrue result → HasNoVtFf text.now × (HasNoWideLead text.now ⊎ HasNoWidePair text.now) }
@@ -83,7 +84,7 @@ fn has_narrow_breaks(text: &str, kinds: Kinds) -> bool
     kinds.no_vt_ff && (kinds.is_ascii || no_wide_break(text.as_bytes(), kinds))
 }
 
-/// How many breaks by LF, CR and CRLF a text has, which are its LFs where it has no CR.
+/// Counts the breaks of a text by LF, CR and CRLF: its LFs, if it has no CR.
 #[inline(always)]
 fn returns_of(text: &str, kinds: Kinds, lf: usize) -> usize
     requires kinds { AreKinds kinds text.now }
@@ -97,7 +98,7 @@ fn returns_of(text: &str, kinds: Kinds, lf: usize) -> usize
     }
 }
 
-/// How many breaks by LF, CR and CRLF a text has, which are its LFs where it has no other line break at all.
+/// Counts the breaks of a text by LF, CR and CRLF: its LFs, if it has no other line break at all.
 fn breaks_of(text: &str, kinds: Kinds, lf: usize, lines: usize) -> usize
     requires kinds { AreKinds kinds text.now }
     requires lf { lf ≡ count Lf (chars text.now) }

@@ -1,11 +1,11 @@
-//! A number for each scheme, as a text's counts are.
+//! A number for each scheme, such as the counts of a text.
 ghost use Rattle.std.specs.Prelude.{◌≡◌, ◌+◌, ◌^◌, ◌<◌, ◌≤◌};
 ghost use Rattle.str_indices.specs.ByScheme.{number_of};
 ghost use Rattle.str_indices.specs.Prelude.{Scheme};
 
 use crate::schemes::Scheme;
 
-/// A count of each scheme.
+/// A count for each scheme.
 #[derive(Clone, Copy, PartialEq, Eq, Debug)]
 #[repr(C)]
 pub struct Counts {
@@ -17,7 +17,7 @@ impl Counts {
     /// The counts of the empty text.
     pub const NONE: Counts = Counts { numbers: [0; 5] };
 
-    /// The count of a scheme.
+    /// Returns the count of scheme `s`.
     #[inline(always)]
     pub fn get(&self, s: Scheme) -> usize
         ensures { result ≡ number_of self.now s }
@@ -25,7 +25,7 @@ impl Counts {
         self.numbers[s as usize]
     }
 
-    /// In each scheme both counts together.
+    /// Adds the counts, scheme by scheme.
     #[inline(always)]
     pub fn plus(self, other: Counts) -> Counts
         requires { (s : Scheme) → number_of self s + number_of other s < 2 ^ 64 }
@@ -42,7 +42,7 @@ impl Counts {
         }
     }
 
-    /// In each scheme what is left of a count without the other.
+    /// Subtracts the counts of `other`, scheme by scheme.
     #[inline(always)]
     pub fn minus(self, other: Counts) -> Counts
         requires { (s : Scheme) → number_of other s ≤ number_of self s }

@@ -7,7 +7,7 @@ use crate::places::boundary_at_or_before;
 use crate::weights::{LeadingBytes, Weights};
 use byte_chunk::{ByteChunk, Chunk, Probe};
 
-/// How many chars the text has. An empty text has none.
+/// Counts the chars of the text. An empty text has none.
 #[tactic(auto, using(crate::proofs::lemmas::bytes::Walks::whole_text))]
 pub fn count(text: &str) -> usize
     ensures { result ≡ count Chars (chars text.now) }

@@ -1,8 +1,8 @@
-//! The search through the chunk in which an index is reached, by all its lanes at once.
+//! Searches the chunk in which an index is reached, all lanes at once.
 //!
-//! Byte by byte it would take a branch each, and where they end no processor foresees; or all steps wherever it ends. So each
-//! lane gets the sum of those from it on. Such a sum is never below the next lane's: too great ones stand in the first lanes,
-//! and the last of these is the place.
+//! A walk would branch at each byte, and no processor predicts at which one it ends; or it would go over all of them.
+//! So each lane gets the sum of the lanes from it to the last. These sums never rise from lane to lane: those that are
+//! too great stand first, and the last of them is the place.
 ghost use Rattle.std.specs.Prelude.{◌≡◌, ◌+◌, ◌-◌, ◌*◌, ◌<◌, ◌≤◌, length, drop, map, slice_index, sum};
 ghost use Rattle.std.specs.Simd.Lanes.{Each1};
 ghost use Rattle.str_indices.specs.Prelude.{is_between, sum_below, CountsUpTo, FitsIn, HasLanes, Reads, SearchesOn};
@@ -15,11 +15,11 @@ use byte_chunk::{ByteChunk, Probe};
 /// The greatest sum of lanes that can be compared with another.
 const MOST_COMPARED: usize = 126;
 
-/// The first byte with which more than `idx` are counted, of as many bytes from a position on as a chunk has, or the place
-/// after them; where fewer are left, the end of the text.
+/// Finds, in the next `T::SIZE` bytes from `from` on, or all that are left, the byte that takes the count above `idx`,
+/// or the place after them if none does.
 ///
-/// They are searched by lanes, for one turn each, and walked where a sum of lanes may be too great to be compared, or where
-/// the text has fewer bytes than a chunk.
+/// It searches them by lanes, with one turn for each. It walks them instead if a sum of lanes may be too great to be
+/// compared, or if the text is shorter than a chunk.
 pub(crate) fn find_in_last<C: PlaceCounts<T>, T: ByteChunk>(
     probe: &mut Probe<'_, T>,
     from: Cursor<C::Carry>,
@@ -49,7 +49,7 @@ pub(crate) fn find_in_last<C: PlaceCounts<T>, T: ByteChunk>(
     to - T::SIZE + (above.sum_bytes() - 1)
 }
 
-/// In each lane the sum of those from it on.
+/// Returns in each lane the sum of the lanes from it to the last.
 #[inline(always)]
 fn sums_to_end<T: ByteChunk>(lanes: T) -> T
     requires long { length (T.lanes lanes) ≡ T.SIZE }
@@ -66,7 +66,7 @@ fn sums_to_end<T: ByteChunk>(lanes: T) -> T
     sums
 }
 
-/// The lanes from four times so many on, moved to the front, and then lanes 0.
+/// Moves the lanes from lane `4 * fours` on to the front, and fills up with lanes 0.
 #[inline(always)]
 fn move_back<T: ByteChunk>(lanes: T, fours: usize) -> T
     requires long { length (T.lanes lanes) ≡ T.SIZE }

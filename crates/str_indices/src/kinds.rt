@@ -1,44 +1,44 @@
-//! Which bytes a text has and hasn't, found in one pass over it: where some kinds are absent, counts are the same.
+//! Finds which kinds of bytes a text lacks: without some of them, two of its counts are equal.
 ghost use Rattle.std.specs.Prelude.{◌≡◌, ◌↔◌, ◌⊎◌, IsTrue};
 ghost use Rattle.str_indices.specs.Kinds.{AreKinds, HasNoWideLead, HasNoWidePair, IsWidePair};
 
 /// VT, after which come FF and CR.
 const VT: u8 = 0x0B;
 
-/// The first byte of U+0085, and of each other character from U+0080 to U+00BF.
+/// The first byte of U+0085, and of each other char from U+0080 to U+00BF.
 const NEXT_LINE_LEAD: u8 = 0xC2;
 
-/// The first byte of U+2028 and U+2029, and of each other character from U+2000 to U+2FFF.
+/// The first byte of U+2028 and U+2029, and of each other char from U+2000 to U+2FFF.
 const SEPARATOR_LEAD: u8 = 0xE2;
 
-/// How many bytes are looked at before it is asked whether one was found.
+/// How many bytes `no_wide_lead` goes over before it asks whether it found one.
 const BLOCK: usize = 256;
 
-/// From this many bytes on, two bytes side by side are sought in less time than all line breaks are counted,
+/// From this length in bytes on, looking for two bytes side by side takes less time than counting all line breaks.
 const FEW: usize = 9;
 
-/// but not from as many on as a chunk has, which are counted by chunks,
+/// From the length of a chunk on, counting takes less time again, since it goes by chunks.
 const CHUNK: usize = 16;
 
-/// up to this many.
+/// From this length on, looking for two bytes takes less time again.
 const MANY: usize = 65;
 
-/// Which bytes a text hasn't.
+/// Which kinds of bytes a text lacks.
 #[derive(Clone, Copy)]
 pub(crate) struct Kinds {
     /// Whether each byte is ASCII.
     pub(crate) is_ascii: bool,
-    /// Whether none begins a character of four bytes, which takes two UTF-16 code units.
+    /// Whether none begins a char of four bytes, which takes two UTF-16 code units.
     pub(crate) no_pair: bool,
     /// Whether none is VT or FF.
     pub(crate) no_vt_ff: bool,
     /// Whether none is VT, FF or CR.
     pub(crate) no_return: bool,
-    /// Whether the greatest begins U+0085, U+2028 or U+2029, or another character of the same first byte.
+    /// Whether the greatest byte begins U+0085, U+2028 or U+2029, or another char with the same first byte.
     pub(crate) has_wide_lead: bool,
 }
 
-/// Which bytes there aren't.
+/// Finds which kinds of bytes a text lacks.
 pub(crate) fn kinds_of(bytes: &[u8]) -> Kinds
     ensures { AreKinds result bytes.now }
 {
@@ -57,7 +57,8 @@ pub(crate) fn kinds_of(bytes: &[u8]) -> Kinds
     }
 }
 
-/// Whether U+0085, U+2028 and U+2029 are absent, where that is told in less time than it takes to count them.
+/// Whether U+0085, U+2028 and U+2029 are found to be absent. It is `false` too where finding out takes more time than
+/// counting them.
 pub(crate) fn no_wide_break(bytes: &[u8], kinds: Kinds) -> bool
     requires { AreKinds kinds bytes.now }
     ensures absent { IsTrue result → HasNoWideLead bytes.now ⊎ HasNoWidePair bytes.now }
@@ -73,7 +74,7 @@ pub(crate) fn no_wide_break(bytes: &[u8], kinds: Kinds) -> bool
     seeks_pairs && no_wide_pair(bytes)
 }
 
-/// Whether a byte begins U+0085, U+2028 or U+2029, or another character of the same first byte.
+/// Whether a byte begins U+0085, U+2028 or U+2029, or another char with the same first byte.
 #[inline(always)]
 fn is_wide_lead(byte: u8) -> bool
     ensures { IsTrue result ↔ ((byte ≡ 0xC2) ⊎ (byte ≡ 0xE2)) }
@@ -81,7 +82,7 @@ fn is_wide_lead(byte: u8) -> bool
     byte == NEXT_LINE_LEAD || byte == SEPARATOR_LEAD
 }
 
-/// Whether no byte begins U+0085, U+2028 or U+2029, nor another character of the same first byte.
+/// Whether no byte begins U+0085, U+2028 or U+2029, nor another char with the same first byte.
 fn no_wide_lead(bytes: &[u8]) -> bool
     ensures { IsTrue result ↔ HasNoWideLead bytes.now }
 {
@@ -96,7 +97,7 @@ fn no_wide_lead(bytes: &[u8]) -> bool
     true
 }
 
-/// The same of one block, over which it goes to the end.
+/// Whether no byte of `block` passes `is_wide_lead`. It always goes over the whole block.
 fn no_lead_in(block: &[u8]) -> bool
     ensures { IsTrue result ↔ HasNoWideLead block.now }
 {

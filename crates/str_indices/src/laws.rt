@@ -3,30 +3,30 @@ ghost use Rattle.std.specs.Prelude.{ℕ, ◌≡◌, ◌≢◌, ◌+◌, ◌-◌,
 ghost use Rattle.std.specs.List.Sorted.{IsStrictlyIncreasing};
 ghost use Rattle.str_indices.specs.Prelude.{cut, Scheme, Chars, Utf16, Lf, Crlf, Lines, ends, count, from_byte_idx, to_byte_idx, surrogates, IsLineScheme, IsCharacterScheme, IsBoundary, IsEnd, IsGreatestWithin, IsLongestCut, IsGreatestBoundary, IsGreatestEnd, IsSecondUnit, joins_crlf, seam_loss};
 
-/// From an index, in chars or in line breaks, to its byte index and back gives the index, or the count where the index
+/// Converting an index, in chars or in line breaks, to a byte index and back gives the index, or the count if the index
 /// is past it.
 ///
-/// An editor's go to line relies on it: the line that it goes to is the line that it then shows.
+/// An editor's go to line could use it: the line that it goes to is the line that it then shows.
 #[tactic(auto, using(crate::proofs::lemmas::laws::CharacterLaws::index_laws))]
 pub fn round_trip(text: &str, k: usize)
     ensures { (s : Scheme) → s ≢ Utf16 → let cs = chars text.now in
         from_byte_idx s cs (to_byte_idx s cs k) ≡ min k (count s cs) }
 {}
 
-/// The byte index of `k`, a number of chars or of line breaks that the text has, is at most `b` exactly where `k` is at
-/// most the number at byte `b`.
+/// For an index `k`, in chars or in line breaks and at most the count, the byte index of `k` is at most `b` exactly if
+/// `k` is at most the index at byte `b`.
 ///
-/// A span reporter relies on it: the line and the column of a byte are the greatest that begin at or before it.
+/// A span reporter could use it: the line and the column of a byte are the greatest that begin at or before it.
 #[tactic(auto, using(crate::proofs::lemmas::laws::EndLaws::to_le_iff))]
 pub fn end_adjunction(text: &str, b: usize, k: usize)
     ensures { (s : Scheme) → s ≢ Utf16 → let cs = chars text.now in
         k ≤ count s cs → (to_byte_idx s cs k ≤ b) ↔ (k ≤ from_byte_idx s cs b) }
 {}
 
-/// A boundary, a byte index `b` between characters, is at most the byte index of `k`, a number of chars or of UTF-16
-/// code units, exactly where the number at `b` is at most `k`.
+/// A boundary `b`, a byte index between chars, is at most the byte index of `k`, an index in chars or in UTF-16 code
+/// units, exactly if the index at `b` is at most `k`.
 ///
-/// A position mapper of a language server relies on it: a position inside a surrogate pair goes to the pair's
+/// A position mapper of a language server could use it: a position inside a surrogate pair goes to the pair's
 /// beginning.
 #[tactic(auto, using(crate::proofs::lemmas::laws::CharacterLaws::boundary_adjunction))]
 pub fn boundary_adjunction(text: &str, b: usize, k: usize)
@@ -34,28 +34,28 @@ pub fn boundary_adjunction(text: &str, b: usize, k: usize)
         IsBoundary cs b → (b ≤ to_byte_idx s cs k) ↔ (from_byte_idx s cs b ≤ k) }
 {}
 
-/// From a byte index to its index, in chars or in UTF-16 code units, and back gives the greatest boundary at or before
-/// it: the byte index where the character round it begins, or the length in bytes where it is past the end.
+/// Converting a byte index to an index, in chars or in UTF-16 code units, and back gives the greatest boundary at or
+/// before it: where the char around it begins, or the length in bytes if it is past the end.
 ///
-/// A span reporter relies on it: a span that begins inside a character is moved to the character's beginning.
+/// A span reporter could use it: a span that begins inside a char is moved to the beginning of the char.
 pub fn start_of_char(text: &str, b: usize)
     ensures { (s : Scheme) → IsCharacterScheme s → let cs = chars text.now in
         IsGreatestBoundary cs b (to_byte_idx s cs (from_byte_idx s cs b)) }
 {}
 
-/// From a byte index to its line and back gives the byte index after the last line break that ends at or before it, or
-/// 0 where none does.
+/// Converting a byte index to its line and back gives the byte index after the last line break that ends at or before
+/// it, or 0 if none does.
 ///
-/// An editor's go to line relies on it: the line round the caret begins there.
+/// An editor's go to line could use it: the line around the caret begins there.
 pub fn start_of_line(text: &str, b: usize)
     ensures { (s : Scheme) → IsLineScheme s → let cs = chars text.now in
         IsGreatestEnd s cs b (to_byte_idx s cs (from_byte_idx s cs b)) }
 {}
 
-/// From an index in UTF-16 code units to its byte index and back gives the index, or the count where the index is past
+/// Converting an index in UTF-16 code units to a byte index and back gives the index, or the count if the index is past
 /// it; but the second unit of a surrogate pair gives the first.
 ///
-/// A position mapper of a language server relies on it: only a position inside a pair moves, by one unit, and one past
+/// A position mapper of a language server could use it: only a position inside a pair moves, by one unit, and one past
 /// the end, to the end.
 #[tactic(auto, using(crate::proofs::lemmas::laws::UnitLaws::units_or_second_unit))]
 pub fn utf16_round_trip(text: &str, k: usize)
@@ -67,7 +67,7 @@ pub fn utf16_round_trip(text: &str, k: usize)
 
 /// The text has one UTF-16 code unit for each char, and one more for each surrogate pair.
 ///
-/// It is a check between the modules `chars` and `utf16`.
+/// It checks the modules `chars` and `utf16` against each other.
 #[tactic(auto, using(crate::proofs::lemmas::laws::CountLaws::count_laws))]
 pub fn units(text: &str)
     ensures { let cs = chars text.now in count Utf16 cs ≡ count Chars cs + surrogates cs }
@@ -75,7 +75,7 @@ pub fn units(text: &str)
 
 /// Two texts, joined, have the chars, the UTF-16 code units, the surrogate pairs and the line feeds of both.
 ///
-/// A rope with summed counts relies on it: it adds up the counts of its pieces.
+/// A rope with summed counts could use it: it adds up the counts of its pieces.
 #[tactic(auto, using(crate::proofs::lemmas::laws::CountLaws::joined_sums))]
 pub fn joined_sums(a: &str, b: &str)
     ensures chars { count Chars (chars (a.now ++ b.now)) ≡ count Chars (chars a.now) + count Chars (chars b.now) }
@@ -84,10 +84,10 @@ pub fn joined_sums(a: &str, b: &str)
     ensures lines_lf { count Lf (chars (a.now ++ b.now)) ≡ count Lf (chars a.now) + count Lf (chars b.now) }
 {}
 
-/// Two texts, joined, have the line breaks of both, by the sets in which CRLF is one break; or one less, exactly where
+/// Two texts, joined, have the line breaks of both, in the schemes in which CRLF is one break; or one less, exactly if
 /// `a` ends in CR and `b` starts with LF.
 ///
-/// A rope with summed counts relies on it: beside its counts it keeps whether a piece ends in CR and whether it starts
+/// A rope with summed counts could use it: beside its counts it keeps whether a piece ends in CR and whether it starts
 /// with LF.
 #[tactic(auto, using(crate::proofs::lemmas::laws::CountLaws::joined_breaks))]
 pub fn joined_breaks(a: &str, b: &str)
@@ -99,10 +99,10 @@ pub fn joined_breaks(a: &str, b: &str)
         ≡ count Lines (chars a.now) + count Lines (chars b.now) }
 {}
 
-/// Two texts, joined, answer before their seam as `a` does, and after it as `b` does where `a` has gone before; but the
-/// index is one less where the seam makes one CRLF of a CR and an LF.
+/// Two texts, joined, answer before their seam as `a` does, and after it as `b` does, shifted by the length and the
+/// count of `a`; but the index is one less if the seam makes one CRLF of a CR and an LF.
 ///
-/// A rope with summed counts relies on it: it finds the piece by its counts and asks that piece alone.
+/// A rope with summed counts could use it: it finds the piece by its counts and asks that piece alone.
 pub fn joined_places(a: &str, b: &str, i: usize, k: usize)
     ensures from_before { (s : Scheme) → i < length a.now →
         from_byte_idx s (chars (a.now ++ b.now)) i ≡ from_byte_idx s (chars a.now) i }
@@ -117,9 +117,9 @@ pub fn joined_places(a: &str, b: &str, i: usize, k: usize)
         ≡ length a.now + to_byte_idx s (chars b.now) (index - count s (chars a.now)) }
 {}
 
-/// Each larger set of break characters gives at least as many line breaks.
+/// Each larger set of break chars gives at least as many line breaks.
 ///
-/// It is a check between the modules `lines_lf`, `lines_crlf` and `lines`.
+/// It checks the modules `lines_lf`, `lines_crlf` and `lines` against each other.
 #[tactic(auto, using(crate::proofs::lemmas::laws::CountLaws::count_laws))]
 pub fn order_of_counts(text: &str)
     ensures lf_to_crlf { count Lf (chars text.now) ≤ count Crlf (chars text.now) }
@@ -129,7 +129,7 @@ pub fn order_of_counts(text: &str)
 /// A greater byte index never gives a lesser index, in chars, UTF-16 code units or line breaks, and a greater index
 /// never a lesser byte index.
 ///
-/// An editor's go to line relies on it: a later line never begins before an earlier one.
+/// An editor's go to line could use it: a later line never begins before an earlier one.
 #[tactic(auto, using(crate::proofs::lemmas::laws::CharacterLaws::index_laws))]
 pub fn monotone(text: &str, i: usize, j: usize)
     ensures from { (s : Scheme) → i ≤ j → from_byte_idx s (chars text.now) i ≤ from_byte_idx s (chars text.now) j }
@@ -139,17 +139,17 @@ pub fn monotone(text: &str, i: usize, j: usize)
 /// An index that is at least the text's length in bytes goes to its end: no text has more chars, UTF-16 code units or
 /// line breaks than bytes.
 ///
-/// A caller that adds to an index relies on it: where the sum does not fit `usize`, `usize::MAX` goes to the same byte.
+/// A caller that adds to an index could use it: if the sum does not fit `usize`, `usize::MAX` goes to the same byte.
 #[tactic(auto, using(crate::proofs::lemmas::laws::PastEnds::past_ends))]
 pub fn past_end(text: &str)
     ensures { (s : Scheme) (k : ℕ) → length text.now ≤ k → to_byte_idx s (chars text.now) k ≡ length text.now }
 {}
 
-/// Each conversion to a byte index answers a place between characters, and these places are where `std` lets the text
-/// be sliced. Three definitions compute what a relation says: `ends`, in increasing order, the places with `IsEnd`;
-/// `cut` the text with `IsLongestCut`; and `to_byte_idx` in UTF-16 the place with `IsGreatestWithin`.
+/// Each conversion to a byte index answers a place between chars, and these places are where `std` lets you slice the
+/// text. Three definitions compute what a relation says: `ends`, in increasing order, the places with `IsEnd`; `cut`
+/// the text with `IsLongestCut`; and `to_byte_idx` in UTF-16 the place with `IsGreatestWithin`.
 ///
-/// A position mapper of a language server relies on it: the text may be split at each byte index that a conversion
+/// A position mapper of a language server could use it: the text may be split at each byte index that a conversion
 /// answers.
 #[tactic(auto, using(crate::proofs::lemmas::laws::CharacterLaws::end_laws))]
 pub fn boundaries(text: &str, k: usize)

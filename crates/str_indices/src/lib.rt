@@ -1,11 +1,12 @@
-//! Counts the characters, UTF-16 code units and line breaks of a UTF-8 text, and converts between those indices and
-//! byte indices.
+//! Counts the chars, UTF-16 code units and line breaks of a UTF-8 text, and converts between those indices and byte
+//! indices.
 //!
 //! Each module is one indexing scheme. Every text and every index has an answer: nothing panics, nothing allocates.
 //!
-//! A function of a module calls one kernel, which has its name and then `_impl`. By the kernel's contract it loads at most
-//! `n / 16` chunks of 16 bytes of the `n` bytes that it counts in, or `answer / 16 + 5` where the answer is a byte index. It
-//! takes at most 20 bytes one by one, and peeks at most twice for each of them, four times for each chunk, and thrice more.
+//! Each function of a module calls one kernel: its own name with `_impl`. By the kernel's contract, a call that counts
+//! in `n` bytes loads at most `n / 16` chunks of 16 bytes, and one that answers a byte index at most `answer / 16 + 5`.
+//! It takes at most 20 bytes one by one, and peeks at most twice for each of these, four times for each chunk, and
+//! three times more.
 #![tactic(auto)]
 
 mod all_counts;

@@ -13,7 +13,7 @@ use crate::places::{boundary_at_or_after, boundary_at_or_before, is_not_crlf_mid
 use crate::weights::{CR, LF};
 use byte_chunk::{ByteChunk, Chunk, Probe};
 
-/// How many line breaks the text has.
+/// Counts the line breaks of the text.
 ///
 /// That is one less than its lines: after a break at the end of the text an empty line begins.
 #[tactic(auto, using(crate::proofs::lemmas::bytes::Walks::whole_text))]
@@ -87,8 +87,8 @@ pub fn to_byte_idx_impl<T: ByteChunk>(probe: &mut Probe<'_, T>, idx: usize, lead
     boundary_at_or_after(probe, place)
 }
 
-/// Whether a break of several bytes is counted at byte `at`: only where that may begin one, the bytes after it are
-/// peeked at.
+/// Whether a break of several bytes is counted at `byte`, which stands at `at`. It peeks at the bytes after it only if
+/// `byte` may begin such a break.
 fn is_wide_break<T: ByteChunk>(probe: &mut Probe<'_, T>, byte: u8, at: usize, end: usize) -> bool
     requires seen { (at < end) × (end ≤ length probe.old.text) }
     requires byte { byte ≡ slice_index (take end probe.old.text) at }
@@ -107,7 +107,7 @@ fn is_wide_break<T: ByteChunk>(probe: &mut Probe<'_, T>, byte: u8, at: usize, en
     }
 }
 
-/// The byte that is so many bytes ahead of `at`, for one peek, or 0 where that is not before `end`.
+/// Peeks at the byte at `at + ahead`, or returns 0 if that is not before `end`.
 fn peek_ahead<T: ByteChunk>(probe: &mut Probe<'_, T>, at: usize, ahead: usize, end: usize) -> u8
     requires seen { (at ≤ end) × (end ≤ length probe.old.text) }
     ensures byte { result ≡ slice_index (take end probe.old.text) (ahead + at) }
@@ -120,14 +120,14 @@ fn peek_ahead<T: ByteChunk>(probe: &mut Probe<'_, T>, at: usize, ahead: usize, e
     }
 }
 
-/// Whether the bytes are those of U+2028 or U+2029.
+/// Whether the three bytes are those of U+2028 or U+2029.
 fn is_separator(byte: u8, next: u8, after: u8) -> bool
     ensures { result ≡ is_separator byte next after }
 {
     byte == 0xE2 && next == 0x80 && (after == 0xA8 || after == 0xA9)
 }
 
-/// The breaks that are counted in the lanes of a chunk, 1 each.
+/// 1 at each line break: at the LF of a CR LF, and at the first byte of each other break.
 struct LineBreaks;
 
 impl<T: ByteChunk> PlaceCounts<T> for LineBreaks {
@@ -184,9 +184,9 @@ impl<T: ByteChunk> PlaceCounts<T> for LineBreaks {
     ghost grouped = { (lit< tt, lit≤ tt, lit< tt, lit< tt) };
 }
 
-/// 1 in each lane of the chunk at `at` in which a break is counted.
+/// Returns 1 in each lane of the chunk at `at` in which a break is counted.
 ///
-/// It peeks only where some lane is CR, C2 or E2: at the last two bytes of the chunk and the two after it.
+/// It peeks only if some lane is CR, C2 or E2: at the last two bytes of the chunk and the two after it.
 #[inline(always)]
 fn count_breaks_in_chunk<T: ByteChunk>(
     probe: &mut Probe<'_, T>,
@@ -203,9 +203,9 @@ fn count_breaks_in_chunk<T: ByteChunk>(
     add_wide_breaks(probe, chunk, narrow_breaks, at, end)
 }
 
-/// 1 in each lane of the chunk at `at` that is a break of one byte or the LF of CR LF.
+/// Returns 1 in each lane of the chunk at `at` that is a break of one byte or the LF of CR LF.
 ///
-/// Only where a lane is CR it peeks at the last byte, and only where that is CR at the one after it.
+/// It peeks at the last byte only if some lane is CR, and at the byte after it only if the last one is CR.
 #[inline(always)]
 #[tactic(auto, using(crate::proofs::lemmas::lanes::BreakChunks::last_is_counted))]
 fn count_narrow_breaks<T: ByteChunk>(probe: &mut Probe<'_, T>, chunk: T, at: usize, end: usize) -> T
@@ -227,7 +227,7 @@ fn count_narrow_breaks<T: ByteChunk>(probe: &mut Probe<'_, T>, chunk: T, at: usi
     }
 }
 
-/// Whether CR LF starts at byte `at`: where that is CR, the byte after it is peeked at too.
+/// Whether CR LF starts at byte `at`. If that byte is CR, it peeks at the next one too.
 fn starts_crlf<T: ByteChunk>(probe: &mut Probe<'_, T>, at: usize, end: usize) -> bool
     requires seen { (at < end) × (end ≤ length probe.old.text) }
     ensures answer { let byte = slice_index (take end probe.old.text) in result ≡ is_crlf (byte at) (byte (1 + at)) }
@@ -238,7 +238,7 @@ fn starts_crlf<T: ByteChunk>(probe: &mut Probe<'_, T>, at: usize, end: usize) ->
 
 /// Adds the breaks of several bytes, each at its first byte, to the others of the chunk at `at`.
 ///
-/// Only where a lane is C2 or E2, which differ in one bit alone, it peeks: three times at most, and once where the last byte
+/// It peeks only if a lane is C2 or E2, which differ in one bit: at most three times, and at most once if the last byte
 /// is CR.
 #[inline(always)]
 fn add_wide_breaks<T: ByteChunk>(
@@ -266,7 +266,7 @@ fn add_wide_breaks<T: ByteChunk>(
     add_at_edge(probe, inside, at, end)
 }
 
-/// 1 in each lane that is the first byte and stands before a lane that is the second.
+/// Returns 1 in each lane that is `first` where the next lane is `second`.
 fn pair_starts<T: ByteChunk>(chunk: T, first: u8, second: u8) -> T
     requires long { length (T.lanes chunk) ≡ T.SIZE }
     requires some { 0 < second }
@@ -277,9 +277,9 @@ fn pair_starts<T: ByteChunk>(chunk: T, first: u8, second: u8) -> T
     chunk.cmp_eq_byte(first).bitand(before)
 }
 
-/// Adds each U+2028 and U+2029 that stands in a chunk as a whole to its breaks, where `firsts` says which lanes are E2.
+/// Adds to `breaks` each U+2028 and U+2029 that is whole in the chunk. `firsts` says which lanes are E2.
 ///
-/// The bytes A8 and A9, which end them, differ in their lowest bit alone.
+/// The bytes A8 and A9, which end them, differ only in their lowest bit.
 fn add_separators<T: ByteChunk>(chunk: T, firsts: T, breaks: T) -> T
     requires long { length (T.lanes chunk) ≡ T.SIZE }
     requires first { T.lanes firsts ≡ map (is_byte 0xE2) (T.lanes chunk) }
@@ -297,8 +297,8 @@ fn add_separators<T: ByteChunk>(chunk: T, firsts: T, breaks: T) -> T
 
 /// Adds the break of several bytes that crosses the end of the chunk at `at`, if there is one.
 ///
-/// `breaks` has those that are counted where no byte after the chunk is seen. The last byte says whether more bytes
-/// are peeked at: two after it, or the one before it and the one after it.
+/// `breaks` has all other breaks of the chunk. The last byte decides whether it peeks at more: at the two bytes after
+/// it, or at the one before it and the one after it.
 fn add_at_edge<T: ByteChunk>(probe: &mut Probe<'_, T>, breaks: T, at: usize, end: usize) -> T
     requires seen { (at + T.SIZE ≤ end) × (end ≤ length probe.old.text) }
     requires counted { let bytes = take end probe.old.text in let inside = take (at + T.SIZE) bytes in

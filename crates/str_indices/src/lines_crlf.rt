@@ -12,7 +12,7 @@ use crate::places::{byte_before, is_not_crlf_middle};
 use crate::weights::{CR, LF};
 use byte_chunk::{ByteChunk, Chunk, Probe};
 
-/// How many line breaks the text has, LF, CR and CRLF, which is one break.
+/// Counts the line breaks of the text: LF, CR and CRLF, which is one break.
 ///
 /// That is one less than its lines: after a break at the end of the text an empty line begins.
 #[tactic(auto, using(crate::proofs::lemmas::bytes::Walks::whole_text))]
@@ -45,8 +45,7 @@ pub fn to_byte_idx(text: &str, line_idx: usize) -> usize
 /// Counts the line breaks before `end`, LF, CR and CRLF, which is one break, over chunks of any type, after `lead`
 /// bytes that are walked one by one.
 ///
-/// `end` may lie inside a character, and between CR and LF: what stands before it is then a text that ends in CR,
-/// which counts.
+/// `end` may lie inside a char, and between CR and LF: the text before it then ends in CR, which counts.
 pub fn count_breaks_impl<T: ByteChunk>(probe: &mut Probe<'_, T>, end: usize, lead: usize) -> usize
     requires within { end ≤ length probe.old.text }
     ensures count { result ≡ count Crlf (cut (chars probe.old.text) end) }
@@ -90,8 +89,8 @@ pub fn to_byte_idx_impl<T: ByteChunk>(probe: &mut Probe<'_, T>, idx: usize, lead
     }
 }
 
-/// The breaks that start in the lanes of a chunk, 1 each. A chunk hands on 1 in each lane that is CR, of which the chunk
-/// after it reads the last.
+/// 1 at each place where a break starts. A chunk hands on 1 in each lane that is CR; the next chunk reads the last of
+/// these lanes.
 struct BreakStarts;
 
 impl<T: ByteChunk> PlaceCounts<T> for BreakStarts {

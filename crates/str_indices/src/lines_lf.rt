@@ -9,7 +9,7 @@ use crate::passes::{count_up_to, find_first};
 use crate::weights::{LineFeeds, Weights};
 use byte_chunk::{ByteChunk, Chunk, Probe};
 
-/// How many line breaks the text has.
+/// Counts the line breaks of the text.
 ///
 /// A text has one line more: after a break at its end an empty line begins.
 #[tactic(auto, using(crate::proofs::lemmas::bytes::Walks::whole_text))]
@@ -41,7 +41,7 @@ pub fn to_byte_idx(text: &str, line_idx: usize) -> usize
 
 /// Counts the line breaks before `end`, over chunks of any type, after `lead` bytes that are walked one by one.
 ///
-/// An `end` inside a character leaves that character out.
+/// An `end` inside a char leaves that char out.
 pub fn count_breaks_impl<T: ByteChunk>(probe: &mut Probe<'_, T>, end: usize, lead: usize) -> usize
     requires within { end ≤ length probe.old.text }
     ensures count { result ≡ count Lf (cut (chars probe.old.text) end) }

@@ -1,7 +1,6 @@
-//! The passes of a kernel: the count before an end, and the search for a place, whatever is counted.
+//! The two passes of a kernel, whatever it counts: one counts before `end`, the other searches for a place.
 //!
-//! Each is leading bytes one by one, then whole chunks, then the rest. `lead` bytes, or as many of them as the pass
-//! covers, are walked before the first chunk.
+//! Each walks `lead` bytes one by one, or all its bytes if they are fewer, then takes whole chunks, then the rest.
 ghost use Rattle.std.specs.Prelude.{◌≡◌, ℕ, ◌+◌, ◌-◌, ◌*◌, ◌/◌, ◌<◌, ◌≤◌, length};
 ghost use Rattle.str_indices.specs.Prelude.{sum_below, FitsIn, IsSteady, Reads, Counts, Finds, SearchesOn};
 
@@ -11,10 +10,10 @@ use crate::places::byte_before;
 use crate::rest::lanes_up_to;
 use byte_chunk::{ByteChunk, Probe};
 
-/// The fewest chunks that a search skips without a look at what it has so far.
+/// The fewest chunks that a search counts in one go, without comparing with `idx` in between.
 const LEAST: usize = 8;
 
-/// What is counted before `end`, of the text the bytes before it seen.
+/// Counts in the first `end` bytes of the text. Bytes from `end` on are not read.
 pub(crate) fn count_up_to<C: PlaceCounts<T>, T: ByteChunk>(
     probe: &mut Probe<'_, T>,
     end: usize,
@@ -38,7 +37,7 @@ pub(crate) fn count_up_to<C: PlaceCounts<T>, T: ByteChunk>(
     after_chunks.count + rest.sum_bytes()
 }
 
-/// The first place before which `idx` are counted, or the end of the text where fewer are.
+/// Finds the first place before which `idx` are counted, or the end of the text if fewer are.
 pub(crate) fn find_first<C: PlaceCounts<T>, T: ByteChunk>(
     probe: &mut Probe<'_, T>,
     idx: usize,
@@ -63,8 +62,8 @@ pub(crate) fn find_first<C: PlaceCounts<T>, T: ByteChunk>(
     if last < probe.len() { last + 1 } else { last }
 }
 
-/// Counts breaks byte by byte from the beginning of the text on, in so many bytes at most, and stops after the byte that
-/// reaches so many breaks: the place where it stops, and the breaks before it. For no break it walks no byte.
+/// Counts breaks byte by byte in the first `bytes` bytes of the text, and stops after the byte that brings the count to
+/// `breaks`. It returns the place where it stops and the breaks before it. If `breaks` is 0, it walks no byte.
 #[inline(always)]
 fn count_breaks_up_to<C: PlaceCounts<T>, T: ByteChunk>(
     probe: &mut Probe<'_, T>,
@@ -95,7 +94,7 @@ fn count_breaks_up_to<C: PlaceCounts<T>, T: ByteChunk>(
     walked
 }
 
-/// The first byte with which more than `idx` are counted, or the end of the text where no more are.
+/// Finds the byte that takes the count above `idx`, or the end of the text if none does.
 pub(crate) fn find<C: PlaceCounts<T>, T: ByteChunk>(
     probe: &mut Probe<'_, T>,
     idx: usize,
@@ -123,9 +122,9 @@ pub(crate) fn find<C: PlaceCounts<T>, T: ByteChunk>(
     find_from::<C, T>(probe, after_lead, idx)
 }
 
-/// The first byte from a position on with which more than `idx` are counted, or the end of the text where no more are.
+/// Finds, from `from` on, the byte that takes the count above `idx`, or the end of the text if none does.
 ///
-/// It looks at chunks in groups, then one by one, and searches the one that reaches the index.
+/// It skips chunks that cannot do so, then groups of chunks, then single chunks, and searches the chunk that does.
 #[inline(always)]
 fn find_from<C: PlaceCounts<T>, T: ByteChunk>(
     probe: &mut Probe<'_, T>,
@@ -146,18 +145,18 @@ fn find_from<C: PlaceCounts<T>, T: ByteChunk>(
     find_in_last::<C, T>(probe, after_chunks, idx)
 }
 
-/// The byte that a walk looks for, and what is counted before the walk's end.
+/// The place that a walk found, and its count where it ended.
 #[derive(Clone, Copy)]
 pub(crate) struct Walked {
     pub(crate) place: usize,
     pub(crate) count: usize,
 }
 
-/// Walks on from a position to `to`, one turn a byte and one for the byte before them: the first byte with which more
-/// than `idx` are counted, or `to`.
+/// Walks the bytes from `from` to `to` and finds the one that takes the count above `idx`, or `to`. It takes one turn
+/// for each byte, and one for the byte before `from`.
 ///
-/// Where most bytes count it does not stop there, since a few bytes more cost less than a branch that no processor
-/// foresees. Of the text the bytes before `end` are seen.
+/// If `C::IS_DENSE`, it does not stop at the byte it finds: a few bytes more cost less than a branch that no processor
+/// predicts. Bytes from `end` on are not read.
 #[inline(always)]
 pub(crate) fn walk<C: PlaceCounts<T>, T: ByteChunk>(
     probe: &mut Probe<'_, T>,
@@ -194,9 +193,10 @@ pub(crate) fn walk<C: PlaceCounts<T>, T: ByteChunk>(
     Walked { place, count }
 }
 
-/// Goes on in whole chunks from a position, in so many that with them no more than `idx` can be counted.
+/// Counts whole chunks from `from` on, as long as they cannot take the count above `idx`: in `n` bytes at most `n + 1`
+/// are counted.
 ///
-/// Between two places at most one more is counted than there are bytes.
+/// It stops where fewer than `LEAST` are left, and counts none unless `C::IS_DENSE`.
 #[inline(always)]
 fn skip_unreachable<C: PlaceCounts<T>, T: ByteChunk>(
     probe: &mut Probe<'_, T>,
@@ -222,10 +222,11 @@ fn skip_unreachable<C: PlaceCounts<T>, T: ByteChunk>(
     at
 }
 
-/// Skips groups from a position on, while with them no more than `idx` are counted.
+/// Skips chunks from `from` on, while they do not take the count above `idx`.
 ///
-/// Several are looked at in one step, as many as every chunk type sums, while two steps are left. Then groups are looked at
-/// one by one; but none where a step reached the index, where a step has one group, or where a group is a single chunk.
+/// First it skips `step` chunks at a time, as many as every chunk type can sum, while at least `least` remain, then
+/// `group` at a time. The second loop is left out if `group` is 1 or `step`, or if the first met a step that goes above
+/// `idx`.
 #[inline(always)]
 fn skip_groups<C: PlaceCounts<T>, T: ByteChunk>(
     probe: &mut Probe<'_, T>,
@@ -248,7 +249,7 @@ fn skip_groups<C: PlaceCounts<T>, T: ByteChunk>(
     skip_chunks::<C, T>(probe, after_steps, idx, group, group)
 }
 
-/// How many whole chunks of so many bytes count at most so much, whatever is in them.
+/// Returns how many whole chunks of `bytes` bytes count at most `most`, whatever is in them.
 fn sure_chunks<T: ByteChunk>(most: usize, bytes: usize) -> usize
     ensures within { result * T.SIZE ≤ bytes }
     ensures sure { 0 < result → result * T.SIZE + 1 ≤ most }

@@ -1,17 +1,17 @@
-//! What is counted at each place of a text, and its sums over whole chunks.
+//! Counts at each place of a text, and their sums over whole chunks.
 //!
-//! What hands lanes back is inlined, also where a function is long: else a chunk would go through memory each time.
+//! Functions that return lanes are inlined, even long ones: else a chunk would go through memory each time.
 ghost use Rattle.std.specs.Prelude.{◌≡◌, ℕ, ◌+◌, ◌-◌, ◌*◌, ◌/◌, ◌%◌, ◌<◌, ◌≤◌, ◌⊎◌, List, length, slice_index, take, drop};
 ghost use Rattle.str_indices.specs.Prelude.{byte_before, sum_below, AddsUp, CountsOn, FitsIn, HasLanes, HasLaterLanes, IsHandedOn, Reads, SearchesOn};
 
 use byte_chunk::{ByteChunk, Probe};
 
-/// What is counted at each place of a text: at one byte, and in the lanes of a chunk.
+/// A count at each place of a text, at one byte or in all lanes of a chunk.
 ///
-/// To a contract `counted_at end text n` is what is counted at place `n`, where of the text the bytes before `end` are
-/// seen, and `carries text at carry` says that the chunk before place `at` hands on that carry.
+/// In contracts `counted_at end text n` is the count at place `n` if only the bytes before `end` are seen, and
+/// `carries text at carry` says that the chunk before place `at` hands on `carry`.
 pub(crate) trait PlaceCounts<T: ByteChunk> {
-    /// What a chunk hands on to the chunk after it.
+    /// The value that a chunk hands on to the next one.
     type Carry: Copy;
 
     ghost MOST: { ℕ };
@@ -26,24 +26,24 @@ pub(crate) trait PlaceCounts<T: ByteChunk> {
 
     ghost carries: { List ℕ → ℕ → Self.Carry → Type 0 };
 
-    /// The most that is counted at one place.
+    /// The greatest count at one place.
     const MOST: usize;
 
     /// How many chunks a group has.
     const GROUP: usize;
 
-    /// How many chunks, in whole groups, are added in one step.
+    /// How many chunks are added in one step, a multiple of `GROUP`.
     const STEP: usize;
 
-    /// How many are in the last round, in which a short text has all its chunks.
+    /// How many chunks are added in one step of the last round. A short text has no other round.
     const LAST_STEP: usize;
 
-    /// Whether nearly as much is counted as there are bytes, so that a search gains by skipping what surely is too little.
+    /// Whether a large part of all bytes count, so that a search gains by skipping chunks that cannot reach its index.
     const IS_DENSE: bool;
 
-    /// What is counted at a byte, the one at `at`, by at most two peeks. `before` is the byte before it, or 0.
+    /// Counts at `byte`, which stands at `at`, with at most two peeks. `before` is the byte before it, or 0.
     ///
-    /// Of the text the bytes before `end` are seen.
+    /// Bytes from `end` on are not read.
     fn count_byte(probe: &mut Probe<'_, T>, before: u8, byte: u8, at: usize, end: usize) -> usize
         requires seen { (at < end) × (end ≤ length probe.old.text) }
         requires before { before ≡ byte_before probe.old.text at }
@@ -51,16 +51,16 @@ pub(crate) trait PlaceCounts<T: ByteChunk> {
         ensures counted { result ≡ counted_at end probe.old.text at }
         ensures reads { Reads probe.old probe.new 0 0 0 2 };
 
-    /// What a chunk before a place hands on there, for at most one turn.
+    /// Returns the carry that the chunk before place `at` hands on, with at most one turn.
     fn carry_at(probe: &mut Probe<'_, T>, at: usize) -> Self::Carry
         requires within { at ≤ length probe.old.text }
         ensures carried { carries probe.old.text at result }
         ensures reads { Reads probe.old probe.new 0 1 0 0 };
 
-    /// Counts in each lane of a chunk, which is the one at `at`, by at most four peeks.
+    /// Counts in each lane of `chunk`, the one at `at`, with at most four peeks.
     ///
-    /// Of the text the bytes before `end` are seen. `carry` is what some chunk hands on. Only where that is the chunk
-    /// before does the first lane hold what is counted there.
+    /// Bytes from `end` on are not read. `carry` is one that some chunk hands on. The first lane is right only if that
+    /// is the chunk before this one.
     fn count_lanes(
         probe: &mut Probe<'_, T>,
         chunk: T,
@@ -82,14 +82,14 @@ pub(crate) trait PlaceCounts<T: ByteChunk> {
     ghost grouped: { (0 < GROUP) × (GROUP * MOST ≤ 4) × (0 < STEP) × (0 < LAST_STEP) };
 }
 
-/// The lanes in which was counted, and what is handed on.
+/// The counts in the lanes of a chunk, or of several chunks added, and the carry of the last.
 #[derive(Clone, Copy)]
 pub(crate) struct Counted<T, C> {
     pub(crate) lanes: T,
     pub(crate) carry: C,
 }
 
-/// A position in a text, what is counted before it, and what the chunk before it hands on.
+/// A place in a text, the count before it, and the carry of the chunk before it.
 #[derive(Clone, Copy)]
 pub(crate) struct Cursor<C> {
     pub(crate) byte: usize,
@@ -97,10 +97,10 @@ pub(crate) struct Cursor<C> {
     pub(crate) carry: C,
 }
 
-/// Counts in the whole chunks from a position on that end at or before `to`, in rounds of as many chunks as fit and in a
-/// last round of what is left.
+/// Counts in the whole chunks from `from` on that end at or before `to`: in rounds of `chunks_of_round` chunks, then in
+/// a last round of the chunks that are left.
 ///
-/// Of the text the bytes before `end` are seen.
+/// Bytes from `end` on are not read.
 pub(crate) fn count_chunks<C: PlaceCounts<T>, T: ByteChunk>(
     probe: &mut Probe<'_, T>,
     from: Cursor<C::Carry>,
@@ -127,8 +127,7 @@ pub(crate) fn count_chunks<C: PlaceCounts<T>, T: ByteChunk>(
     count_in_steps::<C, T>(probe, at, left, C::LAST_STEP, end)
 }
 
-/// The most chunks that a round has: so few that what they count in a lane can be summed, and no part of a step unless
-/// not even one fits.
+/// Returns how many chunks a round has: as many as `T` can sum, rounded down to whole steps if at least one step fits.
 fn chunks_of_round<C: PlaceCounts<T>, T: ByteChunk>() -> usize
     ensures some { 0 < result }
     ensures few { result ≤ 255 }
@@ -142,8 +141,8 @@ fn chunks_of_round<C: PlaceCounts<T>, T: ByteChunk>() -> usize
     }
 }
 
-/// Skips groups of so many chunks from a position on, while with them no more than `idx` are counted and at least so many
-/// chunks are left.
+/// Skips `group` chunks at a time from `from` on, while at least `least` chunks remain and the count with these `group`
+/// chunks is at most `idx`.
 #[inline(always)]
 pub(crate) fn skip_chunks<C: PlaceCounts<T>, T: ByteChunk>(
     probe: &mut Probe<'_, T>,
@@ -180,10 +179,10 @@ pub(crate) fn skip_chunks<C: PlaceCounts<T>, T: ByteChunk>(
     at
 }
 
-/// Counts on from a position in so many chunks, which are so few that what they count in a lane can be summed.
+/// Counts in the next `chunks` chunks from `from` on. They must be few enough for `T` to sum.
 ///
-/// The lanes of steps of so many chunks are added, and then those of what is left. Of the text the bytes before `end` are
-/// seen.
+/// It adds the lanes of `step` chunks at a time, then those of the chunks that are left. Bytes from `end` on are not
+/// read.
 #[inline(always)]
 fn count_in_steps<C: PlaceCounts<T>, T: ByteChunk>(
     probe: &mut Probe<'_, T>,
@@ -220,7 +219,7 @@ fn count_in_steps<C: PlaceCounts<T>, T: ByteChunk>(
     }
 }
 
-/// Adds what is counted in the lanes of so many chunks, group by group, and then of the chunks that fill no group.
+/// Adds the lane counts of the next `chunks` chunks, group by group, then those of the chunks that fill no group.
 #[inline(always)]
 fn add_in_groups<C: PlaceCounts<T>, T: ByteChunk>(
     probe: &mut Probe<'_, T>,
@@ -254,7 +253,7 @@ fn add_in_groups<C: PlaceCounts<T>, T: ByteChunk>(
     }
 }
 
-/// Adds what is counted in the lanes of so many chunks.
+/// Adds the lane counts of the next `chunks` chunks.
 #[inline(always)]
 fn add_chunks<C: PlaceCounts<T>, T: ByteChunk>(
     probe: &mut Probe<'_, T>,

@@ -5,10 +5,10 @@ ghost use Rattle.str_indices.specs.Prelude.{size, cut, byte_before, is_carriage_
 use crate::weights::{CR, LF, is_trailing_byte};
 use byte_chunk::{ByteChunk, Probe};
 
-/// No character has more trailing bytes.
+/// The most trailing bytes that a char has.
 const MOST_TRAILING_BYTES: usize = 3;
 
-/// The greatest boundary at or before a byte, by at most three peeks; the text's length where the byte is past it.
+/// Returns the greatest boundary at or before `byte`, with at most three peeks; the text's length if `byte` is past it.
 #[tactic(auto, using(crate::proofs::lemmas::bytes::BoundaryBytes::places))]
 pub(crate) fn boundary_at_or_before<T: ByteChunk>(probe: &mut Probe<'_, T>, byte: usize) -> usize
     ensures boundary { result ≡ size (cut (chars probe.old.text) byte) }
@@ -42,7 +42,7 @@ pub(crate) fn byte_before<T: ByteChunk>(probe: &mut Probe<'_, T>, at: usize) -> 
     probe.turn(at - 1)
 }
 
-/// Whether a byte index stands anywhere but between CR and LF, by at most two peeks.
+/// Whether a byte index is not between CR and LF, with at most two peeks.
 pub(crate) fn is_not_crlf_middle<T: ByteChunk>(probe: &mut Probe<'_, T>, byte_idx: usize) -> bool
     ensures middle { result ≡ not (is_middle probe.old.text byte_idx) }
     ensures reads { Reads probe.old probe.new 0 0 0 2 }
@@ -53,7 +53,7 @@ pub(crate) fn is_not_crlf_middle<T: ByteChunk>(probe: &mut Probe<'_, T>, byte_id
     probe.peek(byte_idx) != LF || probe.peek(byte_idx - 1) != CR
 }
 
-/// The least boundary at or after a byte, by at most three peeks.
+/// Returns the least boundary at or after `byte`, with at most three peeks.
 #[tactic(auto, using(crate::proofs::lemmas::bytes::BoundaryBytes::places))]
 pub(crate) fn boundary_at_or_after<T: ByteChunk>(probe: &mut Probe<'_, T>, byte: usize) -> usize
     requires { byte ≤ length probe.old.text }

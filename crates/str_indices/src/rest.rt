@@ -1,23 +1,23 @@
-//! Counts over the last bytes of a pass, fewer than a chunk has or as many, all at once.
+//! Counts in the last bytes of a pass, at most as many as a chunk has, all at once.
 //!
-//! One by one they would take a branch each, and where they end no processor foresees: of a short text that is most of
-//! the time. So the last bytes are put into a chunk, whose first lanes are then left out.
+//! One by one they would take a branch each, and no processor predicts where they end: for a short text that is most of
+//! the time. So a chunk is made of the last bytes before the end, and the lanes that are counted already are left out.
 ghost use Rattle.std.specs.Prelude.{◌≡◌, ◌+◌, ◌≤◌, length, take, drop};
 ghost use Rattle.str_indices.specs.Prelude.{sum_below, CountsUpTo, Reads};
 
 use crate::place_counts::{Cursor, PlaceCounts};
 use byte_chunk::{ByteChunk, Probe};
 
-/// No chunk has more lanes.
+/// The most lanes that a chunk has.
 const MOST_LANES: usize = 64;
 
-/// For each lane that is left out 0, and then for each that is kept a byte with all bits set.
+/// 0 for each lane that is left out, and then a byte with all bits set for each that is kept.
 static LEFT_OUT_AND_KEPT: [[u8; MOST_LANES]; 2] = [[0; MOST_LANES], [0xFF; MOST_LANES]];
 
-/// What is counted in each lane of the chunk that ends at `to`, for one turn a lane.
+/// Counts in each lane of the chunk that ends at `to`, with one turn a lane.
 ///
-/// Of the text the bytes before `end` are seen. The lanes before the position are left out, since they are counted already.
-/// Where there are such, the first lane is one of them, so the carry need not be that of the chunk before this one.
+/// Bytes from `end` on are not read. The lanes before `from` are 0, since they are counted already. If there are any,
+/// the first lane is one of them, so the carry need not be that of the chunk before this one.
 #[inline(always)]
 pub(crate) fn lanes_up_to<C: PlaceCounts<T>, T: ByteChunk>(
     probe: &mut Probe<'_, T>,
@@ -40,7 +40,7 @@ pub(crate) fn lanes_up_to<C: PlaceCounts<T>, T: ByteChunk>(
     counted.lanes.bitand(kept)
 }
 
-/// The chunk at `at`, for one turn a byte.
+/// Reads the chunk at `at`, with one turn a byte.
 #[inline(always)]
 fn chunk_by_turns<T: ByteChunk>(probe: &mut Probe<'_, T>, at: usize) -> T
     requires { at + T.SIZE ≤ length probe.old.text }

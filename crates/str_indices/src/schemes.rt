@@ -4,10 +4,10 @@ ghost use Rattle.str_indices.specs.Prelude.{count, from_byte_idx, to_byte_idx};
 
 use crate::{chars, lines, lines_crlf, lines_lf, utf16};
 
-/// What is counted: one of the five modules.
+/// An indexing scheme: one of the five modules.
 #[derive(Clone, Copy, PartialEq, Eq, Debug)]
 pub enum Scheme {
-    /// Characters, the Unicode scalar values, as `chars` counts them.
+    /// Chars, the Unicode scalar values, as `chars` counts them.
     Chars,
     /// UTF-16 code units, as `utf16`.
     Utf16,
@@ -29,7 +29,7 @@ impl Scheme {
         Scheme::Lines,
     ];
 
-    /// How many characters, UTF-16 code units or line breaks the text has.
+    /// Counts the chars, UTF-16 code units or line breaks of the text.
     pub fn count(self, text: &str) -> usize
         ensures { result ≡ count self (chars text.now) }
     {
@@ -42,7 +42,8 @@ impl Scheme {
         }
     }
 
-    /// How many of them end at or before a byte index. A byte index past the end gives their number in the text.
+    /// Converts a byte index to an index of the scheme: how many chars, UTF-16 code units or line breaks end at or
+    /// before it. A byte index past the end gives the count of the text.
     pub fn from_byte_idx(self, text: &str, byte_idx: usize) -> usize
         ensures { result ≡ from_byte_idx self (chars text.now) byte_idx }
     {
@@ -55,8 +56,8 @@ impl Scheme {
         }
     }
 
-    /// The byte index where the character, the unit's character or the line of this index begins. An index past the
-    /// last gives the length of the text in bytes. The text may be sliced at the answer.
+    /// Converts an index of the scheme to the byte index where its char, its unit's char or its line begins. An index
+    /// past the last gives the length of the text in bytes. The text may be sliced at the answer.
     pub fn to_byte_idx(self, text: &str, idx: usize) -> usize
         ensures answer { result ≡ to_byte_idx self (chars text.now) idx }
         ensures boundary { IsCharBoundary text.now result }

@@ -10,7 +10,7 @@ use crate::places::boundary_at_or_before;
 use crate::weights::{FourByteLeads, Units, Weights};
 use byte_chunk::{ByteChunk, Chunk, Probe};
 
-/// How many UTF-16 code units the text would take.
+/// Counts the UTF-16 code units that the text would take.
 #[tactic(auto, using(crate::proofs::lemmas::bytes::Walks::whole_text))]
 pub fn count(text: &str) -> usize
     ensures { result ≡ count Utf16 (chars text.now) }
@@ -18,7 +18,7 @@ pub fn count(text: &str) -> usize
     count_impl(&mut Probe::<Chunk>::of(text), text.len(), 0)
 }
 
-/// How many surrogate pairs the text would have in UTF-16, one for each char of four bytes.
+/// Counts the surrogate pairs that the text would have in UTF-16, one for each char of four bytes.
 #[tactic(auto, using(crate::proofs::lemmas::bytes::Walks::whole_text))]
 pub fn count_surrogates(text: &str) -> usize
     ensures { result ≡ surrogates (chars text.now) }

@@ -1,4 +1,4 @@
-//! LF, CR, and what a byte weighs by itself, beside its form for all lanes of a chunk.
+//! LF, CR, and weights of bytes: of one byte, and of all lanes of a chunk at once.
 ghost use Rattle.std.specs.Prelude.{◌≡◌, ℕ, ◌*◌, ◌<◌, ◌≤◌, length, map, slice_index};
 ghost use Rattle.std.proofs.Common.{lit≤, lit<};
 ghost use Rattle.str_indices.specs.Prelude.{mark, is_trailing, is_leading, begins_four_bytes, is_line_feed, units_begun, mark-le, units_begun-le};
@@ -33,11 +33,11 @@ pub(crate) trait ByteWeight {
     /// Whether most bytes, or every second or third, have a weight.
     const IS_DENSE: bool;
 
-    /// The weight of the byte.
+    /// Returns the weight of `byte`.
     fn in_byte(byte: u8) -> usize
         ensures { result ≡ weight byte };
 
-    /// The weight of each lane.
+    /// Returns the weight of each lane of `chunk`.
     fn in_lanes<T: ByteChunk>(chunk: T) -> T
         requires { length (T.lanes chunk) ≡ T.SIZE }
         ensures { T.lanes result ≡ map weight (T.lanes chunk) };
@@ -181,7 +181,7 @@ impl ByteWeight for Units {
     ghost grouped = { (lit< tt, lit≤ tt, lit< tt) };
 }
 
-/// The weight of each byte, by itself.
+/// Counts at each place the weight of its byte.
 pub(crate) struct Weights<B>(PhantomData<B>);
 
 impl<B: ByteWeight, T: ByteChunk> PlaceCounts<T> for Weights<B> {
@@ -234,14 +234,14 @@ fn is_leading_byte(byte: u8) -> bool
     byte & 0xC0 != 0x80
 }
 
-/// Whether the byte is one of a char and not its first.
+/// Whether the byte belongs to a char and does not begin it.
 pub(crate) fn is_trailing_byte(byte: u8) -> bool
     ensures { result ≡ is_trailing byte }
 {
     byte & 0xC0 == 0x80
 }
 
-/// 1 in each lane that is a trailing byte.
+/// Returns 1 in each lane that is a trailing byte.
 fn count_trailing_chunk<T: ByteChunk>(chunk: T) -> T
     requires { length (T.lanes chunk) ≡ T.SIZE }
     ensures { T.lanes result ≡ map (mark is_trailing) (T.lanes chunk) }

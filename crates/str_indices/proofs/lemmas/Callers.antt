@@ -1,5 +1,5 @@
--- What the proofs of other crates may cite of this crate, and one lemma of std beside it: `CALLING.md` says in groups
--- what they are for.
+-- The lemmas that proofs of other crates may cite of this crate, and one lemma of std. `CALLING.md` says in groups what
+-- they are for.
 use Rattle.str_indices.proofs.lemmas.Common.{◌≡◌, ℕ, ◌≤◌, inl, inr, List, length, get_or, arith, true, false, sym, ◌∙◌, ap, subst, chars, IsUtf8, IsCharBoundary, cases_lt, size, Scheme, to_byte_idx, IsBoundary, is_trailing}
 use Rattle.str_indices.proofs.lemmas.bytes.{is_trailing_later, boundary_begins}
 pub use Rattle.std.proofs.lemmas.Str.{chars-append}
@@ -36,7 +36,7 @@ IsCharBoundary-from_boundary bytes utf8 p at =
           | inr wide ↦ wide
         ]
 
--- what a conversion to a byte index answers is a place where std lets the text be sliced
+-- std lets a text be sliced where a conversion to a byte index answers
 pub IsCharBoundary-to_byte_idx : (s : Scheme) (bytes : List ℕ) → IsUtf8 bytes → (k p : ℕ)
     → p ≡ to_byte_idx s (chars bytes) k → IsCharBoundary bytes p
 IsCharBoundary-to_byte_idx s bytes utf8 k p answer = IsCharBoundary-from_boundary bytes utf8 p

@@ -14,7 +14,7 @@ cut_boundary cs end = let parts = cut_is cs end in
 pub boundary_of_cut : (cs : List ℕ) (byte end : ℕ) → end ≡ size (cut cs byte) → IsBoundary cs end
 boundary_of_cut cs byte end here = rw here (cut_boundary cs byte)
 
--- the character that begins at a boundary
+-- the char that begins at a boundary
 pub record BeginsAt (bytes : List ℕ) (p : ℕ) (b : IsBoundary (chars bytes) p) : Type 0 where
   pub front : List ℕ
   pub character : ℕ
@@ -43,7 +43,7 @@ module _ (bytes : List ℕ) (utf8 : IsUtf8 bytes) where
       grind (arith, trails, first inside) in
       IsBoundary-from_char_boundary i (le, leads)
 
-  -- at a boundary before the end a character begins
+  -- at a boundary before the end a char begins
   pub begins_at : (p : ℕ) (b : IsBoundary (chars bytes) p) → p < length bytes → BeginsAt bytes p b
   begins_at p b below = (elim b.back as (λ rest. b.back ≡ rest → BeginsAt bytes p b) [
     | [] ↦ λ none.
@@ -93,20 +93,20 @@ module _ (bytes : List ℕ) (utf8 : IsUtf8 bytes) where
       (size (cut (chars bytes) end)) (cut_boundary (chars bytes) end) in
       grind (arith, parts.at.fits, past)
 
-  -- a byte that begins a character, with trailing bytes alone after it up to `end`, is where the text is cut at `end`
+  -- a byte that begins a char, with trailing bytes alone after it up to `end`, is where the text is cut at `end`
   pub cut_at_leading : (i end : ℕ) → i ≤ end → end < length bytes → is_trailing (get_or bytes i 0) ≡ false
       → ((j : ℕ) → i < j → j ≤ end → is_trailing (get_or bytes j 0) ≡ true) → i ≡ size (cut (chars bytes) end)
   cut_at_leading i end le below leads trails =
       let at = begins_boundary i (omega arith) (λ _. leads) in
       omega (arith, boundary-le-cut (chars bytes) i end at le, cut_before_trailing i end below trails)
 
-  -- three trailing bytes stand after a byte that begins a character
+  -- three trailing bytes stand after a byte that begins a char
   pub cut_behind_three : (i end : ℕ) → i + 3 ≡ end → end < length bytes
       → ((j : ℕ) → i < j → j ≤ end → is_trailing (get_or bytes j 0) ≡ true) → i ≡ size (cut (chars bytes) end)
   cut_behind_three i end three below trails =
       omega (arith, cut_is_near end below, cut_before_trailing i end below trails)
 
-  -- one of four bytes in a row begins a character
+  -- one of four bytes in a row begins a char
   pub leading_among_four : (i : ℕ) → i + 4 ≤ length bytes
       → (m : ℕ) × (i ≤ m) × (m < i + 4) × (is_trailing (get_or bytes m 0) ≡ false)
   leading_among_four i within =
@@ -135,7 +135,7 @@ module _ (bytes : List ℕ) (utf8 : IsUtf8 bytes) where
       (IsBoundary-from_char_boundary (j + 1) (IsCharBoundary-after_ascii bytes j utf8 below ascii)) (omega arith) in
       grind (arith, next)
 
--- what is counted at ASCII bytes alone is counted before the cut
+-- if f counts at ASCII bytes alone, nothing is counted after the cut
 pub still_behind_cut : (f : ℕ → ℕ) (bytes : List ℕ) → IsUtf8 bytes → (end : ℕ) → end ≤ length bytes
     → ((j : ℕ) → 128 ≤ get_or bytes j 0 → f j ≡ 0) → sum_below f end ≡ sum_below f (size (cut (chars bytes) end))
 still_behind_cut f bytes utf8 end within none =
@@ -144,5 +144,5 @@ still_behind_cut f bytes utf8 end within none =
     rw fits at (sum_below-still f place (end - place) (λ j l. none (place + j)
     (wide_behind_cut bytes utf8 end (place + j) (omega arith) (omega arith) (omega arith))))
 
--- what the walks to a boundary cite, at a byte and at the end
+-- the lemmas for the walks to a boundary, at a byte and at the end
 pub ruleset places = (begins_boundary, cut_at_leading, trailing_above_start, byte_seen, cut_all, size-chars)

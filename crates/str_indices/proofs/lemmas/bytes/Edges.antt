@@ -1,10 +1,10 @@
--- How a text starts and ends, by its bytes: LF and CR are one byte, which no other character has.
+-- How a text starts and ends, by its bytes: LF and CR are one byte, which no other char has.
 use Rattle.str_indices.proofs.lemmas.Common.{◌≡◌, ◌≢◌, ℕ, ◌<◌, ◌≤◌, List, [], ◌∷◌, ◌++◌, length, get_or, refl, arith, All, true, false, ◌∙◌, sym, ap, append-nil, chars, IsUtf8, ◌==◌, encode, encodes, scalar, scalars, and_parts, nat_tests, encodes-chars, scalars-chars, chars-nil, len_utf8_bounds, length-encode, length-append, All-nil, All-head, All-tail, size, line_feed, starts_with_feed, ends_in_return}
 use Rattle.str_indices.proofs.lemmas.texts.{ends_in_return-one, ends_in_return-cons, ends_in_return-append, starts_with_feed_is}
 use Rattle.str_indices.proofs.lemmas.bytes.Characters.{IsTrailing, by_width}
 use Rattle.str_indices.proofs.lemmas.bytes.Walks.{size-chars}
 
--- the first byte of a text is LF where its first character is
+-- the first byte of a text is LF where its first char is
 feed_first : (cs : List ℕ) → scalars cs ≡ true → starts_with_feed (encodes cs) ≡ starts_with_feed cs
 feed_first [] s = refl
 feed_first (c ∷ cs) s =
@@ -20,18 +20,18 @@ no_return first (b ∷ others) wide all =
     ends_in_return-cons first b others ∙ no_return b others (All-head IsTrailing b others all).low
     (All-tail IsTrailing b others all)
 
--- the last byte of a character is CR where the character is
+-- the last byte of a char is CR where the char is
 return_byte : (c : ℕ) → scalar c ≡ true → ends_in_return (encode c) ≡ ends_in_return (c ∷ [])
 return_byte c s = by_width (λ bs. ends_in_return bs ≡ ends_in_return (c ∷ [])) c s (λ ascii. refl)
     (λ first others wide. no_return first others (omega (arith, wide.low)) wide.trailing
     ∙ sym (no_return c [] wide.from (All-nil IsTrailing)))
 
--- some characters are some bytes
+-- some chars are some bytes
 some_bytes : (c : ℕ) (cs : List ℕ) → encodes (c ∷ cs) ≢ []
 some_bytes c cs none =
     omega (arith, ap length none, length-append (encode c) (encodes cs), length-encode c, len_utf8_bounds c)
 
--- the last byte of a text is CR where its last character is
+-- the last byte of a text is CR where its last char is
 return_last : (cs : List ℕ) → scalars cs ≡ true → ends_in_return (encodes cs) ≡ ends_in_return cs
 return_last [] s = refl
 return_last (c ∷ []) s = rw (append-nil (encode c)) (return_byte c (and_parts (scalar c) true s).0)
@@ -49,7 +49,7 @@ module _ (bytes : List ℕ) (utf8 : IsUtf8 bytes) where
   ends_in_return-bytes =
       ap ends_in_return (sym (encodes-chars bytes utf8)) ∙ return_last (chars bytes) (scalars-chars bytes utf8)
 
-  -- some bytes are some characters
+  -- some bytes are some chars
   pub chars-some : 0 < length bytes → chars bytes ≢ []
   chars-some some none = omega (arith, size-chars bytes utf8, ap size none)
 

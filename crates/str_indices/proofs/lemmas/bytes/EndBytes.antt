@@ -22,7 +22,7 @@ module _ (s : Scheme) (test : ℕ → ℕ → ℕ → Bool) (adds : AddsAtFirst 
       (λ j wide. none (get_or bytes j 0) (get_or bytes (1 + j) 0) (get_or bytes (2 + j) 0) wide)
       ∙ ends_by_walk bytes utf8 end
 
--- the next character is LF exactly where the next byte is
+-- the next char is LF exactly where the next byte is
 pub next_line_feed : (cs : List ℕ) → scalars cs ≡ true
     → is_line_feed (get_or (encodes cs) 0 0) ≡ is_line_feed (get_or cs 0 0)
 next_line_feed [] s = refl
@@ -30,7 +30,7 @@ next_line_feed (c ∷ cs) s = by_width (λ bs. is_line_feed (get_or (bs ++ encod
     (and_parts (scalar c) (scalars cs) s).0 (λ ascii. refl)
     (λ first others wide. rw (ne_eqb first line_feed (λ same. omega arith), ne_eqb c line_feed (λ same. omega arith)))
 
--- a test that counts the breaks of a scheme, at the first byte of each character that is one
+-- a test that counts the breaks of a scheme, at the first byte of each char that is one
 pub adds_breaks : (s : Scheme) → HasReturn s → (test : ℕ → ℕ → ℕ → Bool) → ((c next after : ℕ) → c < 128
     → test c next after ≡ (char_set_contains (break_characters s) c && not (c == carriage_return && next == line_feed)))
     → ((c : ℕ) (rest : List ℕ) → scalar c ≡ true → 128 ≤ c
@@ -52,7 +52,7 @@ adds_breaks s has test at_ascii at_wide later = record {
 byte_before-at : (bytes : List ℕ) (n k : ℕ) → n ≡ suc k → byte_before bytes n ≡ get_or bytes k 0
 byte_before-at bytes n k next = rw next refl
 
--- the last byte of a character is CR where the character is
+-- the last byte of a char is CR where the char is
 last_byte_is_return : (c : ℕ) (rest : List ℕ) → scalar c ≡ true
     → is_carriage_return (get_or (encode c ++ rest) (len_utf8 c - 1) 0) ≡ is_carriage_return c
 last_byte_is_return c rest s = rw (← length-encode c) (by_size

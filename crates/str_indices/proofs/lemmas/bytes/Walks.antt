@@ -1,14 +1,14 @@
--- A sum over the bytes of a text as a sum over its characters, in the whole text and in a cut text.
+-- A sum over the bytes of a text as a sum over its chars, in the whole text and in a cut text.
 use Rattle.str_indices.proofs.lemmas.Common.{◌≡◌, ℕ, ◌+◌, ◌-◌, Bool, List, [], ◌∷◌, ◌++◌, refl, arith, true, sym, ◌∙◌, ap, length, get_or, take, chars, IsUtf8, sum_by, len_utf8, encode, encodes, scalar, scalars, and_parts, len_utf8_bounds, encodes-chars, scalars-chars, length-encode, encodes-append, length-append, take_at, append-nil, get_or-append-add, size, cut, flag, sum_below, IsBoundary}
 use Rattle.str_indices.proofs.lemmas.texts.{size-cons, total, total_front, total-append, total_front_alone, cut_is, cut_all, cut_front}
 use Rattle.str_indices.proofs.lemmas.bytes.Sums.{sum_below-add, sum_below-same, sum_below-still}
 use Rattle.str_indices.proofs.lemmas.bytes.Characters.{IsTrailing, get_or-behind, later_trailing, scalars_parts}
 
--- what a test of each byte and of the two after it counts at a byte
+-- 1 at a byte where a test of it and of the two bytes after it passes, else 0
 abbrev pub counted_at : (ℕ → ℕ → ℕ → Bool) → List ℕ → ℕ → ℕ
 counted_at test bytes j = flag (test (get_or bytes j 0) (get_or bytes (1 + j) 0) (get_or bytes (2 + j) 0))
 
--- such a test counts v of each character at its first byte; v may read the characters after its own
+-- such a test counts v of each char at its first byte; v may read the chars after its own
 pub record AddsAtFirst (test : ℕ → ℕ → ℕ → Bool) (v : ℕ → List ℕ → ℕ) : Type 0 where
   pub first : (c : ℕ) (cs : List ℕ) → scalar c ≡ true → scalars cs ≡ true
       → counted_at test (encode c ++ encodes cs) 0 ≡ v c cs
@@ -49,7 +49,7 @@ module _ (bytes : List ℕ) (utf8 : IsUtf8 bytes) where
   cut_at_end = cut_all (chars bytes) (length bytes) (omega (arith, size-chars))
 
 module _ (test : ℕ → ℕ → ℕ → Bool) (v : ℕ → List ℕ → ℕ) (adds : AddsAtFirst test v) where
-  -- at the bytes after a character as much is counted as without it
+  -- at the bytes after a char as much is counted as without it
   counted_behind : (c : ℕ) (bytes : List ℕ) (j : ℕ)
       → counted_at test (encode c ++ bytes) (len_utf8 c + j) ≡ counted_at test bytes j
   counted_behind c bytes j = rw (
@@ -58,7 +58,7 @@ module _ (test : ℕ → ℕ → ℕ → Bool) (v : ℕ → List ℕ → ℕ) (a
     get_or-behind c bytes (2 + j) (2 + (len_utf8 c + j)) (omega arith),
   )
 
-  -- at the bytes of a character v of it is counted
+  -- at the bytes of a char v of it is counted
   walk_first : (c : ℕ) (cs : List ℕ) → scalar c ≡ true → scalars cs ≡ true
       → sum_below (counted_at test (encode c ++ encodes cs)) (len_utf8 c) ≡ v c cs
   walk_first c cs s t =
@@ -68,7 +68,7 @@ module _ (test : ℕ → ℕ → ℕ → Bool) (v : ℕ → List ℕ → ℕ) (a
       (later_trailing c s (encodes cs) (1 + j) (omega arith) (omega arith))) in
       omega (arith, rw whole at still, adds.first c cs s t)
 
-  -- at the bytes of a beginning v of each of its characters is counted
+  -- at the bytes of a beginning v of each of its chars is counted
   walk_front : (front back : List ℕ) → scalars (front ++ back) ≡ true
       → sum_below (counted_at test (encodes (front ++ back))) (size front) ≡ total_front v front back
   walk_front [] back s = refl
@@ -81,7 +81,7 @@ module _ (test : ℕ → ℕ → ℕ → Bool) (v : ℕ → List ℕ → ℕ) (a
       (λ j _. counted_behind c rest j) in
       rw size-cons (omega (arith, sum_below-add f (len_utf8 c) (size front), walk_front front back parts.1))
 
-  -- what is counted before the place where the text is cut is v of the characters before it
+  -- the count before the place where the text is cut is the sum of v over the chars before it
   pub walk_to_cut : (bytes : List ℕ) → IsUtf8 bytes → (end : ℕ)
       → sum_below (counted_at test bytes) (size (cut (chars bytes) end))
       ≡ total_front v (cut (chars bytes) end) (cut_is (chars bytes) end).rest
@@ -91,7 +91,8 @@ module _ (test : ℕ → ℕ → ℕ → Bool) (v : ℕ → List ℕ → ℕ) (a
       ap (λ t. sum_below (counted_at test t) (size front)) (sym (encodes-chars bytes utf8) ∙ ap encodes parts.split)
       ∙ walk_front front parts.rest (rw parts.split at (scalars-chars bytes utf8))
 
-  -- what is counted before a boundary, in the bytes that are cut off there, is v of the characters of the cut text
+  -- the count before a boundary, in the bytes that are cut off there, is the sum of v over the chars of the cut
+  -- text
   pub walk_to_boundary : (bytes : List ℕ) → IsUtf8 bytes → (end : ℕ) → IsBoundary (chars bytes) end
       → sum_below (counted_at test (take end bytes)) end ≡ total v (cut (chars bytes) end)
   walk_to_boundary bytes utf8 end b =
@@ -103,7 +104,7 @@ module _ (test : ℕ → ℕ → ℕ → Bool) (v : ℕ → List ℕ → ℕ) (a
       ∙ take_at (encodes b.front) (encodes b.back) end (length-encodes b.front ∙ b.place) in
       rw (before, cut_front (chars bytes) end b, ← b.place) (omega (arith, ap (total v) same))
 
--- where v is f of the character alone, nothing need be cut off
+-- where v is f of the char alone, nothing need be cut off
 pub bytes_to_boundary : (test : ℕ → ℕ → ℕ → Bool) (f : ℕ → ℕ) → AddsAtFirst test (λ c _. f c)
     → (bytes : List ℕ) → IsUtf8 bytes → (end : ℕ) → IsBoundary (chars bytes) end
     → sum_below (counted_at test bytes) end ≡ sum_by f (cut (chars bytes) end)

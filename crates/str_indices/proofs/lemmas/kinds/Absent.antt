@@ -1,4 +1,4 @@
--- What the bytes that a text hasn't tell of its characters, and so of its counts.
+-- The bytes that a text lacks, and what follows for its chars and its counts.
 use Rattle.str_indices.proofs.lemmas.Common.{◌≡◌, ℕ, ◌+◌, ◌<◌, ◌⊎◌, ◌≢◌, List, [], ◌∷◌, ◌++◌, length, get_or, All, filter, map, chars, IsUtf8, sym, refl, ap, ◌∙◌, subst, inl, inr, true, arith, nat_tests, len_utf8, scalar, scalars, encode, encodes, encodes-chars, scalars-chars, length-encode, length-append, and_parts, All-head, All-tail, All-cons, get_or-append-add, get_or_append_left, sum_by, sum_by-cons, char_set_contains, placed, break_characters, is_break_end, weight, count, Scheme, Chars, Crlf, Lf, Lines, Utf16}
 use Rattle.str_indices.proofs.lemmas.bytes.Characters.{by_size}
 use Rattle.str_indices.proofs.lemmas.bytes.Walks.{size-chars}
@@ -9,11 +9,11 @@ use Rattle.str_indices.proofs.lemmas.kinds.Kinds.{All-parts}
 use Rattle.str_indices.specs.Kinds.{HasAsciiAlone, HasNoPair, HasNoVtFf, HasNoReturn, HasNoWideLead, HasNoWidePair, IsWidePair}
 use Rattle.str_indices.specs.Text.{Text}
 
--- what holds of both parts of a list of bytes where it holds of the whole
+-- if R holds of a list of bytes, it holds of both parts of it
 abbrev Parts : (List ℕ → Type 0) → Type 0
 Parts R = (front back : List ℕ) → R (front ++ back) → R front × R back
 
--- what follows for each character from what holds of its bytes follows for a text from what holds of its bytes
+-- if a property R of bytes gives a property Q of each char, it gives Q for all chars of a text
 each_character : (R : List ℕ → Type 0) (Q : ℕ → Type 0) → Parts R
     → ((c : ℕ) → scalar c ≡ true → R (encode c) → Q c) → (cs : List ℕ) → scalars cs ≡ true → R (encodes cs) → All Q cs
 each_character R Q parts one [] are all = λ k d within. absurd (omega arith)
@@ -27,7 +27,7 @@ of_text : (R : List ℕ → Type 0) (Q : ℕ → Type 0) → Parts R → ((c : �
 of_text R Q parts one bytes utf8 all = each_character R Q parts one (chars bytes) (scalars-chars bytes utf8)
     (subst R (sym (encodes-chars bytes utf8)) all)
 
--- a character without a byte that begins four takes fewer than four
+-- a char without a byte that begins four takes fewer than four
 short : (c : ℕ) → scalar c ≡ true → HasNoPair (encode c) → len_utf8 c < 4
 short c is all = omega (
   arith,
@@ -49,7 +49,7 @@ one_byte c is all = sym (length-encode c) ∙ by_size (λ bs. HasAsciiAlone bs �
     (λ from below all. absurd (omega (arith, all 0 0 (omega arith))))
     (λ from below all. absurd (omega (arith, all 0 0 (omega arith)))) all
 
--- whether a character is a break by two schemes or by neither
+-- whether a char is a break by two schemes or by neither
 abbrev IsAlike : Scheme → Scheme → ℕ → Type 0
 IsAlike s r c = char_set_contains (break_characters s) c ≡ char_set_contains (break_characters r) c
 
@@ -57,7 +57,7 @@ IsAlike s r c = char_set_contains (break_characters s) c ≡ char_set_contains (
 abbrev IsNarrow : ℕ → Type 0
 IsNarrow b = ((b < 0x0B) ⊎ (0x0C < b)) × ((b ≢ 0xC2) × (b ≢ 0xE2))
 
--- without a byte of another break, a character is a break exactly where it is LF or CR
+-- without a byte of another break, a char is a break exactly where it is LF or CR
 narrow_alike : (c : ℕ) → scalar c ≡ true → All IsNarrow (encode c) → IsAlike Lines Crlf c
 narrow_alike c is = by_size (λ bs. All IsNarrow bs → IsAlike Lines Crlf c) c is
     (λ from all. let here = all 0 0 (omega arith) in grind (arith, nat_tests))
@@ -98,7 +98,7 @@ break_pair_parts front back none =
     let pairs = pair_parts front back none.1 in
     ((vt_ff.0, pairs.0), (vt_ff.1, pairs.1))
 
--- without them a character is a break exactly where it is LF or CR
+-- without them a char is a break exactly where it is LF or CR
 pairs_alike : (c : ℕ) → scalar c ≡ true → HasNoBreakPair (encode c) → IsAlike Lines Crlf c
 pairs_alike c is = by_size (λ bs. HasNoBreakPair bs → IsAlike Lines Crlf c) c is
     (λ from none. let here = none.0 0 0 (omega arith) in grind (arith, nat_tests))
@@ -111,7 +111,7 @@ pairs_alike c is = by_size (λ bs. HasNoBreakPair bs → IsAlike Lines Crlf c) c
     grind (arith, nat_tests))
     (λ from below none. grind (arith, nat_tests))
 
--- where two sets have the same of a text's characters, its breaks by them are the same
+-- if two sets agree on each char of a text, the text has the same breaks by both
 breaks_alike : (more set : List ℕ) (start : ℕ) (t : Text)
     → All (λ c. char_set_contains more c ≡ char_set_contains set c) t
     → filter (is_break_end more) (placed start t) ≡ filter (is_break_end set) (placed start t)
@@ -122,7 +122,7 @@ breaks_alike more set start (c ∷ cs) alike =
     (All-tail (λ d. char_set_contains more d ≡ char_set_contains set d) c cs alike) in
     rw (one, rest) refl
 
--- sums of numbers that are one at each character
+-- sums of numbers that are one at each char
 sum_by_ones : (w : ℕ → ℕ) (t : Text) → All (λ c. w c ≡ 1) t → sum_by w t ≡ sum_by (λ _. 1) t
 sum_by_ones w [] ones = refl
 sum_by_ones w (c ∷ cs) ones = omega (
@@ -134,7 +134,7 @@ sum_by_ones w (c ∷ cs) ones = omega (
 )
 
 module _ (bytes : List ℕ) (utf8 : IsUtf8 bytes) where
-  -- a text of ASCII has as many characters as bytes
+  -- a text of ASCII has as many chars as bytes
   pub characters_of_ascii : HasAsciiAlone bytes → length bytes ≡ count Chars (chars bytes)
   characters_of_ascii all = omega (
     arith,
@@ -143,7 +143,7 @@ module _ (bytes : List ℕ) (utf8 : IsUtf8 bytes) where
     sum_by_ones len_utf8 (chars bytes) (of_text HasAsciiAlone (λ c. len_utf8 c ≡ 1) (All-parts (λ b. b < 0x80)) one_byte bytes utf8 all),
   )
 
-  -- a text without a pair has as many UTF-16 code units as characters
+  -- a text without a pair has as many UTF-16 code units as chars
   pub units_without_pairs : HasNoPair bytes → count Chars (chars bytes) ≡ count Utf16 (chars bytes)
   units_without_pairs all = omega (
     arith,
@@ -152,7 +152,7 @@ module _ (bytes : List ℕ) (utf8 : IsUtf8 bytes) where
     sum_by_ones weight (chars bytes) (of_text HasNoPair (λ c. weight c ≡ 1) (All-parts (λ b. b < 0xF0)) one_unit bytes utf8 all),
   )
 
-  -- where two sets have the same of its characters, a text has as many breaks by them
+  -- if two sets agree on each char of a text, the text has as many breaks by one as by the other
   as_many : (more set : List ℕ) → All (λ c. char_set_contains more c ≡ char_set_contains set c) (chars bytes)
       → length (map (λ p. p.end) (filter (is_break_end set) (placed 0 (chars bytes))))
       ≡ length (map (λ p. p.end) (filter (is_break_end more) (placed 0 (chars bytes))))

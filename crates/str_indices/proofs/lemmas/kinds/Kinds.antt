@@ -48,7 +48,7 @@ all_below bytes n g most is whole some = (
   λ all. lt-ltb g most (omega (arith, is.least (most - 1) (λ k before. omega (arith, all k 0 (omega arith))))),
 )
 
--- where the greatest of all bytes begins a wide break, or another character of the same first byte, there is such a byte
+-- where the greatest of all bytes begins a wide break, or another char of the same first byte, there is such a byte
 pub greatest_lead : (bytes : List ℕ) (n g : ℕ) → IsGreatest bytes n g → n ≡ length bytes → (g ≡ 0xC2) ⊎ (g ≡ 0xE2)
     → ¬ (HasNoWideLead bytes)
 greatest_lead bytes n g is whole lead = λ none.
@@ -92,7 +92,7 @@ all_past bytes n l near is whole fit short = (
     distance b fits (inl low) = omega arith
     distance b fits (inr high) = omega arith
 
--- what holds of each byte of two lists together holds of each of both
+-- if P holds of each byte of two lists together, it holds of each byte of both
 pub All-parts : (P : ℕ → Type 0) (front back : List ℕ) → All P (front ++ back) → All P front × All P back
 All-parts P front back all = (
   λ k d within. subst P (get_or_append_left front back d k within)

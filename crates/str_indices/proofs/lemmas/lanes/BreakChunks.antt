@@ -2,7 +2,7 @@
 use Rattle.str_indices.proofs.lemmas.Common.{◌≡◌, ◌≢◌, ℕ, ◌+◌, ◌-◌, ◌/◌, ◌%◌, ◌^◌, ◌<◌, ◌≤◌, true, false, List, [], ◌∷◌, ◌++◌, map, take, drop, replicate, length, get_or, refl, arith, ap, bit_and, slice_set, ◌==◌, ◌&&◌, zip2, Each1, Each2, nat_tests, and_mask, Each2-of, get_or-take, get_or_past, get_or-replicate, length-take, is_byte, is_between, flag, HasLanes, IsChunk, is_crlf, is_separator, ends_separator, narrow_break_at, next_line_at, separator_at, break_at, flag-le}
 use Rattle.str_indices.proofs.lemmas.lanes.EachLane.{lanes_of, lanes_same, lanes_map, lanes_zip2, lanes_and, lanes_shift, lanes_set, lane_is_not, Each1-lanes, Each2-lanes}
 
--- what is counted at a byte of a chunk where of the breaks of several bytes those are seen that end in it
+-- the count at a byte of a chunk, if only those breaks of several bytes are seen that end in the chunk
 abbrev pub inside_at : List ℕ → ℕ → ℕ → ℕ → ℕ
 inside_at bytes at size j =
     narrow_break_at bytes (at + j) + next_line_at (take (at + size) bytes) (at + j) + separator_at
@@ -32,24 +32,25 @@ module _ {bytes : List ℕ} {at size : ℕ} {chunk : List ℕ} (least : 4 ≤ si
         is_pairs (λ j l. grind (arith, nat_tests))
 
     module _ {inside : List ℕ} (is_inside : inside ≡ zip2 (λ a b. a - b) ascii pairs) where
-      -- what is left then is counted in the chunk alone
+      -- the rest are the breaks of one byte as the chunk alone shows them
       inside_lanes : HasLanes size (narrow_break_at chunk) inside
       inside_lanes =
           let firsts = lanes_map (is_between 0x09 0x0E) chunk is_chunk.long is_ascii in
           lanes_same (lanes_zip2 (λ a b. a - b) firsts is_pairs is_inside) (λ j l. grind (arith, nat_tests))
 
-      -- before the last lane that is what is counted, at it one more, where CR LF crosses the chunk's end
+      -- before the last lane these are the breaks of the text; in the last lane it is one more, if CR LF crosses the
+      -- chunk's end
       inside_same : (j : ℕ) → j < size → (1 + j ≢ size → narrow_break_at chunk j ≡ narrow_break_at bytes (at + j)) ×
           (1 + j ≡ size → narrow_break_at chunk j ≡ narrow_break_at bytes (at + j) + flag
           (is_crlf (get_or bytes (at + (size - 1)) 0) (get_or bytes (1 + (at + (size - 1))) 0)))
       inside_same j l = grind (arith, nat_tests, is_chunk.each j l, is_chunk.each (1 + j), get_or_past chunk (1 + j) 0)
 
-      -- where it does not, nothing is to be done
+      -- if it does not, the lanes are right
       pub narrow_kept : is_crlf (get_or bytes (at + (size - 1)) 0) (get_or bytes (1 + (at + (size - 1))) 0) ≡ false
           → HasLanes size (λ j. narrow_break_at bytes (at + j)) inside
       narrow_kept none = lanes_same inside_lanes (λ j l. grind (arith, inside_same j l, ap flag none))
 
-      -- where it does, the last lane is not 0
+      -- if it does, the last lane is not 0
       pub last_is_counted : is_crlf (get_or bytes (at + (size - 1)) 0) (get_or bytes (1 + (at + (size - 1))) 0) ≡ true
           → 0 < get_or inside (size - 1) 0
       last_is_counted crosses = grind (arith, inside_lanes.each (size - 1), inside_same (size - 1), ap flag crosses)
@@ -189,7 +190,7 @@ module _ (bytes : List ℕ) (at size : ℕ) {breaks : List ℕ} (least : 4 ≤ s
 half_ends : (half lane : ℕ) → half % 128 ≡ lane / 2 → is_byte 0x54 (bit_and half 0x7F) ≡ flag (ends_separator lane)
 half_ends half lane same = rw (and_mask half 7, same) (grind (arith, nat_tests))
 
--- the same of each lane
+-- so for each lane: it is A8 or A9 exactly where its half is 54
 pub halves_end : (lanes halves : List ℕ) → map (λ lane. lane % 2 ^ (8 - 1)) halves ≡ map (λ lane. lane / 2 ^ 1) lanes
     → map (λ lane. is_byte 0x54 (bit_and lane 0x7F)) halves ≡ map (λ lane. flag (ends_separator lane)) lanes
 halves_end [] [] same = refl

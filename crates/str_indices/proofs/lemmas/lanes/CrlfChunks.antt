@@ -9,7 +9,7 @@ pub record Loaded (text : List ℕ) (at size place : ℕ) (chunk before : List �
   pub taken : chunk ≡ take size (drop at text)
   pub carried : drop (size - 1) before ≡ mark is_carriage_return (byte_before text place) ∷ []
 
--- what is known of a chunk once it is loaded
+-- a chunk is `Loaded` once it is loaded
 pub loaded_by : {text : List ℕ} {at size place : ℕ} {chunk before : List ℕ} → chunk ≡ take size (drop at text)
     → drop (size - 1) before ≡ mark is_carriage_return (byte_before text place) ∷ [] → at + size ≤ length text
     → 4 ≤ size → Loaded text at size place chunk before
@@ -47,7 +47,7 @@ module _ {text : List ℕ} {at size place : ℕ} {chunk before : List ℕ} (load
       lane (suc j) below = rw add-suc (get_or-take (size - 1) returns j 0 (omega arith)
           ∙ (marked is_carriage_return made).each j (omega arith))
 
--- What the calls of a chunk leave in its lanes, in the words of their contracts.
+-- The lanes that the calls of a chunk leave, in the words of their contracts.
 module _ {text : List ℕ} {at size place : ℕ} {chunk before returns : List ℕ}
     (is_returns : returns ≡ map (is_byte carriage_return) chunk) where
   -- the last lane says whether the last byte is CR

@@ -30,13 +30,13 @@ pub masked_lanes : (mask byte size : ℕ) (lanes splat masked marks : List ℕ) 
 masked_lanes mask byte size lanes splat masked marks long filled joined compared =
     cc (zip2_splat bit_and lanes size mask long, map-map (is_byte byte) (λ lane. bit_and lane mask) lanes)
 
--- lanes of at most so much each
+-- if u is at most `most`, so is each lane of u
 pub lanes_at_most : (u : ℕ → ℕ) (most : ℕ) → ((b : ℕ) → u b ≤ most) → (lanes : List ℕ)
     → Each1 (λ lane. lane ≤ most) (map u lanes)
 lanes_at_most u most each [] = tt
 lanes_at_most u most each (x ∷ lanes) = (each x, lanes_at_most u most each lanes)
 
--- what each byte weighs in two ways is added, lane by lane
+-- two weights of each byte are added, lane by lane
 pub weights_added : (u v : ℕ → ℕ) (lanes : List ℕ) {xs ys zs : List ℕ} → xs ≡ map u lanes → ys ≡ map v lanes
     → zs ≡ zip2 (λ a b. a + b) xs ys → zs ≡ map (λ b. u b + v b) lanes
 weights_added u v lanes is_left is_right added =
@@ -120,13 +120,13 @@ pub lanes_set : {size : ℕ} {f g : ℕ → ℕ} {xs ys : List ℕ} (k n : ℕ) 
 lanes_set {xs = xs} k n within h is here elsewhere =
     grind (arith, h.each, elsewhere, length-set, get_or-set_same xs k n 0, λ (j : ℕ). get_or-set_other xs k j n 0)
 
--- what holds of the number of each place holds of each lane
+-- if P holds of the number of each place, it holds of each lane
 pub Each1-lanes : (P : ℕ → Type 0) {size : ℕ} {f : ℕ → ℕ} {xs : List ℕ} → HasLanes size f xs
     → ((j : ℕ) → j < size → P (f j)) → Each1 P xs
 Each1-lanes P {size} {f} {xs} h each = Each1-from_get_or P xs 0
     (λ j l. let inside : j < size = omega (arith, h.long) in rw (h.each j inside) (each j inside))
 
--- the same of two chunks, lane by lane
+-- if P holds of the two numbers of each place, it holds of each two lanes of two chunks
 pub Each2-lanes : (P : ℕ → ℕ → Type 0) {size : ℕ} {f g : ℕ → ℕ} {xs ys : List ℕ} → HasLanes size f xs
     → HasLanes size g ys → ((j : ℕ) → j < size → P (f j) (g j)) → Each2 P xs ys
 Each2-lanes P {size} {f} {g} {xs} {ys} h k each = by_place xs ys

@@ -1,11 +1,11 @@
--- The last bytes of a text in one chunk, of which the lanes in front are left out.
+-- The last bytes of a text in one chunk, whose first lanes are left out.
 use Rattle.str_indices.proofs.lemmas.Common.{◌≡◌, ℕ, zero, suc, ◌+◌, ◌-◌, ◌≤◌, List, [], ◌∷◌, ◌++◌, take, drop, length, get_or, refl, arith, cases_lt, inl, inr, length-append, replicate, bit_and, ◌∙◌, ap, ◌<◌, slice_set, add-one, sum, zip2, Each1, take-suc, length-replicate, length-drop, get_or-drop, drop-append-le, drop-replicate, take-replicate, take_more_set, take_rest, sum_by-replicate, sum_by-append, sum_below, CountsUpTo, HasLanes, HasLaterLanes}
 use Rattle.std.specs.Int.Bits.{and_zero_r}
 use Rattle.std.proofs.Math.Seq.{take-append-add}
 use Rattle.std.proofs.lemmas.Slice.{drop-append-drop}
 use Rattle.str_indices.proofs.lemmas.lanes.EachLane.{Each1-lanes, sum_below-chunk}
 
--- a table of bytes for lanes that are left out and then of as many for those that are kept, from the last `out` on
+-- a table of `most` zeros and then `most` bytes 0xFF, from the last `out` zeros on
 pub left_out_and_kept : (table : List ℕ) (most out kept size : ℕ) → table ≡ replicate most 0 ++ replicate most 0xFF
     → out + kept ≡ size → size ≤ most → take size (take (length table - (most - out)) (drop (most - out) table))
     ≡ replicate out 0 ++ replicate kept 0xFF
@@ -43,7 +43,7 @@ last_lanes_stay (suc out) kept [] small long = absurd (omega arith)
 last_lanes_stay (suc out) kept (x ∷ xs) small long =
     cc (and_zero_r x, last_lanes_stay out kept xs small (omega arith))
 
--- what holds of 0 and of some lanes holds of them after zeros
+-- if P holds of 0 and of each of some lanes, it holds of zeros and then these lanes
 after_zeros : (P : ℕ → Type 0) → P 0 → (out : ℕ) (lanes : List ℕ) → Each1 P lanes → Each1 P (replicate out 0 ++ lanes)
 after_zeros P zeros zero lanes each = each
 after_zeros P zeros (suc out) lanes each = (zeros, after_zeros P zeros out lanes each)
@@ -57,7 +57,7 @@ byte_more bytes text at i byte room within is filled =
     let next = take-suc (drop at text) i 0 (grind (arith, length-drop)) in
     rw (take_more_set bytes i byte room, add-one) (cc (filled, is, here, next))
 
--- The last chunk before an end, of which the lanes from a place on are kept: all of them, or not the first.
+-- The last chunk before an end, whose lanes from a place on are kept: all of them, or not the first.
 module _ (f : ℕ → ℕ) (end from size : ℕ) {lanes : List ℕ} (long : size ≤ end) (near : (from ≤ end) × (end ≤ from + size))
     (h : HasLaterLanes size (λ j. f (end - size + j)) lanes)
     (whole : end ≡ from + size → HasLanes size (λ j. f (end - size + j)) lanes) where
@@ -93,7 +93,7 @@ module _ (f : ℕ → ℕ) (end from size : ℕ) {lanes : List ℕ} (long : size
     rest_small most few =
         rw is (after_zeros (λ lane. lane ≤ most) (omega arith) (size - (end - from)) _ (kept_small most few))
 
-    -- what is counted from the place on to the end
+    -- they add up to the count from the place on to the end
     pub rest_added : sum_below f end ≡ sum_below f from + sum last
     rest_added =
         let out = size - (end - from) in

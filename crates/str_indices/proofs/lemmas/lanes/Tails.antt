@@ -3,7 +3,7 @@ use Rattle.str_indices.proofs.lemmas.Common.{◌≡◌, ℕ, zero, suc, ◌+◌,
 use Rattle.str_indices.proofs.lemmas.bytes.Sums.{sum_below-add, sum_below-same, sum_below-still}
 use Rattle.str_indices.proofs.lemmas.lanes.EachLane.{lanes_at_most, Each2-lanes, lanes_map, lanes_same, lanes_shift, lanes_zip2, sum_lanes}
 
--- what n lanes hold from one on, where past the last there is nothing
+-- the sum of n lanes from lane j on, where there is nothing past the last
 abbrev pub window : List ℕ → ℕ → ℕ → ℕ
 window lanes n j = sum_below (λ i. get_or lanes (j + i) 0) n
 
@@ -52,7 +52,7 @@ module _ {size : ℕ} (lanes : List ℕ) (long : length lanes ≡ size) where
       → moved ≡ drop n xs ++ replicate n 0 → HasLanes size (λ j. window lanes m (n + j)) moved
   windows_moved m n small h is = lanes_shift n small (λ j past. window-past lanes m j (omega arith)) h is
 
-  -- the same where each lane is told by its place
+  -- so too where each lane is told by its place
   pub windows_there : (m n : ℕ) {xs moved : List ℕ} → HasLanes size (window lanes m) xs
       → HasLanes size (λ j. get_or xs (n + j) 0) moved → HasLanes size (λ j. window lanes m (n + j)) moved
   windows_there m n {xs} h k = lanes_same k (λ j l. elim (cases_lt (n + j) size) [
@@ -144,14 +144,14 @@ tails_above k {size} {lanes} {sums} h =
     (λ j l. marks.each j (omega (arith, marks.long))) in
     all ∙ ap (sum_below (λ j. is_between k 127 (sum (drop j lanes)))) marks.long
 
--- so many of the sums find the byte with which more than idx are counted
+-- n sums that are too great find the byte that takes the count above idx
 pub record FoundBy (counted : ℕ → ℕ) (size from to idx n : ℕ) : Type 0 where
   pub some : size - (to - from) < n
   pub within : n ≤ size
   pub at_most : counted (to - size + (n - 1)) ≤ idx
   pub stopped : to - size + (n - 1) < to → idx < counted (to - size + (n - 1) + 1)
 
--- The place that so many of the sums find, where with all lanes k and one more than idx are counted.
+-- The place that n sums above k find, where all lanes together take the count to k + 1 above idx.
 module _ {counted : ℕ → ℕ} {most size from to : ℕ} {lanes : List ℕ} (k idx n : ℕ)
     (h : CountsUpTo counted most size from to lanes) (near : (from ≤ to) × (to ≤ from + size)) (long : size ≤ to) (few : counted from ≤ idx)
     (more : k + 1 + idx ≡ counted to) (small : sum lanes < 127)
@@ -205,7 +205,7 @@ pub marks_small : (a b most : ℕ) → 4 ≤ most → (lanes : List ℕ) → Eac
 marks_small a b most room lanes =
     lanes_at_most (is_between a b) most (λ lane. omega (arith, room, between-le a b lane)) lanes
 
--- so few lanes that their sum can be compared
+-- at most 126 / most lanes have a sum that can be compared
 pub compared : {counted : ℕ → ℕ} {most size from to total : ℕ} {lanes : List ℕ} → CountsUpTo counted most size from to lanes
     → size ≤ 126 / most → total ≡ sum lanes → total ≤ 126
 compared {most = most} {size} {lanes = lanes} h few is = omega (
@@ -217,7 +217,7 @@ compared {most = most} {size} {lanes = lanes} h few is = omega (
   div-mul-le_self 126 most,
 )
 
--- the same, from what the calls of a search say
+-- the place is found, by the contracts of the calls of a search
 pub found_place : {counted : ℕ → ℕ} {most size from to : ℕ} {lanes sums : List ℕ} {count idx total n : ℕ}
     → CountsUpTo counted most size from to lanes → (from ≤ to) × (to ≤ from + size) → size ≤ to → count ≡ counted from
     → count ≤ idx → total ≡ sum lanes → idx - count < total → size ≤ 126 / most

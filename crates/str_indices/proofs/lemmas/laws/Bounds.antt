@@ -1,4 +1,4 @@
--- What no answer passes: the size of the text, in every scheme. And what each answers at the edges of a text.
+-- No answer of a scheme is above the size of the text. And the answers at the edges of a text.
 use Rattle.str_indices.proofs.lemmas.Common.{◌≡◌, ℕ, ◌+◌, ◌≤◌, List, [], ◌∷◌, length, refl, arith, ap, sum_by, len_utf8, sum_by-cons, sum_by-le-sum_by, size, weight, Scheme, Utf16, ends, boundary_at_units, count, from_byte_idx, to_byte_idx}
 use Rattle.str_indices.proofs.lemmas.texts.{size-append, cut_all, IncreasesWithin, ends_increase_within, ends_up_to-all, boundary_weighed_is_greatest, count-units, weight_is_one_or_two, weight-le}
 use Rattle.str_indices.proofs.lemmas.laws.CharacterLaws.{IsBoundary-to_byte_idx, from_byte_idx-le}

@@ -1,4 +1,4 @@
--- What holds of the conversions in every scheme, and in the two that count characters.
+-- Laws of the conversions in every scheme, and in the two that count chars.
 use Rattle.str_indices.proofs.lemmas.Common.{◌≡◌, ℕ, ◌≤◌, List, ◌↔◌, Scheme, Chars, Utf16, from_byte_idx, to_byte_idx, ends, IsBoundary, arith, size, weight, cut, weighed, boundary_weighed, IsCharacterScheme, IsGreatestBoundary}
 use Rattle.str_indices.proofs.lemmas.texts.{IsBoundary-end_at, ends_increase_within, end_at-select, zero_or_end, ends_are, ends_increase, boundary_weighed_is_greatest, weighed-le-weighed, weight-some, rank, rank-le-rank, select-le-select, select-rank-le, member_adjunction, cut_is, cut_is_longest, count_characters}
 use Rattle.str_indices.proofs.lemmas.laws.UnitLaws.{boundary_weighed-le, boundary_weighed_iff, boundary_weighed-weighed-le}
@@ -45,13 +45,13 @@ to-from_is_greatest_boundary s character cs b = record {
       (from_byte_idx-le s cs q b le);
 }
 
--- where each character weighs one, what is before a byte index is the number of characters
+-- if each char weighs one, the weight before a byte index is the number of chars
 pub characters_weighed : (cs : List ℕ) (b : ℕ) → weighed (λ _. 1) cs b ≡ from_byte_idx Chars cs b
 characters_weighed cs b =
     let parts = cut_is cs b in
     omega (arith, count_characters (cut cs b), count-cut Chars cs b parts.rest parts.split)
 
--- and the place of so much is that of so many
+-- and the boundary of weight k is the byte index of char k
 pub boundary_of_characters : (cs : List ℕ) (k : ℕ) → boundary_weighed (λ _. 1) cs k ≡ to_byte_idx Chars cs k
 boundary_of_characters cs k =
     let p = boundary_weighed (λ _. 1) cs k in
@@ -66,8 +66,8 @@ boundary_of_characters cs k =
       (boundary_weighed_iff (λ _. 1) cs q k at').1 (omega (arith, characters_weighed cs q)),
     )
 
--- what the laws of the way there and back and of greater indices cite
+-- the lemmas for the laws of the way there and back and of greater indices
 pub ruleset index_laws = (from-to, from_byte_idx-le, to_byte_idx-le)
 
--- what the law of boundaries and ends cites
+-- the lemmas for the law of boundaries and ends
 pub ruleset end_laws = (IsBoundary-to_byte_idx, boundary_weighed_is_greatest, cut_is_longest, ends_are, ends_increase)

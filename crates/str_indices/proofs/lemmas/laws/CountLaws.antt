@@ -8,7 +8,7 @@ total-le-total : (v w : ℕ → List ℕ → ℕ) → ((c : ℕ) (cs : List ℕ)
 total-le-total v w each [] = omega arith
 total-le-total v w each (c ∷ cs) = omega (arith, each c cs, total-le-total v w each cs)
 
--- where each character that ends a line in one scheme ends one in the other, that has no fewer breaks
+-- where each char that ends a line in one scheme ends one in the other, that has no fewer breaks
 end_count-le-end_count : (s t : Scheme) → ((c : ℕ) (cs : List ℕ) → end_weight s c cs ≤ end_weight t c cs)
     → (cs : List ℕ) → end_count s cs ≤ end_count t cs
 end_count-le-end_count s t le cs = omega (arith, end_count_total, total-le-total (end_weight s) (end_weight t) le cs)
@@ -17,7 +17,7 @@ end_count-le-end_count s t le cs = omega (arith, end_count_total, total-le-total
 pub count-Lf-le-count-Crlf : (cs : List ℕ) → count Lf cs ≤ count Crlf cs
 count-Lf-le-count-Crlf cs = end_count-le-end_count Lf Crlf (λ c after. grind (arith, nat_tests)) cs
 
--- LF, CR and CRLF break no more lines than all seven characters
+-- LF, CR and CRLF break no more lines than all seven chars
 pub count-Crlf-le-count-Lines : (cs : List ℕ) → count Crlf cs ≤ count Lines cs
 count-Crlf-le-count-Lines cs = end_count-le-end_count Crlf Lines (λ c after. grind (arith, nat_tests)) cs
 
@@ -39,7 +39,7 @@ count-cut s cs end rest split =
 pub surrogates-append : (a b : List ℕ) → surrogates (a ++ b) ≡ surrogates a + surrogates b
 surrogates-append a b = sum_by-append (λ c. cond (weight c == 2) 1 0) a b
 
--- characters
+-- chars
 pub count-Chars-append : (a b : List ℕ) → count Chars (a ++ b) ≡ count Chars a + count Chars b
 count-Chars-append a b = omega (arith, count-append Chars a b)
 
@@ -55,16 +55,16 @@ count-Lf-append a b = omega (arith, count-append Lf a b)
 pub count-Crlf-append : (a b : List ℕ) → count Crlf (a ++ b) + cond (joins_crlf a b) 1 0 ≡ count Crlf a + count Crlf b
 count-Crlf-append = count-append Crlf
 
--- line breaks by all seven characters
+-- line breaks by all seven chars
 pub count-Lines-append : (a b : List ℕ)
     → count Lines (a ++ b) + cond (joins_crlf a b) 1 0 ≡ count Lines a + count Lines b
 count-Lines-append = count-append Lines
 
--- what the laws of the counts cite
+-- the lemmas for the laws of the counts
 pub ruleset count_laws = (count-characters-surrogates, count-Lf-le-count-Crlf, count-Crlf-le-count-Lines)
 
--- what the laws of joined texts cite
+-- the lemmas for the law of the sums of joined texts
 pub ruleset joined_sums = (chars-append, count-Chars-append, count-Utf16-append, surrogates-append, count-Lf-append)
 
--- the same of line breaks
+-- the lemmas for the law of the breaks of joined texts
 pub ruleset joined_breaks = (chars-append, count-Crlf-append, count-Lines-append)

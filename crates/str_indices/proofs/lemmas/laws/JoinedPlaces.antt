@@ -3,7 +3,7 @@ use Rattle.str_indices.proofs.lemmas.Common.{◌≡◌, ℕ, ◌+◌, ◌<◌, �
 use Rattle.str_indices.proofs.lemmas.texts.{seam_loss-le, ends_up_to-before, ends_up_to-behind, end_at-before, end_at-behind, units-before, units-behind, boundary_at_units-before, boundary_at_units-behind}
 use Rattle.str_indices.proofs.lemmas.laws.CountLaws.{count-append}
 
--- what a scheme answers of a and b, joined, by what it answers of each
+-- the answers of a scheme for a and b, joined, by its answers for each
 pub record IsJoined (s : Scheme) (a b : List ℕ) : Type 0 where
   pub counts : count s (a ++ b) + seam_loss s a b ≡ count s a + count s b
   pub loss_within : seam_loss s a b ≤ count s a
@@ -14,7 +14,7 @@ pub record IsJoined (s : Scheme) (a b : List ℕ) : Type 0 where
   pub to_behind : (k index : ℕ) → count s a < k + seam_loss s a b → count s a + index ≡ k + seam_loss s a b
       → to_byte_idx s (a ++ b) k ≡ size a + to_byte_idx s b index
 
--- so does each of the five
+-- each of the five schemes answers so
 pub is_joined : (s : Scheme) (a b : List ℕ) → IsJoined s a b
 is_joined Utf16 a b = record {
   counts = count-append Utf16 a b;

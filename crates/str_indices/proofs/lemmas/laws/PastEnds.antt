@@ -3,7 +3,8 @@ use Rattle.str_indices.proofs.lemmas.Common.{◌≡◌, ℕ, zero, suc, ◌+◌,
 use Rattle.str_indices.proofs.lemmas.texts.{size-append, IncreasesWithin, low_le_high, ends_increase_within, boundary_weighed_is_greatest, weight-le}
 use Rattle.str_indices.proofs.lemmas.bytes.{size-chars}
 
--- of numbers that increase up to a bound, the k-th is the bound where so many must have reached it
+-- of numbers that increase, above low and at most high, number k is high or past the last, if high is at most low + k +
+-- 1
 get_or-past : (low : ℕ) (es : List ℕ) (high k : ℕ) → IncreasesWithin low es high → high ≤ low + suc k
     → get_or es k high ≡ high
 get_or-past low [] high k h past = refl
@@ -26,5 +27,5 @@ pub to_byte_idx-past_bytes : (s : Scheme) (bytes : List ℕ) → IsUtf8 bytes �
 to_byte_idx-past_bytes s bytes utf8 k past =
     omega (arith, to_byte_idx-past s (chars bytes) k, size-chars bytes utf8)
 
--- what the law of an index past the end cites
+-- the lemmas for the law of an index past the end
 pub ruleset past_ends = (to_byte_idx-past_bytes)

@@ -1,4 +1,4 @@
--- The laws of what characters weigh, each by w, and those of the UTF-16 code units.
+-- The laws of what chars weigh, each by w, and those of the UTF-16 code units.
 use Rattle.str_indices.proofs.lemmas.Common.{◌≡◌, ℕ, ◌+◌, ◌<◌, ◌≤◌, ◌↔◌, ◌⊎◌, inl, inr, min, List, [], ◌∷◌, ◌++◌, refl, arith, sym, ◌∙◌, ap, append_assoc, sum_by, cases_lt, len_utf8_bounds, sum_by-cons, sum_by-append, size, weight, cut, Utf16, weighed, boundary_weighed, units, boundary_at_units, count, IsBoundary, IsGreatestBoundary, IsSecondUnit, IsInside}
 use Rattle.str_indices.proofs.lemmas.texts.{size-cons, size-append, boundary_beside, cut_is, weighed_at, weighed-le-weighed, count-units, weight_is_one_or_two, boundary_weighed_is_greatest}
 
@@ -18,7 +18,7 @@ boundary_weighed-le w cs i j le =
     let first = boundary_weighed_is_greatest w cs i in
     (boundary_weighed_is_greatest w cs j).greatest (boundary_weighed w cs i) first.boundary (omega (arith, first.fits))
 
--- from a byte index to what is before it and back is at or before it, where each character weighs something
+-- from a byte index to what is before it and back is at or before it, where each char weighs something
 pub boundary_weighed-weighed-le : (w : ℕ → ℕ) → ((c : ℕ) → 0 < w c) → (cs : List ℕ) (b : ℕ)
     → boundary_weighed w cs (weighed w cs b) ≤ b
 boundary_weighed-weighed-le w some cs b =
@@ -44,7 +44,7 @@ weighed_is_greatest_boundary w some cs b = record {
   greatest = λ q at le. (boundary_weighed_iff w cs q (weighed w cs b) at).1 (weighed-le-weighed w cs q b le);
 }
 
--- a weight comes back, or all that there is, or it falls inside a character
+-- a weight comes back, or all that there is, or it falls inside a char
 pub weighed_or_inside : (w : ℕ → ℕ) (cs : List ℕ) (k : ℕ)
     → (weighed w cs (boundary_weighed w cs k) ≡ min k (sum_by w cs)) ⊎ IsInside w cs k
 weighed_or_inside w cs k =
@@ -73,7 +73,7 @@ weighed_or_inside w cs k =
           ]
     ]) refl
 
--- what falls inside a character goes to its beginning
+-- an index that falls inside a char goes to its beginning
 pub weighed_inside : (w : ℕ → ℕ) (cs : List ℕ) (k : ℕ) (inside : IsInside w cs k)
     → weighed w cs (boundary_weighed w cs k) ≡ sum_by w inside.front
 weighed_inside w cs k inside =
@@ -87,7 +87,7 @@ weighed_inside w cs k inside =
     let beside = boundary_beside w cs front inside.character inside.back inside.split p answer.boundary in
     omega (arith, weighed_at w cs (size front) first, weighed_at w cs p answer.boundary, answer.fits, inside.before)
 
--- where a unit falls inside a character, it is the second of a pair
+-- where a unit falls inside a char, it is the second of a pair
 second_unit_inside : (cs : List ℕ) (k : ℕ) → IsInside weight cs k → IsSecondUnit cs k
 second_unit_inside cs k inside =
     let two : (weight inside.character ≡ 2) × (sum_by weight inside.front + 1 ≡ k) =

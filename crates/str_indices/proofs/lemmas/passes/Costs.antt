@@ -1,4 +1,4 @@
--- What one turn or load reads, and what the parts of a pass add up to.
+-- The reads of one turn or load, and of the parts of a pass together.
 use Rattle.str_indices.proofs.lemmas.Common.{◌≡◌, ℕ, ◌+◌, ◌-◌, ◌*◌, ◌/◌, ◌≤◌, min, arith, add-mul, le-div, div-mul-le_self, ProbeState, Reads}
 use Rattle.str_indices.proofs.lemmas.passes.Quotients.{div-add-le}
 
@@ -22,7 +22,7 @@ pub then_ : {old seen new : ProbeState} {first t l s t' l' s' : ℕ} → Reads o
     → Reads seen new first t' l' s' → Reads old new first (t + t') (l + l') (s + s')
 then_ a b = grind arith
 
--- what reads no more, reads no more
+-- reads within some bounds are within greater ones
 pub weaken : {old new : ProbeState} {first t l s first' t' l' s' : ℕ} → Reads old new first t l s → first' ≤ first
     → t ≤ t' → l ≤ l' → s ≤ s' → Reads old new first' t' l' s'
 weaken a le_first le_turns le_loads le_spare = search arith

@@ -1,4 +1,4 @@
--- What leading bytes, chunks and the rest of a text add up to: the bounds of a whole pass.
+-- The bounds of a whole pass: the reads of leading bytes, chunks and the rest of a text, added.
 use Rattle.str_indices.proofs.lemmas.Common.{◌≡◌, ℕ, ◌+◌, ◌-◌, ◌/◌, ◌≤◌, min, arith, le-div, div-le_self, div-mul-le_self, ProbeState, Reads, leading_bytes, pass_turns, pass_loads}
 use Rattle.str_indices.proofs.lemmas.passes.Costs.{chunk_read, loads_to_place}
 use Rattle.str_indices.proofs.lemmas.passes.Quotients.{div-add-le}
@@ -12,13 +12,13 @@ counting_pass lead least here leads chunks rests within few = grind (arith, le-d
 
 module _ {old peeked new : ProbeState} (size lead end n : ℕ) (least : 4 ≤ size) (le : end ≤ n)
     (peeks : Reads old peeked 0 0 0 3) where
-  -- after up to three peeks a pass that counts in them keeps within the bounds of one over n bytes
+  -- after up to three peeks, a pass that counts in `end` bytes keeps within the bounds of one over n bytes
   pub pass_after_peeks :
       Reads peeked new (leading_bytes lead end) (pass_turns size lead end) (pass_loads size lead end) 0
       → Reads old new (leading_bytes lead n) (pass_turns size lead n) (pass_loads size lead n) 3
   pass_after_peeks pass = grind (arith, le-div, div-mul-le_self, div-le_self 0 size)
 
--- a search from a place on: chunks without a look, groups of at most four, single chunks, and the last one
+-- a search from a place on: chunks that cannot reach the index, groups of at most four, single chunks, and the last one
 pub search_from : {p passed grouped chunked new : ProbeState} {size from sure group at place t l : ℕ} → 4 ≤ size
     → from ≤ sure → sure ≤ group → group ≤ at → at ≤ place → Reads p passed from 0 ((sure - from) / size) 0
     → Reads passed grouped sure 0 ((group - sure) / size + l) 0 → l ≤ 4

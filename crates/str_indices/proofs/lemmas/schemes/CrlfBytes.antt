@@ -20,7 +20,7 @@ starts_and_ends bytes (suc n) =
     let one = one_byte (byte_before bytes n) (get_or bytes n 0) (get_or bytes (suc n) 0) 0 in
     let next : 1 + n ≡ suc n = omega arith in rw next (omega (arith, starts_and_ends bytes n))
 
--- a break is counted at the first byte of its last character
+-- a break is counted at the first byte of its last char
 breaks_add : AddsAtFirst ends_break (end_weight Crlf)
 breaks_add = adds_breaks Crlf crlf_has_return ends_break (λ c next after ascii. grind (arith, nat_tests))
     (λ c rest s wide. by_width (λ bs. ends_break (get_or (bs ++ rest) 0 0) (get_or (bs ++ rest) 1 0)

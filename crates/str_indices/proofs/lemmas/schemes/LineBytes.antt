@@ -4,7 +4,7 @@ use Rattle.str_indices.proofs.lemmas.Common.{◌≡◌, ℕ, ◌+◌, ◌<◌, �
 use Rattle.str_indices.proofs.lemmas.texts.{cut_is, end_weight, end_count_total, cut-cut, lines_has_return, end_at_reached}
 use Rattle.str_indices.proofs.lemmas.bytes.{sum_below-le, sum_below-le-sum_below, by_size, AddsAtFirst, size-chars, size-cut, walk_to_boundary, boundary_of_cut, cut_boundary, wide_behind_cut, adds_breaks, ends_by_walk, breaks_of_cut_text, feed_at_middle}
 
--- a break is counted at the first byte of its last character
+-- a break is counted at the first byte of its last char
 breaks_add : AddsAtFirst is_break (end_weight Lines)
 breaks_add = adds_breaks Lines lines_has_return is_break (λ c next after ascii. grind (arith, nat_tests))
     (λ c rest s wide. by_size (λ bs. is_break (get_or (bs ++ rest) 0 0) (get_or (bs ++ rest) 1 0)
@@ -27,7 +27,7 @@ module _ (bytes : List ℕ) (utf8 : IsUtf8 bytes) where
   line_of_byte byte end here within = rw here
       (ap (count Lines) (cut-cut (chars bytes) byte) ∙ breaks_of_cut_text Lines lines_has_return bytes utf8 byte)
 
-  -- a boundary before a byte of its character parts no CR from LF
+  -- a boundary before a byte of its char parts no CR from LF
   pub moved_is_whole : (byte end : ℕ) → end ≡ size (cut (chars bytes) byte) → end < byte → is_middle bytes end ≡ false
   moved_is_whole byte end here moved = false_from_ne_true (is_middle bytes end) (λ between.
       let (inside, feed) = feed_at_middle bytes end between in

@@ -1,4 +1,4 @@
--- The UTF-16 code units of a text, from its leading bytes and the first bytes of its characters of four bytes.
+-- The UTF-16 code units of a text, from its leading bytes and the first bytes of its chars of four bytes.
 use Rattle.str_indices.proofs.lemmas.Common.{◌≡◌, ℕ, zero, suc, ◌+◌, ◌-◌, ◌<◌, ◌≤◌, inl, inr, true, false, List, ◌++◌, length, get_or, refl, arith, sym, ◌∙◌, ap, add-one, add-zero, add-suc, chars, IsUtf8, bit_and, ◌==◌, nat_le, sum_by, len_utf8, encode, encodes, scalar, cases_Bool, false_from_ne_true, agree_below_at, lt-leb, eqb-true, sum_by-le-sum_by, and_assoc, length-encode, nat_tests, size, cut, weight, count, from_byte_idx, Chars, Utf16, surrogates, boundary_at_units, IsBoundary, flag, mark, passing_before, is_trailing, is_leading, begins_four_bytes, units_begun, units_before, byte_before, IsSteady, mark-le}
 use Rattle.str_indices.proofs.lemmas.texts.{size-append, boundary_beside, weighed_at, boundary_weighed_is_greatest, count-units, count-characters-surrogates, weight-le, cut-cut}
 use Rattle.str_indices.proofs.lemmas.bytes.{sum_below-le-sum_below, sum_below-still, by_size, bytes_to_boundary, boundary_at_end, size-chars, begins_at, begins_boundary}
@@ -9,7 +9,7 @@ use Rattle.str_indices.proofs.lemmas.passes.{pass_after_peeks}
 four_range : (b : ℕ) → b < 256 → begins_four_bytes b ≡ nat_le 240 b
 four_range b below = agree_below_at begins_four_bytes (nat_le 240) 256 b refl below
 
--- the first byte of a character begins four exactly where the character takes four
+-- the first byte of a char begins four exactly where the char takes four
 four_first : (c : ℕ) (rest : List ℕ) → scalar c ≡ true
     → begins_four_bytes (get_or (encode c ++ rest) 0 0) ≡ (len_utf8 c == 4)
 four_first c rest s = by_size (λ bs. begins_four_bytes (get_or (bs ++ rest) 0 0) ≡ (length bs == 4)) c s
@@ -17,13 +17,13 @@ four_first c rest s = by_size (λ bs. begins_four_bytes (get_or (bs ++ rest) 0 0
     (λ from below. grind (arith, nat_tests, four_range)) (λ from below. grind (arith, nat_tests, four_range))
     ∙ ap (λ n. n == 4) (length-encode c)
 
--- a character of four bytes begins with a leading byte
+-- a char of four bytes begins with a leading byte
 four_leads : (b : ℕ) → begins_four_bytes b ≡ true → is_trailing b ≡ false
 four_leads b four =
     let both = sym (and_assoc 0xC0 b 0xF0) ∙ ap (λ x. bit_and x 0xC0) (eqb-true (bit_and b 0xF0) 0xF0 four) in
     rw both
 
--- the units of a cut text are its characters and its surrogate pairs
+-- the units of a cut text are its chars and its surrogate pairs
 pub units_of_cut : (cs : List ℕ) (end : ℕ)
     → count Utf16 (cut cs end) ≡ count Chars (cut cs end) + surrogates (cut cs end)
 units_of_cut cs end = count-characters-surrogates (cut cs end)
@@ -32,7 +32,7 @@ units_of_cut cs end = count-characters-surrogates (cut cs end)
 pub count-le-size : (cs : List ℕ) → count Utf16 cs ≤ size cs
 count-le-size cs = omega (arith, count-units cs, sum_by-le-sum_by weight len_utf8 cs weight-le)
 
--- the units are the bytes that begin a character, and those that begin four bytes once more
+-- the units are the bytes that begin a char, and those that begin four bytes once more
 units_are : (bytes : List ℕ) (n : ℕ)
     → units_before bytes n ≡ passing_before is_leading bytes n + passing_before begins_four_bytes bytes n
 units_are bytes zero = refl
@@ -47,7 +47,7 @@ pub units_before-next : (bytes : List ℕ) (i : ℕ) → units_before bytes (i +
     ≡ units_before bytes i + (mark is_leading (get_or bytes i 0) + mark begins_four_bytes (get_or bytes i 0))
 units_before-next bytes i = rw add-one (omega arith)
 
--- the units of the text that is cut at the boundary at or before a byte are those of the characters that end at or
+-- the units of the text that is cut at the boundary at or before a byte are those of the chars that end at or
 -- before it
 pub units_of_byte : (cs : List ℕ) (byte end : ℕ) → end ≡ size (cut cs byte)
     → count Utf16 (cut cs end) ≡ from_byte_idx Utf16 cs byte
@@ -73,7 +73,7 @@ module _ (bytes : List ℕ) (utf8 : IsUtf8 bytes) where
       let long = eqb-true (len_utf8 c) 4 is_four in
       omega (arith, at.place, boundary_beside (λ _. 0) (chars bytes) at.front c at.back at.split p b))
 
-  -- So the last three bytes before it need no look: the bytes before them begin all the characters of four bytes.
+  -- So the last three bytes before it need no look: the bytes before them begin all the chars of four bytes.
   pub pairs_before_last_three : (end : ℕ) → end ≤ length bytes → IsBoundary (chars bytes) end
       → passing_before begins_four_bytes bytes (end - 3) ≡ surrogates (cut (chars bytes) end)
   pairs_before_last_three end within b =
@@ -83,7 +83,7 @@ module _ (bytes : List ℕ) (utf8 : IsUtf8 bytes) where
       (λ j l. ap flag (none_begins_four (end - 3 + j) end (omega arith) (omega arith) within b)) in
       omega (arith, ap (passing_before begins_four_bytes bytes) whole, pairs_at_boundary end b)
 
-  -- before a boundary the units that the bytes show are those of the characters
+  -- before a boundary the units that the bytes show are those of the chars
   units_at_boundary : (p : ℕ) (b : IsBoundary (chars bytes) p) → units_before bytes p ≡ sum_by weight b.front
   units_at_boundary p b =
       let units = weighed_at weight (chars bytes) p b in
@@ -133,7 +133,7 @@ module _ (bytes : List ℕ) (utf8 : IsUtf8 bytes) where
   units_before-step i (suc n) within = rw add-suc
       (omega (arith, units_before-step i n (omega arith), leads_or_behind_four (i + n) (omega arith)))
 
-  -- n bytes more show at most n + 1 units more, since the last may begin a character of two
+  -- n bytes more show at most n + 1 units more, since the last may begin a char of two
   pub units_before-more : (i n : ℕ) → i + n ≤ length bytes
       → units_before bytes (i + n) ≤ units_before bytes i + n + 1
   units_before-more i n within =

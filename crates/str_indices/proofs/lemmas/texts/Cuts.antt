@@ -1,8 +1,8 @@
--- What a text cut at a byte index is: the longest beginning that fits before the index.
+-- A text cut at a byte index is its longest beginning that fits before the index.
 use Rattle.str_indices.proofs.lemmas.Common.{◌≡◌, ℕ, ◌+◌, ◌<◌, ◌≤◌, inl, inr, List, [], ◌∷◌, ◌++◌, length, map, min, refl, arith, sym, ◌∙◌, ap, append-nil, filter, nat_le, len_utf8, cases_lt, le-leb, lt-leb, length-append, len_utf8_bounds, size, placed, cut, IsLongestCut, IsBoundary}
 use Rattle.str_indices.proofs.lemmas.texts.Sizes.{size-cons, size-append}
 
--- the characters that end at or before `end`, in a text that begins at `start`
+-- the chars that end at or before `end`, in a text that begins at `start`
 abbrev cut_from : ℕ → List ℕ → ℕ → List ℕ
 cut_from start cs end = map (λ p. p.character) (filter (λ p. nat_le p.end end) (placed start cs))
 
@@ -55,7 +55,7 @@ pub cut_behind : (a b : List ℕ) (end : ℕ) → cut (a ++ b) (size a + end) �
 cut_behind a b end = cut_from-append 0 a b (size a) (size a + end) (omega arith) (omega arith)
     ∙ ap (λ r. a ++ r) (cut_from-later (size a) 0 (size a) b end (omega arith))
 
--- front ends at or before `end`, and with the first character of the rest it would not; the text begins at `start`
+-- front ends at or before `end`, and with the first char of the rest it would not; the text begins at `start`
 pub record IsCutAt (start : ℕ) (front rest : List ℕ) (end : ℕ) : Type 0 where
   pub fits : start + size front ≤ end
   pub longest : (c : ℕ) (after : List ℕ) → rest ≡ c ∷ after → end < start + size front + len_utf8 c

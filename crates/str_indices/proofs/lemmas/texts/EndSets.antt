@@ -18,12 +18,12 @@ Contains-filter test (y ∷ xs) x (suc k, inside, is) passes =
       | inr not_kept ↦ rw not_kept rest
     ]
 
--- a character stands in the text at its place, with those after it
+-- a char stands in the text at its place, with those after it
 abbrev StandsIn : List ℕ → Placed → Type 0
 StandsIn text x =
     (front : List ℕ) × (text ≡ (front ++ x.character ∷ []) ++ x.after) × (size (front ++ x.character ∷ []) ≡ x.end)
 
--- the characters of a text stand in it, after those `before`
+-- the chars of a text stand in it, after those `before`
 placed_are : (text before cs : List ℕ) (start : ℕ) → text ≡ before ++ cs → size before ≡ start
     → All (StandsIn text) (placed start cs)
 placed_are text before [] start split place = All-nil (StandsIn text)
@@ -33,7 +33,7 @@ placed_are text before (c ∷ cs) start split place =
     All-cons (StandsIn text) (first_placed start c cs) _ (before, split', place')
     (placed_are text (before ++ c ∷ []) cs (start + len_utf8 c) split' place')
 
--- a character stands at its place, in a text that begins at `start`
+-- a char stands at its place, in a text that begins at `start`
 Contains-placed : (start : ℕ) (front : List ℕ) (c : ℕ) (back : List ℕ) (p : ℕ) → start + size (front ++ c ∷ []) ≡ p
     → Contains (placed start ((front ++ c ∷ []) ++ back)) (record { character = c; end = p; after = back })
 Contains-placed start [] c back p place =
@@ -41,12 +41,12 @@ Contains-placed start [] c back p place =
 Contains-placed start (x ∷ front) c back p place = Contains-append_right (first_placed start x _ ∷ []) _ _
     (Contains-placed (start + len_utf8 x) front c back p (omega (arith, size-cons x (front ++ c ∷ []))))
 
--- a character ends at a boundary
+-- a char ends at a boundary
 abbrev IsBoundary-end_of : (cs : List ℕ) (c p : ℕ) → IsEndOf cs c p → IsBoundary cs p
 IsBoundary-end_of cs c p end =
     record { front = end.front ++ c ∷ []; back = end.back; split = end.split; place = end.place }
 
--- a text whose first character is a line feed
+-- a text whose first char is a line feed
 line_feed_first : (back : List ℕ) → slice_index back 0 == line_feed ≡ true → (rest : List ℕ) × (back ≡ line_feed ∷ rest)
 line_feed_first [] is_feed = cc
 line_feed_first (c ∷ rest) is_feed = (rest, ap (λ x. x ∷ rest) (eqb-true c line_feed is_feed))
@@ -69,7 +69,7 @@ is_crlf_middle_iff cs c p end = (
       rw (last, rests),
 )
 
--- a character ends at p, and the test passes there
+-- a char ends at p, and the test passes there
 abbrev PassesAt : (Placed → Bool) → List ℕ → ℕ → Type 0
 PassesAt test cs p =
     (c : ℕ) × (end : IsEndOf cs c p) × (test (record { character = c; end = p; after = end.back }) ≡ true)
@@ -106,7 +106,7 @@ breaks_are set cs p = (
       (listed_iff (is_break_end set) cs p).1 (h.character, h.end_of, and_from _ _ h.in_set (not_from_false _ none)),
 )
 
--- a beginning that is not empty ends with a character
+-- a beginning that is not empty ends with a char
 end_of_boundary : (front back : List ℕ) (p : ℕ) → size front ≡ p → 0 < p → (c : ℕ) × IsEndOf (front ++ back) c p
 end_of_boundary [] back p place above = absurd (omega arith)
 end_of_boundary (c ∷ front) back p place above =
@@ -114,7 +114,7 @@ end_of_boundary (c ∷ front) back p place above =
     let whole = sym (take_all (n + 1) (c ∷ front) (omega arith)) ∙ take_more (c ∷ front) n 0 (omega arith) in
     (_, record { front = _; back = back; split = ap (λ f. f ++ back) whole; place = sym (ap size whole) ∙ place })
 
--- the character ends that are listed are those of the relation
+-- the char ends that are listed are those of the relation
 characters_are : (cs : List ℕ) (p : ℕ) → Contains (ends_from (λ _. true) 0 cs) p ↔ IsCharacterEnd cs p
 characters_are cs p = (
   λ has.

@@ -89,7 +89,7 @@ module _ (es : List ℕ) (high : ℕ) (up : IncreasesWithin 0 es high) where
   select-le-select i j le =
       grind (arith, get_or_past es, select-le-high i, adjunction (select es high j) i, rank-select j)
 
-  -- of as many numbers as are at most b, the last is at most b
+  -- the last of the numbers that are at most b is at most b
   pub select-rank-le : (b : ℕ) → select es high (rank es b) ≤ b
   select-rank-le b = (adjunction b (rank es b) (count_by-le-length (λ e. nat_le e b) es)).1 (omega arith)
 

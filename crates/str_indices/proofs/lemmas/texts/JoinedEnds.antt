@@ -6,7 +6,7 @@ use Rattle.str_indices.proofs.lemmas.texts.Ends.{ends_from, ends_from-increases,
 use Rattle.str_indices.proofs.lemmas.texts.EndSets.{end_at-select, end_at-past, end_at_reached}
 use Rattle.str_indices.proofs.lemmas.texts.Seams.{total_front-loss}
 
--- a character weighs the same, whatever follows the next
+-- a char weighs the same, whatever follows the next
 end_weight-next : (s : Scheme) (c d : ℕ) (cs ds : List ℕ) → end_weight s c (d ∷ cs) ≡ end_weight s c (d ∷ ds)
 end_weight-next Chars c d cs ds = refl
 end_weight-next s c d cs ds = refl
@@ -49,7 +49,7 @@ module _ (s : Scheme) (a b : List ℕ) where
       let later = rank-later s (size a) 0 (size a) b j (omega arith) in
       omega (arith, parts, later, total_front-loss s a b, end_count_total s a)
 
-  -- what the seam takes is among the ends of the first text
+  -- the seam takes no more ends than the first text has
   pub seam_loss-le : seam_loss s a b ≤ end_count s a
   seam_loss-le = omega (arith, total_front-loss s a b, end_count_total s a)
 

@@ -4,7 +4,7 @@ use Rattle.str_indices.proofs.lemmas.texts.Sizes.{size-append}
 use Rattle.str_indices.proofs.lemmas.texts.Cuts.{cut_before, cut_behind}
 use Rattle.str_indices.proofs.lemmas.texts.Units.{count-units, weight_is_one_or_two, boundary_weighed_is_greatest}
 
--- a beginning of two joined texts is one of the first, or goes on from it with a character c of the second
+-- a beginning of two joined texts is one of the first, or goes on from it with a char c of the second
 compare_seam : (a b front back : List ℕ) → a ++ b ≡ front ++ back → ((rest : List ℕ) × (a ≡ front ++ rest))
     ⊎ ((c : ℕ) × (rest : List ℕ) × (front ≡ a ++ c ∷ rest) × (b ≡ (c ∷ rest) ++ back))
 compare_seam [] b [] back same = inl ([], refl)

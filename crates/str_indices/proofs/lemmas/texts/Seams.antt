@@ -1,18 +1,18 @@
--- What a seam takes from the ends of the texts on its two sides: one where it makes a CRLF.
+-- The ends that a seam takes from the texts on its two sides: one where it makes a CRLF.
 use Rattle.str_indices.proofs.lemmas.Common.{ℕ, List, [], ◌∷◌, ◌++◌, get_or, arith, cond, ◌≡◌, ◌≢◌, ◌+◌, refl, true, sym, ◌∙◌, ◌==◌, char_set_contains, nat_tests, cut, line_feed, carriage_return, Scheme, Chars, Utf16, Lf, Crlf, Lines, break_characters, end_count, ends_up_to, is_break_end, is_end, ends_in_return, starts_with_feed, joins_crlf, seam_loss}
 use Rattle.str_indices.proofs.lemmas.texts.Sizes.{total, total_front, total_alone, total_front_alone, total-append}
 use Rattle.str_indices.proofs.lemmas.texts.Cuts.{cut_is}
 use Rattle.str_indices.proofs.lemmas.texts.Ends.{ReadsAlone, end_weight, end_weight-Lf, end_count_total, ends_up_to_cut, first_placed}
 
--- a text of one character ends in CR where that character is CR
+-- a text of one char ends in CR where that char is CR
 pub ends_in_return-one : (c : ℕ) → ends_in_return (c ∷ []) ≡ (c == carriage_return)
 ends_in_return-one c = grind (arith, nat_tests)
 
--- the first of several characters doesn't matter there
+-- the first of several chars doesn't matter there
 pub ends_in_return-cons : (c d : ℕ) (cs : List ℕ) → ends_in_return (c ∷ d ∷ cs) ≡ ends_in_return (d ∷ cs)
 ends_in_return-cons c d cs = grind (arith, nat_tests)
 
--- a text starts with LF where its first character is LF
+-- a text starts with LF where its first char is LF
 pub starts_with_feed_is : (cs : List ℕ) → starts_with_feed cs ≡ (get_or cs 0 0 == line_feed)
 starts_with_feed_is [] = refl
 starts_with_feed_is (c ∷ cs) = grind (arith, nat_tests)
@@ -30,7 +30,7 @@ pub starts_with_feed-append : (a b : List ℕ) → a ≢ [] → starts_with_feed
 starts_with_feed-append [] b some = absurd (some refl)
 starts_with_feed-append (c ∷ a) b some = starts_with_feed_is (c ∷ a ++ b) ∙ sym (starts_with_feed_is (c ∷ a))
 
--- the scheme's ends are line breaks, and CR is among their characters
+-- the scheme's ends are line breaks, and CR is among their chars
 pub record HasReturn (s : Scheme) : Type 0 where
   pub breaks : (c : ℕ) (cs : List ℕ)
       → is_end s (first_placed 0 c cs) ≡ is_break_end (break_characters s) (first_placed 0 c cs)
@@ -45,7 +45,7 @@ pub lines_has_return : HasReturn Lines
 lines_has_return = record { breaks = λ _ _. refl; return = refl }
 
 module _ (s : Scheme) (has : HasReturn s) where
-  -- the last character before the seam
+  -- the last char before the seam
   end_weight-seam : (c : ℕ) (cs : List ℕ) → end_weight s c cs + cond (joins_crlf (c ∷ []) cs) 1 0 ≡ end_weight s c []
   end_weight-seam c cs = grind (arith, nat_tests, has.breaks c cs, has.breaks c [], has.return)
 
@@ -64,7 +64,7 @@ module _ (s : Scheme) (has : HasReturn s) where
   end_count-cut_seam cs end =
       omega (arith, end_count_total s, ends_up_to_cut s cs end, total_front-seam (cut cs end) (cut_is cs end).rest)
 
--- where ends are read from the characters alone, no seam takes any
+-- where ends are read from the chars alone, no seam takes any
 total_front-alone : (s : Scheme) → ReadsAlone s → (front back : List ℕ)
     → total_front (end_weight s) front back ≡ total (end_weight s) front
 total_front-alone s alone front back =
@@ -84,7 +84,7 @@ total_front-loss Lf front back =
 total_front-loss Crlf front back = total_front-seam Crlf crlf_has_return front back
 total_front-loss Lines front back = total_front-seam Lines lines_has_return front back
 
--- what the seam takes depends on how the first text ends and the second starts, and on no more
+-- the ends that the seam takes depend only on how the first text ends and the second starts
 pub seam_loss-same : (s : Scheme) (a b c d : List ℕ) → ends_in_return a ≡ ends_in_return c
     → starts_with_feed b ≡ starts_with_feed d → seam_loss s a b ≡ seam_loss s c d
 seam_loss-same Crlf a b c d ends starts = rw (ends, starts) refl

@@ -1,5 +1,5 @@
--- What the characters before a place weigh, and the greatest boundary before which a text weighs at most so much. By
--- UTF-16 code units, how many a character and a text take.
+-- The weight of the chars before a place, and the greatest boundary before which a text weighs at most k. In UTF-16
+-- code units, how many a char and a text take.
 use Rattle.str_indices.proofs.lemmas.Common.{zero, suc, ◌≡◌, ℕ, ◌<◌, ◌≤◌, List, [], ◌∷◌, max, arith, All, ◌+◌, ◌⊎◌, refl, cond, ap, filter, fold, nat_le, ◌==◌, sum_by, Contains, nat_tests, le-leb, leb-true, All-nil, All-cons, All-head, All-tail, All-filter, All-contains, Contains-get_or, Contains-append_right, filter_passes, len_utf8, len_utf8_bounds, sum_by-cons, sum_by-append, size, weight, cut, Chars, Utf16, ends, weighed, boundary_weighed, boundaries, count, surrogates, IsBoundary, IsGreatestWeighed}
 use Rattle.str_indices.proofs.lemmas.texts.Cuts.{cut_is, cut_goes_on, cut_front, cut_all}
 use Rattle.str_indices.proofs.lemmas.texts.Ends.{count_characters}
@@ -12,13 +12,13 @@ fold_max_bounds a (x ∷ xs) =
     let (first, rest) = fold_max_bounds (max a x) xs in
     (omega arith, All-cons (λ y. y ≤ fold max (max a x) xs) x xs (omega arith) rest)
 
--- what is true of the start and of each number is true of the maximum
+-- if P holds of the start and of each number, it holds of the maximum
 fold_max_holds : (P : ℕ → Type 0) (a : ℕ) (xs : List ℕ) → P a → All P xs → P (fold max a xs)
 fold_max_holds P a [] start all = start
 fold_max_holds P a (x ∷ xs) start all =
     fold_max_holds P (max a x) xs (grind (arith, All-head P x xs all)) (All-tail P x xs all)
 
--- before a boundary the characters weigh what the beginning does that ends there
+-- before a boundary the chars weigh what the beginning does that ends there
 pub weighed_at : (w : ℕ → ℕ) (cs : List ℕ) (p : ℕ) (at : IsBoundary cs p) → weighed w cs p ≡ sum_by w at.front
 weighed_at w cs p at = ap (sum_by w) (cut_front cs p at)
 
@@ -34,7 +34,7 @@ boundary_is_listed cs zero at = (0, omega arith, refl)
 boundary_is_listed cs (suc p) at = Contains-append_right (0 ∷ []) (ends Chars cs) (suc p)
     ((ends_are Chars cs (suc p)).1 (record { boundary = at; above = omega arith }))
 
--- `boundary_weighed` answers the greatest boundary before which the text weighs at most so much
+-- `boundary_weighed` answers the greatest boundary before which the text weighs at most k
 pub boundary_weighed_is_greatest : (w : ℕ → ℕ) (cs : List ℕ) (k : ℕ) → IsGreatestWeighed w cs k (boundary_weighed w cs k)
 boundary_weighed_is_greatest w cs k =
     let test = λ (p : ℕ). nat_le (weighed w cs p) k in
@@ -61,29 +61,29 @@ weighed-le-weighed w cs i j le =
     let (more, is) = cut_goes_on cs (cut cs i) parts.rest j parts.split (omega (arith, parts.at.fits)) in
     omega (arith, ap (sum_by w) is, sum_by-append w (cut cs i) more)
 
--- a text has the units that its characters take
+-- a text has the units that its chars take
 pub count-units : (cs : List ℕ) → count Utf16 cs ≡ sum_by weight cs
 count-units cs = ap (sum_by weight) (cut_all cs (size cs) (omega arith))
 
--- a character takes one unit or two
+-- a char takes one unit or two
 pub weight_is_one_or_two : (c : ℕ) → (weight c ≡ 1) ⊎ (weight c ≡ 2)
 weight_is_one_or_two c = grind (arith, nat_tests)
 
--- a character takes some
+-- a char takes some
 pub weight-some : (c : ℕ) → 0 < weight c
 weight-some c = omega (arith, weight_is_one_or_two c)
 
--- a character takes at least as many bytes as units
+-- a char takes at least as many bytes as units
 pub weight-le : (c : ℕ) → weight c ≤ len_utf8 c
 weight-le c = grind (arith, nat_tests, len_utf8_bounds c)
 
--- the characters take one unit each, and one more for each surrogate pair
+-- the chars take one unit each, and one more for each surrogate pair
 sum_by-weight : (cs : List ℕ) → sum_by weight cs ≡ sum_by (λ _. 1) cs + surrogates cs
 sum_by-weight [] = refl
 sum_by-weight (c ∷ cs) =
     let pairs = sum_by-cons (λ x. cond (weight x == 2) 1 0) c cs in
     grind (arith, nat_tests, sum_by-cons weight c cs, sum_by-cons {X = ℕ} (λ _. 1) c cs, sum_by-weight cs)
 
--- a text has one unit for each character, and one more for each surrogate pair
+-- a text has one unit for each char, and one more for each surrogate pair
 pub count-characters-surrogates : (cs : List ℕ) → count Utf16 cs ≡ count Chars cs + surrogates cs
 count-characters-surrogates cs = omega (arith, count-units cs, sum_by-weight cs, count_characters cs)
