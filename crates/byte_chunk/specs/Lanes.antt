@@ -1,4 +1,4 @@
--- What a chunk is to a contract: the list of its lanes, of which each call answers one.
+-- Chunks as contracts see them: lists of lanes.
 use Rattle.std.specs.Prelude.{ℕ, List, ◌≤◌, ◌==◌, ◌&&◌, nat_lt, if◌then◌else◌}
 use Rattle.std.specs.Simd.Lanes.{digits_l}
 

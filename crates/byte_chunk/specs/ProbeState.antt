@@ -1,4 +1,4 @@
--- What contracts see of a probe.
+-- A probe as contracts see it.
 use Rattle.std.specs.Prelude.{ℕ, List}
 
 -- A probe's text, how often it was asked for a byte by `turn`, for a chunk by `load` and for a byte by `peek`, and

@@ -4,7 +4,7 @@ ghost use Rattle.std.specs.Borrow.{ftrue};
 
 use std::marker::Model;
 
-/// A whole number without a greatest value, of no bytes.
+/// A whole number that has no greatest value and takes no memory.
 #[derive(Drop)]
 pub struct Counter {
     ghost count: { ℕ },
@@ -34,7 +34,7 @@ impl Counter {
         *self = Counter::of();
     }
 
-    /// The counter at 0.
+    /// Makes a counter at 0.
     pub fn zero() -> Counter
         ensures { result ≡ 0 }
     {

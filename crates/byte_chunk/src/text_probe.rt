@@ -31,7 +31,7 @@ impl<'a, T> Model for Probe<'a, T> {
 impl<'a, T: ByteChunk> Probe<'a, T> {
     ghost use Rattle.byte_chunk.specs.ProbeState.{ProbeState};
 
-    /// A probe of the text, with nothing read.
+    /// Makes a probe of the text, with nothing read yet.
     pub fn of(text: &'a str) -> Probe<'a, T>
         ensures state { result ≡
             record { text = text.entry.now; turns = 0; loads = 0; peeks = 0; low = length text.entry.now } }
@@ -49,7 +49,7 @@ impl<'a, T: ByteChunk> Probe<'a, T> {
         }
     }
 
-    /// How many bytes the text has. Counts nothing.
+    /// Returns how many bytes the text has. No read is counted.
     pub fn len(&self) -> usize
         ensures len { result ≡ length self.now.text }
         ensures utf8 { IsUtf8 self.now.text }
@@ -57,7 +57,7 @@ impl<'a, T: ByteChunk> Probe<'a, T> {
         self.text.as_bytes().len()
     }
 
-    /// The byte at `i`, for one turn.
+    /// Reads the byte at `i`, and counts one turn.
     pub fn turn(&mut self, i: usize) -> u8
         requires { i < length self.old.text }
         ensures byte { result ≡ slice_index self.old.text i }
@@ -67,7 +67,7 @@ impl<'a, T: ByteChunk> Probe<'a, T> {
         self.text.as_bytes()[i]
     }
 
-    /// The byte at `i`, for one peek.
+    /// Reads the byte at `i`, and counts one peek.
     pub fn peek(&mut self, i: usize) -> u8
         requires { i < length self.old.text }
         ensures byte { result ≡ slice_index self.old.text i }
@@ -77,7 +77,7 @@ impl<'a, T: ByteChunk> Probe<'a, T> {
         self.text.as_bytes()[i]
     }
 
-    /// The chunk of the bytes from `at` on, for one load.
+    /// Reads the chunk of the bytes from `at` on, and counts one load.
     pub fn load(&mut self, at: usize) -> T
         requires { at + T.SIZE ≤ length self.old.text }
         ensures lanes { T.lanes result ≡ take T.SIZE (drop at self.old.text) }

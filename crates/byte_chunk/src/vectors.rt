@@ -18,8 +18,8 @@ pub fn is_zero<const N: usize>(lanes: Simd<u8, N>) -> bool
     lanes.reduce_or() == 0
 }
 
-/// Does nothing: its contract is a law. A shuffle of two vectors that takes the `N` lanes from place `k` on, where those
-/// of `next` follow those of `lanes`, gives the lanes from `k` on and then the first `k` of `next`.
+/// Does nothing: its contract is a law. If a shuffle takes `N` lanes from place `k` on of `lanes` followed by `next`,
+/// it gives the lanes of `lanes` from `k` on and then the first `k` of `next`.
 ///
 /// A lane shift calls it before its shuffle, and is then proved with no lemma.
 #[tactic(auto, using(crate::proofs::lemmas::VectorLanes::shuffled_from))]
@@ -29,7 +29,7 @@ pub fn shuffled_from<const N: usize>(lanes: Simd<u8, N>, next: Simd<u8, N>, k: u
         ≡ drop k lanes.entry ++ take k next.entry }
 {}
 
-/// Each lane shifted right by `n` bits, at most 4, in its low `8 - n` bits.
+/// Shifts each lane right by `n` bits, at most 4. Only the low `8 - n` bits of a lane are specified.
 #[tactic(auto, using(std::proofs::lemmas::Simd::shifts_fit_splat))]
 pub fn shr<const N: usize>(lanes: Simd<u8, N>, n: usize) -> Simd<u8, N>
     requires { n ≤ 4 }
@@ -38,7 +38,7 @@ pub fn shr<const N: usize>(lanes: Simd<u8, N>, n: usize) -> Simd<u8, N>
     lanes >> Simd::splat(n as u8)
 }
 
-/// 1 in each lane that is the byte, and 0 in the others.
+/// Returns 1 in each lane that is `byte`, and 0 in the others.
 pub fn cmp_eq_byte<const N: usize>(lanes: Simd<u8, N>, byte: u8) -> Simd<u8, N>
     ensures { result ≡ map (is_byte byte) lanes.entry }
 {
@@ -64,7 +64,7 @@ pub fn add<const N: usize>(lanes: Simd<u8, N>, other: Simd<u8, N>) -> Simd<u8, N
     lanes.strict_add(other)
 }
 
-/// The differences, lane by lane. No lane of `other` may be above the one it is taken from.
+/// Subtracts lane by lane. No lane of `other` may be above the one it is taken from.
 pub fn sub<const N: usize>(lanes: Simd<u8, N>, other: Simd<u8, N>) -> Simd<u8, N>
     requires { Each2 (λ a b. b ≤ a) lanes other }
     ensures { result ≡ zip2 (λ a b. a - b) lanes.entry other.entry }
@@ -72,7 +72,7 @@ pub fn sub<const N: usize>(lanes: Simd<u8, N>, other: Simd<u8, N>) -> Simd<u8, N
     lanes.strict_sub(other)
 }
 
-/// One more in lane `at`, which must be below 255. The other lanes stay.
+/// Adds one to lane `at`, which must be below 255. The other lanes stay.
 pub fn inc_lane<const N: usize>(lanes: Simd<u8, N>, at: usize) -> Simd<u8, N>
     requires in_range { at < N }
     requires room { slice_index lanes at < 255 }
@@ -83,7 +83,7 @@ pub fn inc_lane<const N: usize>(lanes: Simd<u8, N>, at: usize) -> Simd<u8, N>
     Simd::from_array(array)
 }
 
-/// One less in lane `at`, which must not be 0. The other lanes stay.
+/// Subtracts one from lane `at`, which must not be 0. The other lanes stay.
 pub fn dec_lane<const N: usize>(lanes: Simd<u8, N>, at: usize) -> Simd<u8, N>
     requires in_range { at < N }
     requires room { 0 < slice_index lanes at }
@@ -94,7 +94,7 @@ pub fn dec_lane<const N: usize>(lanes: Simd<u8, N>, at: usize) -> Simd<u8, N>
     Simd::from_array(array)
 }
 
-/// The sum of all lanes, of which a vector has at most 64.
+/// Returns the sum of all lanes. A vector has at most 64.
 #[tactic(auto, using(crate::proofs::lemmas::VectorLanes::total_fits))]
 pub fn sum_bytes<const N: usize>(lanes: Simd<u8, N>) -> usize
     requires { N ≤ 64 }

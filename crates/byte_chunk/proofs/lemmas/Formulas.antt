@@ -1,4 +1,4 @@
--- What the formulas of a word do to the byte in one lane: the top bit is set where a test holds, and no other bit.
+-- The formulas of a word, for the byte in one lane: they set the top bit where a test holds, and no other bit.
 use Rattle.byte_chunk.proofs.lemmas.Common.{◌≡◌, ℕ, ◌+◌, ◌-◌, ◌*◌, ◌%◌, ◌<◌, ◌≤◌, true, refl, arith, bit_and, bit_or, bit_xor, ◌==◌, agree_below_at, eqb-true, and_high_numeral, nat_tests, and_shr, and_mask, and_le_l, and_le_r, is_byte, is_between}
 use Rattle.std.specs.Int.Bits.{xor_self, xor_zero_l, xor_zero_r, xor_assoc}
 

@@ -58,7 +58,7 @@ module _ {F : Type 0} {g : Mut F (ℕ × Unit {0}) ℕ} {closure : F} where
       list_of-calls _ n (zip2 f xs ys) zs acts (length-zip2 f xs ys (long ∙ sym long') ∙ long) (λ k below.
       sym (get_or-zip2 f xs ys k 0 0 0 (omega arith) (omega arith))) made
 
--- what holds of each two lanes holds of those at a place
+-- if P holds of each two lanes, it holds of those at place k
 pub Each2-get_or : (P : ℕ → ℕ → Type 0) (xs ys : List ℕ) (k : ℕ) → k < length xs → k < length ys → Each2 P xs ys
     → P (get_or xs k 0) (get_or ys k 0)
 Each2-get_or P [] ys k in_xs in_ys each = absurd (omega arith)
@@ -66,7 +66,7 @@ Each2-get_or P (x ∷ xs) [] k in_xs in_ys each = absurd (omega arith)
 Each2-get_or P (x ∷ xs) (y ∷ ys) zero in_xs in_ys each = each.0
 Each2-get_or P (x ∷ xs) (y ∷ ys) (suc k) in_xs in_ys each = Each2-get_or P xs ys k (omega arith) (omega arith) each.1
 
--- what holds of two numbers holds of each two lanes that are these
+-- if P holds of a and b, it holds of each two lanes that are a and b
 pub Each2-replicate : (P : ℕ → ℕ → Type 0) (n a b : ℕ) → P a b → Each2 P (replicate n a) (replicate n b)
 Each2-replicate P zero a b holds = tt
 Each2-replicate P (suc n) a b holds = (holds, Each2-replicate P n a b holds)
@@ -77,7 +77,7 @@ low_bits n byte few small =
     let all : 8 - n + n ≡ 8 = omega arith in
     mod-eq_of_lt (shr_below byte (8 - n) n (rw all small))
 
--- the same of each byte of a list
+-- so it is with each byte of a list
 pub low_bits_of_each : (n : ℕ) (bytes : List ℕ) → n ≤ 8 → Each1 (Fits w8) bytes
     → map (λ lane. lane % 2 ^ (8 - n)) (map (λ lane. lane / 2 ^ n) bytes) ≡ map (λ lane. lane / 2 ^ n) bytes
 low_bits_of_each n [] few fits = refl

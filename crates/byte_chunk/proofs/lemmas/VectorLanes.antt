@@ -1,4 +1,4 @@
--- What operations on vectors give, as lists of lanes.
+-- The results of operations on vectors, as lists of lanes.
 use Rattle.byte_chunk.proofs.lemmas.Common.{◌≡◌, ℕ, zero, suc, ◌+◌, ◌≤◌, List, [], ◌∷◌, ◌++◌, Bool, true, false, ◌&&◌, cond, eqb, ltb, map, length, replicate, take, drop, Fits, w8, w64, refl, sym, ap, ap₂, ◌∙◌, arith, bit_and, bit_or, length-append, length-drop, zip2, sel_l, top, pick_l, fold_l, Steps, Each1, Each2, append_assoc, take-append-drop, take_at, drop-append-le, length-take-le, add_comm, and_comm, le_or_l, le_or_r, zip2_splat, zip2_splat_left, zip2_of_maps, pick_l-range_with_len, sum_bound, sum_fits, bytes_below, is_byte, is_between}
 use Rattle.std.specs.List.{range_with_len}
 
@@ -25,7 +25,7 @@ marked test mask_of same [] = refl
 marked test mask_of same (lane ∷ lanes) =
     ap₂ (λ mark marks. mark ∷ marks) (ap (λ t. cond t 1 0) (same lane)) (marked test mask_of same lanes)
 
--- the same of masks that are made lane by lane
+-- so it is with masks that are made lane by lane
 marks : (test : ℕ → Bool) (mask_of : ℕ → ℕ) → ((lane : ℕ) → top 7 (mask_of lane) ≡ test lane)
     → (n : ℕ) (lanes masks : List ℕ) → length lanes ≡ n → masks ≡ map mask_of lanes
     → sel_l {A = ℕ} (map (top 7) masks) (replicate n 1) (replicate n 0) ≡ map (λ lane. cond (test lane) 1 0) lanes

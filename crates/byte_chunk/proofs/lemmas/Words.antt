@@ -98,7 +98,7 @@ word_is_between n w a b within order ascii =
     let tops = made_and (made_and (made_and under (made_not it)) over) (made_splat 128 (omega arith)) in
     (made_tops (is_between a b) tops (top_of_between a b order ascii)).1
 
--- what stands above k lanes
+-- the lanes after the first k
 above : (n k m w : ℕ) → m ≡ n + k → word_lanes n (w / 256 ^ k) ≡ drop k (word_lanes m w)
 unfolding word_lanes
 above n zero m w all = ap₂ word_lanes (omega arith) (omega arith)

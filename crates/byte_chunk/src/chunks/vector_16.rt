@@ -5,7 +5,7 @@ ghost use Rattle.std.proofs.Common.{lit≤};
 use crate::{ByteChunk, vectors};
 use std::simd::prelude::*;
 
-// The lanes from `n` on, and then `n` lanes 0.
+// Moves the lanes from lane `n` on to the front, and adds `n` lanes 0 at the end.
 fn move_to_front(lanes: u8x16, n: usize) -> u8x16
     requires { n ≤ 4 }
     ensures { result ≡ drop n lanes ++ replicate n 0 }
@@ -33,7 +33,7 @@ fn move_to_front(lanes: u8x16, n: usize) -> u8x16
     }
 }
 
-// The last lane of `lanes`, and then all lanes of `next` but its last.
+// Returns the last lane of `lanes`, and then all lanes of `next` but its last.
 fn start_one_before(lanes: u8x16, next: u8x16) -> u8x16
     ensures { result ≡ drop 15 lanes ++ take 15 next }
 {
