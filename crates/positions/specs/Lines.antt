@@ -1,12 +1,12 @@
--- The lines of a text, by what ends them. Which line a byte index is on, and where a line begins, the scheme says.
+-- The lines of a text, by what ends them. The scheme says which line a byte index is on, and where a line begins.
 --     scheme_of l              the scheme that counts these line breaks
---     is_break l c             whether a line break begins with a character
---     behind text byte         the characters that end behind a byte index
---     line_content l text k    the characters of line k, without its break
+--     is_break l c             whether a line break begins with a char
+--     behind text byte         the chars that end behind a byte index
+--     line_content l text k    the chars of line k, without its break
 --     line_end l text k        the byte index where they end
 --     HasSameBreaks l k text   the text has the same breaks of both kinds
 --     IsReturnBehind l text p n   n is 1 where p is between a CR that begins a break and LF, and else 0
---     IsPlace l text p         p is between characters, and not between a CR that begins a break and LF
+--     IsPlace l text p         p is between chars, and not between a CR that begins a break and LF
 use Rattle.std.specs.Prelude.{ℕ, ◌≡◌, ◌+◌, ◌⊎◌, Bool, true, length, drop}
 use Rattle.std.specs.Char.{char_set_contains}
 use Rattle.std.specs.List.{before_first}
@@ -24,15 +24,15 @@ scheme_of Lf = schemes.Lf
 scheme_of Crlf = schemes.Crlf
 scheme_of Lines = schemes.Lines
 
--- whether a line break begins with the character
+-- whether a line break begins with the char
 abbrev pub is_break : LineType → ℕ → Bool
 is_break l c = char_set_contains (break_characters (scheme_of l)) c
 
--- the characters that end after the byte index: the text without what is cut off there
+-- the chars that end after the byte index: the text without what is cut off there
 abbrev pub behind : Text → ℕ → Text
 behind text byte = drop (length (cut text byte)) text
 
--- the characters of a line, without its break: those from its beginning on, before the first that begins a break
+-- the chars of a line, without its break: those from its beginning on, before the first that begins a break
 abbrev pub line_content : LineType → Text → ℕ → Text
 line_content l text line = before_first (is_break l) (behind text (to_byte_idx (scheme_of l) text line))
 
@@ -45,7 +45,7 @@ abbrev pub IsReturnBehind : LineType → Text → ℕ → ℕ → Type 0
 IsReturnBehind l text p n = ((n ≡ 1) × ((is_break l carriage_return ≡ true) × IsCrlfMiddle text p))
     ⊎ ((n ≡ 0) × (is_break l carriage_return ≡ true → ¬ (IsCrlfMiddle text p)))
 
--- p is between characters, and not between a CR that begins a break and LF
+-- p is between chars, and not between a CR that begins a break and LF
 abbrev pub IsPlace : LineType → Text → ℕ → Type 0
 IsPlace l text p = IsBoundary text p × ¬ ((is_break l carriage_return ≡ true) × IsCrlfMiddle text p)
 

@@ -1,8 +1,8 @@
 -- A text in parts, and what finding a part costs.
---     PartsState                  what contracts see of a text in parts
---     IsSearched state            a search may take no look, and not less
+--     PartsState                  a text in parts, as contracts see it
+--     IsSearched state            the bounds of both searches are above 0: a search may take no look
 --     Took bytes counts old new   at most `bytes` searches by a byte, and `counts` by a count
---     HasOwn l e text own         what a part of a text has
+--     HasOwn l e text own         the counts of a part of a text
 --     IsPart text l e part        a part of the text, and what is counted before it
 --     HasByte text byte part      a byte is in the part
 --     HasLine text l line part    a line begins in the part
@@ -31,12 +31,13 @@ pub record PartsState : Type 0 where
   pub looks : ℕ
   pub reads : ℕ
 
--- a search may take no look, and not less
+-- the bounds of both searches are above 0: a search may take no look
 pub record IsSearched (state : PartsState) : Type 0 where
   pub by_byte : 0 < state.by_byte
   pub by_count : 0 < state.by_count
 
--- no more searches than these: each reads one part, and the text is kept, and what it is kept in
+-- at most `bytes` searches by a byte and `counts` by a count, each of which reads one part; the text and its pieces
+-- stay
 pub record Took (bytes counts : ℕ) (old new : PartsState) : Type 0 where
   pub text : new.text ≡ old.text
   pub pieces : new.pieces ≡ old.pieces
@@ -49,14 +50,14 @@ pub record Took (bytes counts : ℕ) (old new : PartsState) : Type 0 where
   pub reads : new.reads ≤ old.reads + bytes + counts
   pub reads_kept : old.reads ≤ new.reads
 
--- what a part of a text has: characters, units, LFs and line breaks
+-- the counts of a part of a text: its chars, units, LFs and line breaks
 pub record HasOwn (l : LineType) (e : Encoding) (text : Text) (own : Own) : Type 0 where
   pub chars : own.chars ≡ count Chars text
   pub units : own.units ≡ sum_by (units_of e) text
   pub lf : own.lf ≡ count Lf text
   pub breaks : own.breaks ≡ count (scheme_of l) text
 
--- the text before the part, the part, and the text after it; what of the text is counted before the part and in it
+-- the text before the part, the part, and the text after it; and the counts of the text before the part and in it
 pub record IsPart (text : Text) (l : LineType) (e : Encoding) (part : Part) : Type 0 where
   pub front : Text
   pub back : Text
@@ -67,12 +68,12 @@ pub record IsPart (text : Text) (l : LineType) (e : Encoding) (part : Part) : Ty
   pub in_crlf : IsTrue part.in_crlf ↔ IsCrlfMiddle text part.start
   pub own : IfSome part.own (HasOwn l e (chars part.text.now))
 
--- the byte is not before the part, and not behind it unless the text ends with the part
+-- the byte is not before the part, and not after it unless the text ends with the part
 pub record HasByte (text : Text) (byte : ℕ) (part : Part) : Type 0 where
   pub after : part.start ≤ byte
   pub before : (byte < part.start + size (chars part.text.now)) ⊎ (part.start + size (chars part.text.now) ≡ size text)
 
--- before the part the line has not begun, or the part is the first; and behind it it has, or the text ends with the part
+-- before the part the line has not begun, or the part is the first; at the part's end it has, or the text ends there
 pub record HasLine (text : Text) (l : LineType) (line : ℕ) (part : Part) : Type 0 where
   pub after : (part.lines < line) ⊎ (part.start ≡ 0)
   pub before : (line ≤ from_byte_idx (scheme_of l) text (part.start + size (chars part.text.now)))

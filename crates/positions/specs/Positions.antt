@@ -30,12 +30,12 @@ position_at l e text byte = record {
   character = units_on_line l e text (from_byte_idx (scheme_of l) text byte) byte;
 }
 
--- where, in the line's content, the character of that unit begins; the line's end, where the content has no such unit
+-- where, in the line's content, the char of that unit begins; the line's end, where the content has no such unit
 abbrev pub byte_at : LineType → Encoding → Text → Position → ℕ
 byte_at l e text position = to_byte_idx (scheme_of l) text position.line
     + boundary_weighed (units_of e) (line_content l text position.line) position.character
 
--- whether the text has the line, and the offset is before or after a character of that line's content
+-- whether the text has the line, and the offset is before or after a char of that line's content
 abbrev pub is_exact : LineType → Encoding → Text → Position → Bool
 is_exact l e text position = let content = line_content l text position.line in
     nat_le position.line (count (scheme_of l) text)

@@ -1,4 +1,4 @@
--- What the definitions of lines and positions answer, as relations that compute nothing.
+-- The answers of the definitions of lines and positions, as relations that compute nothing.
 --     IsBreakStart l text p           a line break begins at p
 --     IsLineEnd l text line p         p is the least place from the line's beginning on where a break begins, or the end
 --     IsGreatestPlace l text byte p   p is the greatest place at or before the byte index that a position may have
@@ -11,7 +11,7 @@ use Rattle.positions.specs.Lines.{IsPlace, is_break, scheme_of}
 use Rattle.positions.specs.declared.Position.{Position}
 use Rattle.positions.specs.declared.line_type.LineType.{LineType}
 
--- the text is front, then the character with which a break begins, and then back, and front takes p bytes
+-- the text is front, then the char with which a break begins, and then back, and front takes p bytes
 pub record IsBreakStart (l : LineType) (text : Text) (p : ℕ) : Type 0 where
   pub front : Text
   pub character : ℕ

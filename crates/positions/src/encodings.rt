@@ -6,7 +6,8 @@ use crate::{LineType, Position, Range, Whole, questions};
 use byte_chunk::{ByteChunk, Chunk};
 use std::ops;
 
-/// How an offset on a line is counted, on which a server and its client agree: the protocol's `PositionEncodingKind`.
+/// The unit in which an offset on a line is counted: the protocol's `PositionEncodingKind`. A server and its client
+/// agree on one.
 #[derive(Clone, Copy, PartialEq, Eq, Debug)]
 pub enum Encoding {
     /// In bytes.
@@ -18,7 +19,7 @@ pub enum Encoding {
 }
 
 impl Encoding {
-    /// The position of a byte in a text: its line, and the units from that line's beginning to the byte.
+    /// Converts a byte index of a text to a position: its line, and the units from that line's beginning to the byte.
     ///
     /// A byte inside a char has the position where the char begins, the byte between CR and LF that of the line's end,
     /// and a byte past the end that of the text's end.
@@ -28,7 +29,7 @@ impl Encoding {
         self.position_of_impl::<Chunk>(text, byte)
     }
 
-    /// The byte index where the char at a position in a text begins.
+    /// Converts a position in a text to the byte index where its char begins.
     ///
     /// A unit inside a char belongs to it. An offset past the end of the line gives the line's end, before its break,
     /// and a line past the last one the text's length in bytes.
@@ -41,8 +42,9 @@ impl Encoding {
         self.byte_of_impl::<Chunk>(text, position)
     }
 
-    /// The byte index of a position that names a place in a text, or `None`: where the text has no such line, the offset is
-    /// past the end of the line, or the unit is inside a char. So a server notices a client that is out of step.
+    /// Converts a position that names a place in a text to its byte index. It answers `None` if the text has no such
+    /// line, if the offset is past the end of the line, or if the unit is inside a char: so a server notices a client
+    /// that is out of step.
     ///
     /// The text may be sliced at the answer.
     pub fn exact_byte_of(self, text: &str, position: Position) -> Option<usize>
@@ -52,8 +54,8 @@ impl Encoding {
         self.exact_byte_of_impl::<Chunk>(text, position)
     }
 
-    /// The byte indices of a range in a text, or `None` where its end is before its start. Each is that of its position, as
-    /// `byte_of` answers it.
+    /// Converts a range in a text to byte indices, each as `byte_of` answers it, or `None` if its end is before its
+    /// start.
     ///
     /// The text may be sliced at the answer.
     pub fn byte_range(self, text: &str, range: Range) -> Option<ops::Range<usize>>
@@ -65,14 +67,14 @@ impl Encoding {
         self.byte_range_impl::<Chunk>(text, range)
     }
 
-    /// The position of a byte, as [`Encoding::position_of`], over chunks of any type.
+    /// Converts a byte index to a position, as [`Encoding::position_of`], over chunks of any type.
     pub fn position_of_impl<T: ByteChunk>(self, text: &str, byte: usize) -> Position
         ensures { result ≡ position_at LineType.Crlf self (chars text.now) byte }
     {
         questions::position_of(&mut Whole::<T>::of(text), LineType::Crlf, self, byte)
     }
 
-    /// The byte index where the char at a position begins, as [`Encoding::byte_of`], over chunks of any type.
+    /// Converts a position to a byte index, as [`Encoding::byte_of`], over chunks of any type.
     pub fn byte_of_impl<T: ByteChunk>(self, text: &str, position: Position) -> usize
         ensures answer { result ≡ byte_at LineType.Crlf self (chars text.now) position }
         ensures boundary { IsCharBoundary text.now result }
@@ -80,7 +82,7 @@ impl Encoding {
         questions::byte_of(&mut Whole::<T>::of(text), LineType::Crlf, self, position)
     }
 
-    /// The byte index of a position that names a place, as [`Encoding::exact_byte_of`], over chunks of any type.
+    /// Converts a position that names a place to a byte index, as [`Encoding::exact_byte_of`], over chunks of any type.
     pub fn exact_byte_of_impl<T: ByteChunk>(self, text: &str, position: Position) -> Option<usize>
         ensures answer { result ≡ exact_byte_at LineType.Crlf self (chars text.now) position }
         ensures boundary { IfSome result (λ byte. IsCharBoundary text.now byte) }
@@ -88,7 +90,7 @@ impl Encoding {
         questions::exact_byte_of(&mut Whole::<T>::of(text), LineType::Crlf, self, position)
     }
 
-    /// The byte indices of a range, as [`Encoding::byte_range`], over chunks of any type.
+    /// Converts a range to byte indices, as [`Encoding::byte_range`], over chunks of any type.
     pub fn byte_range_impl<T: ByteChunk>(
         self,
         text: &str,

@@ -1,4 +1,4 @@
-//! The first line of a text by itself.
+//! Searches on the first line of a text that is one `&str`.
 ghost use Rattle.std.specs.Prelude.{◌≡◌, ◌<◌, ◌≤◌, IsCharBoundary, chars, length};
 ghost use Rattle.std.specs.List.{before_first};
 ghost use Rattle.str_indices.specs.Text.{size};
@@ -12,11 +12,11 @@ use crate::units::place_of;
 use crate::{Encoding, LineType, kernels};
 use byte_chunk::ByteChunk;
 
-/// An offset below this is near: no harm if it is read to there past the line's end.
+/// An offset below this is near: reading up to there past the line's end does no harm.
 pub(crate) const NEAR: usize = 1024;
 
-/// The byte index where the content of the first line ends: before its break, or at the text's end where it has none. It is
-/// read up to there.
+/// Finds the byte index where the content of the first line ends: before its break, or at the text's end if it has
+/// none. It reads the text up to there.
 pub(crate) fn content_end<T: ByteChunk>(lines: LineType, text: &str) -> usize
     ensures { result ≡ size (before_first (is_break lines) (chars text.now)) }
 {
@@ -32,8 +32,9 @@ pub(crate) fn content_end<T: ByteChunk>(lines: LineType, text: &str) -> usize
     }
 }
 
-/// The byte index where the char at an offset on the first line begins, or the end of the line's content where it has no
-/// such unit. It is read up to where `character` units end, and the line's end is looked for before that.
+/// Converts the offset `character` on the first line to the byte index where its char begins, or to the end of the
+/// line's content if the line has no such unit. It reads up to where `character` units end, and looks for the line's
+/// end before that.
 fn near_place<T: ByteChunk>(
     lines: LineType,
     encoding: Encoding,
@@ -50,9 +51,9 @@ fn near_place<T: ByteChunk>(
     content_end::<T>(lines, front)
 }
 
-/// The byte index where the char at an offset on the first line begins, or the end of the line's content where it has no
-/// such unit. A unit takes a byte at least, so of an offset that is not near the line's end is looked for in the first
-/// `character` bytes, and after those no further than to where `character` units end.
+/// Converts the offset `character` on the first line to the byte index where its char begins, or to the end of the
+/// line's content if the line has no such unit. A unit takes at least one byte: so if the offset is not near, it looks
+/// for the line's end in the first `character` bytes, and then no further than where `character` units end.
 pub(crate) fn place_on_first_line<T: ByteChunk>(
     lines: LineType,
     encoding: Encoding,

@@ -20,7 +20,7 @@ pub(crate) fn count<T: ByteChunk>(scheme: Scheme, text: &str) -> usize
     }
 }
 
-/// How many of the scheme end at or before a byte index, as [`Scheme::from_byte_idx`].
+/// Converts a byte index to an index of the scheme, as [`Scheme::from_byte_idx`].
 pub(crate) fn from_byte_idx<T: ByteChunk>(scheme: Scheme, text: &str, byte: usize) -> usize
     ensures { result ≡ from_byte_idx scheme (chars text.now) byte }
 {
@@ -34,7 +34,7 @@ pub(crate) fn from_byte_idx<T: ByteChunk>(scheme: Scheme, text: &str, byte: usiz
     }
 }
 
-/// The byte index where the char, the unit's char or the line of an index begins, as [`Scheme::to_byte_idx`].
+/// Converts an index of the scheme to a byte index, as [`Scheme::to_byte_idx`].
 pub(crate) fn to_byte_idx<T: ByteChunk>(scheme: Scheme, text: &str, idx: usize) -> usize
     ensures answer { result ≡ to_byte_idx scheme (chars text.now) idx }
     ensures boundary { IsCharBoundary text.now result }

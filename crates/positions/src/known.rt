@@ -1,4 +1,4 @@
-//! A part, asked beside what it is known to have.
+//! Questions about a part, which use what is known of it to read less.
 ghost use Rattle.std.specs.Prelude.{◌≡◌, ◌-◌, ◌≤◌, ℕ, IsTrue, chars, sum_by};
 ghost use Rattle.std.specs.List.{before_first};
 ghost use Rattle.str_indices.specs.Schemes.{count, from_byte_idx, to_byte_idx};
@@ -20,7 +20,7 @@ use crate::{Encoding, LineType, Part, kernels};
 use byte_chunk::ByteChunk;
 
 impl Part<'_> {
-    /// Whether it is known that no later line than `line` begins in it.
+    /// Whether it is known that no line after `line` begins in the part.
     pub(crate) fn ends_on(&self, line: usize) -> bool
         ensures { (cs : Text) (l : LineType) (e : Encoding) → IsPart cs l e self.now → IsTrue result
             → count (scheme_of l) (chars self.now.text.now) ≤ line - self.now.lines }
@@ -31,7 +31,7 @@ impl Part<'_> {
         }
     }
 
-    /// Whether it is known to have at most `units` units.
+    /// Whether the part is known to have at most `units` units.
     fn has_at_most(&self, units: usize) -> bool
         ensures { (cs : Text) (l : LineType) (e : Encoding) → IsPart cs l e self.now → IsTrue result
             → sum_by (units_of e) (chars self.now.text.now) ≤ units }
@@ -42,8 +42,8 @@ impl Part<'_> {
         }
     }
 
-    /// The encoding to ask the part in: bytes, or else chars, where it has as many of them as units, or else
-    /// `encoding`.
+    /// Returns the encoding in which to ask the part: bytes, or else chars, if it has as many of these as units;
+    /// otherwise `encoding`.
     pub(crate) fn encoding(&self, encoding: Encoding) -> Encoding
         ensures { (cs : Text) (l : LineType) → IsPart cs l encoding self.now
             → HasSameUnits encoding result (chars self.now.text.now) }
@@ -60,7 +60,7 @@ impl Part<'_> {
         }
     }
 
-    /// Whether it may have ASCII chars alone: as far as it is known.
+    /// Whether the part may be ASCII, as far as is known.
     fn may_be_ascii(&self) -> bool {
         match &self.own {
             Some(own) => own.chars == len_of(self.text),
@@ -68,7 +68,7 @@ impl Part<'_> {
         }
     }
 
-    /// The kind of line break to ask the part for: LF, where it has as many LFs as breaks, or else `lines`.
+    /// Returns the kind of line break to look for in the part: LF if it has as many LFs as breaks, otherwise `lines`.
     pub(crate) fn kind(&self, lines: LineType) -> LineType
         ensures { (cs : Text) (e : Encoding) → IsPart cs lines e self.now
             → HasSameBreaks lines result (chars self.now.text.now) }
@@ -79,7 +79,8 @@ impl Part<'_> {
         }
     }
 
-    /// How many line breaks end in it up to a place, for which none of it is read where it is known to have none.
+    /// Counts the line breaks of the part that end at or before `at`. It reads nothing if the part is known to have
+    /// none.
     pub(crate) fn breaks_up_to<T: ByteChunk>(&self, lines: LineType, at: usize) -> usize
         ensures { (cs : Text) (e : Encoding) → IsPart cs lines e self.now
             → result ≡ from_byte_idx (scheme_of lines) (chars self.now.text.now) at }
@@ -90,8 +91,9 @@ impl Part<'_> {
         kernels::from_byte_idx::<T>(self.kind(lines).scheme(), self.text, at)
     }
 
-    /// The byte index where the content of a line ends, in the rest of it from the line's beginning on: where the line does
-    /// not end in it, its own end. It is read up to the answer where the line ends in it, and else not where it has no break.
+    /// Finds where the content of `line` ends in `rest`, the part from the line's beginning on: the end of `rest`, if
+    /// the line does not end in it. It reads `rest` up to the answer, or nothing if it is known that no later line
+    /// begins in the part.
     pub(crate) fn content_end<T: ByteChunk>(
         &self,
         lines: LineType,
@@ -109,8 +111,9 @@ impl Part<'_> {
         len_of(rest)
     }
 
-    /// The byte index where the char at an offset on a line begins, or the end of the line's content, in the rest of it from the
-    /// line's beginning on. It is read up to the answer where the line ends in it, and else not where it has too few units.
+    /// Converts the offset `character` on `line` to the byte index in `rest`, the part from the line's beginning on,
+    /// where its char begins or the line's content ends. It reads nothing if it is known that no later line begins in
+    /// the part and that the part has at most `character` units.
     #[inline(always)]
     pub(crate) fn place_on_line<T: ByteChunk>(
         &self,

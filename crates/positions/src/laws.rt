@@ -10,8 +10,8 @@ ghost use Rattle.positions.specs.Relations.{IsAtOrBefore, IsGreatestPlace, IsLin
 
 use crate::{Encoding, LineType, Position, Range};
 
-/// A line's content ends at the least place, from the line's beginning on, where a line break begins, or at the end of the
-/// text where none does. That place is on the line, and no later line begins before it.
+/// A line's content ends at the least place, from the line's beginning on, where a line break begins, or at the end of
+/// the text if none does. That place is on the line, and no later line begins before it.
 pub fn ends_of_lines(lines: LineType, text: &str, line: usize, next: usize)
     ensures least { IsLineEnd lines (chars text.now) line (line_end lines (chars text.now) line) }
     ensures on_line { let cs = chars text.now in
@@ -19,10 +19,10 @@ pub fn ends_of_lines(lines: LineType, text: &str, line: usize, next: usize)
     ensures order { let cs = chars text.now in line < next → line_end lines cs line ≤ to_byte_idx (scheme_of lines) cs next }
 {}
 
-/// From a byte index to its position and back: the greatest place at or before the byte that a position may have, between
-/// chars, and not between a CR that begins a line break and LF.
+/// Converting a byte index to a position and back gives the greatest place at or before the byte that a position may
+/// have: between chars, and not between a CR that begins a line break and LF.
 ///
-/// So such a place comes back as itself, a byte index inside a char as the char's beginning, the one inside a CRLF as the
+/// So such a place comes back as itself, a byte index inside a char as the char's beginning, one inside a CRLF as the
 /// place before it, and one past the end as the text's length in bytes.
 pub fn round_trip(lines: LineType, encoding: Encoding, text: &str, byte: usize)
     ensures greatest { let cs = chars text.now in
@@ -31,8 +31,8 @@ pub fn round_trip(lines: LineType, encoding: Encoding, text: &str, byte: usize)
         IsPlace lines cs byte → byte_at lines encoding cs (position_at lines encoding cs byte) ≡ byte }
 {}
 
-/// From a position to its byte index and back: the position, with an offset past the line's length cut to that, a unit
-/// inside a char moved to the char's first, and a line past the last one moved to the end of the text.
+/// Converting a position to a byte index and back gives the position, with an offset past the line's length cut to that
+/// length, a unit inside a char moved to the char's first, and a line past the last one moved to the end of the text.
 pub fn position_round_trip(lines: LineType, encoding: Encoding, text: &str, position: Position)
     ensures line { let cs = chars text.now in
         (position_at lines encoding cs (byte_at lines encoding cs position)).line ≡ min position.line (count (scheme_of lines) cs) }
@@ -49,7 +49,7 @@ pub fn position_round_trip(lines: LineType, encoding: Encoding, text: &str, posi
         ≡ sum_by (units_of encoding) (line_content lines cs (count (scheme_of lines) cs)) }
 {}
 
-/// A position names a place exactly where some byte has that position, and then the place's byte index does.
+/// A position names a place exactly if some byte has that position, and then the byte index of the place has it.
 pub fn exact_positions(
     lines: LineType,
     encoding: Encoding,
@@ -74,7 +74,7 @@ pub fn bytes_in_order(lines: LineType, encoding: Encoding, text: &str, p: Positi
     ensures { let cs = chars text.now in IsAtOrBefore p q → byte_at lines encoding cs p ≤ byte_at lines encoding cs q }
 {}
 
-/// A range has byte indices exactly where its end is not before its start, and then they are boundaries in order.
+/// A range has byte indices exactly if its end is not before its start, and then they are boundaries in order.
 pub fn byte_ranges(lines: LineType, encoding: Encoding, text: &str, range: Range)
     ensures some { IsSome (byte_range_at lines encoding (chars text.now) range) ↔ IsAtOrBefore range.start range.end }
     ensures ordered { IfSome (byte_range_at lines encoding (chars text.now) range) (λ bytes. bytes.start ≤ bytes.end) }
@@ -82,9 +82,9 @@ pub fn byte_ranges(lines: LineType, encoding: Encoding, text: &str, range: Range
         IfSome (byte_range_at lines encoding cs range) (λ bytes. IsBoundary cs bytes.start × IsBoundary cs bytes.end) }
 {}
 
-/// By the units of the whole text: a position's offset and the units before its line are the units before its byte, or
-/// before the line's end where the byte is after it; and the byte of a position is that of the sum of its offset and
-/// the units before its line, or the line's end where that is less.
+/// In units of the whole text: the offset of a byte's position and the units before its line are together the units
+/// before the byte, or before the line's end if the byte is after it. The byte index of a position is that of the sum
+/// of its offset and the units before its line, or the line's end if that is less.
 pub fn units_of_the_text(
     lines: LineType,
     encoding: Encoding,

@@ -1,6 +1,6 @@
-//! Lines, and positions of the Language Server Protocol 3.17, in any text that lends the part round a place: a text by itself,
-//! an index beside a text, or a text in pieces. They are written once, over a trait, for each encoding and each kind of line
-//! break.
+//! Lines, and positions of the Language Server Protocol 3.17, in any text that lends the part around a place: one
+//! `&str`, a text with an index beside it, or a text in pieces. They are written once, over a trait, for each encoding
+//! and each kind of line break.
 //!
 //! A position is a line and an offset on it, which the methods of [`Encoding`] count in bytes, UTF-16 code units or scalar
 //! values. No position names a place inside or after a break on its line: an offset past the line's end means the line's end,
@@ -67,6 +67,6 @@ impl Position {
 pub struct Range {
     /// Where it begins.
     pub start: Position,
-    /// Where it ends: what is at this position is no part of it.
+    /// Where it ends: the char at this position is no part of it.
     pub end: Position,
 }

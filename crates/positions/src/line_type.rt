@@ -30,8 +30,8 @@ impl LineType {
         }
     }
 
-    /// The byte index where the content of a line of a text ends, counted from 0: before its break, or the text's length in
-    /// bytes where it is the last line or past it.
+    /// Finds the byte index where the content of a line, counted from 0, ends: before its break, or at the text's
+    /// length in bytes if it is the last line or past it.
     ///
     /// The text may be sliced at the answer.
     pub fn line_end(self, text: &str, line: usize) -> usize
@@ -41,7 +41,7 @@ impl LineType {
         self.line_end_impl::<Chunk>(text, line)
     }
 
-    /// The byte index where the content of a line ends, as [`LineType::line_end`], over chunks of any type.
+    /// Finds where the content of a line ends, as [`LineType::line_end`], over chunks of any type.
     pub fn line_end_impl<T: ByteChunk>(self, text: &str, line: usize) -> usize
         ensures answer { result ≡ line_end self (chars text.now) line }
         ensures boundary { IsCharBoundary text.now result }

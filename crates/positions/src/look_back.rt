@@ -1,4 +1,4 @@
-//! Where a line begins in a text by itself, found from behind.
+//! Finds where a line begins by a search backwards from a byte on it.
 ghost use Rattle.std.specs.Prelude.{◌≡◌, ◌≤◌, chars};
 ghost use Rattle.str_indices.specs.Relations.{IsBoundary};
 ghost use Rattle.str_indices.specs.Schemes.{from_byte_idx, to_byte_idx};
@@ -13,9 +13,9 @@ use byte_chunk::ByteChunk;
 /// How many bytes the first window has: more than most lines.
 const FIRST_WINDOW: usize = 64;
 
-/// The byte index where the line of a byte begins, of which the number is told. It is found in windows that end at the byte,
-/// each eight times as long as the one before: so it takes little more than the line's length, wherever in the text that is,
-/// and nothing on the first line.
+/// Finds the byte index where line `line` begins, the line of `byte`. It searches windows that end at `byte`, each
+/// eight times as long as the one before: so a window has at most `FIRST_WINDOW` bytes or about eight times the line's
+/// bytes before `byte`, wherever in the text that is. On the first line it reads nothing.
 pub(crate) fn line_start<T: ByteChunk>(
     lines: LineType,
     text: &str,

@@ -9,7 +9,7 @@ ghost use Rattle.positions.specs.declared.line_type.LineType.{LineType};
 
 use crate::{LineType, Part};
 
-/// Whether a byte index of a text by itself is between CR and LF.
+/// Whether byte index `at` of a text is between CR and LF.
 pub(crate) fn is_middle(text: &str, at: usize) -> bool
     ensures { IsTrue result ↔ IsCrlfMiddle (chars text.now) at }
 {
@@ -32,7 +32,7 @@ pub(crate) fn is_middle_in(part: &Part<'_>, at: usize) -> bool
     is_middle(part.text, at)
 }
 
-/// How many bytes of a line break are before a place in a part: one where it is between a CR that begins a break and LF.
+/// Returns 1 if the place `at` in a part is between a CR that begins a line break and LF, otherwise 0.
 pub(crate) fn return_behind(lines: LineType, part: &Part<'_>, at: usize) -> usize
     ensures { (cs : Text) (l : LineType) (e : Encoding) → IsPart cs l e part.now
         → (at < size (chars part.now.text.now)) ⊎ (part.now.start + size (chars part.now.text.now) ≡ size cs)

@@ -2,21 +2,21 @@
 ghost use Rattle.std.specs.Prelude.{◌<◌, ◌↔◌, All, IsTrue, chars, length};
 ghost use Rattle.positions.specs.Plain.{BeginsPlain, IsPlain};
 
-/// Whether a byte is in a text, and only ASCII chars of its first line are before it, whatever ends that.
+/// Whether `byte` is in a text, with only plain chars before it: ASCII, and no line break of any kind.
 pub(crate) fn is_after_plain(text: &str, byte: usize) -> bool
     ensures { IsTrue result → (byte < length text.now) × BeginsPlain (chars text.now) byte }
 {
     byte < text.len() && begins_plain(text, byte)
 }
 
-/// Whether `bytes` bytes of a text's beginning are such chars.
+/// Whether the first `bytes` bytes of a text are plain chars.
 fn begins_plain(text: &str, bytes: usize) -> bool
     ensures { IsTrue result → BeginsPlain (chars text.now) bytes }
 {
     text.is_char_boundary(bytes) && is_plain(&text.as_bytes()[..bytes])
 }
 
-/// Whether each byte is such a char. It goes over all of them, since a loop that may end early takes them one by one.
+/// Whether each byte is a plain char. It goes over all of them, since a loop that may end early takes them one by one.
 fn is_plain(bytes: &[u8]) -> bool
     ensures { IsTrue result ↔ All IsPlain bytes.now }
 {

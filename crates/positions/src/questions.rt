@@ -1,4 +1,4 @@
-//! Positions and their byte indices, each by one search and one part where that tells them.
+//! Converts between positions and byte indices, by one search and one part where that is enough.
 ghost use Rattle.std.specs.Prelude.{◌≡◌, ◌+◌, ◌-◌, ◌*◌, ◌<◌, ◌≤◌, ◌⊎◌, ◌↔◌, IfSome, IsSome, IsTrue, chars};
 ghost use Rattle.str_indices.specs.Relations.{IsBoundary};
 ghost use Rattle.str_indices.specs.Schemes.{count, from_byte_idx, to_byte_idx, weighed};
@@ -16,11 +16,11 @@ use crate::units::units_before;
 use crate::{Encoding, LineType, Part, Parts, Position, Range};
 use std::ops;
 
-/// The position of a byte: its line, and the units from that line's beginning to the byte.
+/// Converts a byte index to a position: its line, and the units from that line's beginning to the byte.
 ///
-/// A byte inside a char has the position where the char begins, a byte in a line break that of the line's end, and a byte past
-/// the end that of the text's end. It takes one search by the byte where the line begins after the start of the byte's part,
-/// and else one by the line too.
+/// A byte inside a char has the position where the char begins, a byte in a line break that of the line's end, and a
+/// byte past the end that of the text's end. It takes one search by the byte if the line begins after the start of the
+/// byte's part, and otherwise one by the line too.
 pub fn position_of<'a, P: Parts<'a>>(
     parts: &mut P,
     lines: LineType,
@@ -37,7 +37,7 @@ pub fn position_of<'a, P: Parts<'a>>(
     position_from(parts, lines, encoding, &part, byte)
 }
 
-/// The position of a byte, by a part that the byte is in.
+/// Converts a byte index to a position, by a part that the byte is in.
 pub(crate) fn position_from<'a, P: Parts<'a>>(
     parts: &mut P,
     lines: LineType,
@@ -77,7 +77,7 @@ pub(crate) fn position_from<'a, P: Parts<'a>>(
     }
 }
 
-/// The units of the chars before a line.
+/// Counts the units of the chars before a line.
 fn units_before_line<'a, P: Parts<'a>>(
     parts: &mut P,
     lines: LineType,
@@ -96,11 +96,11 @@ fn units_before_line<'a, P: Parts<'a>>(
     units_up_to(parts, lines, encoding, &start.part, start.own)
 }
 
-/// The byte index where the char at a position begins.
+/// Converts a position to the byte index where its char begins.
 ///
 /// A unit inside a char belongs to it. An offset past the end of the line gives the line's end, before its break, and a
-/// line past the last one the text's length in bytes. It takes one search by the line where the place is before the end of the
-/// line's part, and else one by the units and one by the line too.
+/// line past the last one the text's length in bytes. It takes one search by the line if the place is before the end of
+/// the line's part, and otherwise one by the units and one by the line too.
 pub fn byte_of<'a, P: Parts<'a>>(
     parts: &mut P,
     lines: LineType,
@@ -115,9 +115,9 @@ pub fn byte_of<'a, P: Parts<'a>>(
     byte_on(parts, lines, encoding, &start, position)
 }
 
-/// The byte index of a position that names a place, or `None`: where the text has no such line, the offset is past the
-/// end of the line, or the unit is inside a char. So a server notices a client that is out of step. It takes one search more
-/// by a byte than `byte_of`, where the place is not before the end of the line's part.
+/// Converts a position that names a place to its byte index. It answers `None` if the text has no such line, if the
+/// offset is past the end of the line, or if the unit is inside a char: so a server notices a client that is out of
+/// step. It takes one search by a byte more than `byte_of`, if the place is not before the end of the line's part.
 pub fn exact_byte_of<'a, P: Parts<'a>>(
     parts: &mut P,
     lines: LineType,
@@ -148,8 +148,8 @@ pub fn exact_byte_of<'a, P: Parts<'a>>(
     exact_byte_after(parts, lines, encoding, &start, position)
 }
 
-/// The byte indices of a range, or `None` where its end is before its start. Each is that of its position, as `byte_of`
-/// answers it. Positions on one line share the search by it.
+/// Converts a range to byte indices, each as `byte_of` answers it, or `None` if its end is before its start. Positions
+/// on one line share the search by the line.
 pub fn byte_range<'a, P: Parts<'a>>(
     parts: &mut P,
     lines: LineType,
@@ -176,7 +176,7 @@ pub fn byte_range<'a, P: Parts<'a>>(
     Some(from..to)
 }
 
-/// The byte index of a position on a line.
+/// Converts a position to a byte index, by the place `start` where its line begins.
 #[inline(always)]
 fn byte_on<'a, P: Parts<'a>>(
     parts: &mut P,
@@ -207,7 +207,7 @@ fn byte_on<'a, P: Parts<'a>>(
     byte_after(parts, lines, encoding, position, before_line)
 }
 
-/// The byte index of a position, by the units before its line.
+/// Converts a position to a byte index, by the number of units before its line.
 #[inline(always)]
 fn byte_after<'a, P: Parts<'a>>(
     parts: &mut P,
@@ -228,7 +228,7 @@ fn byte_after<'a, P: Parts<'a>>(
     parts.byte_of_units(encoding, units).min(end)
 }
 
-/// The byte index of a position that names a place, or `None`, where the part that its line begins in does not tell it.
+/// Converts a position as `exact_byte_of` does, where the part that its line begins in is not enough.
 fn exact_byte_after<'a, P: Parts<'a>>(
     parts: &mut P,
     lines: LineType,

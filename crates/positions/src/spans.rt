@@ -1,4 +1,4 @@
-//! Positions of spans: of both ends, and of bytes that may be no place on a line.
+//! Converts spans to positions, and bytes that may be no place on a line.
 ghost use Rattle.std.specs.Prelude.{◌≡◌, ◌+◌, ◌*◌, ◌≤◌, ◌<◌, ◌⊎◌, ◌↔◌, IfSome, IsSome, IsTrue, chars};
 ghost use Rattle.str_indices.specs.Schemes.{from_byte_idx, to_byte_idx};
 ghost use Rattle.str_indices.specs.Text.{Text, size};
@@ -13,7 +13,7 @@ use crate::texts::{is_boundary, len_of};
 use crate::{Encoding, LineType, Part, Parts, Position, Range};
 use std::ops;
 
-/// The positions of the two ends of a span, each as `position_of` answers it. Ends in one part share the search by it.
+/// Converts the two ends of a span to positions, each as `position_of` answers it. Ends in one part share one search.
 pub fn range_of<'a, P: Parts<'a>>(
     parts: &mut P,
     lines: LineType,
@@ -42,9 +42,9 @@ fn is_in(part: &Part<'_>, byte: usize) -> bool
     part.start <= byte && byte - part.start < len_of(part.text)
 }
 
-/// The position of a byte that is a place on a line, or `None`: where it is inside a char, between the CR and the LF of a line
-/// break, or past the text's end. So a compiler notices a span that is wrong. It takes one search by the byte, and one by the line
-/// where that does not begin in the part.
+/// Converts a byte index that is a place on a line to its position. It answers `None` if the byte is inside a char,
+/// between the CR and the LF of a line break, or past the text's end: so a compiler notices a span that is wrong. It
+/// takes one search by the byte, and one by the line if the line does not begin in the part.
 pub fn exact_position_of<'a, P: Parts<'a>>(
     parts: &mut P,
     lines: LineType,
@@ -66,7 +66,7 @@ pub fn exact_position_of<'a, P: Parts<'a>>(
     Some(position_from(parts, lines, encoding, &part, byte))
 }
 
-/// Whether a place in a part is one on a line.
+/// Whether `at` in a part is a place on a line: between chars, and not inside a line break.
 fn is_place(lines: LineType, part: &Part<'_>, at: usize) -> bool
     ensures { (cs : Text) (e : Encoding) → IsPart cs lines e part.now → HasByte cs (part.now.start + at) part.now
         → IsTrue result ↔ IsPlace lines cs (part.now.start + at) }

@@ -1,4 +1,4 @@
-//! Where a line begins, in the part that it begins in.
+//! Finds where a line begins and ends, by the part that it begins in.
 ghost use Rattle.std.specs.Prelude.{◌≡◌, ◌+◌, ◌-◌, ◌<◌, ◌≤◌, ◌⊎◌, ◌↔◌, IsSome, IsTrue, chars};
 ghost use Rattle.str_indices.specs.Relations.{IsBoundary};
 ghost use Rattle.str_indices.specs.Schemes.{count, to_byte_idx, weighed};
@@ -13,14 +13,14 @@ use crate::units::units_before;
 use crate::{Encoding, LineType, Part, Parts, kernels};
 use std::ops;
 
-/// A place in a part.
+/// A part, and a byte index in it.
 #[derive(Clone, Copy)]
 pub(crate) struct Place<'a> {
     pub(crate) part: Part<'a>,
     pub(crate) own: usize,
 }
 
-/// Where a line begins.
+/// Finds where line `line` begins.
 #[inline(always)]
 pub(crate) fn line_in<'a, P: Parts<'a>>(
     parts: &mut P,
@@ -43,7 +43,7 @@ pub(crate) fn line_in<'a, P: Parts<'a>>(
     Place { part, own }
 }
 
-/// Whether the text has a line, which would begin at `start`.
+/// Whether the text has line `line`, which would begin at `start`.
 pub(crate) fn has_line<'a, P: Parts<'a>>(
     parts: &P,
     lines: LineType,
@@ -55,13 +55,13 @@ pub(crate) fn has_line<'a, P: Parts<'a>>(
     requires place { start.now.part.start + start.now.own ≡ to_byte_idx (scheme_of lines) (P.state parts.now).text line }
     ensures { IsTrue result ↔ (line ≤ count (scheme_of lines) (P.state parts.now).text) }
 {
-    // A line that begins before the end is there, so the breaks are counted at the end alone.
+    // A line that begins before the end is there: the breaks are counted only if it would begin at the end.
     let len = parts.len();
     start.part.start + start.own < len || line <= parts.count(lines)
 }
 
-/// Where the line `later` begins, by where `line` does. A search is needed only where the two differ and the text goes on
-/// behind the part. Else the part is gone over from `line` on.
+/// Finds where line `later` begins, by where `line` does. It searches only if the two differ and the text goes on after
+/// the part. Otherwise it goes over the part from `line` on.
 pub(crate) fn later_line<'a, P: Parts<'a>>(
     parts: &mut P,
     lines: LineType,
@@ -96,8 +96,8 @@ pub(crate) fn later_line<'a, P: Parts<'a>>(
     Place { part, own }
 }
 
-/// Whether the part that a line begins in tells a place on the line, by the rest of it: the place is before the end of that, or
-/// the text ends there.
+/// Whether the part that a line begins in is enough to answer for `own`, a place in `rest`, the part from the line's
+/// beginning on: it is if the place is before the end of `rest`, or if the text ends with the part.
 pub(crate) fn tells<'a, P: Parts<'a>>(parts: &P, part: &Part<'a>, rest: &str, own: usize) -> bool
     requires { part.now.start + size (chars part.now.text.now) ≤ size (P.state parts.now).text }
     ensures { IsTrue result ↔ ((own < size (chars rest.now))
@@ -107,8 +107,8 @@ pub(crate) fn tells<'a, P: Parts<'a>>(parts: &P, part: &Part<'a>, rest: &str, ow
     own < len_of(rest) || part.start + len_of(part.text) == len
 }
 
-/// The units of the text's chars before a place in a part. It takes a search by the byte where the part does not have those
-/// before its start.
+/// Counts the units of the text before the place `at` in a part. It takes a search by the byte if the part does not say
+/// how many are before its start.
 #[inline(always)]
 pub(crate) fn units_up_to<'a, P: Parts<'a>>(
     parts: &mut P,
@@ -130,7 +130,7 @@ pub(crate) fn units_up_to<'a, P: Parts<'a>>(
     }
 }
 
-/// The byte index where the content of a line ends, by where the next line begins.
+/// Finds the byte index where the content of a line ends, by where the next line begins.
 pub(crate) fn end_before<'a, P: Parts<'a>>(
     parts: &P,
     lines: LineType,
@@ -151,8 +151,8 @@ pub(crate) fn end_before<'a, P: Parts<'a>>(
     part.start + last - return_behind(lines, &part, last)
 }
 
-/// The byte index where the content of a line ends, counted from 0: before its break, or the length of the text in bytes where
-/// it is the last line or past it. It takes one search by the line.
+/// Finds the byte index where the content of a line, counted from 0, ends: before its break, or at the length of the
+/// text in bytes if it is the last line or past it. It takes one search by the line.
 pub fn line_end<'a, P: Parts<'a>>(parts: &mut P, lines: LineType, line: usize) -> usize
     ensures answer { result ≡ line_end lines (P.state parts.old).text line }
     ensures boundary { IsBoundary (P.state parts.old).text result }
@@ -165,8 +165,8 @@ pub fn line_end<'a, P: Parts<'a>>(parts: &mut P, lines: LineType, line: usize) -
     end_before(parts, lines, Encoding::Utf8, line, &next)
 }
 
-/// The byte indices where a line begins, counted from 0, and where its content ends; the length of the text in bytes twice
-/// for a line past the last one. It takes two searches by the line at most.
+/// Finds the byte indices where a line, counted from 0, begins and where its content ends; for a line past the last
+/// one, the length of the text in bytes twice. It takes at most two searches by the line.
 pub fn line<'a, P: Parts<'a>>(parts: &mut P, lines: LineType, line: usize) -> ops::Range<usize>
     ensures start { result.start ≡ to_byte_idx (scheme_of lines) (P.state parts.old).text line }
     ensures end { result.end ≡ line_end lines (P.state parts.old).text line }

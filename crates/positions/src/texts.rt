@@ -1,4 +1,4 @@
-//! A text by itself, as a contract counts it.
+//! Calls of `str`, with contracts about the chars of the text.
 ghost use Rattle.std.specs.Prelude.{◌≡◌, ◌↔◌, IsTrue, chars};
 ghost use Rattle.str_indices.specs.Relations.{IsBoundary};
 ghost use Rattle.str_indices.specs.Starts.{IsGreatestBoundary};
@@ -19,7 +19,7 @@ pub(crate) fn is_boundary(text: &str, at: usize) -> bool
     text.is_char_boundary(at)
 }
 
-/// The greatest byte index between chars that is at most this one; past the end, the text's length.
+/// Returns the greatest boundary at or before `byte`; past the end, the text's length.
 pub fn char_start(text: &str, byte: usize) -> usize
     ensures { IsGreatestBoundary (chars text.now) byte result }
 {

@@ -1,4 +1,4 @@
-//! The units of an encoding, in a text by itself.
+//! Counts and finds units of an encoding in a text that is one `&str`.
 ghost use Rattle.std.specs.Prelude.{◌≡◌, IsCharBoundary, chars};
 ghost use Rattle.str_indices.specs.Schemes.{boundary_weighed, weighed};
 ghost use Rattle.positions.specs.Encodings.{units_of};
@@ -9,7 +9,7 @@ use crate::{Encoding, kernels};
 use byte_chunk::ByteChunk;
 use str_indices::Scheme;
 
-/// The scheme that counts the units of an encoding, or `None` for bytes.
+/// Returns the scheme that counts the units of an encoding, or `None` for bytes.
 pub fn unit_scheme(encoding: Encoding) -> Option<Scheme>
     ensures { result ≡ unit_scheme encoding }
 {
@@ -20,7 +20,7 @@ pub fn unit_scheme(encoding: Encoding) -> Option<Scheme>
     }
 }
 
-/// The units of the chars before a byte index.
+/// Counts the units of the chars before a byte index.
 pub(crate) fn units_before<T: ByteChunk>(encoding: Encoding, text: &str, byte: usize) -> usize
     ensures { result ≡ weighed (units_of encoding) (chars text.now) byte }
 {
@@ -33,8 +33,8 @@ pub(crate) fn units_before<T: ByteChunk>(encoding: Encoding, text: &str, byte: u
     }
 }
 
-/// The byte index before which the chars have `units` units, or where the char begins that has that unit inside it; past
-/// them all the text's length in bytes.
+/// Finds the byte index with `units` units before it, or where the char begins that this number falls inside of; the
+/// text's length in bytes if the text has fewer.
 pub(crate) fn place_of<T: ByteChunk>(encoding: Encoding, text: &str, units: usize) -> usize
     ensures answer { result ≡ boundary_weighed (units_of encoding) (chars text.now) units }
     ensures boundary { IsCharBoundary text.now result }

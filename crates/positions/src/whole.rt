@@ -1,4 +1,4 @@
-//! A text by itself.
+//! A text that is one part.
 ghost use Rattle.std.specs.Prelude.{◌≡◌, ◌+◌, [], ◌∷◌, Some, chars};
 ghost use Rattle.str_indices.specs.Text.{Text, size};
 ghost use Rattle.positions.specs.Parts.{IsPart, PartsState};
@@ -11,7 +11,7 @@ use crate::{Encoding, LineType, Part, Parts, kernels};
 use byte_chunk::ByteChunk;
 use std::marker::PhantomData;
 
-/// A text by itself, which is one part, and is read by chunks of the type `T`.
+/// One `&str`, as a text of one part. It is read by chunks of the type `T`.
 #[derive(Drop)]
 pub struct Whole<'a, T> {
     text: &'a str,
@@ -19,7 +19,7 @@ pub struct Whole<'a, T> {
 }
 
 impl<'a, T: ByteChunk> Whole<'a, T> {
-    /// The text as one part.
+    /// Takes the text as one part.
     pub fn of(text: &'a str) -> Whole<'a, T>
         ensures { result.text.now ≡ text.entry.now }
     {
@@ -69,7 +69,7 @@ impl<'a, T: ByteChunk> Parts<'a> for Whole<'a, T> {
     }
 }
 
-/// The one part of a text by itself.
+/// Returns the text as one part.
 fn whole_part(text: &str) -> Part<'_>
     ensures part { (l : LineType) (e : Encoding) → IsPart (chars text.now) l e result }
     ensures start { result.start ≡ 0 }

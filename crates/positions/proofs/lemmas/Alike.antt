@@ -1,4 +1,4 @@
--- Units that are bytes or characters, where there are as many.
+-- Units that are bytes or chars, where there are as many.
 use Rattle.positions.specs.declared.encodings.Encoding.TheVariants.{Utf8, Utf16, Utf32}
 use Rattle.positions.proofs.lemmas.Cuts.{boundary_within}
 use Rattle.positions.specs.Units.{HasSameUnits}
@@ -9,7 +9,7 @@ use Rattle.positions.proofs.lemmas.Encodings.{weighed_bytes, boundary_of_bytes, 
 use Rattle.positions.proofs.lemmas.Common.{Some, None, refl, ◌≡◌, ℕ, min, sym, ◌∙◌, arith, sum_by, sum_by-le-sum_by, IsGreatestBoundary, Text, size, count, weighed, boundary_weighed, units_of, unit_scheme, Scheme, Encoding}
 use Rattle.positions.proofs.lemmas.Known.{units_alike, weighed_same, placed_same}
 
--- what a scheme counts of a text are the units of its encoding
+-- the count of a text in a scheme is the units of its encoding
 pub units_are : (e : Encoding) (s : Scheme) (text : Text) → unit_scheme e ≡ Some s → count s text ≡ sum_by (units_of e) text
 units_are Utf8 s text some = cc
 units_are Utf16 s text some = let same : s ≡ schemes.Utf16 = cc in rw same (count-units text)
@@ -30,7 +30,7 @@ as_chars e text same =
     let alike = units_alike Utf32 e text (units_of-some e) (sym (count_characters text) ∙ sym same) in
     λ front own back split. sym (alike front own back split)
 
--- where each character is one byte, the units before a byte are the bytes, and k units end at byte k
+-- where each char is one byte, the units before a byte are the bytes, and k units end at byte k
 module _ (e : Encoding) (cs : Text) (ascii : count schemes.Chars cs ≡ size cs) where
   ascii_units : HasSameUnits e Utf8 cs
   ascii_units =

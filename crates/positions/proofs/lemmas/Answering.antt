@@ -1,4 +1,4 @@
--- What a part tells of the text, as the functions ask it.
+-- The answers for a text that a part of it tells, as the functions ask for them.
 use Rattle.positions.proofs.lemmas.Cuts.{boundary_within}
 use Rattle.positions.proofs.lemmas.Units.{place_of_least}
 use Rattle.positions.specs.Characters.{IsBackOf}

@@ -15,7 +15,7 @@ first_line_end l cs = omega (arith, ap size (first_content l cs), to_byte_idx-ze
 pub all_content : (l : LineType) (cs : Text) → count (scheme_of l) cs ≡ 0 → size cs ≡ size (before_first (is_break l) cs)
 all_content l cs none = sym (line_end_past l cs 0 (omega (arith, none))) ∙ first_line_end l cs
 
--- none of its characters begins a break
+-- none of its chars begins a break
 pub none_before_end : (l : LineType) (cs : Text) → size (before_first (is_break l) cs) ≡ size cs → count_by (is_break l) cs ≡ 0
 none_before_end l cs all =
     let parts = split_at_first (is_break l) cs in
@@ -97,7 +97,7 @@ module _ (l : LineType) (cs : Text) (line : ℕ) (more : line < count (scheme_of
         is.greatest start (IsBoundary-to_byte_idx (scheme_of l) cs line)
         (omega (arith, before_next start (omega (arith, on_start))))
 
-    -- the last character before it begins on the line
+    -- the last char before it begins on the line
     on_last : from_byte_idx (scheme_of l) cs last ≡ line
     on_last =
         let few = to_le_iff (scheme_of l) (not_utf16 l) cs last (line + 1) (omega (arith, more)) in
@@ -128,7 +128,7 @@ module _ (l : LineType) (cs : Text) (line : ℕ) (more : line < count (scheme_of
               absurd (omega (arith, none, ap (to_byte_idx (scheme_of l) cs) on_last, above))
         ]
 
--- a text in which no second line begins before the end, and whose last character begins no break, is all content
+-- a text in which no second line begins before the end, and whose last char begins no break, is all content
 none_joined : (l : LineType) (a b : Text) → to_byte_idx (scheme_of l) (a ++ b) 1 ≡ size (a ++ b)
     → IsGreatestBoundary (a ++ b) (size (a ++ b) - 1) (size a) → count (scheme_of l) b ≡ 0
     → size (a ++ b) ≡ size (before_first (is_break l) (a ++ b))

@@ -15,7 +15,7 @@ back_of_bytes bytes utf8 at boundary =
       place = size-chars (take at bytes) first ∙ length-take-le at bytes edge.0;
     }
 
--- up to a boundary the characters are those that are cut off there
+-- up to a boundary the chars are those that are cut off there
 pub chars-take : (bytes : List ℕ) → IsUtf8 bytes → (p : ℕ) → IsCharBoundary bytes p → chars (take p bytes) ≡ cut (chars bytes) p
 chars-take bytes utf8 p at =
     let first = IsUtf8-take bytes p utf8 at in

@@ -1,4 +1,4 @@
--- What the proofs of other crates may cite of this one.
+-- The lemmas that proofs of other crates may cite.
 pub use Rattle.positions.proofs.lemmas.Joins.{join_of_middle, middle_of_join}
 pub use Rattle.positions.proofs.lemmas.Kinds.{none_before, reached_by}
 pub use Rattle.positions.proofs.lemmas.Encodings.{nearest_is_greatest}

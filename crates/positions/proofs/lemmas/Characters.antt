@@ -1,4 +1,4 @@
--- A character of one byte, and a place between CR and LF, by the bytes of the text.
+-- A char of one byte, and a place between CR and LF, by the bytes of the text.
 use Rattle.std.proofs.Math.Utf8.{encode, encodes}
 use Rattle.std.proofs.Common.{get_or, get_or-append-add, length-append}
 use Rattle.std.proofs.lemmas.List.{drop_more}
@@ -21,14 +21,14 @@ byte_behind cs front back at i split place =
     let there : at ≡ length (encodes front) + i = omega (arith, place, length-encodes front) in
     rw (bytes, there) (get_or-append-add (encodes front) (encodes back) i 0)
 
--- an ASCII character is its byte
+-- an ASCII char is its byte
 byte_of_character : (cs : Text) (c at : ℕ) → c < 128 → IsCharacterAt cs c at → get_or (encodes cs) at 0 ≡ c
 byte_of_character cs c at ascii is =
     byte_behind cs is.front (c ∷ is.back) at 0 is.split (omega (arith, is.place))
     ∙ ap (λ bs. get_or (bs ++ encodes is.back) 0 0) (encode_ascii c ascii)
 
 module _ (bytes : List ℕ) (utf8 : IsUtf8 bytes) where
-  -- and an ASCII byte is its character
+  -- and an ASCII byte is its char
   pub character_of_byte : (c i : ℕ) → c < 128 → i < length bytes → get_or bytes i 0 ≡ c → IsCharacterAt (chars bytes) c i
   character_of_byte c i ascii inside is =
       let at : IsCharBoundary bytes i = (omega arith, λ _ wide. absurd (omega (arith, is))) in
@@ -43,7 +43,7 @@ module _ (bytes : List ℕ) (utf8 : IsUtf8 bytes) where
         place = size-chars (take i bytes) (IsUtf8-take bytes i utf8 at) ∙ length-take-le i bytes (omega arith);
       }
 
--- no character begins at the end of the text or past it
+-- no char begins at the end of the text or past it
 pub character_inside : (cs : Text) (c at : ℕ) → IsCharacterAt cs c at → at < size cs
 character_inside cs c at is = omega (
   arith,
@@ -94,7 +94,7 @@ characters_of_middle cs at middle =
     )
 
 module _ (bytes : List ℕ) (utf8 : IsUtf8 bytes) where
-  -- a byte of the text, where a character of one byte is
+  -- a byte of the text, where a char of one byte is
   pub byte_of_ascii : (c at : ℕ) → c < 128 → IsCharacterAt (chars bytes) c at → get_or bytes at 0 ≡ c
   byte_of_ascii c at ascii is =
       ap (λ bs. get_or bs at 0) (sym (encodes-chars bytes utf8)) ∙ byte_of_character (chars bytes) c at ascii is
@@ -116,7 +116,7 @@ module _ (bytes : List ℕ) (utf8 : IsUtf8 bytes) where
       let (above, (feed, _)) = characters_of_middle (chars bytes) at middle in
       (above, omega (arith, character_inside (chars bytes) line_feed at feed, size-chars bytes utf8))
 
--- what is behind equal fronts of a text is equal
+-- the rests of a text after equal fronts are equal
 rests_same : (cs a b x y : Text) → cs ≡ a ++ x → cs ≡ b ++ y → a ≡ b → y ≡ x
 rests_same cs a b x y here there same =
     append_cancel_left b y x (sym there ∙ here ∙ ap (λ f. f ++ x) same)

@@ -1,10 +1,10 @@
--- What an encoding counts before a byte index, and the place of so many units, by what computes each.
+-- The count of an encoding before a byte index, and the place of k units, by the calls that compute them.
 use Rattle.std.proofs.lemmas.Bool.Decides.{nat_tests}
 use Rattle.str_indices.proofs.lemmas.Callers.{weight-some}
 use Rattle.positions.specs.declared.encodings.Encoding.TheVariants.{Utf8, Utf16, Utf32}
 use Rattle.positions.proofs.lemmas.Common.{◌≡◌, ℕ, ◌<◌, ◌≤◌, List, inl, inr, refl, arith, cases_lt, chars, IsUtf8, IsCharBoundary, len_utf8, len_utf8_bounds, Text, size, cut, weighed, boundary_weighed, IsBoundary, IsGreatestBoundary, IsBoundary-from_char_boundary, IsCharBoundary-from_boundary, cut_is_longest, weighed_at, weighed-le-weighed, boundary_weighed_is_greatest, Encoding, units_of}
 
--- a character takes some
+-- a char takes some
 pub units_of-some : (e : Encoding) (c : ℕ) → 0 < units_of e c
 units_of-some Utf8 c = omega (arith, len_utf8_bounds c)
 units_of-some Utf16 c = weight-some c
@@ -30,7 +30,7 @@ weighed_bytes cs byte p place =
       place.boundary.place,
     )
 
--- and it is the place of so many bytes
+-- and it is the place of k bytes
 pub boundary_of_bytes : (cs : Text) (k p : ℕ) → IsGreatestBoundary cs k p → p ≡ boundary_weighed len_utf8 cs k
 boundary_of_bytes cs k p place =
     let answer = boundary_weighed_is_greatest len_utf8 cs k in

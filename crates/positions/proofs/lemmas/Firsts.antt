@@ -1,15 +1,15 @@
--- What stands in a text before its first character that passes a test.
+-- The beginning of a text before its first char that passes a test.
 use Rattle.positions.proofs.lemmas.Common.{◌≡◌, ℕ, ◌⊎◌, Bool, true, false, not, cond, List, [], ◌∷◌, ◌++◌, inl, inr, refl, sym, ◌∙◌, ap, arith, count_by, before_first, cases_Bool, take_while-cons, sum_by-cons}
 
 module _ (p : ℕ → Bool) where
-  -- a first character that passes, and one that doesn't
+  -- a first char that passes, and one that doesn't
   pub before_first-passes : (c : ℕ) (cs : List ℕ) → p c ≡ true → before_first p (c ∷ cs) ≡ []
   before_first-passes c cs passes = take_while-cons (λ d. not (p d)) c cs ∙ rw passes refl
 
   pub before_first-fails : (c : ℕ) (cs : List ℕ) → p c ≡ false → before_first p (c ∷ cs) ≡ c ∷ before_first p cs
   before_first-fails c cs fails = take_while-cons (λ d. not (p d)) c cs ∙ rw fails refl
 
-  -- a text, split where the first character passes, or at its end
+  -- a text, split where the first char passes, or at its end
   pub record SplitAtFirst (cs : List ℕ) : Type 0 where
     pub after : List ℕ
     pub split : cs ≡ before_first p cs ++ after
@@ -61,7 +61,7 @@ first_of p (x ∷ xs) ys = elim (cases_Bool (p x)) [
       ]
 ]
 
--- of a list where none passes, and one that begins with one that passes or is empty, it is the first
+-- if no element of xs passes, and ys is empty or begins with one that does, the beginning of both together is xs
 pub before_first-seam : (p : ℕ → Bool) (xs ys : List ℕ) → count_by p xs ≡ 0
     → ((c : ℕ) (rest : List ℕ) → ys ≡ c ∷ rest → p c ≡ true) → before_first p (xs ++ ys) ≡ xs
 before_first-seam p [] [] none next = refl
@@ -77,7 +77,7 @@ before_first-seam p (x ∷ xs) ys none next = elim (cases_Bool (p x)) [
       (before_first-seam p xs ys (omega (arith, none, sum_by-cons (λ d. cond (p d) 1 0) x xs, zero)) next))
 ]
 
--- what comes after a list of which none passes goes on
+-- if no element of xs passes, the beginning goes on into ys
 pub before_first-goes_on : (p : ℕ → Bool) (xs ys : List ℕ) → count_by p xs ≡ 0
     → before_first p (xs ++ ys) ≡ xs ++ before_first p ys
 before_first-goes_on p [] ys none = refl

@@ -1,4 +1,4 @@
--- What holds of each kind of line break.
+-- Lemmas about each kind of line break.
 use Rattle.str_indices.specs.declared.Scheme.TheVariants as schemes
 use Rattle.text_summary.proofs.lemmas.Callers.{crlf_by_lf, lines_by_lf}
 use Rattle.positions.specs.Lines.{HasSameBreaks}

@@ -1,4 +1,4 @@
--- What is known of a part: where each char is one byte, and where no line ends.
+-- Parts of which something is known: that each char is one byte, or that no line ends in them.
 use Rattle.positions.proofs.lemmas.Cuts.{boundary_within}
 use Rattle.positions.proofs.lemmas.Firsts.{split_at_first}
 use Rattle.positions.specs.Characters.{IsBackOf}
@@ -12,7 +12,7 @@ use Rattle.positions.proofs.lemmas.Kinds.{not_utf16, none_before}
 use Rattle.positions.proofs.lemmas.Starts.{weighed_all, weighed_none, first_content}
 use Rattle.positions.proofs.lemmas.Units.{byte_of_units}
 
--- where a text has as many units by both of two encodings, and no character has more by the first, so has each stretch
+-- where a text has as many units by both of two encodings, and no char has more by the first, so has each stretch
 pub units_alike : (e f : Encoding) (text : Text) → ((c : ℕ) → units_of e c ≤ units_of f c)
     → sum_by (units_of e) text ≡ sum_by (units_of f) text → HasSameUnits e f text
 units_alike e f text le same = λ front own back split.
@@ -107,17 +107,17 @@ all_units e text rest at k few is =
     (omega (arith, weighed_all w rest, few, ap (sum_by w) is.parts, sum_by-append w is.front rest)) in
     omega (arith, most, boundary_within rest (boundary_weighed w rest k) (boundary_weighed_is_greatest w rest k).boundary)
 
--- what there is may not be none
+-- an option that is None is not some
 pub not_none : (may : Option ℕ) → may ≡ None → ¬ (IsSome may)
 not_none (Some n) is some = cc
 not_none None is some = cc
 
--- what holds of what there may be holds of what there is
+-- if P holds of an option's value, it holds of the value that it has
 pub some_is : {A : Type 0} (P : A → Type 0) (may : Option A) (is : A) → IfSome may P → may ≡ Some is → P is
 some_is {A} P (Some a) is holds same = let here : a ≡ is = cc in subst P here holds
 some_is P None is holds same = cc
 
--- so of what a part has
+-- so it is with the counts that a part has of its own
 pub own_is : (cs : Text) (l : LineType) (e : Encoding) (part : Part) (own : Own) → IsPart cs l e part → part.own ≡ Some own
     → HasOwn l e (chars part.text.now) own
 own_is cs l e part own is told = some_is (HasOwn l e (chars part.text.now)) part.own own is.own told

@@ -29,7 +29,7 @@ feed_ends l cs p middle =
       not_middle = λ next. let yes = (is_crlf_middle_iff cs line_feed (p + 1) feed).1 next in cc;
     })
 
--- after the character at which a break begins ends a break, or the place is between CR and LF, and CR begins one
+-- after the char at which a break begins ends a break, or the place is between CR and LF, and CR begins one
 pub ends_behind : (l : LineType) (cs front : Text) (c : ℕ) (back : Text) → cs ≡ front ++ c ∷ back → is_break l c ≡ true
     → IsEnd (scheme_of l) cs (size (front ++ c ∷ []))
     ⊎ (IsCrlfMiddle cs (size (front ++ c ∷ [])) × (is_break l carriage_return ≡ true))
@@ -146,7 +146,7 @@ module _ (l : LineType) (cs : Text) (line : ℕ) where
         place = omega (arith, sizes, at.place, parts.place);
       }
 
-  -- the character of a break that ends after the line's beginning begins at or after the line's end
+  -- the char of a break that ends after the line's beginning begins at or after the line's end
   pub break_from_line_end : (front : Text) (c : ℕ) (back : Text) → cs ≡ front ++ c ∷ back → is_break l c ≡ true
       → start < size front + len_utf8 c → line_end l cs line ≤ size front
   break_from_line_end front c back split breaks behind =

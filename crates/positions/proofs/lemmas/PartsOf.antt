@@ -1,10 +1,10 @@
--- What a part of a text tells of the text: what is counted in it adds to what is before it.
+-- Counts of a text by a part of it: the count in the part adds to the count before it.
 use Rattle.positions.proofs.lemmas.Cuts.{boundary_within}
 use Rattle.positions.proofs.lemmas.Common.{◌≡◌, ℕ, ◌+◌, ◌-◌, ◌<◌, ◌≤◌, ◌⊎◌, [], ◌∷◌, ◌++◌, inl, inr, sym, refl, ap, ◌∙◌, arith, append-nil, size-append, size-cons, len_utf8_bounds, IsBoundary-before, IsBoundary-behind, IsBoundary-either, is_joined, seam_loss, cases_lt, IsGreatestBoundary, IsBoundary, Text, size, count, from_byte_idx, to_byte_idx, weighed, scheme_of, LineType}
 use Rattle.positions.proofs.lemmas.Kinds.{none_before}
 use Rattle.positions.proofs.lemmas.Starts.{weighed_before, weighed_behind, weighed_none}
 
--- a text of no bytes has no characters
+-- a text of no bytes has no chars
 pub none_of : (cs : Text) → size cs ≡ 0 → cs ≡ []
 none_of [] none = refl
 none_of (c ∷ cs) none = absurd (omega (arith, none, size-cons c cs, len_utf8_bounds c))

@@ -1,4 +1,4 @@
--- What a text weighs at the places of its beginning, and of what comes after that; and its first line.
+-- The weight of two joined texts at the places of the first and at those of the second; and the first line of a text.
 use Rattle.positions.proofs.lemmas.Cuts.{behind_boundary}
 use Rattle.positions.proofs.lemmas.Common.{◌≡◌, ℕ, ◌+◌, ◌<◌, ◌≤◌, [], ◌++◌, sym, refl, ap, ◌∙◌, inl, inr, arith, append_assoc, append-nil, append_cancel_left, cut_all, cut_goes_on, cut_is_longest, IsBoundary-before, IsBoundary-behind, IsBoundary-either, weighed_at, weighed-le-weighed, boundary_weighed_is_greatest, boundary_weighed_iff, sum_by, sum_by-append, size-append, Text, size, cut, weighed, boundary_weighed, to_byte_idx, to_byte_idx-zero, IsBoundary, before_first, scheme_of, is_break, line_content, LineType}
 

@@ -1,4 +1,4 @@
--- What searches cost together.
+-- The cost of several searches together.
 use Rattle.std.proofs.Math.Nat.{pow-zero, pow-le-pow_right, mul-mul-mul_comm}
 use Rattle.positions.proofs.lemmas.Common.{◌≡◌, ℕ, ◌+◌, ◌-◌, ◌*◌, ◌^◌, ◌≤◌, refl, sym, ◌∙◌, ap, arith, pow-add, mul-le-mul, PartsState, IsSearched, Took}
 
