@@ -1,6 +1,6 @@
--- A part of a text that is exchanged for another text.
---     IsReplaced old new from to text    new is old with what is between two byte indices exchanged for the text
---     IsChange a m b t change            what is known of m between a and b, and of t that comes in for m
+-- A part of a text that is replaced by another text.
+--     IsReplaced old new from to text    new is old with the part between two byte indices replaced by the text
+--     IsChange a m b t change            the change is of m, between a and b, to t
 --     FitsIn whole change                the change is of a text with that summary, and no text is too long
 use Rattle.std.specs.Prelude.{ℕ, ◌≡◌, ◌+◌, ◌^◌, ◌<◌, ◌++◌}
 use Rattle.str_indices.specs.Text.{Text, size}
@@ -9,7 +9,7 @@ use Rattle.text_summary.specs.Summaries.{summary_of}
 use Rattle.text_summary.specs.declared.summaries.Summary.{Summary}
 use Rattle.text_summary.specs.declared.changes.Change.{Change}
 
--- what is between two byte indices, each between characters, is exchanged for a text
+-- the part between two byte indices, each between chars, is replaced by a text
 pub record IsReplaced (old new : Text) (from to : ℕ) (text : Text) : Type 0 where
   pub front : Text
   pub middle : Text
@@ -19,7 +19,7 @@ pub record IsReplaced (old new : Text) (from to : ℕ) (text : Text) : Type 0 wh
   pub end : size front + size middle ≡ to
   pub is : new ≡ front ++ (text ++ back)
 
--- what is known of a part m between a and b, and of a text t that comes in for it
+-- the change has what is known of a part m between a and b, and of a text t that comes in for it
 pub record IsChange (a m b t : Text) (change : Change) : Type 0 where
   pub ends_cr : change.ends_cr ≡ ends_in_return a
   pub starts_lf : change.starts_lf ≡ starts_with_feed b

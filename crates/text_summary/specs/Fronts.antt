@@ -1,8 +1,8 @@
--- What is known of the text before a piece.
+-- The text before a piece, as far as it is known.
 --     IsFront s a front        the bytes and the count of a, and whether it ends in CR
---     IsLook s a b look        what a look at b tells after a
---     IsBefore s front lf      it is known of some text, after which one comes that starts with LF or does not
---     IsFollowed s front p     of some text after which one with the summary p comes, and both are not too long
+--     IsLook s a b look        the answer of a look at b after a
+--     IsBefore s front lf      some text has that front, and one comes after it that starts with LF or does not
+--     IsFollowed s front p     some text has that front, one with summary p comes after it, and both are not too long
 use Rattle.std.specs.Prelude.{Bool, ◌≡◌, ◌≢◌, ◌+◌, ◌-◌, ◌^◌, ◌<◌, [], ◌++◌}
 use Rattle.str_indices.specs.Text.{Text, size}
 use Rattle.str_indices.specs.Schemes.{count}
@@ -19,19 +19,19 @@ pub record IsFront (s : Scheme) (a : Text) (front : Front) : Type 0 where
   pub total : front.total ≡ count s a
   pub ends_cr : front.ends_cr ≡ ends_in_return a
 
--- what a look at b tells after a
+-- the answer of a look at b after a
 pub record IsLook (s : Scheme) (a b : Text) (look : Look) : Type 0 where
   pub reached : look.reached ≡ count s a - seam_loss s a b
   pub behind : IsFront s (a ++ b) look.behind
 
--- it is known of some text, after which one comes that starts with LF or does not
+-- some text has that front, and one comes after it that starts with LF or does not
 pub record IsBefore (s : Scheme) (front : Front) (starts_lf : Bool) : Type 0 where
   pub a : Text
   pub b : Text
   pub front_is : IsFront s a front
   pub starts_is : starts_lf ≡ starts_with_feed b
 
--- after that text comes another one with a summary, and both are not too long together
+-- some text has that front, one with that summary comes after it, and both are not too long together
 pub record IsFollowed (s : Scheme) (front : Front) (piece : Summary) : Type 0 where
   pub a : Text
   pub b : Text

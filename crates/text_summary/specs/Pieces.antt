@@ -1,11 +1,11 @@
 -- A text in pieces, as the list of the pieces' texts.
---     joined texts              the characters of all pieces in order
+--     joined texts              the chars of all pieces in order
 --     joined_size texts         how many bytes they take
 --     piece_at texts i          piece i
 use Rattle.std.specs.Prelude.{ℕ, List, [], ◌∷◌, ◌++◌, slice_index_or}
 use Rattle.str_indices.specs.Text.{Text, size}
 
--- the characters of all pieces in order
+-- the chars of all pieces in order
 abbrev pub joined : List Text → Text
 joined [] = []
 joined (text ∷ texts) = text ++ joined texts

@@ -1,4 +1,4 @@
--- What a summary says of a text.
+-- The summary of a text.
 --     summary_of text       the length, the counts, and how the text starts and ends
 --     count_of summary s    the count of a scheme
 --     AreSummaries f g      they are those of two texts that are not too long together

@@ -1,4 +1,4 @@
-//! A text of which a part is exchanged for another, weighed by these two alone.
+//! The summary of a text after a part of it is replaced, from the summaries of the old part and the new one.
 ghost use Rattle.std.specs.Prelude.{◌≡◌, ◌≤◌, ◌<◌, ◌+◌, ◌-◌, ◌^◌, ◌++◌, chars, length};
 ghost use Rattle.str_indices.specs.Text.{Text};
 ghost use Rattle.str_indices.specs.Joins.{starts_with_feed, ends_in_return, seam_loss};
@@ -10,7 +10,7 @@ ghost use Rattle.text_summary.specs.Changes.{IsReplaced, IsChange, FitsIn};
 use crate::seams::{joined_ends_cr, joined_starts_lf};
 use crate::{Scheme, Summary, ends_cr, halves, lost_at_seam, starts_lf};
 
-/// A part of a text that is exchanged for another text, wherever it is, between what stays before it and after it.
+/// A part of a text that is replaced by another text, wherever it is, and the edges of the text around it.
 #[derive(Clone, Copy)]
 pub struct Change {
     /// Whether the text before the part ends in CR.
@@ -23,8 +23,8 @@ pub struct Change {
     pub own: Summary,
 }
 
-/// The summary of a text after what is between two boundaries is exchanged for another one, by the summaries of both. Of the
-/// text it reads the part that goes out, and the characters beside that.
+/// Returns the summary of `text` after the part between the boundaries `from` and `to` is replaced by `more`. Of `text`
+/// it reads the part that goes out, and the chars beside it.
 pub fn changed(
     text: &str,
     whole: Summary,
@@ -57,7 +57,7 @@ pub fn changed(
     exchanged(whole, change, starts_lf, ends_cr)
 }
 
-/// The summary of a text after a change, by that of the text before and by how the text starts and ends then.
+/// Returns the summary of a text after a change, from its summary before and from how it starts and ends afterwards.
 #[inline(always)]
 pub fn exchanged(whole: Summary, change: Change, starts_lf: bool, ends_cr: bool) -> Summary
     requires { FitsIn whole change }
@@ -80,7 +80,7 @@ pub fn exchanged(whole: Summary, change: Change, starts_lf: bool, ends_cr: bool)
     }
 }
 
-/// How many breaks the two seams of a part take off where CR is a break.
+/// Returns how many breaks the two seams of `part` take off, in a scheme in which CR is a break.
 fn lost_round(ends_cr: bool, part: Summary, starts_lf: bool) -> usize
     ensures { (a m b : Text) → ends_cr ≡ ends_in_return a → part ≡ summary_of m → starts_lf ≡ starts_with_feed b →
         result ≡ seam_loss Crlf a (m ++ b) + seam_loss Crlf m b }

@@ -1,4 +1,4 @@
-//! The text before a piece: what it counts, and how it ends.
+//! The text before a piece: its counts, and how it ends.
 ghost use Rattle.std.specs.Prelude.{◌≡◌, ◌≢◌, ◌-◌, [], ◌++◌};
 ghost use Rattle.str_indices.specs.Text.{Text};
 ghost use Rattle.str_indices.specs.Schemes.{count};
@@ -9,28 +9,28 @@ ghost use Rattle.text_summary.specs.Fronts.{IsFront, IsLook, IsBefore, IsFollowe
 
 use crate::{Scheme, Summary, lost_at_seam};
 
-/// What is known of the text before a piece: its bytes, its count in a scheme, and whether it ends in CR.
+/// The text before a piece, as far as it is known: its bytes, its count in a scheme, and whether it ends in CR.
 #[derive(Clone, Copy)]
 pub struct Front {
     /// How many bytes it has.
     pub len: usize,
-    /// How many characters, UTF-16 code units or line breaks.
+    /// How many chars, UTF-16 code units or line breaks.
     pub total: usize,
-    /// Whether its last character is CR.
+    /// Whether its last char is CR.
     pub ends_cr: bool,
 }
 
-/// What a look at a piece tells.
+/// The answer of a look at a piece.
 #[derive(Clone, Copy)]
 pub struct Look {
     /// The count of the text before the piece, less what the seam takes off.
     pub reached: usize,
-    /// What is known of the text before the next piece.
+    /// The front of the next piece.
     pub behind: Front,
 }
 
 impl Front {
-    /// What is known before the first piece.
+    /// Returns the front of the first piece.
     pub fn none() -> Front
         ensures { (s : Scheme) → IsFront s [] result }
     {
@@ -41,7 +41,8 @@ impl Front {
         }
     }
 
-    /// The count of the text before, less what the seam takes off where the text after it starts with LF or not.
+    /// Returns the count of the text before, less what the seam takes off. `starts_lf` says whether the text after it
+    /// starts with LF.
     pub fn reached(self, s: Scheme, starts_lf: bool) -> usize
         requires { IsBefore s self starts_lf }
         ensures { (a b : Text) → IsFront s a self → starts_lf ≡ starts_with_feed b →
@@ -50,7 +51,7 @@ impl Front {
         self.total - lost_at_seam(s, self.ends_cr, starts_lf)
     }
 
-    /// A look at the next piece.
+    /// Looks at the next piece.
     pub fn look(self, s: Scheme, piece: Summary) -> Look
         requires { IsFollowed s self piece }
         ensures { (a b : Text) → IsFront s a self → piece ≡ summary_of b → b ≢ [] → IsLook s a b result }

@@ -1,7 +1,8 @@
-//! What a text weighs: how many bytes, characters, UTF-16 code units and line breaks it has, and how it starts and ends.
+//! Summaries of texts: how many bytes, chars, UTF-16 code units and line breaks a text has, and how it starts and ends.
 //!
-//! By these a text in pieces answers without being read again: the [`Summary`] of two texts, one after the other, and of
-//! a text of which a part has changed, and the [`Front`], what is known of the text before a piece.
+//! With these a text in pieces answers without being read again. The [`Summary`] of two joined texts, or of a text
+//! after a part of it has changed, comes from the summaries of the parts, and a [`Front`] says what is known of the
+//! text before a piece.
 #![tactic(auto)]
 
 mod changes;

@@ -1,4 +1,4 @@
-//! A text asked beside its summary, which tells where a scheme that takes less time answers the same.
+//! Queries that use a text's summary to pick a cheaper way: in ASCII, bytes; with no break but LF, the scheme `Lf`.
 ghost use Rattle.std.specs.Prelude.{◌≡◌, ◌↔◌, IsTrue, chars};
 ghost use Rattle.str_indices.specs.Relations.{IsBoundary};
 ghost use Rattle.str_indices.specs.Schemes.{from_byte_idx, to_byte_idx};
@@ -8,18 +8,18 @@ ghost use Rattle.text_summary.specs.Summaries.{summary_of};
 
 use crate::{Scheme, Summary};
 
-/// How a text is asked in a scheme.
+/// A way to answer queries in a scheme.
 #[derive(Clone, Copy)]
 enum Way {
     /// Each byte counts one, so no byte is read.
     Bytes,
-    /// By a scheme that answers the same.
+    /// By this scheme, which answers the same.
     By(Scheme),
 }
 
 impl Summary {
-    /// How many characters, UTF-16 code units or line breaks the text of this summary has up to a byte index; past the
-    /// end, all. It reads none of an ASCII text for characters and units, and looks for LF alone where all breaks are LFs.
+    /// Counts the chars, UTF-16 code units or line breaks of the text of this summary up to a byte index; past the end,
+    /// all. For chars and units it reads none of an ASCII text, and if all breaks are LFs it looks for LF alone.
     pub fn from_byte_idx(&self, s: Scheme, text: &str, byte_idx: usize) -> usize
         requires { self.now ≡ summary_of (chars text.now) }
         ensures { result ≡ from_byte_idx s (chars text.now) byte_idx }
@@ -30,8 +30,8 @@ impl Summary {
         }
     }
 
-    /// The byte index in the text of this summary after the first `idx` of them; the text's length where it has fewer. It
-    /// reads as little as `from_byte_idx`.
+    /// Converts an index of scheme `s` to a byte index in the text of this summary; the text's length if the text has
+    /// fewer. It reads as little as `from_byte_idx`.
     pub fn to_byte_idx(&self, s: Scheme, text: &str, idx: usize) -> usize
         requires { self.now ≡ summary_of (chars text.now) }
         ensures { result ≡ to_byte_idx s (chars text.now) idx }
@@ -42,8 +42,8 @@ impl Summary {
         }
     }
 
-    /// Whether a byte index in the text of this summary is between characters, or at its beginning or end. It reads no
-    /// byte of an ASCII text.
+    /// Whether a byte index in the text of this summary is between chars, or at its beginning or end. It reads no byte
+    /// of an ASCII text.
     pub fn is_char_boundary(&self, text: &str, byte_idx: usize) -> bool
         requires { self.now ≡ summary_of (chars text.now) }
         ensures { IsTrue result ↔ IsBoundary (chars text.now) byte_idx }
@@ -55,7 +55,7 @@ impl Summary {
         }
     }
 
-    /// How its text is asked in a scheme.
+    /// Picks a way to answer for scheme `s`.
     fn way(&self, s: Scheme) -> Way
         ensures { (t : Text) → self.now ≡ summary_of t → IsWay t s result }
     {

@@ -1,4 +1,4 @@
-//! Two texts, one after the other: a CR before an LF makes one break of two.
+//! Two joined texts: a CR before the seam and an LF after it make one break of two.
 ghost use Rattle.std.specs.Prelude.{◌≡◌, ◌≢◌, ◌≤◌, [], ◌++◌};
 ghost use Rattle.str_indices.specs.Text.{Text, size};
 ghost use Rattle.str_indices.specs.Joins.{starts_with_feed, ends_in_return, seam_loss};
@@ -6,8 +6,8 @@ ghost use Rattle.text_summary.specs.Summaries.{summary_of, AreSummaries};
 
 use crate::{Scheme, Summary};
 
-/// How many breaks a seam takes off in a scheme, by whether the text before it ends in CR and the text after it starts
-/// with LF.
+/// Returns how many breaks a seam takes off in scheme `s`. `ends_cr` says whether the text before it ends in CR, and
+/// `starts_lf` whether the text after it starts with LF.
 pub fn lost_at_seam(s: Scheme, ends_cr: bool, starts_lf: bool) -> usize
     ensures loss { (a b : Text) → ends_cr ≡ ends_in_return a → starts_lf ≡ starts_with_feed b →
         result ≡ seam_loss s a b }
@@ -19,7 +19,7 @@ pub fn lost_at_seam(s: Scheme, ends_cr: bool, starts_lf: bool) -> usize
     }
 }
 
-/// The summary of two texts, one after the other, by those of each.
+/// Returns the summary of two texts, one after the other, from those of each.
 pub fn joined(front: Summary, after: Summary) -> Summary
     requires { AreSummaries front after }
     ensures { (a b : Text) → front ≡ summary_of a → after ≡ summary_of b → result ≡ summary_of (a ++ b) }
@@ -37,7 +37,7 @@ pub fn joined(front: Summary, after: Summary) -> Summary
     }
 }
 
-/// Whether two texts, one after the other, start with LF: as the first where it has bytes, and else as the second.
+/// Whether two texts, one after the other, start with LF: as the first if it has bytes, otherwise as the second.
 pub(crate) fn joined_starts_lf(len: usize, first: bool, second: bool) -> bool
     ensures { (a b : Text) → len ≡ size a → (a ≢ [] → first ≡ starts_with_feed a) → second ≡ starts_with_feed b →
         result ≡ starts_with_feed (a ++ b) }
@@ -45,7 +45,7 @@ pub(crate) fn joined_starts_lf(len: usize, first: bool, second: bool) -> bool
     if len == 0 { second } else { first }
 }
 
-/// Whether two texts, one after the other, end in CR: as the second where it has bytes, and else as the first.
+/// Whether two texts, one after the other, end in CR: as the second if it has bytes, otherwise as the first.
 pub(crate) fn joined_ends_cr(first: bool, len: usize, second: bool) -> bool
     ensures { (a b : Text) → first ≡ ends_in_return a → len ≡ size b → (b ≢ [] → second ≡ ends_in_return b) →
         result ≡ ends_in_return (a ++ b) }

@@ -12,12 +12,12 @@ const LF: u8 = 0x0A;
 
 const CR: u8 = 0x0D;
 
-/// What is known of a text without its characters.
+/// The length and the counts of a text, and how it starts and ends.
 #[derive(Clone, Copy)]
 pub struct Summary {
     /// How many bytes it has.
     pub len: usize,
-    /// How many characters, the Unicode scalar values.
+    /// How many chars, the Unicode scalar values.
     pub chars: usize,
     /// How many UTF-16 code units.
     pub utf16: usize,
@@ -27,16 +27,16 @@ pub struct Summary {
     pub crlf: usize,
     /// How many line breaks by all of the Rust crate's list.
     pub lines: usize,
-    /// Whether its first character is LF.
+    /// Whether its first char is LF.
     pub starts_lf: bool,
-    /// Whether its last character is CR.
+    /// Whether its last char is CR.
     pub ends_cr: bool,
 }
 
 impl Summary {
     ghost use Rattle.text_summary.specs.Summaries.{summary_of, count_of};
 
-    /// The summary of a text.
+    /// Summarizes a text.
     #[inline(always)]
     pub fn of(text: &str) -> Summary
         ensures { result ≡ summary_of (chars text.now) }
@@ -48,7 +48,7 @@ impl Summary {
         }
     }
 
-    /// The summary of one ASCII character.
+    /// Summarizes one ASCII char.
     #[inline(always)]
     fn of_ascii(byte: u8) -> Summary
         requires { byte < 128 }
@@ -66,7 +66,7 @@ impl Summary {
         }
     }
 
-    /// The summary of a text, by all its counts.
+    /// Summarizes a text by counting it in every scheme.
     #[inline(never)]
     fn counted(text: &str) -> Summary
         ensures { result ≡ summary_of (chars text.now) }
@@ -74,7 +74,7 @@ impl Summary {
         Summary::with_counts(text, &counts(text))
     }
 
-    /// The summary of a text, of which `counts` are the counts.
+    /// Summarizes a text that has the counts `counts`.
     #[inline(always)]
     pub fn with_counts(text: &str, counts: &Counts) -> Summary
         requires { (s : Scheme) → number_of counts.now s ≡ count s (chars text.now) }
@@ -92,7 +92,7 @@ impl Summary {
         }
     }
 
-    /// The summary of the empty text.
+    /// Returns the summary of the empty text.
     pub fn none() -> Summary
         ensures { result ≡ summary_of [] }
     {
@@ -108,7 +108,7 @@ impl Summary {
         }
     }
 
-    /// The count of a scheme.
+    /// Returns the count of scheme `s`.
     pub fn count(&self, s: Scheme) -> usize
         ensures { result ≡ count_of self.now s }
     {
@@ -122,7 +122,7 @@ impl Summary {
     }
 }
 
-/// Whether the first character of a text is LF.
+/// Whether the first char of a text is LF.
 pub fn starts_lf(text: &str) -> bool
     ensures { result ≡ starts_with_feed (chars text.now) }
 {
@@ -132,7 +132,7 @@ pub fn starts_lf(text: &str) -> bool
     }
 }
 
-/// Whether the last character of a text is CR.
+/// Whether the last char of a text is CR.
 pub fn ends_cr(text: &str) -> bool
     ensures { result ≡ ends_in_return (chars text.now) }
 {

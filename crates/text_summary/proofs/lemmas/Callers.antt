@@ -1,4 +1,4 @@
--- What the proofs of other crates may cite of this one.
+-- The lemmas that proofs of other crates may cite.
 pub use Rattle.text_summary.proofs.lemmas.Boundaries.{AreParts, parts_of, same_cut, same_parts, boundary-le, boundary_left, boundary_right, boundary_upto, boundary_start, boundary_end}
 pub use Rattle.text_summary.proofs.lemmas.Changing.{replaced_bytes, size-replaced, taken_then_put}
 pub use Rattle.text_summary.proofs.lemmas.Fronts.{Tells, tells, TellsAt, tells_at}

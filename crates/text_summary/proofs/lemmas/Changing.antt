@@ -36,7 +36,7 @@ replaced_bytes bytes more whole utf8 utf8_more from to order start end is =
           ∙ ap (λ r. parts.front ++ (chars more ++ r)) back.back;
     }
 
--- there is one text in which the same is exchanged for the same
+-- there is only one text in which the same part is replaced by the same text
 pub same_replaced : (old new other : Text) (from to : ℕ) (text : Text) → IsReplaced old new from to text
     → IsReplaced old other from to text → new ≡ other
 same_replaced old new other from to text r o =

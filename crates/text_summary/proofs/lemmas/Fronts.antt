@@ -1,8 +1,8 @@
--- What is known before a piece, and what a text answers by it.
+-- The front of a piece, and the answers of a text by it.
 use Rattle.text_summary.proofs.lemmas.Common.{◌≡◌, ◌≢◌, ℕ, ◌+◌, ◌-◌, ◌<◌, ◌≤◌, List, [], ◌++◌, length, take, drop, refl, arith, ◌∙◌, ap, append_assoc, Text, size, from_byte_idx, to_byte_idx, size-append, is_joined, starts_with_feed-append, seam_loss-same, IsFront, IsLook, joined, piece_at, Scheme, Front, Look}
 use Rattle.text_summary.proofs.lemmas.Joining.{joined-split, joined-take, joined-drop}
 
--- what a look at b after a tells of the answers of a, b and whatever comes then
+-- a look at b after a, and the answers of a, b and any text after them
 pub record Tells (s : Scheme) (a b c : Text) (look : Look) : Type 0 where
   pub from_here : (i : ℕ) → size a ≤ i → i < look.behind.len
       → from_byte_idx s (a ++ (b ++ c)) i ≡ look.reached + from_byte_idx s b (i - size a)
@@ -26,7 +26,7 @@ tells s a b c look some is =
       to_here = λ k past. seam.to_behind k (k - look.reached) (omega arith) (omega arith);
     }
 
--- the same of a list of pieces, at piece i
+-- a look at piece i of a list of pieces, and the answers of their joined text
 pub record TellsAt (s : Scheme) (texts : List Text) (i : ℕ) (front : Front) (look : Look) : Type 0 where
   pub behind : IsFront s (joined (take (i + 1) texts)) look.behind
   pub from_here : (b : ℕ) → front.len ≤ b → b < look.behind.len

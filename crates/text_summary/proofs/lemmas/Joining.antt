@@ -22,7 +22,7 @@ drop-piece [] i inside = absurd (omega arith)
 drop-piece (x ∷ xs) zero inside = refl
 drop-piece (x ∷ xs) (suc i) inside = drop-piece xs i (omega arith)
 
--- the same of their joined text
+-- so is their joined text
 pub joined-drop : (xs : List Text) (i : ℕ) → i < length xs
     → joined (drop i xs) ≡ piece_at xs i ++ joined (drop (i + 1) xs)
 joined-drop xs i inside = rw add-one (ap joined (drop-piece xs i inside))

@@ -11,7 +11,7 @@ use Rattle.str_indices.specs.Schemes.{break_characters, is_break_end, ends, ends
 use Rattle.str_indices.specs.Text.{Placed, placed, cut, weight}
 use Rattle.text_summary.specs.Questions.{AnswersAs, CountsBytes}
 
--- what passes the second test passes the first, so no fewer do
+-- if each element that passes q passes p, at least as many pass p as q
 filter_fewer : {X : Type 0} (p q : X → Bool) → ((x : X) → q x ≡ true → p x ≡ true) → (xs : List X)
     → length (filter q xs) ≤ length (filter p xs)
 filter_fewer p q within [] = omega arith
@@ -25,7 +25,7 @@ filter_fewer p q within (x ∷ xs) =
       ])
     ]
 
--- and where as many do, the same do
+-- and if as many pass both tests, the same elements do
 filter_same : {X : Type 0} (p q : X → Bool) → ((x : X) → q x ≡ true → p x ≡ true) → (xs : List X)
     → length (filter p xs) ≡ length (filter q xs) → filter p xs ≡ filter q xs
 filter_same p q within [] same = refl
@@ -41,7 +41,7 @@ filter_same p q within (x ∷ xs) same =
       ]
     ]
 
--- the breaks of a lesser set of characters are breaks
+-- the breaks of a lesser set of chars are breaks
 breaks_within : (set more : List ℕ) → ((c : ℕ) → char_set_contains set c ≡ true → char_set_contains more c ≡ true)
     → (x : Placed) → is_break_end set x ≡ true → is_break_end more x ≡ true
 breaks_within set more within x passes =
@@ -60,7 +60,7 @@ breaks_are_lines : (c : ℕ) → char_set_contains (break_characters Crlf) c ≡
     → char_set_contains (break_characters Lines) c ≡ true
 breaks_are_lines c is = grind (arith, nat_tests)
 
--- where each of a text's breaks is one of a lesser set, if there are as many, they are the same
+-- if each break of a text by a lesser set is one by a greater set, and both have as many, they are the same
 breaks_same : (set more : List ℕ) → ((c : ℕ) → char_set_contains set c ≡ true → char_set_contains more c ≡ true)
     → (t : Text) → length (map (λ p. p.end) (filter (is_break_end more) (placed 0 t)))
     ≡ length (map (λ p. p.end) (filter (is_break_end set) (placed 0 t)))
@@ -94,7 +94,7 @@ lines_by_crlf t same =
     let ends_same = breaks_same (break_characters Crlf) (break_characters Lines) breaks_are_lines t same in
     record { from = ends_up_to-same Lines Crlf t ends_same; to = end_at-same Lines Crlf t ends_same }
 
--- where all characters together weigh the same by two weights, the lesser of which is nowhere more, so do those of a part
+-- where all chars together weigh the same by two weights, the lesser of which is nowhere more, so do those of a part
 sums_same : (w v : ℕ → ℕ) → ((c : ℕ) → v c ≤ w c) → (t front back : Text) → t ≡ front ++ back
     → sum_by w t ≡ sum_by v t → (sum_by w front ≡ sum_by v front) × (sum_by w back ≡ sum_by v back)
 sums_same w v less t front back split same =
@@ -122,7 +122,7 @@ boundary_weighed_same w v less t same k =
       q.greatest (boundary_weighed w t k) p.boundary (omega (arith, p.fits)),
     )
 
--- where each character takes one unit, units are characters
+-- where each char takes one unit, units are chars
 pub units_by_characters : (t : Text) → count Utf16 t ≡ count Chars t → AnswersAs t Utf16 Chars
 units_by_characters t same =
     let sums : sum_by weight t ≡ sum_by (λ _. 1) t = omega (arith, count-units t, count_characters t, same) in
@@ -131,11 +131,11 @@ units_by_characters t same =
       to = λ k. boundary_weighed_same weight (λ _. 1) weight-some t sums k ∙ boundary_of_characters t k;
     }
 
--- a character takes a byte at least
+-- a char takes a byte at least
 bytes-some : (c : ℕ) → 1 ≤ len_utf8 c
 bytes-some c = omega (arith, len_utf8_bounds c)
 
--- where each character takes one byte, each byte index up to the size is a cut
+-- where each char takes one byte, each byte index up to the size is a cut
 cut_bytes : (t : Text) → size t ≡ sum_by (λ _. 1) t → (b : ℕ) → size (cut t b) ≡ min b (size t)
 cut_bytes t ones b = let parts = cut_is t b in whole (cut t b) parts.rest parts.split parts.at
   where
@@ -183,7 +183,7 @@ boundary_bytes t ones k =
       size-append p.boundary.front p.boundary.back,
     )
 
--- where a text has as many characters as bytes, each byte counts one
+-- where a text has as many chars as bytes, each byte counts one
 pub characters_are_bytes : (t : Text) → count Chars t ≡ size t → CountsBytes t Chars
 characters_are_bytes t same =
     let ones : size t ≡ sum_by (λ _. 1) t = omega (arith, same, count_characters t) in
@@ -193,7 +193,7 @@ characters_are_bytes t same =
           ∙ boundary_bytes t ones k;
     }
 
--- then it has as many UTF-16 units, since a character takes as many units as bytes at most
+-- then it has as many UTF-16 units, since a char takes as many units as bytes at most
 pub as_many_units : (t : Text) → count Chars t ≡ size t → count Utf16 t ≡ count Chars t
 as_many_units t same =
     let most = sum_by-le-sum_by weight len_utf8 t weight-le in

@@ -55,7 +55,7 @@ pub record IsExchange (old out own gained lost old_bytes new_bytes new : ℕ) : 
   pub lost_le : lost ≤ old + gained - out + own
   pub is : old + gained - out + own - lost ≡ new
 
--- what both seams round a part take
+-- the ends that both seams around a part take
 abbrev pub lost_round : Scheme → Text → Text → Text → ℕ
 lost_round s a m b = seam_loss s a (m ++ b) + seam_loss s m b
 
@@ -88,7 +88,7 @@ exchange_of s a m b t =
       is = omega (arith, old, new);
     }
 
--- the same by what is known of the change
+-- the exchange of a number in a scheme, by the change that fits
 pub exchanged : (s : Scheme) (whole : Summary) (change : Change) (fits : FitsIn whole change)
     → IsExchange (count_of whole s) (count_of change.out s) (count_of change.own s)
     (lost_round s fits.a fits.m fits.b) (lost_round s fits.a fits.t fits.b) (size (fits.a ++ (fits.m ++ fits.b)))
@@ -99,7 +99,7 @@ exchanged s whole change fits =
     let own = ap (λ w. count_of w s) fits.change_is.own ∙ count_of-summary s fits.t in
     rw (old, out, own) (exchange_of s fits.a fits.m fits.b fits.t)
 
--- what both seams round a part take, whatever the texts are
+-- the ends that both seams around a part take, whatever the texts are
 abbrev pub IsLost : Scheme → Change → Summary → ℕ → Type 0
 IsLost s change part lost = (a m b : Text) → change.ends_cr ≡ ends_in_return a → part ≡ summary_of m
     → change.starts_lf ≡ starts_with_feed b → lost ≡ lost_round s a m b

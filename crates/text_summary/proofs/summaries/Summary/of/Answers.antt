@@ -4,7 +4,7 @@ use Rattle.std.proofs.lemmas.Str.{chars-IsAscii}
 use Rattle.text_summary.proofs.lemmas.{◌≡◌, ◌∙◌, ℕ, zero, suc, ◌<◌, List, [], ◌∷◌, ap, sym, arith, chars, length, chars-none, summary_of}
 use Rattle.text_summary.proofs.summaries.Summary.of.Goals as goal
 
--- a byte below 128 is a character by itself
+-- a byte below 128 is a char by itself
 ascii_alone : (byte : ℕ) → byte < 128 → IsAscii (byte ∷ [])
 ascii_alone byte low zero = low
 ascii_alone byte low (suc i) = omega arith
