@@ -1,14 +1,14 @@
--- A text with marks: byte indices between characters, none of them between CR and LF, each with the counts of what is
+-- A text with marks: byte indices between chars, none of them between CR and LF, each with the counts of what is
 -- before it. So the counts of two parts of the text add up where a mark parts them.
 --     stretch_size             how many bytes a stretch has, give or take four
 --     stretches_of text        how many stretches a text has
---     count_at mark s          what a mark says of a scheme
---     IsMark text mark         what a mark says of the text before it is so
---     IsMarkAt text i mark     it is mark i, at most four bytes before the place that this has
+--     count_at mark s          the count of a mark in a scheme
+--     IsMark text mark         the mark has the counts of the text before it
+--     IsMarkAt text i mark     it is mark i, at most four bytes before the place i * stretch_size
 --     AreMarks text marks whole   the marks of a text from mark 1 on, and the one at its end
---     MarksState               what contracts see of `Marks`
+--     MarksState               `Marks` as contracts see them
 --     begins_at byte           where the stretch of a byte begins at most
---     parts_of state           what they see of it as a text in parts
+--     parts_of state           the same as a text in parts
 --     Asked stretches few old new   how many stretches were read and marks looked at, at most
 use Rattle.std.specs.Prelude.{ℕ, ◌≡◌, ◌+◌, ◌-◌, ◌*◌, ◌/◌, ◌^◌, ◌<◌, ◌≤◌, false, List, [], ◌∷◌, ◌++◌, length, slice_index_or}
 use Rattle.str_indices.specs.Text.{Text, size}
@@ -27,7 +27,7 @@ stretch_size = 1024
 abbrev pub stretches_of : Text → ℕ
 stretches_of text = size text / stretch_size + 1
 
--- what a mark says of a scheme
+-- the count of a mark in a scheme
 abbrev pub count_at : Mark → Scheme → ℕ
 count_at mark s = number_of mark.counts s
 
@@ -40,7 +40,7 @@ pub record IsMark (text : Text) (mark : Mark) : Type 0 where
   pub counts : (s : Scheme) → count_at mark s ≡ count s front
   pub whole : joins_crlf front back ≡ false
 
--- it is at most four bytes before the place of mark i
+-- it is at most four bytes before the place i * stretch_size
 pub record IsMarkAt (text : Text) (i : ℕ) (mark : Mark) : Type 0 where
   pub is : IsMark text mark
   pub before : mark.byte ≤ i * stretch_size
@@ -78,7 +78,7 @@ parts_of state = record {
   reads = state.reads;
 }
 
--- no more stretches were read, and 2 to the number of looks is no more than `few`
+-- at most `stretches` stretches were read, and 2 to the power of the number of looks is at most `few`
 pub record Asked (stretches few : ℕ) (old new : MarksState) : Type 0 where
   pub text : new.text ≡ old.text
   pub looks : 2 ^ (new.looks - old.looks) ≤ few

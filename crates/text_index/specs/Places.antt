@@ -1,10 +1,10 @@
 -- Places of a text where it may be parted.
---     IsWholeAt text at    the place is between characters, and not between CR and LF
+--     IsWholeAt text at    the place is between chars, and not between CR and LF
 use Rattle.std.specs.Prelude.{ℕ, ◌≡◌, false, ◌++◌}
 use Rattle.str_indices.specs.Text.{Text, size}
 use Rattle.str_indices.specs.Joins.{joins_crlf}
 
--- what is before the place and what is after it lose nothing to each other
+-- the counts of the text before the place and of that after it add up
 pub record IsWholeAt (text : Text) (at : ℕ) : Type 0 where
   pub front : Text
   pub back : Text

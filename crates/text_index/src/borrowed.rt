@@ -1,4 +1,4 @@
-//! An index whose marks are another's.
+//! An index with borrowed marks.
 ghost use Rattle.std.specs.Prelude.{◌≡◌, ◌<◌, ◌^◌, ◌↔◌, IsTrue, chars};
 ghost use Rattle.str_indices.specs.Relations.{IsBoundary};
 ghost use Rattle.str_indices.specs.Text.{size};
@@ -8,7 +8,7 @@ use crate::Marks;
 use crate::mark::Mark;
 use std::marker::Model;
 
-/// An index whose marks lie where the caller has put them: in a [`TextIndex`](crate::TextIndex), or in memory of its own. A
+/// An index with borrowed marks: those of a [`TextIndex`](crate::TextIndex), or marks in the caller's own memory. A
 /// contract sees the text.
 #[derive(Drop)]
 pub struct BorrowedIndex<'a> {
@@ -30,7 +30,7 @@ impl<'a> Model for BorrowedIndex<'a> {
 }
 
 impl<'a> BorrowedIndex<'a> {
-    /// The index of a text, by its marks.
+    /// Makes the index of a text from its marks.
     pub fn of(text: &'a str, marks: &'a [Mark], whole: &'a Mark) -> BorrowedIndex<'a>
         requires { AreMarks (chars text.now) marks.now whole.now }
         ensures { result ≡ chars text.now }
@@ -53,7 +53,7 @@ impl<'a> BorrowedIndex<'a> {
         self.whole.byte
     }
 
-    /// Whether a byte index is between characters, or at the text's beginning or end.
+    /// Whether a byte index is between chars, or at the text's beginning or end.
     pub fn is_char_boundary(&self, b: usize) -> bool
         ensures { IsTrue result ↔ IsBoundary self.now b }
     {
@@ -61,7 +61,7 @@ impl<'a> BorrowedIndex<'a> {
         text.is_char_boundary(b)
     }
 
-    /// The marks as a question sees them, with no look and no read counted.
+    /// Lends the marks to a query, with no look and no read counted yet.
     pub fn view(&self) -> Marks<'a>
         ensures { result ≡ record { text = self.now; looks = 0; reads = 0 } }
     {

@@ -34,7 +34,7 @@ impl<'a> Model for TextIndex<'a> {
 }
 
 impl<'a> TextIndex<'a> {
-    /// The index of a text, which is gone over once. It fails where memory is refused.
+    /// Makes the index of a text, in one pass over it. It fails if memory is refused.
     pub fn of(alloc: Global, text: &'a str) -> Result<TextIndex<'a>, AllocError>
         ensures { IfOk result (λ index. index ≡ chars text.now) }
     {
@@ -65,7 +65,7 @@ impl<'a> TextIndex<'a> {
         BorrowedIndex::of(self.text, self.marks.as_slice(), &self.whole)
     }
 
-    /// The marks as a question sees them, with no look and no read counted.
+    /// Lends the marks to a query, with no look and no read counted yet.
     pub fn view(&self) -> Marks<'_>
         ensures { result ≡ record { text = self.now; looks = 0; reads = 0 } }
     {
@@ -73,29 +73,29 @@ impl<'a> TextIndex<'a> {
         index.view()
     }
 
-    /// How many characters, UTF-16 code units or line breaks the text has, in one step.
+    /// Counts the chars, UTF-16 code units or line breaks of the text, in one step.
     pub fn count(&self, s: Scheme) -> usize
         ensures { result ≡ count s self.now }
     {
         count_in(&mut self.view(), s)
     }
 
-    /// How many of them end at or before a byte index; past the end, all. It reads a kilobyte of the text at most.
+    /// Counts those that end at or before byte index `b`; past the end, all. It reads a kilobyte of the text at most.
     pub fn from_byte_idx(&self, s: Scheme, b: usize) -> usize
         ensures { result ≡ from_byte_idx s self.now b }
     {
         from_in(&mut self.view(), s, b)
     }
 
-    /// The byte index after the first `k` of them, where the character, the unit's character or the line of that index
-    /// begins; the text's length where it has fewer. It halves the marks, and reads a kilobyte of the text at most.
+    /// Converts index `k` to the byte index where its char, its unit's char or its line begins; the text's length if it
+    /// has fewer. It searches the marks by halving, and reads a kilobyte of the text at most.
     pub fn to_byte_idx(&self, s: Scheme, k: usize) -> usize
         ensures { result ≡ to_byte_idx s self.now k }
     {
         to_in(&mut self.view(), s, k)
     }
 
-    /// Whether a byte index is between characters, or at the text's beginning or end, in one step.
+    /// Whether a byte index is between chars, or at the text's beginning or end, in one step.
     pub fn is_char_boundary(&self, b: usize) -> bool
         ensures { IsTrue result ↔ IsBoundary self.now b }
     {

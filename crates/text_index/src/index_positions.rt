@@ -13,8 +13,8 @@ use positions::{Encoding, LineType, Position, Range};
 use std::ops;
 
 impl<'a> TextIndex<'a> {
-    /// The byte index where the content of a line ends, counted from 0: before its break, or the length of the text in
-    /// bytes where it is the last line or past it. Lines end in LF, CR or CRLF. It asks `line_end_in`.
+    /// Finds the byte index where the content of a line, counted from 0, ends: before its break, or at the length of
+    /// the text in bytes if it is the last line or past it. Lines end in LF, CR or CRLF. It asks `line_end_in`.
     pub fn line_end(&self, line: usize) -> usize
         ensures answer { result ≡ line_end LineType.Crlf self.now line }
         ensures boundary { IsBoundary self.now result }
@@ -30,8 +30,8 @@ impl<'a> TextIndex<'a> {
         line_end_in(&mut self.view(), lines, line)
     }
 
-    /// The content of a line, counted from 0: without its break, and empty past the last one. Lines end in LF, CR or CRLF.
-    /// It asks `line_in`.
+    /// Lends the content of a line, counted from 0: without its break, and empty past the last one. Lines end in LF, CR
+    /// or CRLF. It asks `line_in`.
     pub fn line(&self, line: usize) -> &'a str
         ensures { chars result.now ≡ line_content LineType.Crlf self.now line }
     {
@@ -46,8 +46,8 @@ impl<'a> TextIndex<'a> {
         part_of(self.text(), start, end)
     }
 
-    /// The position of a byte: its line, and the units from that line's beginning to the byte. Lines end in LF, CR or CRLF.
-    /// It asks `position_in`.
+    /// Converts a byte index to a position: its line, and the units from that line's beginning to the byte. Lines end
+    /// in LF, CR or CRLF. It asks `position_in`.
     ///
     /// A byte inside a char has the position where the char begins, a byte in a line break that of the line's end, and a byte
     /// past the end that of the text's end.
@@ -64,7 +64,7 @@ impl<'a> TextIndex<'a> {
         position_in(&mut self.view(), lines, encoding, byte)
     }
 
-    /// The byte index where the char at a position begins. Lines end in LF, CR or CRLF. It asks `byte_in`.
+    /// Converts a position to the byte index where its char begins. Lines end in LF, CR or CRLF. It asks `byte_in`.
     ///
     /// A unit inside a char belongs to it. An offset past the end of the line gives the line's end, before its break,
     /// and a line past the last one the text's length in bytes.
@@ -83,8 +83,9 @@ impl<'a> TextIndex<'a> {
         byte_in(&mut self.view(), lines, encoding, position)
     }
 
-    /// The byte index of a position that names a place, or `None`: where the text has no such line, the offset is past
-    /// the end of the line, or the unit is inside a char. Lines end in LF, CR or CRLF. It asks `exact_byte_in`.
+    /// Converts a position that names a place to its byte index. It answers `None` if the text has no such line, if the
+    /// offset is past the end of the line, or if the unit is inside a char. Lines end in LF, CR or CRLF. It asks
+    /// `exact_byte_in`.
     pub fn exact_byte_of(&self, encoding: Encoding, position: Position) -> Option<usize>
         ensures answer { result ≡ exact_byte_at LineType.Crlf encoding self.now position }
         ensures boundary { IfSome result (λ byte. IsBoundary self.now byte) }
@@ -105,8 +106,8 @@ impl<'a> TextIndex<'a> {
         exact_byte_in(&mut self.view(), lines, encoding, position)
     }
 
-    /// The byte indices of a range, or `None` where its end is before its start. Each is that of its position, as
-    /// `byte_of` answers it. It asks `byte_range_in`.
+    /// Converts a range to byte indices, each as `byte_of` answers it, or `None` if its end is before its start. It
+    /// asks `byte_range_in`.
     pub fn byte_range(&self, encoding: Encoding, range: Range) -> Option<ops::Range<usize>>
         ensures answer { result ≡ byte_range_at LineType.Crlf encoding self.now range }
         ensures ordered { IfSome result (λ bytes. bytes.start ≤ bytes.end) }
@@ -131,7 +132,8 @@ impl<'a> TextIndex<'a> {
         byte_range_in(&mut self.view(), lines, encoding, range)
     }
 
-    /// The positions of the two ends of a span, as `position_of` answers them. Lines end in LF, CR or CRLF. It asks `range_in`.
+    /// Converts the two ends of a span to positions, as `position_of` does. Lines end in LF, CR or CRLF. It asks
+    /// `range_in`.
     pub fn range_of(&self, encoding: Encoding, span: ops::Range<usize>) -> Range
         ensures start { result.start ≡ position_at LineType.Crlf encoding self.now span.start }
         ensures end { result.end ≡ position_at LineType.Crlf encoding self.now span.end }
@@ -147,8 +149,9 @@ impl<'a> TextIndex<'a> {
         range_in(&mut self.view(), lines, encoding, span)
     }
 
-    /// The position of a byte that is a place on a line, or `None`: where it is inside a char, between CR and LF, or past the
-    /// text's end. So a compiler notices a span that is wrong. Lines end in LF, CR or CRLF. It asks `exact_position_in`.
+    /// Converts a byte index that is a place on a line to its position. It answers `None` if the byte is inside a char,
+    /// between CR and LF, or past the text's end: so a compiler notices a span that is wrong. Lines end in LF, CR or
+    /// CRLF. It asks `exact_position_in`.
     pub fn exact_position_of(&self, encoding: Encoding, byte: usize) -> Option<Position>
         ensures answer { IfSome result (λ position. position ≡ position_at LineType.Crlf encoding self.now byte) }
         ensures some { IsSome result ↔ (IsBoundary self.now byte × ¬ (IsCrlfMiddle self.now byte)) }
@@ -156,7 +159,8 @@ impl<'a> TextIndex<'a> {
         self.exact_position_by(LineType::Crlf, encoding, byte)
     }
 
-    /// As `exact_position_of`, where lines end in breaks of the kind `lines`: where CR is no break, the byte between CR and LF is a place too.
+    /// As `exact_position_of`, where lines end in breaks of the kind `lines`: if CR is no break, the byte between CR
+    /// and LF is a place too.
     pub fn exact_position_by(
         &self,
         lines: LineType,

@@ -1,4 +1,4 @@
-//! What is counted of a text before a place in it.
+//! The counts of a text before a place in it.
 ghost use Rattle.std.specs.Prelude.{◌≡◌, ◌≤◌, chars, false};
 ghost use Rattle.str_indices.specs.Relations.{IsBoundary};
 ghost use Rattle.str_indices.specs.Schemes.{weighed};
@@ -11,7 +11,7 @@ use crate::places::part_of;
 use positions::{Encoding, unit_scheme};
 use str_indices::{Counts, Scheme, counts};
 
-/// A byte index, and how many characters, UTF-16 code units and line breaks are before it.
+/// A byte index, and how many chars, UTF-16 code units and line breaks are before it.
 #[derive(Clone, Copy)]
 #[repr(C)]
 pub struct Mark {
@@ -26,14 +26,14 @@ pub(crate) const BEGINNING: Mark = Mark {
 };
 
 impl Mark {
-    /// What it says of a scheme.
+    /// Returns its count in scheme `s`.
     pub(crate) fn count(&self, s: Scheme) -> usize
         ensures { result ≡ count_at self.now s }
     {
         self.counts.get(s)
     }
 
-    /// The units of an encoding before it.
+    /// Returns the units of an encoding before it.
     pub(crate) fn units(&self, encoding: Encoding) -> usize
         ensures { (text : Text) → IsMark text self.now
             → result ≡ weighed (units_of encoding) text self.now.byte }
@@ -44,7 +44,7 @@ impl Mark {
         }
     }
 
-    /// The mark at a later place of the text, for which the text between both is gone over.
+    /// Returns the mark at a later place `to` of the text, by going over the text between the two.
     pub(crate) fn moved(self, text: &str, to: usize) -> Mark
         requires mark { IsMark (chars text.now) self }
         requires order { self.byte ≤ to }

@@ -7,15 +7,15 @@ use crate::mark::{BEGINNING, Mark};
 use crate::places::whole_place;
 use crate::queries::STRETCH;
 
-/// How many marks a text of so many bytes takes, beside the one at its end.
+/// Returns how many marks a text of `len` bytes takes, beside the one at its end.
 pub fn marks_for(len: usize) -> usize
     ensures { result ≡ len / stretch_size }
 {
     len / STRETCH
 }
 
-/// Puts the marks of a text into a room that has place for each, and answers the one at the text's end. The text is gone over
-/// once.
+/// Puts the marks of a text into `room`, which has place for each, and returns the one at the text's end. It goes over
+/// the text once.
 pub fn fill(text: &str, room: &mut [Mark]) -> Mark
     requires { length room.old ≡ length text.now / stretch_size }
     ensures { AreMarks (chars text.now) room.new result }

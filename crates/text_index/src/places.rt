@@ -18,7 +18,7 @@ pub(crate) fn part_of(text: &str, from: usize, to: usize) -> &str
     part
 }
 
-/// The place of a mark: at most four bytes before a byte index, between characters and not between CR and LF.
+/// Returns the place of a mark: at most four bytes before `at`, between chars and not between CR and LF.
 pub(crate) fn whole_place(text: &str, at: usize) -> usize
     requires { at ≤ length text.now }
     ensures whole { IsWholeAt (chars text.now) result }

@@ -1,4 +1,4 @@
-//! Positions and lines in an indexed text, each by a few searches, and what they cost.
+//! Positions and lines in an indexed text, by a few searches each, with contracts that say what they cost.
 ghost use Rattle.std.specs.Prelude.{◌≡◌, ◌*◌, ◌^◌, ◌<◌, ◌≤◌, ◌⊎◌, ◌↔◌, IfSome, IsSome};
 ghost use Rattle.str_indices.specs.Relations.{IsBoundary};
 ghost use Rattle.str_indices.specs.Schemes.{from_byte_idx, to_byte_idx};
@@ -10,8 +10,8 @@ use crate::Marks;
 use positions::{Encoding, LineType, Position, Range};
 use std::ops;
 
-/// The byte index where the content of a line ends, counted from 0: before its break, or the length of the text in bytes
-/// where it is the last line or past it. It reads one stretch at most.
+/// Finds the byte index where the content of a line, counted from 0, ends: before its break, or at the length of the
+/// text in bytes if it is the last line or past it. It reads one stretch at most.
 pub fn line_end_in(m: &mut Marks, lines: LineType, line: usize) -> usize
     ensures answer { result ≡ line_end lines m.old.text line }
     ensures boundary { IsBoundary m.old.text result }
@@ -20,7 +20,7 @@ pub fn line_end_in(m: &mut Marks, lines: LineType, line: usize) -> usize
     positions::line_end(m, lines, line)
 }
 
-/// The byte indices where a line begins and where its content ends. It reads two stretches at most.
+/// Finds the byte indices where a line begins and where its content ends. It reads two stretches at most.
 pub fn line_in(m: &mut Marks, lines: LineType, line: usize) -> ops::Range<usize>
     ensures start { result.start ≡ to_byte_idx (scheme_of lines) m.old.text line }
     ensures end { result.end ≡ line_end lines m.old.text line }
@@ -29,7 +29,8 @@ pub fn line_in(m: &mut Marks, lines: LineType, line: usize) -> ops::Range<usize>
     positions::line(m, lines, line)
 }
 
-/// The position of a byte. It reads two stretches at most, and one where the line begins after the stretch of the byte does.
+/// Converts a byte index to a position. It reads two stretches at most, and one if the line begins after the start of
+/// the byte's stretch.
 pub fn position_in(m: &mut Marks, lines: LineType, encoding: Encoding, byte: usize) -> Position
     ensures answer { result ≡ position_at lines encoding m.old.text byte }
     ensures cost { Asked 2 (8 * stretches_of m.old.text) m.old m.new }
@@ -40,7 +41,7 @@ pub fn position_in(m: &mut Marks, lines: LineType, encoding: Encoding, byte: usi
     positions::position_of(m, lines, encoding, byte)
 }
 
-/// The byte index where the char at a position begins. It reads three stretches at most.
+/// Converts a position to the byte index where its char begins. It reads three stretches at most.
 pub fn byte_in(m: &mut Marks, lines: LineType, encoding: Encoding, position: Position) -> usize
     ensures answer { result ≡ byte_at lines encoding m.old.text position }
     ensures boundary { IsBoundary m.old.text result }
@@ -49,7 +50,7 @@ pub fn byte_in(m: &mut Marks, lines: LineType, encoding: Encoding, position: Pos
     positions::byte_of(m, lines, encoding, position)
 }
 
-/// The byte index of a position that names a place, or `None`. It reads four stretches at most.
+/// Converts a position that names a place to its byte index, or answers `None`. It reads four stretches at most.
 pub fn exact_byte_in(
     m: &mut Marks,
     lines: LineType,
@@ -63,7 +64,7 @@ pub fn exact_byte_in(
     positions::exact_byte_of(m, lines, encoding, position)
 }
 
-/// The byte indices of a range, or `None` where its end is before its start. It reads six stretches at most.
+/// Converts a range to byte indices, or answers `None` if its end is before its start. It reads six stretches at most.
 pub fn byte_range_in(
     m: &mut Marks,
     lines: LineType,
@@ -79,7 +80,7 @@ pub fn byte_range_in(
     positions::byte_range(m, lines, encoding, range)
 }
 
-/// The positions of the two ends of a span, each as `position_in` answers it. It reads four stretches at most.
+/// Converts the two ends of a span to positions, each as `position_in` answers it. It reads four stretches at most.
 pub fn range_in(
     m: &mut Marks,
     lines: LineType,
@@ -93,7 +94,8 @@ pub fn range_in(
     positions::range_of(m, lines, encoding, span)
 }
 
-/// The position of a byte that is a place on a line, or `None`. It reads the stretches of `position_in`.
+/// Converts a byte index that is a place on a line to its position, or answers `None`. It reads at most as many
+/// stretches as `position_in`.
 pub fn exact_position_in(
     m: &mut Marks,
     lines: LineType,

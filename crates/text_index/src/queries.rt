@@ -12,7 +12,7 @@ use crate::{Marks, Scheme};
 /// How many bytes a stretch has, give or take four.
 pub(crate) const STRETCH: usize = 1024;
 
-/// How many characters, UTF-16 code units or line breaks the text has. Looks at no mark.
+/// Counts the chars, UTF-16 code units or line breaks of the text. It looks at no mark.
 pub fn count_in(m: &mut Marks, s: Scheme) -> usize
     ensures answer { result ≡ count s m.old.text }
     ensures state { m.new ≡ m.old }
@@ -20,7 +20,7 @@ pub fn count_in(m: &mut Marks, s: Scheme) -> usize
     m.whole().count(s)
 }
 
-/// How many of them the text has up to a byte index. Looks at two marks at most, and reads one stretch at most.
+/// Counts those of the text up to a byte index. It looks at two marks at most, and reads one stretch at most.
 pub fn from_in(m: &mut Marks, s: Scheme, b: usize) -> usize
     ensures answer { result ≡ from_byte_idx s m.old.text b }
     ensures text { m.new.text ≡ m.old.text }
@@ -39,8 +39,8 @@ pub fn from_in(m: &mut Marks, s: Scheme, b: usize) -> usize
     start.count(s) + stretch.from_byte_idx(s, text, b - start.byte)
 }
 
-/// The byte index in the text after the first `k` of them; its length where it has fewer. It looks at so few marks that
-/// two to their number is at most twice the number of stretches, and reads one stretch at most.
+/// Converts index `k` of scheme `s` to a byte index; the text's length if it has fewer. If it looks at `n` marks, 2 to
+/// the power of `n` is at most twice the number of stretches. It reads one stretch at most.
 pub fn to_in(m: &mut Marks, s: Scheme, k: usize) -> usize
     ensures answer { result ≡ to_byte_idx s m.old.text k }
     ensures text { m.new.text ≡ m.old.text }
@@ -58,7 +58,7 @@ pub fn to_in(m: &mut Marks, s: Scheme, k: usize) -> usize
     start.byte + stretch.to_byte_idx(s, text, k - start.count(s))
 }
 
-/// The greatest byte index between characters that is at most this one. Looks at two marks at most, and reads one stretch.
+/// Returns the greatest boundary at or before `b`. It looks at two marks at most, and reads one stretch.
 pub(crate) fn char_start_in(m: &mut Marks, b: usize) -> usize
     ensures answer { IsGreatestBoundary m.old.text b result }
     ensures text { m.new.text ≡ m.old.text }
@@ -73,7 +73,7 @@ pub(crate) fn char_start_in(m: &mut Marks, b: usize) -> usize
     start + text.floor_char_boundary(b - start)
 }
 
-/// The stretch that a byte is in. A mark may stand a little before the byte that is at its place.
+/// Finds the stretch that byte `b` is in. Mark `i` may stand a little before byte `i * STRETCH`.
 fn stretch_round<'a>(m: &mut Marks<'a>, b: usize) -> Stretch<'a>
     requires { b < size m.old.text }
     ensures round { StandsRound m.old.text b result }
@@ -98,7 +98,8 @@ fn stretch_round<'a>(m: &mut Marks<'a>, b: usize) -> Stretch<'a>
     }
 }
 
-/// The stretch that answers for a count: the last one before which it is not reached.
+/// Finds the stretch that answers for the count `k` in scheme `s`: the last one before which the count is less than
+/// `k`.
 fn stretch_for<'a>(m: &mut Marks<'a>, s: Scheme, k: usize) -> Stretch<'a>
     requires { 0 < k }
     ensures answers { Answers s m.old.text k result }
@@ -128,7 +129,7 @@ fn stretch_for<'a>(m: &mut Marks<'a>, s: Scheme, k: usize) -> Stretch<'a>
     found
 }
 
-/// The stretch that a byte is in; past the end, the last one.
+/// Finds the stretch that a byte is in; past the end, the last one.
 pub(crate) fn stretch_at<'a>(m: &mut Marks<'a>, b: usize) -> Stretch<'a>
     ensures place { HasPlace m.old.text b result }
     ensures start { result.start.now.byte ≤ begins_at b }
@@ -155,7 +156,7 @@ pub(crate) fn stretch_at<'a>(m: &mut Marks<'a>, b: usize) -> Stretch<'a>
     stretch_round(m, b)
 }
 
-/// The stretch in which a count is reached; the last one, where the text has fewer.
+/// Finds the stretch in which the count reaches `k`; the last one if the text has fewer.
 #[inline(always)]
 pub(crate) fn stretch_up_to<'a>(m: &mut Marks<'a>, s: Scheme, k: usize) -> Stretch<'a>
     ensures reaches { Reaches s m.old.text k result }

@@ -1,4 +1,4 @@
-//! The text between two marks, asked beside what they say of it.
+//! Queries in the text between two marks, with the help of what the marks say of it.
 ghost use Rattle.std.specs.Prelude.{◌≡◌, chars};
 ghost use Rattle.str_indices.specs.Schemes.{from_byte_idx, to_byte_idx};
 ghost use Rattle.text_summary.specs.Summaries.{summary_of};
@@ -16,7 +16,7 @@ pub(crate) struct Stretch<'a> {
 }
 
 impl Stretch<'_> {
-    /// How many are in its text up to a byte index in it.
+    /// Counts, in scheme `s`, in the stretch's text up to a byte index in it.
     pub(crate) fn from_byte_idx(&self, s: Scheme, text: &str, byte_idx: usize) -> usize
         requires { AddsUp self.now (chars text.now) }
         ensures { result ≡ from_byte_idx s (chars text.now) byte_idx }
@@ -24,7 +24,7 @@ impl Stretch<'_> {
         self.summary(text).from_byte_idx(s, text, byte_idx)
     }
 
-    /// The byte index in its text after the first so many.
+    /// Converts an index of scheme `s` in the stretch's text to a byte index in it.
     pub(crate) fn to_byte_idx(&self, s: Scheme, text: &str, idx: usize) -> usize
         requires { AddsUp self.now (chars text.now) }
         ensures { result ≡ to_byte_idx s (chars text.now) idx }
@@ -32,7 +32,7 @@ impl Stretch<'_> {
         self.summary(text).to_byte_idx(s, text, idx)
     }
 
-    /// The summary of its text, which its marks tell.
+    /// Returns the summary of the stretch's text, which its marks tell.
     fn summary(&self, text: &str) -> Summary
         requires { AddsUp self.now (chars text.now) }
         ensures { result ≡ summary_of (chars text.now) }

@@ -1,4 +1,4 @@
-//! The marks of a text as a question sees them, with counted looks and reads.
+//! The marks of a text as a query sees them, with counted looks and reads.
 ghost use Rattle.std.specs.Prelude.{◌≡◌, ◌+◌, ◌^◌, ◌<◌, ◌≤◌, chars};
 ghost use Rattle.str_indices.specs.Text.{size};
 ghost use Rattle.text_index.specs.Marks.{AreMarks, IsMark, IsMarkAt, MarksState, stretches_of};
@@ -10,7 +10,7 @@ use crate::stretch::Stretch;
 use byte_chunk::Counter;
 use std::marker::Model;
 
-/// The marks of a text, for a question: it lends them and the text between two of them, and counts both.
+/// The marks of a text, for a query: it lends them and the text between two of them, and counts both.
 ///
 /// A read is of one stretch, which has at most 1,028 bytes. The beginning and the end of the text are known without a look.
 /// Only contracts see the counters. It is neither `Copy` nor `Clone`.
@@ -97,7 +97,8 @@ impl<'a> Marks<'a> {
         if i == 0 { self.first() } else { self.mark(i) }
     }
 
-    /// The mark with which a stretch ends, which is the text's end for the last one. One look at most.
+    /// The mark with which stretch `i - 1` ends: mark `i`, or for the last stretch the one at the text's end. One look
+    /// at most.
     pub(crate) fn end_by(&mut self, i: usize) -> &'a Mark
         requires above { 0 < i }
         requires within { i ≤ stretches_of self.old.text }

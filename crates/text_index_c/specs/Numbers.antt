@@ -1,4 +1,4 @@
--- What the numbers stand for that cross to C and back.
+-- The meanings of the numbers that cross to C and back.
 --     scheme_of n      the scheme of a number: 0 to 4 in the order of `Scheme`, and each greater number `Lines` too
 --     encoding_of n    the encoding of a number: 0 UTF-16, the protocol's default, 1 UTF-8, 2 and each greater one UTF-32
 --     kind_of n        the kind of line break of a number: 0 that of the protocol, 1 LF alone, 2 and each greater one all breaks

@@ -23,7 +23,7 @@ pub(crate) fn index_of<'a>(handle: &'a Handle<'_>) -> BorrowedIndex<'a>
     BorrowedIndex::of(text, handle.marks, &handle.whole)
 }
 
-/// The marks of that index as a question sees them.
+/// Lends the marks of that index to a query.
 pub(crate) fn view_of<'a>(handle: &'a Handle<'_>) -> Marks<'a>
     requires { IsIndex handle.now }
     ensures { result ≡ record { text = text_of handle.now; looks = 0; reads = 0 } }

@@ -14,8 +14,8 @@ const HANDLE: usize = size_of::<Handle<'static>>();
 
 const MARK: usize = size_of::<Mark>();
 
-/// How many bytes a handle takes with the marks of a text of `len` bytes; 0 where `len` is above `isize::MAX`, which the length
-/// of no text is.
+/// Returns how many bytes a handle takes with the marks of a text of `len` bytes, or 0 if `len` is above `isize::MAX`,
+/// which no text's length is.
 #[unsafe(no_mangle)]
 pub extern "C" fn str_index_size(len: usize) -> usize
     ensures size { len < 2 ^ 63 → result ≡ 80 + 48 * (len / stretch_size) }
@@ -27,7 +27,7 @@ pub extern "C" fn str_index_size(len: usize) -> usize
     HANDLE + MARK * marks_for(len)
 }
 
-/// How many marks a text of `len` bytes takes.
+/// Returns how many marks a text of `len` bytes takes.
 #[unsafe(no_mangle)]
 pub extern "C" fn index_marks(len: usize) -> usize
     ensures { result ≡ len / stretch_size }
@@ -35,9 +35,10 @@ pub extern "C" fn index_marks(len: usize) -> usize
     marks_for(len)
 }
 
-/// Makes the handle that of a text, whose marks are put into a room for that many.
+/// Makes `handle` the handle of a text, and puts the marks of the text into `room`.
 ///
-/// The status is `not_utf8` where the bytes are not UTF-8, and else `no_room` where the room is for another number of marks.
+/// The status is `not_utf8` if the bytes are not UTF-8, and otherwise `no_room` if the room is for another number of
+/// marks.
 #[unsafe(no_mangle)]
 pub extern "C" fn index_fill<'a>(
     text: &'a [u8],

@@ -19,7 +19,7 @@ pub extern "C" fn str_index_len(handle: &Handle<'_>) -> usize
     index_of(handle).len()
 }
 
-/// How many characters, UTF-16 code units or line breaks the text has.
+/// Counts the chars, UTF-16 code units or line breaks of the text.
 #[unsafe(no_mangle)]
 pub extern "C" fn str_index_count(handle: &Handle<'_>, scheme: u32) -> usize
     requires { IsIndex handle.now }
@@ -28,7 +28,7 @@ pub extern "C" fn str_index_count(handle: &Handle<'_>, scheme: u32) -> usize
     count_in(&mut index_of(handle).view(), scheme_at(scheme))
 }
 
-/// How many of them the text has up to a byte index; past the end, all.
+/// Counts those of the text up to a byte index; past the end, all.
 #[unsafe(no_mangle)]
 pub extern "C" fn str_index_from_byte_idx(
     handle: &Handle<'_>,
@@ -41,7 +41,7 @@ pub extern "C" fn str_index_from_byte_idx(
     from_in(&mut index_of(handle).view(), scheme_at(scheme), byte_idx)
 }
 
-/// The byte index after the first `idx` of them; the text's length where it has fewer.
+/// Returns the byte index after the first `idx` of them; the text's length if it has fewer.
 #[unsafe(no_mangle)]
 pub extern "C" fn str_index_to_byte_idx(handle: &Handle<'_>, scheme: u32, idx: usize) -> usize
     requires { IsIndex handle.now }
@@ -50,7 +50,7 @@ pub extern "C" fn str_index_to_byte_idx(handle: &Handle<'_>, scheme: u32, idx: u
     to_in(&mut index_of(handle).view(), scheme_at(scheme), idx)
 }
 
-/// Whether a byte index is between characters, or at the beginning or end of the text; past the end it is not.
+/// Whether a byte index is between chars, or at the beginning or end of the text; past the end it is not.
 #[unsafe(no_mangle)]
 pub extern "C" fn str_index_is_char_boundary(handle: &Handle<'_>, byte_idx: usize) -> bool
     requires { IsIndex handle.now }

@@ -1,4 +1,4 @@
--- What a text answers by two of its marks and by what stands between them.
+-- The answers of a text by two of its marks and by the text between them.
 use Rattle.text_index.proofs.lemmas.Common.{◌≡◌, ℕ, ◌+◌, ◌-◌, ◌<◌, ◌≤◌, inl, inr, ◌++◌, sym, ap, ◌∙◌, append-nil, arith, Text, size, size-append, Scheme, count, from_byte_idx, to_byte_idx, is_joined, seam_loss, IsMark, IsPart, IsStretch, AddsUp, StandsRound, Answers, Stretch, count_at, none_of, from_byte_idx-all, Mark}
 use Rattle.text_index.proofs.lemmas.Marking.{no_loss, whole_before, AreParted, are_parted, counts_at_end}
 
@@ -62,7 +62,7 @@ pub past_end : (s : Scheme) (text : Text) (b : ℕ) (mark : Mark) → IsMark tex
 past_end s text b mark is at_end past =
     counts_at_end text mark is at_end s ∙ sym (from_byte_idx-all s text b (omega (arith, at_end, past)))
 
--- what is before the stretch, and it, answer for the text
+-- the text up to the end of the stretch answers for the whole text
 up_to_end : (s : Scheme) (text : Text) (k : ℕ) (stretch : Stretch) (answers : Answers s text k stretch)
     → to_byte_idx s text k ≡ to_byte_idx s answers.is.end.front k
 up_to_end s text k stretch answers =

@@ -1,2 +1,2 @@
--- What the proofs of other crates may cite of this one.
+-- The lemmas that proofs of other crates may cite.
 pub use Rattle.text_index.specs.Marks.{stretches_of}

@@ -1,14 +1,14 @@
--- How few looks a search takes that halves what is left.
+-- The number of looks of a search that halves the places that are left.
 use Rattle.text_index.proofs.lemmas.Common.{◌≡◌, ℕ, ◌+◌, ◌-◌, ◌*◌, ◌^◌, ◌≤◌, arith}
 use Rattle.std.proofs.Common.{add-one}
 use Rattle.std.proofs.Math.Nat.{mul-le-mul_left, pow-suc}
 
--- after so many looks so many places are left at most, of as many as there were
+-- after `looks` looks at most `left` places are left, of `all` at first
 pub record IsHalved (looks left all : ℕ) : Type 0 where
   pub few : 2 ^ looks ≤ 2 * all
   pub left_over : 2 ^ looks * (left - 1) ≤ all - 1
 
--- one look more leaves half of them at most
+-- one look more leaves at most half of them
 pub halved : (looks more left half all : ℕ) → more ≡ looks + 1 → 2 ≤ left → half + half ≤ left + 1
     → IsHalved looks left all → IsHalved more half all
 halved looks more left half all one_more some less is =

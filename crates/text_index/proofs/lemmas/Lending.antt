@@ -139,7 +139,7 @@ has_line l text line stretch part reaches lines start end =
       ];
     }
 
--- what a search takes
+-- the cost of a search
 module _ (old new : MarksState) (text : new.text ≡ old.text) (kept : old.looks ≤ new.looks) (reads : new.reads ≤ old.reads + 1)
     (reads_kept : old.reads ≤ new.reads) where
   abbrev most : ℕ
@@ -176,7 +176,7 @@ module _ (old new : MarksState) (text : new.text ≡ old.text) (kept : old.looks
     reads_kept = reads_kept;
   }
 
--- what searches took, by the marks
+-- the cost of searches, in looks at marks and reads of stretches
 pub asked : {b c most : ℕ} {old new : MarksState} → Took b c (parts_of old) (parts_of new)
     → (4 ^ b) * ((2 * stretches_of old.text) ^ c) ≤ most → Asked (b + c) most old new
 asked {b} {c} {most} {old} {new} took within = record {

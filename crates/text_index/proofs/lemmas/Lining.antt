@@ -9,7 +9,7 @@ use Rattle.positions.specs.Lines.{scheme_of, is_break, line_content, line_end}
 use Rattle.positions.specs.declared.line_type.LineType.{LineType}
 use Rattle.text_index.proofs.lemmas.Common.{◌≡◌, ℕ, Bool, List, [], ◌∷◌, ◌++◌, length, sym, refl, ap, ◌∙◌, arith, cases_Bool, inl, inr, Text, size, to_byte_idx, IsBoundary, IsPart, same_cut}
 
--- what is before the first that passes is a beginning
+-- a list begins with the elements before the first that passes
 first_part : (p : ℕ → Bool) (xs : List ℕ) → (rest : List ℕ) × (xs ≡ before_first p xs ++ rest)
 first_part p [] = ([], refl)
 first_part p (c ∷ cs) = elim (cases_Bool (p c)) [
@@ -23,7 +23,7 @@ first_part p (c ∷ cs) = elim (cases_Bool (p c)) [
       (rest, ap (λ r. c ∷ r) split ∙ ap (λ r. r ++ rest) (sym more))
 ]
 
--- what stands from a line's beginning to its end is its content
+-- the text from a line's beginning to its end is its content
 pub content_of_part : (l : LineType) (cs part : Text) (line start end : ℕ) → start ≡ to_byte_idx (scheme_of l) cs line
     → end ≡ line_end l cs line → IsPart cs start end part → part ≡ line_content l cs line
 content_of_part l cs part line start end start_is end_is is =

@@ -1,4 +1,4 @@
--- Places of a text between characters, and those between CR and LF.
+-- Places of a text between chars, and those between CR and LF.
 use Rattle.text_index.proofs.lemmas.Common.{◌≡◌, ℕ, ◌+◌, ◌-◌, ◌<◌, ◌≤◌, false, [], ◌∷◌, ◌++◌, sym, refl, ap, ◌∙◌, append_assoc, arith, cases_lt, cases_Bool, inl, inr, len_utf8_bounds, Text, size, size-append, size-cons, line_feed, carriage_return, joins_crlf, ends_in_return, starts_with_feed, IsBoundary, IsCrlfMiddle, IsWholeAt}
 use Rattle.positions.proofs.lemmas.Callers.{middle_of_join}
 use Rattle.str_indices.proofs.lemmas.Callers.{starts_with_feed_is}

@@ -7,7 +7,7 @@ use Rattle.text_index_c.specs.declared.index_positions.Bytes.{Bytes}
 use Rattle.text_index_c.proofs.index_positions.str_index_byte_range.Goals as goal
 use Rattle.positions.specs.declared.line_type.LineType.TheVariants.{Crlf}
 
--- what is unwrapped is what there is
+-- an option that has a value unwraps to it
 unwrapped : (some is : Option (Range ℕ)) (none bytes : Range ℕ) → some ≡ is → bytes ≡ unwrap_or some none
     → IfSome is (λ b. ◌≡◌ {A = Bytes} (record { start = bytes.start; end = bytes.end }) (record { start = b.start; end = b.end }))
 unwrapped some (Some b) none bytes same is = rw (is, same) refl
