@@ -1,4 +1,4 @@
--- Which names the calls have, and what they answer.
+-- The names of the calls, and their answers.
 --     entry_named name table        what a table has under a name
 --     counting_named name           the counting call that is built under a name
 --     conversion_named name index   the conversion that is built under a name, with its index
@@ -37,7 +37,7 @@ conversions =
     ∷ (codes "lines.to_byte_idx", To Lines)
     ∷ []
 
--- what the table has under the name
+-- the entry of the table under the name
 abbrev pub entry_named : {A : Type 0} → List ℕ → List (List ℕ × A) → Option A
 entry_named name table = option_map (λ row. row.1) (find (λ row. bytes_eq row.0 name) table)
 

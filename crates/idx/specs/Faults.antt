@@ -1,4 +1,4 @@
--- What the program's faults mean to its caller.
+-- The faults of the program, as its caller sees them.
 use Rattle.std.specs.Prelude.{ℕ, ⊤}
 use Rattle.idx.specs.declared.faults.Fault.{Fault}
 use Rattle.idx.specs.declared.faults.Fault.TheVariants.{Usage, NotUtf8, Read, Write, NoMemory}

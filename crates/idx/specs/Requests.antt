@@ -1,10 +1,10 @@
--- Which words ask for which call, and for which run of its kernel.
+-- The words that ask for a call, and for a run of its kernel.
 --     texts words             the bytes of each word
 --     index_of word           the number that a word writes, if it is an index
 --     call_of name index      the call that a name and the word for its index stand for
 --     chunk_type_named name   the chunk type that has a name
 --     kernel_of chunk lead    the run of a kernel that the words for it stand for
---     request_of words        what the words ask for, if they are a request
+--     request_of words        the request that the words make, if they are one
 use Rattle.std.specs.Prelude.{ℕ, Bool, ◌&&◌, if◌then◌else◌, nat_lt, nat_le, List, [], ◌∷◌, Option, Some, None, length, map, codes, bytes_eq}
 use Rattle.std.specs.Option.{option_map, option_and_then}
 use Rattle.std.specs.Str.{all_ascii_digits}
@@ -61,7 +61,7 @@ unfoldable pub kernel_request : List ℕ → List ℕ → List ℕ → List ℕ 
 kernel_request name index chunk lead =
     option_and_then (λ call. option_map (λ kernel. asked call (Some kernel)) (kernel_of chunk lead)) (call_of name index)
 
--- what the words ask for: a counting call alone, a conversion and its index, or a call by its kernel
+-- the request that the words make: a counting call alone, a conversion and its index, or a call by its kernel
 unfoldable pub request_of : List (List ℕ) → Option Request
 request_of [] = None
 request_of (name ∷ []) = option_map (λ call. asked call None) (counting_named name)

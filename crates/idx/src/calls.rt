@@ -18,7 +18,7 @@ pub enum Call {
 }
 
 impl Call {
-    /// The counting call of this name, or `None` where none is built under it.
+    /// Finds the counting call with this name, or `None` if none is built.
     #[tactic(auto, unfolding(crate::specs::Calls::counting_named))]
     pub fn counting(name: &str) -> Option<Call>
         ensures { result ≡ counting_named name.now }
@@ -34,7 +34,7 @@ impl Call {
         }
     }
 
-    /// The conversion of this name for the index, or `None` where none is built under it.
+    /// Finds the conversion with this name, for the index, or `None` if none is built.
     #[tactic(auto, unfolding(crate::specs::Calls::conversion_named))]
     pub fn conversion(name: &str, index: usize) -> Option<Call>
         ensures { result ≡ conversion_named name.now index }
@@ -54,7 +54,7 @@ impl Call {
         }
     }
 
-    /// The number that the library's public function answers for the text.
+    /// Answers the call for the text, by the library's public function.
     pub fn answer(&self, text: &str) -> usize
         ensures { result ≡ answer_of self.now (chars text.now) }
     {

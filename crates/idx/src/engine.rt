@@ -11,10 +11,9 @@ use crate::requests::Request;
 use std::alloc::Global;
 use std::io::{Read, Write};
 
-/// Answers the call that the words name for all the text that the reader gives: the writer gets the
-/// number in decimal and a line feed, and is flushed. Where the words name no call, the input is not
-/// UTF-8, a read, a write or the flush fails, or memory is refused, that fault is the answer. Nothing
-/// that failed is tried again.
+/// Answers the call that the words name, for all the text that the reader gives: it writes the number in decimal and a
+/// line feed, and flushes the writer. If the words name no call, the input is not UTF-8, a read, a write or the flush
+/// fails, or memory is refused, it returns that fault. Nothing that failed is tried again.
 pub fn run<R: Read, W: Write>(
     alloc: Global,
     words: &[&str],

@@ -1,4 +1,4 @@
-// What can go wrong in a run.
+// The faults of a run.
 ghost use Rattle.std.specs.Prelude.{◌≡◌};
 ghost use Rattle.idx.specs.Faults.{status_of};
 
@@ -18,7 +18,7 @@ pub enum Fault {
 }
 
 impl Fault {
-    /// The status that the program ends with.
+    /// Returns the status that the program ends with.
     pub fn status(&self) -> u8
         ensures { result ≡ status_of self.now }
     {
@@ -29,7 +29,7 @@ impl Fault {
         }
     }
 
-    /// The line for standard error, without its line feed.
+    /// Returns the line for standard error, without its line feed.
     pub fn line(&self) -> &'static str {
         match self {
             Fault::Usage => "idx: bad usage",

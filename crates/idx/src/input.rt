@@ -10,8 +10,8 @@ use std::io::Read;
 /// How many bytes one read asks for.
 const READ_LEN: usize = 32 * 1024;
 
-/// All bytes that the reader gives until a read gives none. A failed read is `Read` at once, and a
-/// refused growth of the list is `NoMemory`, also over a reader that never ends.
+/// Reads all bytes that the reader gives, until a read gives none. A failed read is `Read` at once, and a refused
+/// growth of the list is `NoMemory`, also over a reader that never ends.
 pub fn read_all<R: Read>(alloc: Global, input: &mut R) -> Result<Vec<u8>, Fault>
     ensures ok { IfOk result (λ bytes.
         IsWholeInput (R.remaining input.old) (R.remaining input.new) bytes.items) }

@@ -31,7 +31,7 @@ pub struct Kernel {
 }
 
 impl ChunkType {
-    /// The chunk type of this name, or `None` where there is none.
+    /// Finds the chunk type with this name, or `None`.
     #[tactic(auto, unfolding(crate::specs::Requests::chunk_type_named))]
     pub fn named(name: &str) -> Option<ChunkType>
         ensures { result ≡ chunk_type_named name.now }
@@ -47,9 +47,9 @@ impl ChunkType {
 }
 
 impl Kernel {
-    /// The number that the call's kernel answers for all of the text.
-    // Every chunk type gives the same number. So the contract names none, and a body that runs the kernel over
-    // another one than the words say meets it too: which one runs is read here.
+    /// Answers the call by its kernel, for all of the text.
+    // Every chunk type gives the same number. So the contract names none, and a body that runs the kernel over another
+    // one than the words say meets it too: only the code here shows which one runs.
     pub fn answer(&self, call: Call, text: &str) -> usize
         ensures { result ≡ answer_of call (chars text.now) }
     {
@@ -62,8 +62,8 @@ impl Kernel {
     }
 }
 
-/// The number that the call's kernel answers for all of the text, over chunks of any type, where it walks the first
-/// `lead` bytes one by one.
+/// Answers the call by its kernel for all of the text, over chunks of any type, after `lead` bytes that are walked one
+/// by one.
 fn answer_by_chunks<T: ByteChunk>(call: Call, text: &str, lead: usize) -> usize
     ensures { result ≡ answer_of call (chars text.now) }
 {
@@ -89,7 +89,7 @@ fn answer_by_chunks<T: ByteChunk>(call: Call, text: &str, lead: usize) -> usize
     }
 }
 
-/// Where the text of the probe ends, which is the `end` of a count of all of it.
+/// Returns where the text of the probe ends: the `end` for a count of all of it.
 #[tactic(auto, using(str_indices::proofs::lemmas::Callers::whole_text))]
 fn text_end<T: ByteChunk>(probe: &Probe<'_, T>) -> usize
     ensures within { result ≤ length probe.now.text }

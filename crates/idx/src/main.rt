@@ -22,7 +22,7 @@ fn main(rt: HostRuntime) -> ExitCode {
     match start(&rt) {
         Ok(()) => ExitCode::SUCCESS,
         Err(fault) => {
-            // Where standard error fails too, the status alone tells of the fault.
+            // If standard error fails too, only the status tells of the fault.
             let _ = rt.eprintln(fault.line());
             ExitCode::from(fault.status())
         }
@@ -39,7 +39,7 @@ fn start(rt: &HostRuntime) -> Result<(), Fault> {
     run(rt.alloc(), &words, &mut rt.stdin(), &mut rt.stdout())
 }
 
-/// The arguments after the program's name.
+/// Returns the arguments after the program's name.
 fn arguments(rt: &HostRuntime) -> Result<Vec<String>, Fault> {
     match env::args(rt) {
         Ok(all) => all.skip(1).collect(rt.alloc()).map_err(|_| Fault::NoMemory),

@@ -9,7 +9,7 @@ use std::io::Write;
 /// How many bytes the longest line takes: twenty digits and a line feed.
 pub const LINE_LEN: usize = 21;
 
-/// The decimal digits of `n` and a line feed, written at the end of `buffer`.
+/// Writes the decimal digits of `n` and a line feed at the end of `buffer`, and returns them.
 pub fn decimal_line(n: usize, buffer: &mut [u8; LINE_LEN]) -> &[u8]
     ensures { result.now ≡ decimal_line n }
 {
@@ -18,7 +18,7 @@ pub fn decimal_line(n: usize, buffer: &mut [u8; LINE_LEN]) -> &[u8]
     &all[start..]
 }
 
-/// Writes the line at the end of `buffer`, and answers where it starts.
+/// Writes that line at the end of `buffer`, and returns where it starts.
 fn put_decimal_line(n: usize, buffer: &mut [u8; LINE_LEN]) -> usize
     ensures within { result ≤ LINE_LEN }
     ensures line { drop result buffer.new ≡ decimal_line n }
@@ -36,8 +36,8 @@ fn put_decimal_line(n: usize, buffer: &mut [u8; LINE_LEN]) -> usize
     start
 }
 
-/// Writes all the bytes and flushes the writer. A write that fails or takes no byte, or a failed
-/// flush, is `Write` at once.
+/// Writes all the bytes and flushes the writer. A write that fails or takes no byte, or a failed flush, is `Write` at
+/// once.
 pub fn write_text<W: Write>(output: &mut W, bytes: &[u8]) -> Result<(), Fault>
     ensures ok { OnOk result (Appends (W.contents output.old) (W.contents output.new) bytes.now) }
     ensures fault { IfErr result (λ fault. fault ≡ Fault.Write) }

@@ -1,4 +1,4 @@
-// What the words ask for.
+// Requests, read from the program's words.
 ghost use Rattle.std.specs.Prelude.{◌≡◌, chars};
 ghost use Rattle.idx.specs.Calls.{answer_of};
 ghost use Rattle.idx.specs.Requests.{index_of, call_of, kernel_of, kernel_request, request_of, texts};
@@ -6,7 +6,7 @@ ghost use Rattle.idx.specs.Requests.{index_of, call_of, kernel_of, kernel_reques
 use crate::calls::Call;
 use crate::kernels::{ChunkType, Kernel};
 
-/// A call of the library, and how its kernel is to run where the words say so.
+/// A call of the library, and how its kernel is to run if the words say that.
 #[derive(Clone, Copy)]
 pub struct Request {
     pub call: Call,
@@ -14,7 +14,7 @@ pub struct Request {
 }
 
 impl Request {
-    /// What the words ask for, or `None` where they are no request.
+    /// Reads a request from the words, or answers `None` if they are none.
     #[tactic(auto, unfolding(crate::specs::Requests::request_of), using(crate::proofs::Words::three_words, crate::proofs::Words::five_words))]
     pub fn from_words(words: &[&str]) -> Option<Request>
         ensures { result ≡ request_of (texts words.now) }
@@ -28,7 +28,7 @@ impl Request {
         Some(Request { call, kernel: None })
     }
 
-    /// What four words ask for: a call by its kernel.
+    /// Reads four words: a call by its kernel.
     #[tactic(auto, unfolding(crate::specs::Requests::kernel_request))]
     fn by_kernel(name: &str, index: &str, chunk: &str, lead: &str) -> Option<Request>
         ensures { result ≡ kernel_request name.now index.now chunk.now lead.now }
@@ -39,8 +39,8 @@ impl Request {
         })
     }
 
-    /// The number that the call answers for the text. That of its kernel is the same over each chunk type and with
-    /// any number of leading bytes.
+    /// Answers the call for the text. Its kernel gives the same number over each chunk type and with any number of
+    /// leading bytes.
     pub fn answer(&self, text: &str) -> usize
         ensures { result ≡ answer_of self.now.call (chars text.now) }
     {
@@ -51,7 +51,7 @@ impl Request {
     }
 }
 
-/// The call of this name, a conversion for the index, or a counting call, which takes none, for `-`.
+/// Finds the call `name`: a conversion for the index, or for `-` a counting call, which takes none.
 fn parse_call(name: &str, index: &str) -> Option<Call>
     ensures { result ≡ call_of name.now index.now }
 {
@@ -61,7 +61,7 @@ fn parse_call(name: &str, index: &str) -> Option<Call>
     Call::conversion(name, parse_index(index)?)
 }
 
-/// How the two words want a kernel run, or `None` where the one names no chunk type or the other writes no index.
+/// Reads how to run a kernel, or answers `None` if `chunk` names no chunk type or `lead` is no index.
 fn parse_kernel(chunk: &str, lead: &str) -> Option<Kernel>
     ensures { result ≡ kernel_of chunk.now lead.now }
 {
@@ -71,8 +71,8 @@ fn parse_kernel(chunk: &str, lead: &str) -> Option<Kernel>
     })
 }
 
-/// The number that the word writes in decimal digits, or `None` where it is empty, has another
-/// character, or writes a number that `usize` does not hold.
+/// Reads a number in decimal digits, or answers `None` if the word is empty, has another char, or writes a number that
+/// `usize` does not hold.
 #[tactic(auto, unfolding(crate::specs::Requests::index_of))]
 fn parse_index(word: &str) -> Option<usize>
     ensures { result ≡ index_of word.now }

@@ -22,7 +22,7 @@ const LONG_SEVEN: &str =
     "0000000000000000000000000000000000000000000000000000000000000000000000000000000000000000000000000000\
     7";
 
-/// What a run answers over memory, and what it writes.
+/// Runs the program over memory, and returns its answer and its output.
 fn run_in_memory(alloc: Global, words: &[&str], text: &[u8]) -> (Result<(), Fault>, Vec<u8>) {
     let mut input = text;
     let mut output = Vec::new(alloc);

@@ -9,7 +9,7 @@ use std::simd::prelude::*;
 #[derive(Clone, Copy)]
 pub struct Wide(pub Simd<u8, 32>);
 
-// The lanes from `n` on, and then `n` lanes 0.
+// Moves the lanes from lane `n` on to the front, and adds `n` lanes 0 at the end.
 fn move_to_front(lanes: u8x32, n: usize) -> u8x32
     requires { n ≤ 4 }
     ensures { result ≡ drop n lanes ++ replicate n 0 }
@@ -49,7 +49,7 @@ fn move_to_front(lanes: u8x32, n: usize) -> u8x32
     }
 }
 
-// The last lane of `lanes`, and then all lanes of `next` but its last.
+// Returns the last lane of `lanes`, and then all lanes of `next` but its last.
 fn start_one_before(lanes: u8x32, next: u8x32) -> u8x32
     ensures { result ≡ drop 31 lanes ++ take 31 next }
 {

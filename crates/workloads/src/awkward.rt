@@ -15,7 +15,7 @@ const BYTES: usize = 1_000_000;
 /// How many changes of each kind a text has.
 const CHANGES: usize = 1000;
 
-/// So many times each of the texts.
+/// Works on each of the texts, `rounds` times.
 pub(crate) fn run(
     alloc: Global,
     random: &mut Random,

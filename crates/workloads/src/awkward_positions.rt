@@ -1,4 +1,4 @@
-//! Positions on lines that go over pieces: one line of a megabyte, and lines of some thousand characters that are not
+//! Positions on lines that go over pieces: one line of a megabyte, and lines of some thousand chars that are not
 //! ASCII. They are asked in each encoding, exactly and as they come, and changes are made by exact positions.
 
 use crate::digest::Digest;
@@ -23,7 +23,7 @@ const CHANGES: usize = 100;
 
 const ENCODINGS: [Encoding; 3] = [Encoding::Utf8, Encoding::Utf16, Encoding::Utf32];
 
-/// So many texts, one after the other.
+/// Works on `rounds` texts, one after the other.
 pub(crate) fn run(
     alloc: Global,
     random: &mut Random,
@@ -82,7 +82,7 @@ fn tell_exactly(rope: &Rope, encoding: Encoding, position: Position, digest: &mu
     digest.take(byte.unwrap_or(0));
 }
 
-/// Letters put in the place of a few characters, and changes whose end may be inside a character.
+/// Letters put in the place of a few chars, and changes whose end may be inside a char.
 fn change_exactly(
     rope: &mut Rope,
     encoding: Encoding,

@@ -27,7 +27,7 @@ const TYPED: usize = 12;
 /// How many fields are filled in after a text.
 const FIELDS: usize = 60;
 
-/// So many texts and forms, one after the other.
+/// Works on `rounds` texts and forms, one after the other.
 pub(crate) fn run(
     alloc: Global,
     random: &mut Random,
@@ -63,7 +63,7 @@ fn edit(
     Ok(())
 }
 
-/// Cuts some lines out, and puts them in before another line; answers where.
+/// Cuts some lines out, puts them in before another line, and returns where.
 fn move_lines(
     rope: &mut Rope,
     n: usize,

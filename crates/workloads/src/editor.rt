@@ -21,7 +21,7 @@ const CURSORS: usize = 1000;
 /// How long a paste is at most.
 const PASTES: [usize; 4] = [200, 1_000, 10_000, 200_000];
 
-/// So many texts, one after the other.
+/// Works on `rounds` texts, one after the other.
 pub(crate) fn run(
     alloc: Global,
     random: &mut Random,

@@ -30,7 +30,7 @@ const SCHEMES: [Scheme; 5] = [
     Scheme::Lines,
 ];
 
-/// So many texts, one after the other, in each shape and size.
+/// Works on `rounds` texts, one after the other, in each shape and size.
 pub(crate) fn run(
     alloc: Global,
     random: &mut Random,
@@ -43,7 +43,7 @@ pub(crate) fn run(
     Ok(())
 }
 
-/// So many large texts, of which every second is one line.
+/// Works on `rounds` large texts. Every second one is a single line.
 pub(crate) fn run_large(
     alloc: Global,
     random: &mut Random,

@@ -14,7 +14,7 @@ const BYTES: usize = 100_000_000;
 /// How often it is asked and changed in a round.
 const CALLS: usize = 10_000;
 
-/// A file, and so many rounds of changes and questions.
+/// Works on a file, in `rounds` rounds of changes and questions.
 pub(crate) fn run(
     alloc: Global,
     random: &mut Random,

@@ -16,7 +16,7 @@ const CHANGES: usize = 200;
 /// How many questions are asked after a change.
 const ASKED: usize = 5;
 
-/// So many buffers, one after the other.
+/// Works on `rounds` buffers, one after the other.
 pub(crate) fn run(
     alloc: Global,
     random: &mut Random,
@@ -47,7 +47,7 @@ fn work_on(
     Ok(())
 }
 
-/// A buffer of so many pieces, of 50 bytes to 2 kB mostly: parts of a text, from its beginning again at its end.
+/// Makes a buffer of `pieces` pieces, of 50 bytes to 2 kB mostly: parts of a text, from its beginning again at its end.
 fn pushed(
     alloc: Global,
     source: &str,

@@ -1,4 +1,4 @@
-//! What several workloads do with a rope.
+//! Calls on a rope that several workloads share.
 
 use crate::digest::Digest;
 use crate::faults::Fault;
@@ -15,7 +15,7 @@ pub(crate) fn read_all(rope: &Rope, digest: &mut Digest) {
     digest.take(start);
 }
 
-/// Reads so many lines from a line on.
+/// Reads `n` lines from line `line` on.
 pub(crate) fn read_lines(
     rope: &Rope,
     s: Scheme,
@@ -52,7 +52,7 @@ pub(crate) fn tell_cursor(rope: &Rope, s: Scheme, at: usize, digest: &mut Digest
     line
 }
 
-/// Takes so many chars out at a byte where a char begins.
+/// Takes `n` chars out at the byte `at`, where a char begins.
 pub(crate) fn take_chars(rope: &mut Rope, at: usize, n: usize) -> Result<(), Fault> {
     let chars = rope.from_byte_idx(Scheme::Chars, at);
     let to = rope.to_byte_idx(Scheme::Chars, chars.saturating_add(n));

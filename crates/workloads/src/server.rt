@@ -35,7 +35,7 @@ struct File {
     encoding: Encoding,
 }
 
-/// So many files, one after the other.
+/// Works on `rounds` files, one after the other.
 pub(crate) fn run(
     alloc: Global,
     random: &mut Random,

@@ -28,7 +28,7 @@ const ASKED: usize = 3;
 /// How many bytes a buffer's pieces are taken from.
 const BYTES: usize = 20_000;
 
-/// So many buffers, one after the other.
+/// Works on `rounds` buffers, one after the other.
 pub(crate) fn run(
     alloc: Global,
     random: &mut Random,
@@ -69,7 +69,7 @@ fn part<'a>(source: &'a str, random: &mut Random) -> &'a str {
     front(rest, random.from(20, 180))
 }
 
-/// A buffer of so many pieces.
+/// Makes a buffer of `pieces` pieces.
 fn pushed(
     alloc: Global,
     source: &str,
@@ -104,7 +104,7 @@ fn read_in_order(text: &PieceText, digest: &mut Digest) {
     }
 }
 
-/// As many at random, each by a view of its own.
+/// Reads as many pieces at random, each by a view of its own.
 fn read_at_random(text: &PieceText, random: &mut Random, digest: &mut Digest) {
     for _ in 0..text.pieces() {
         let i = random.below(text.pieces());

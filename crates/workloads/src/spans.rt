@@ -20,7 +20,7 @@ const LEAF: usize = 1000;
 /// How many leaves and lines of a text are asked.
 const PARTS: usize = 400;
 
-/// So many texts, one after the other.
+/// Works on `rounds` texts, one after the other.
 pub(crate) fn run(
     alloc: Global,
     random: &mut Random,

@@ -31,7 +31,7 @@ const BREAKS: [&str; 8] = [
 
 const LETTERS: [&str; 8] = ["a", "e", "r", "s", "t", "n", "i", "o"];
 
-/// What the lines of a text are.
+/// A kind of text, by its lines.
 #[derive(Clone, Copy)]
 pub(crate) enum Shape {
     /// Lines of code, ended by LF.
@@ -52,7 +52,7 @@ pub(crate) enum Shape {
     Feeds,
     /// Short words, ended by each break of the Unicode Standard's Annex 14 and its Rust crate.
     AllBreaks,
-    /// Lines of 1,500 to 3,000 Han characters, of three bytes each, ended by LF.
+    /// Lines of 1,500 to 3,000 Han chars, of three bytes each, ended by LF.
     LongHan,
     /// Lines of 1,500 to 3,000 accented letters, ended by LF.
     LongAccented,
@@ -117,7 +117,7 @@ pub(crate) fn letter(i: usize) -> &'static str {
     LETTERS[i % 8]
 }
 
-/// Puts so many words of a table after a line.
+/// Appends `n` words of a table to a line.
 fn put_words(
     line: &mut String,
     random: &mut Random,
@@ -132,7 +132,7 @@ fn put_words(
     Ok(())
 }
 
-/// Puts an indent and words of code after a line.
+/// Appends an indent and words of code to a line.
 fn put_code(line: &mut String, random: &mut Random) -> Result<(), Fault> {
     for _ in 0..random.below(4) {
         line.push_str("    ")?;
@@ -141,7 +141,7 @@ fn put_code(line: &mut String, random: &mut Random) -> Result<(), Fault> {
     put_words(line, random, &CODE, words)
 }
 
-/// Puts what is before a line's break after it.
+/// Appends the content of a line, which comes before its break.
 fn put_content(line: &mut String, random: &mut Random, shape: Shape) -> Result<(), Fault> {
     match shape {
         Shape::Source | Shape::Crlf | Shape::Mixed | Shape::OneLine => put_code(line, random),
@@ -158,19 +158,19 @@ fn put_content(line: &mut String, random: &mut Random, shape: Shape) -> Result<(
     }
 }
 
-/// Puts 1,500 to 3,000 words of a table after a line.
+/// Appends 1,500 to 3,000 words of a table to a line.
 fn put_many(line: &mut String, random: &mut Random, table: &[&'static str]) -> Result<(), Fault> {
     let words = random.from(1500, 1501);
     put_words(line, random, table, words)
 }
 
-/// Puts as many words of a table after a line as a line of prose has.
+/// Appends as many words of a table as a line of prose has.
 fn put_some(line: &mut String, random: &mut Random, table: &[&'static str]) -> Result<(), Fault> {
     let words = random.from(8, 8);
     put_words(line, random, table, words)
 }
 
-/// Puts a line's break after it.
+/// Appends the break of a line.
 fn put_break(line: &mut String, random: &mut Random, shape: Shape) -> Result<(), Fault> {
     match shape {
         Shape::Crlf => put_words(line, random, &BREAKS[1..2], 1),
@@ -195,7 +195,7 @@ fn lines_of(alloc: Global, random: &mut Random, shape: Shape) -> Result<Vec<Stri
     Ok(lines)
 }
 
-/// A text of a shape: whole lines, so many bytes at least.
+/// Makes a text of a shape: whole lines, at least `bytes` bytes.
 pub(crate) fn text_of(
     alloc: Global,
     random: &mut Random,

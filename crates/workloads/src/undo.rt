@@ -11,7 +11,7 @@ use std::alloc::Global;
 /// How many states are kept.
 const KEPT: usize = 8;
 
-/// So many changes of a text of so many bytes.
+/// Makes `rounds` changes of a text of `bytes` bytes.
 pub(crate) fn run(
     alloc: Global,
     random: &mut Random,

@@ -35,7 +35,7 @@ impl Read for FaultyReader<'_> {
     }
 }
 
-/// What a writer does wrong. The first write has number 0.
+/// A fault of a writer. The first write has number 0.
 #[derive(Clone, Copy, Debug)]
 enum WriterFault {
     None,

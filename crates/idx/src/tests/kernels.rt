@@ -27,7 +27,7 @@ const TEXTS: [&str; 6] = [
     "",
 ];
 
-/// What stands between letters: each break, and characters of like bytes that are none.
+/// Texts that stand between letters: each break, and chars with similar bytes that are no break.
 const MIDDLES: [&str; 16] = [
     "\n",
     "\r",
@@ -57,7 +57,7 @@ const REPEATED: [(&str, usize); 6] = [
     ("\u{1F438}", 1025),
 ];
 
-/// What the counting kernel of the call answers for the text before `end`, or `None` where it does not take that end.
+/// Counts the text before `end` by the kernel of the call, or answers `None` if it does not take that end.
 fn count_before(call: Call, text: &str, end: usize, lead: usize) -> Option<usize> {
     match call {
         Call::Count(Scheme::Lf | Scheme::Crlf) => count_at_byte(call, text, end, lead),

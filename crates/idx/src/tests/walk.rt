@@ -1,4 +1,4 @@
-//! What a call answers by a walk over the chars of the text, one after the other.
+//! The answers of calls, by a walk over the chars of the text, one after the other.
 use crate::calls::Call;
 use str_indices::Scheme;
 
@@ -33,7 +33,7 @@ fn count_to(scheme: Scheme, text: &str, byte: usize) -> usize {
     count
 }
 
-/// The first char boundary that has so many before it, or where the char with the unit of that index begins.
+/// Finds the first char boundary with `index` counted before it, or where the char with the unit of that index begins.
 fn place_of(scheme: Scheme, text: &str, index: usize) -> usize {
     let mut count = 0usize;
     for (start, c) in text.char_indices() {
@@ -46,7 +46,7 @@ fn place_of(scheme: Scheme, text: &str, index: usize) -> usize {
     text.len()
 }
 
-/// What the call answers.
+/// Answers the call.
 pub fn answer(call: Call, text: &str) -> usize {
     match call {
         Call::Count(scheme) => count_to(scheme, text, text.len()),

@@ -6,7 +6,7 @@ use Rattle.idx.proofs.output.write_text.Goals as goal
 rest_of : (bytes : List ℕ) (written : ℕ) → take (length bytes - written) (drop written bytes) ≡ drop written bytes
 rest_of bytes written = take_all _ (drop written bytes) (omega (arith, length-drop written bytes))
 
--- what is taken of the rest goes on where the bytes before it end
+-- bytes taken of the rest go on where the bytes before it end
 taken_on : (bytes : List ℕ) (written count : ℕ)
     → take written bytes ++ take count (take (length bytes - written) (drop written bytes)) ≡ take (written + count)
     bytes
