@@ -1,6 +1,6 @@
 // The text as cells round the cursor: for each char its bytes, itself, its UTF-16 code units, and which lines end after it.
 
-// a longer text is drawn by so many chars, and drawn anew where the cursor comes so near to the end of these
+// of a longer text `MOST_CHARS` chars are drawn, and others once the cursor comes within `NEAR` chars of the end of these
 const MOST_CHARS = 192;
 const NEAR = 24;
 
@@ -41,11 +41,11 @@ function written(char, code) {
   return `<span class="${shape.name ? "glyph name" : "glyph"}">${own}${own && point ? " " : ""}${point}</span>`;
 }
 
-// what each row of the cells has; a reader hears it of each cell
+// the headings of the rows of cells; a screen reader says the same of each cell
 const HEADINGS =
   '<div class="headings" aria-hidden="true"><span>bytes</span><span>char</span><span>UTF-16 units</span></div>';
 
-/** What a char is, and its places. */
+/** A char in words, with its places. */
 function said({ char, code, byte, bytes, place, unit, ends }) {
   const shape = NAMES.get(code) ?? escaped(char);
   const lines = ends.length ? `; a line ends after it by ${ends.map(([, heading]) => heading).join("; by ")}` : "";
@@ -78,7 +78,7 @@ export class Cells {
   #place;
   #note;
   #choose;
-  // what is drawn: the cells with their elements, and the chars of the text that these are
+  // the cells that are drawn, with their elements, and which chars of the text they are
   #cells = [];
   #first = 0;
   #marked = [];

@@ -7,7 +7,7 @@ const CR_SHOWN = "↵";
 const ARROW_HELD = "\udfff";
 const ALONE = /\udfff/gu;
 
-// what is longer is put into the field at once, since an editing command takes its lines one by one
+// a longer text is put into the field at once, since an editing command takes its lines one by one
 const LONGEST_COMMAND = 200;
 const MOST_STEPS = 500;
 const PAUSE = 1000;
@@ -203,7 +203,7 @@ export class Field {
   }
 
   #keyDown(event) {
-    // what the key does is shown with the drawing that shows the key's own doing
+    // the effect of the key is drawn together with what the browser does by itself
     this.#follow();
     const key = event.key.toLowerCase();
     if ((event.ctrlKey || event.metaKey) && !event.altKey && (key === "z" || key === "y")) {

@@ -5,7 +5,7 @@
 
 const BLOCK_UNITS = 8192;
 
-// what is counted of each block, by the module that counts it
+// the counts of each block, by the module and its function
 const COUNTS = [
   ["chars", "count"],
   ["utf16", "count"],
@@ -75,7 +75,7 @@ export class LongText {
     return { ...changed, at: changed.at + before };
   }
 
-  /** What the module's `fromByteIdx` answers for the whole text. */
+  /** The answer of the module's `fromByteIdx` for the whole text. */
   fromByteIdx(module, byte) {
     const block = this.#blockOf("bytes", byte);
     return byte >= this.length || !block
@@ -83,7 +83,7 @@ export class LongText {
       : block.before[module] + block.text[module].fromByteIdx(byte - block.before.bytes);
   }
 
-  /** What the module's `toByteIdx` answers for the whole text. */
+  /** The answer of the module's `toByteIdx` for the whole text. */
   toByteIdx(module, index) {
     const isLine = module.startsWith("lines");
     if (index > this.#whole[module] || !this.#blocks.length) {
@@ -118,7 +118,7 @@ export class LongText {
     return parts;
   }
 
-  /** The last block that begins with at most so many bytes, chars, units or breaks before it. */
+  /** The last block with at most `index` bytes, chars, units or breaks before it. */
   #blockOf(counted, index) {
     let [low, high] = [0, this.#blocks.length];
     while (high - low > 1) {

@@ -247,7 +247,7 @@ function choose(example, start, end) {
   follow(true);
 }
 
-/** What an address names: an example and the units that are selected in it, as #2:3-5; or what is wrong with it. */
+/** The example that an address names and the units that are selected in it, as #2:3-5; or what is wrong with it. */
 function named(hash) {
   const found = /^#([0-9]+):([0-9]+)-([0-9]+)$/.exec(hash);
   if (!found) {

@@ -172,7 +172,7 @@ class Machine {
     return narrow(this.#call(name, text, ...more));
   }
 
-  /** The same where none may be answered, which the exports say by the greatest number. */
+  /** The number that the export answers, or `null` for the greatest one, by which the exports say none. */
   numberOrNull(name, text, ...more) {
     const number = BigInt.asUintN(64, this.#call(name, text, ...more));
     return number === GREATEST ? null : Number(number);
@@ -327,7 +327,7 @@ function wideIndex(index, what = "index") {
   return index > GREATEST ? GREATEST : BigInt(index);
 }
 
-/** What was handed over instead of an index, for a message. */
+/** The value that was handed over instead of an index, for a message. */
 function shown(value) {
   const kind = value === null ? "null" : typeof value;
   if (kind === "string") {

@@ -16,7 +16,7 @@
  * All indices are byte indices where nothing else is said, and begin at 0. A
  * char is a Unicode scalar value.
  *
- * What the caller owes, and what nothing checks:
+ * The caller owes the following, which nothing checks:
  *
  *   - An index keeps the address of its text, and no copy. The `len` bytes from
  *     `text` on may be read, and no thread writes to them, from the call that
@@ -40,8 +40,8 @@
  * built for Linux on x86-64 processors from the level x86-64-v2 on (with
  * SSE4.2), and does not ask whether it runs on one.
  *
- * What a call costs: marks stand in the text, one for each 1,024 bytes, with
- * the counts of what is before them. To make an index goes over the text twice,
+ * The cost of a call: marks stand in the text, one for each 1,024 bytes, with
+ * the counts of what is before them. Making an index goes over the text twice,
  * once for whether it is UTF-8. A count takes one step. A conversion from a
  * byte looks at two marks, and one to a byte halves the marks; each reads at
  * most 1,028 bytes of the text. At most, the end of a line takes one such
@@ -70,7 +70,7 @@ extern "C" {
 /* An index. What is in it is the library's own. */
 typedef struct str_index str_index;
 
-/* What is counted. The breaks of the last three are those of lines_lf,
+/* A scheme: what to count. The breaks of the last three are those of lines_lf,
  * lines_crlf and lines in str_indices.h. A greater number counts as
  * STR_INDEX_LINES. */
 typedef enum str_index_scheme {
@@ -81,7 +81,7 @@ typedef enum str_index_scheme {
     STR_INDEX_LINES  /* line breaks: all those of Unicode */
 } str_index_scheme;
 
-/* What an offset on a line counts. The first is the protocol's default. A
+/* The unit of an offset on a line. The first is the protocol's default. A
  * greater number counts as STR_INDEX_ENCODING_UTF32. */
 typedef enum str_index_encoding {
     STR_INDEX_ENCODING_UTF16, /* UTF-16 code units */
@@ -89,7 +89,7 @@ typedef enum str_index_encoding {
     STR_INDEX_ENCODING_UTF32  /* chars */
 } str_index_encoding;
 
-/* What ends a line. The first is the protocol's. A greater number counts as
+/* Line break kinds. The first is the protocol's. A greater number counts as
  * STR_INDEX_LINE_TYPE_LINES. */
 typedef enum str_index_line_type {
     STR_INDEX_LINE_TYPE_CRLF, /* LF, CR, and CR LF, which is one break */
@@ -129,7 +129,7 @@ size_t str_index_size(size_t len);
 str_index_status str_index_make_in(str_index **index, void *room, size_t size,
                                    const char *text, size_t len);
 
-/* Frees an index, and leaves its text. NULL is none, and nothing is done. */
+/* Frees an index, and leaves its text. For NULL it does nothing. */
 void str_index_free(str_index *index);
 
 /*

@@ -18,7 +18,7 @@
  * the processor has it. The answers are the same.
  *
  * A text is handed over as the address of its first byte and its length in
- * bytes. What the caller owes, in every call, and what nothing checks:
+ * bytes. In every call the caller owes the following, which nothing checks:
  *
  *   - `text` is not null, even where `len` is 0;
  *   - the `len` bytes from `text` on may be read, and no thread writes to them
@@ -47,8 +47,8 @@
 extern "C" {
 #endif
 
-/* Whether the bytes are UTF-8. Of what the caller owes, all but that holds
- * here too. */
+/* Whether the bytes are UTF-8. All else that the caller owes is owed here
+ * too. */
 bool str_indices_is_utf8(const char *text, size_t len);
 
 /* Whether the functions below answer for a text of `len` bytes by the wide

@@ -21,7 +21,7 @@
  * char is a Unicode scalar value. A boundary is a byte index between two
  * chars, or at the beginning or the end of the text.
  *
- * What the caller owes, and what nothing checks:
+ * The caller owes the following, which nothing checks:
  *
  *   - A handle is zeroed before its first use, and after that written to by
  *     these functions alone. A copy of its bytes is not used beside it: both
@@ -49,7 +49,7 @@
  * built for Linux on x86-64 processors from the level x86-64-v2 on (with
  * SSE4.2), and does not ask whether it runs on one.
  *
- * What a call costs, where the text has n pieces, each of at most
+ * The cost of a call, where the text has n pieces, each of at most
  * STR_ROPE_MAX_PIECE bytes, and of 509 or more where there are several: a
  * question looks at no more nodes of the tree than twice the logarithm to base
  * 2 of n + 1, and reads the text of one piece at most; one about positions asks
@@ -90,7 +90,7 @@ typedef struct str_rope {
 /* How many bytes a piece has at most. */
 #define STR_ROPE_MAX_PIECE 1024
 
-/* What is counted. The breaks of the last three are those of lines_lf,
+/* A scheme: what to count. The breaks of the last three are those of lines_lf,
  * lines_crlf and lines in str_indices.h. A greater number counts as
  * STR_ROPE_LINES. */
 typedef enum str_rope_scheme {
@@ -101,7 +101,7 @@ typedef enum str_rope_scheme {
     STR_ROPE_LINES  /* line breaks: all those of Unicode */
 } str_rope_scheme;
 
-/* What an offset on a line counts. The first is the protocol's default. A
+/* The unit of an offset on a line. The first is the protocol's default. A
  * greater number counts as STR_ROPE_ENCODING_UTF32. */
 typedef enum str_rope_encoding {
     STR_ROPE_ENCODING_UTF16, /* UTF-16 code units */
@@ -109,7 +109,7 @@ typedef enum str_rope_encoding {
     STR_ROPE_ENCODING_UTF32  /* chars */
 } str_rope_encoding;
 
-/* What ends a line. The first is the protocol's. A greater number counts as
+/* Line break kinds. The first is the protocol's. A greater number counts as
  * STR_ROPE_LINE_TYPE_LINES. */
 typedef enum str_rope_line_type {
     STR_ROPE_LINE_TYPE_CRLF, /* LF, CR, and CR LF, which is one break */

@@ -21,7 +21,7 @@ use str_indices_positions::Scheme;
 /// # }
 /// ```
 ///
-/// What it lends of the text may be kept longer than it. Threads may ask one index at once:
+/// The parts of the text that it lends may outlive it. Several threads may ask one index at once:
 ///
 /// ```
 /// # fn main() -> Result<(), str_indices_index::NoMemory> {
@@ -60,8 +60,8 @@ impl Drop for TextIndex<'_> {
 }
 
 impl<'a> TextIndex<'a> {
-    /// The index of a text, or [`NoMemory`] where memory was refused. Goes over the text twice, once for whether it is UTF-8,
-    /// which the library asks for itself.
+    /// Makes the index of a text, or returns [`NoMemory`] if memory was refused. It goes over the text twice, once
+    /// because the library checks by itself that it is UTF-8.
     ///
     /// ```
     /// # fn main() -> Result<(), str_indices_index::NoMemory> {
@@ -102,7 +102,7 @@ impl<'a> TextIndex<'a> {
         unsafe { str_index_len(self.handle()) }
     }
 
-    /// How many chars, UTF-16 code units or line breaks the text has, in one step.
+    /// Counts the chars, UTF-16 code units or line breaks of the text, in one step.
     ///
     /// ```
     /// use str_indices_index::{Scheme, TextIndex};
@@ -119,8 +119,8 @@ impl<'a> TextIndex<'a> {
         unsafe { str_index_count(self.handle(), scheme as u32) }
     }
 
-    /// How many chars, UTF-16 code units or line breaks end at a byte index or before it. A byte inside a char or a break
-    /// belongs to that char, or to the line that the break ends. Past the end it is all. Looks at two marks.
+    /// Counts the chars, UTF-16 code units or line breaks that end at or before a byte index; past the end, all. A byte
+    /// inside a char or a break belongs to that char, or to the line that the break ends. It looks at two marks.
     ///
     /// ```
     /// use str_indices_index::{Scheme, TextIndex};
@@ -139,8 +139,8 @@ impl<'a> TextIndex<'a> {
         unsafe { str_index_from_byte_idx(self.handle(), scheme as u32, byte_idx) }
     }
 
-    /// The byte index where a char, or the char of a UTF-16 code unit, or a line begins. Past the last one it is the
-    /// length of the text in bytes. Halves the marks.
+    /// Converts an index to the byte index where its char, its code unit's char or its line begins; past the last one,
+    /// the length of the text in bytes. It searches the marks by halving.
     ///
     /// ```
     /// use str_indices_index::{Scheme, TextIndex};
@@ -212,7 +212,7 @@ pub struct OwnedIndex {
 }
 
 impl OwnedIndex {
-    /// The index of a text, or [`NoMemory`] where memory was refused. Copies no text.
+    /// Makes the index of a text, or returns [`NoMemory`] if memory was refused. It copies no text.
     pub fn of(text: Arc<str>) -> Result<OwnedIndex, NoMemory> {
         // SAFETY: the text of an `Arc` stays where it is and as it is while there is one, and this one is dropped after the
         // index. `as_index` lends nothing of the text for longer than it is borrowed.

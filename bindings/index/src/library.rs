@@ -1,11 +1,11 @@
 //! The exports of the static library.
 //!
-//! What they want of a caller is the same for all: an index that was made and is not freed yet, whose text is there and
-//! stays as it is. A `&str` is such a text, and UTF-8 too.
+//! All of them require the same of a caller: an index that was made and is not freed yet, whose text is there and stays
+//! as it is. A `&str` is such a text, and UTF-8 too.
 use core::marker::{PhantomData, PhantomPinned};
 use str_indices_positions::{Position, Range};
 
-/// What the library has of an index. It is known by its address alone.
+/// An index of the library. It is known only by its address.
 #[repr(C)]
 pub struct Opaque {
     hidden: [u8; 0],
@@ -19,7 +19,7 @@ pub struct Bytes {
     pub end: usize,
 }
 
-/// What the library answers where it has none: no text is so long.
+/// The library's answer for none: no text is this long.
 pub const NONE: usize = usize::MAX;
 
 /// The statuses of the library.

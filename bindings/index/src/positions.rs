@@ -4,9 +4,9 @@ use crate::TextIndex;
 use core::ops;
 use str_indices_positions::{Encoding, LineType, Position, Range};
 
-/// Lines, and positions of the Language Server Protocol 3.17, whose lines end in LF, CR or CR LF. The answers are those of the
-/// crate `str_indices_positions` for the whole text, which may be sliced at each byte index that is answered. What one costs is
-/// told in conversions: so many calls of [`TextIndex::from_byte_idx`] or [`TextIndex::to_byte_idx`] at most.
+/// Lines, and positions of the Language Server Protocol 3.17, whose lines end in LF, CR or CR LF. The answers are those
+/// of the crate `str_indices_positions` for the whole text, which may be sliced at each byte index that is answered.
+/// Costs are upper bounds, in conversions: calls of [`TextIndex::from_byte_idx`] or [`TextIndex::to_byte_idx`].
 ///
 /// ```
 /// use str_indices_index::{Encoding, Position, Range, TextIndex};
@@ -90,7 +90,8 @@ impl<'a> TextIndex<'a> {
     }
 }
 
-/// The same by what ends a line: a [`LineType`] for the compilers and editors that have other lines than the protocol.
+/// Lines and positions by what ends a line: a [`LineType`], for compilers and editors with other lines than the
+/// protocol's.
 ///
 /// ```
 /// use str_indices_index::{Encoding, LineType, Position, TextIndex};

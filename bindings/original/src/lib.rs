@@ -27,7 +27,7 @@ impl Function {
         }
     }
 
-    /// What it answers for the text, and for the index, which a counting function does without.
+    /// Calls it for the text and the index. A counting function takes no index.
     pub fn answer(&self, text: &str, index: usize) -> usize {
         match self {
             Self::Counting(_, count) => count(text),

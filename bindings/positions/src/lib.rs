@@ -94,10 +94,10 @@ struct Bytes {
     end: usize,
 }
 
-/// What the library answers where it has none: no text is so long.
+/// The library's answer for none: no text is this long.
 const NONE: usize = usize::MAX;
 
-/// What is counted in a text, by the crates of a rope and of an index. The number is that of the headers for C.
+/// A thing to count in a text, for the crates of a rope and of an index. The number is that of the headers for C.
 #[derive(Clone, Copy, Debug, PartialEq, Eq, Hash)]
 #[repr(u32)]
 pub enum Scheme {

@@ -40,7 +40,7 @@ impl Deref for Chunk {
     type Target = str;
 
     fn deref(&self) -> &str {
-        // SAFETY: the library has written so many bytes of the room.
+        // SAFETY: the library has written that number of bytes of the room.
         let bytes = unsafe { slice::from_raw_parts(self.room.as_ptr().cast(), self.len) };
         // SAFETY: a rope's text is UTF-8, the chunk begins at a boundary of it, and ends where the text does, before the
         // first byte of a char, or at a boundary that was asked for.

@@ -1,13 +1,13 @@
 //! The exports of the static library.
 //!
-//! What they want of a caller is the same for all: a handle that was zeroed once and that no other call has meanwhile,
+//! All of them require the same of a caller: a handle that was zeroed once and that no other call has meanwhile,
 //! and bytes that are there and stay as they are until the call returns. A `&str` is such bytes, and UTF-8 too.
 use crate::Bytes;
 use core::ffi::c_void;
 use core::ptr;
 use str_indices_positions::{Position, Range};
 
-/// What the library has of a rope. A zeroed one is the empty text.
+/// A rope of the library. A zeroed one is the empty text.
 #[repr(C)]
 pub struct Handle {
     hidden: *mut c_void,

@@ -12,7 +12,7 @@ pub struct Bytes {
     end: usize,
 }
 
-/// What the library answers where it has none: no text is so long.
+/// The library's answer for none: no text is this long.
 const NONE: usize = usize::MAX;
 
 /// Positions of the Language Server Protocol 3.17, whose lines end in LF, CR or CR LF. The answers are those of the crate

@@ -24,9 +24,9 @@ pub struct Rope {
     handle: UnsafeCell<Handle>,
 }
 
-// SAFETY: all that a rope has is memory of the C library's heap, which threads share. What it shares with its clones is not
-// written to but for the number of its owners, which is counted atomically. The library keeps nothing of a rope elsewhere.
-// The header for C does not promise so much: it is read, as README.md says, and not proved.
+// SAFETY: all that a rope has is memory of the C library's heap, which threads share. What it shares with its clones is
+// not written to but for the number of its owners, which is counted atomically. The library keeps nothing of a rope
+// elsewhere. The header for C does not promise that much: it is read, as README.md says, and not proved.
 unsafe impl Send for Rope {}
 
 impl Drop for Rope {

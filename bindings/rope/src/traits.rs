@@ -1,4 +1,4 @@
-//! What other crates expect of a text.
+//! The traits that other crates expect of a text.
 use crate::{Error, Rope, MAX_CHUNK};
 use alloc::alloc::{handle_alloc_error, Layout};
 use alloc::string::{String, ToString};

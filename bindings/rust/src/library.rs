@@ -29,7 +29,7 @@ extern "C" {
     pub fn str_indices_lines_to_byte_idx(text: *const u8, len: usize, line_idx: usize) -> usize;
 }
 
-/// What one of the exports above counts in the text.
+/// Counts in the text by one of the exports above.
 #[inline(always)]
 pub fn count(export: Counting, text: &str) -> usize {
     // SAFETY: a `str` is all that the library wants of a text: UTF-8, at an address that is not null, of at most
@@ -37,7 +37,7 @@ pub fn count(export: Counting, text: &str) -> usize {
     unsafe { export(text.as_ptr(), text.len()) }
 }
 
-/// What one of the exports above answers for an index of the text.
+/// Converts an index of the text by one of the exports above.
 #[inline(always)]
 pub fn convert(export: Converting, text: &str, index: usize) -> usize {
     // SAFETY: as in `count`, and every index has an answer.
