@@ -71,8 +71,8 @@ RELEASED = (
 )
 
 PARTS = (
-    Part("crates/text_rope/tests/refused_growths.py", 60, ("piece_text", "text_rope", "text_index", "test_support"),
-         ("crates/text_rope/tests/*.rt.txt",)),
+    Part("crates/text_rope/tests/refused_growths.py", 60, ("piece_text", "text_rope", "text_index"),
+         ("crates/text_rope/tests/*.rt.txt", "crates/text_tests/src/random.rt")),
     Part("crates/idx/tests/test_program.py", 60, ("idx",), (), SHELL),
     Part("crates/idx/tests/failing_calls.py", 60, ("idx",), ("crates/idx/tests/failing_calls.c",), ("cc",)),
     Part("bindings/c/tests/test_c.py", 60, ALL_FOR_C, ("bindings/c/**/*", "VERSION"),

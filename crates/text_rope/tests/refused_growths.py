@@ -15,6 +15,7 @@ The last line printed is 'N passed, M failed'.
 """
 import pathlib
 import re
+import shutil
 import subprocess
 import sys
 import tempfile
@@ -180,7 +181,8 @@ def try_small(small, tally):
     with tempfile.TemporaryDirectory() as folder:
         folder = pathlib.Path(folder)
         source = source_of("small_rows", small.numbers)
-        crate = copy_program("small_rows", ["text_rope", "test_support"], source, folder, left_out=LEFT_OUT)
+        crate = copy_program("small_rows", ["text_rope"], source, folder, left_out=LEFT_OUT)
+        shutil.copy(ROOT / "crates/text_tests/src/random.rt", crate / "src")
         for name, numbers in small.sources.items():
             path = folder / f"crates/text_rope/src/{name}.rt"
             path.write_text(with_numbers(path.read_text(encoding="utf-8"), numbers), encoding="utf-8")

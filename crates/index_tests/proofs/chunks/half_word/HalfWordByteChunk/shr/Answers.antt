@@ -1,5 +1,0 @@
-use Rattle.index_tests.proofs.Common.{arith, word_shr}
-use Rattle.index_tests.proofs.chunks.half_word.HalfWordByteChunk.shr.Goals as goal
-
-pub returns : goal.returns
-returns c = cc (word_shr 4 c.args.n c.args.self.now.0 (omega arith))
