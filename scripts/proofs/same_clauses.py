@@ -45,6 +45,8 @@ PUBLIC = re.compile(r"^ *pub (?:use|fn|mod|enum|struct|type|const|trait) ([^;({]
 FUNCTION = re.compile(r"\bfn (\w+)")
 PUBLIC_FUNCTION = re.compile(r"\bpub fn (\w+)")
 CALLED = re.compile(r"(?:\.|::)(\w+)\(")
+# public functions with the name of one of `std` that the workloads call
+NAMES_OF_STD = {"get"}
 EXPORT = re.compile(r'^pub extern "C" fn str_indices_(?:narrow_|wide_)?(\w+)(\(.*?)^\{', re.MULTILINE | re.DOTALL)
 
 
@@ -100,7 +102,7 @@ def called_later(texts, then, now):
     """What the texts call, do not define, and what is a public function now, and was none then."""
     own, called = FUNCTION.findall(texts), CALLED.findall(texts)
     later = {*PUBLIC_FUNCTION.findall(now)} - {*PUBLIC_FUNCTION.findall(then)}
-    return sorted(later & {*called} - {*own})
+    return sorted((later & {*called}) - {*own} - NAMES_OF_STD)
 
 
 def try_start(tally):
