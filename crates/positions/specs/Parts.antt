@@ -1,6 +1,6 @@
 -- A text in parts, and what finding a part costs.
 --     PartsState                  a text in parts, as contracts see it
---     IsSearched state            the bounds of both searches are above 0: a search may take no look
+--     IsSearched state            the bounds of both searches are at least 1, which is 2 to the power of no look
 --     Took bytes counts old new   at most `bytes` searches by a byte, and `counts` by a count
 --     HasOwn l e text own         the counts of a part of a text
 --     IsPart text l e part        a part of the text, and what is counted before it
@@ -18,9 +18,10 @@ use Rattle.positions.specs.declared.line_type.LineType.{LineType}
 use Rattle.positions.specs.declared.parts.Own.{Own}
 use Rattle.positions.specs.declared.parts.Part.{Part}
 
--- the text; the pieces that it is kept in; where the part of a byte begins at most; 2 to the power of the looks that a search by a byte, and by a count, takes at
--- most; how many searches by a byte the units before a part take, none where the part has them; and how many looks and reads
--- there were
+-- a text in parts, as contracts see it: the text, and the pieces that it is kept in; `begins` is the latest place where the
+-- part of a byte begins; 2 to the power of the looks of a search is at most `by_byte` where it goes by a byte, and `by_count`
+-- where by a count; `apart` is how many searches by a byte find the units before a part, 0 where the part has them; and how
+-- many looks and reads there were
 pub record PartsState : Type 0 where
   pub text : Text
   pub pieces : List Text
@@ -31,7 +32,7 @@ pub record PartsState : Type 0 where
   pub looks : ℕ
   pub reads : ℕ
 
--- the bounds of both searches are above 0: a search may take no look
+-- the bounds of both searches are at least 1, which is 2 to the power of no look
 pub record IsSearched (state : PartsState) : Type 0 where
   pub by_byte : 0 < state.by_byte
   pub by_count : 0 < state.by_count

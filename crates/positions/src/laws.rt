@@ -22,8 +22,8 @@ pub fn ends_of_lines(lines: LineType, text: &str, line: usize, next: usize)
 /// Converting a byte index to a position and back gives the greatest place at or before the byte that a position may
 /// have: between chars, and not between a CR that begins a line break and LF.
 ///
-/// So such a place comes back as itself, a byte index inside a char as the char's beginning, one inside a CRLF as the
-/// place before it, and one past the end as the text's length in bytes.
+/// So such a place comes back as itself, a byte index inside a char as the char's beginning, one between the CR and
+/// the LF of one line break as the place before it, and one past the end as the text's length in bytes.
 pub fn round_trip(lines: LineType, encoding: Encoding, text: &str, byte: usize)
     ensures greatest { let cs = chars text.now in
         IsGreatestPlace lines cs byte (byte_at lines encoding cs (position_at lines encoding cs byte)) }

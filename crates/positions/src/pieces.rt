@@ -30,8 +30,8 @@ impl<'a> Part<'a> {
         }
     }
 
-    /// The part that a piece is, by its summary and what is known of the text before it: its line breaks and its bytes, and so
-    /// its units only where these are bytes.
+    /// The part that a piece is, by its summary `own` and what is known of the text before it. It comes with the units before
+    /// it only if these are bytes, or nothing is before it.
     #[inline(always)]
     pub fn of_piece(
         lines: LineType,

@@ -20,7 +20,8 @@ use std::ops;
 ///
 /// A byte inside a char has the position where the char begins, a byte in a line break that of the line's end, and a
 /// byte past the end that of the text's end. It takes one search by the byte if the line begins after the start of the
-/// byte's part, and otherwise one by the line too.
+/// byte's part. Otherwise it takes one by the line too, and two more by a byte if parts come without the units before
+/// them.
 pub fn position_of<'a, P: Parts<'a>>(
     parts: &mut P,
     lines: LineType,
@@ -99,8 +100,8 @@ fn units_before_line<'a, P: Parts<'a>>(
 /// Converts a position to the byte index where its char begins.
 ///
 /// A unit inside a char belongs to it. An offset past the end of the line gives the line's end, before its break, and a
-/// line past the last one the text's length in bytes. It takes one search by the line if the place is before the end of
-/// the line's part, and otherwise one by the units and one by the line too.
+/// line past the last one the text's length in bytes. It takes at most three searches by a count, and one by a byte if
+/// parts come without the units before them.
 pub fn byte_of<'a, P: Parts<'a>>(
     parts: &mut P,
     lines: LineType,

@@ -13,7 +13,7 @@ use crate::texts::{is_boundary, len_of};
 use crate::{Encoding, LineType, Part, Parts, Position, Range};
 use std::ops;
 
-/// Converts the two ends of a span to positions, each as `position_of` answers it. Ends in one part share one search.
+/// Converts the two ends of a span to positions, each as `position_of` answers it. It takes at most the searches of two.
 pub fn range_of<'a, P: Parts<'a>>(
     parts: &mut P,
     lines: LineType,
@@ -44,7 +44,7 @@ fn is_in(part: &Part<'_>, byte: usize) -> bool
 
 /// Converts a byte index that is a place on a line to its position. It answers `None` if the byte is inside a char,
 /// between the CR and the LF of a line break, or past the text's end: so a compiler notices a span that is wrong. It
-/// takes one search by the byte, and one by the line if the line does not begin in the part.
+/// takes the searches of `position_of`.
 pub fn exact_position_of<'a, P: Parts<'a>>(
     parts: &mut P,
     lines: LineType,

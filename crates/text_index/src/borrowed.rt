@@ -30,7 +30,7 @@ impl<'a> Model for BorrowedIndex<'a> {
 }
 
 impl<'a> BorrowedIndex<'a> {
-    /// Makes the index of a text from its marks.
+    /// Makes the index of a text from what `fill` wrote for it, `marks`, and answered, `whole`.
     pub fn of(text: &'a str, marks: &'a [Mark], whole: &'a Mark) -> BorrowedIndex<'a>
         requires { AreMarks (chars text.now) marks.now whole.now }
         ensures { result ≡ chars text.now }

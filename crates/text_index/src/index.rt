@@ -80,7 +80,7 @@ impl<'a> TextIndex<'a> {
         count_in(&mut self.view(), s)
     }
 
-    /// Counts those that end at or before byte index `b`; past the end, all. It reads a kilobyte of the text at most.
+    /// Counts those that end at or before byte index `b`; past the end, all. It reads at most 1,028 bytes of the text.
     pub fn from_byte_idx(&self, s: Scheme, b: usize) -> usize
         ensures { result ≡ from_byte_idx s self.now b }
     {
@@ -88,7 +88,7 @@ impl<'a> TextIndex<'a> {
     }
 
     /// Converts index `k` to the byte index where its char, its unit's char or its line begins; the text's length if it
-    /// has fewer. It searches the marks by halving, and reads a kilobyte of the text at most.
+    /// has fewer. It searches the marks by halving, and reads at most 1,028 bytes of the text.
     pub fn to_byte_idx(&self, s: Scheme, k: usize) -> usize
         ensures { result ≡ to_byte_idx s self.now k }
     {

@@ -14,7 +14,7 @@ pub fn marks_for(len: usize) -> usize
     len / STRETCH
 }
 
-/// Puts the marks of a text into `room`, which has place for each, and returns the one at the text's end. It goes over
+/// Puts the marks of a text into `room`, of `marks_for(text.len())` marks, and returns the one at the text's end. It goes over
 /// the text once.
 pub fn fill(text: &str, room: &mut [Mark]) -> Mark
     requires { length room.old ≡ length text.now / stretch_size }

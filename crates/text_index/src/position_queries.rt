@@ -29,8 +29,8 @@ pub fn line_in(m: &mut Marks, lines: LineType, line: usize) -> ops::Range<usize>
     positions::line(m, lines, line)
 }
 
-/// Converts a byte index to a position. It reads two stretches at most, and one if the line begins after the start of
-/// the byte's stretch.
+/// Converts a byte index to a position. It reads two stretches at most, and one if the line begins after the latest place
+/// where the byte's stretch begins, or that is 0.
 pub fn position_in(m: &mut Marks, lines: LineType, encoding: Encoding, byte: usize) -> Position
     ensures answer { result ≡ position_at lines encoding m.old.text byte }
     ensures cost { Asked 2 (8 * stretches_of m.old.text) m.old m.new }
