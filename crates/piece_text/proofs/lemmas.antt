@@ -4,6 +4,9 @@ pub mod Fronts
 pub mod Splitting
 pub mod Runs
 pub mod Settled
+pub mod Sums
+pub mod Placing
+pub mod Taking
 pub mod Callers
 pub use Common.*
 pub use Joining.*
@@ -11,3 +14,6 @@ pub use Fronts.*
 pub use Splitting.*
 pub use Runs.*
 pub use Settled.*
+pub use Sums.*
+pub use Placing.*
+pub use Taking.*

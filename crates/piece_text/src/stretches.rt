@@ -69,6 +69,7 @@ fn past_all_runs(p: &mut Pieces, s: Scheme) -> Stretch
 pub(crate) fn stretch_round(p: &mut Pieces, s: Scheme, b: usize) -> Stretch
     ensures stretch { IsStretch s p.old.texts result }
     ensures past { result.front.len ≤ b }
+    ensures some { 0 < length p.old.texts → result.first < result.end }
     ensures end { result.end < length p.old.texts → b < joined_size (take result.end p.old.texts) }
     ensures short { joined_size p.old.texts < 2 ^ 63 }
     ensures texts { p.new.texts ≡ p.old.texts }

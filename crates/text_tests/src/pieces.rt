@@ -3,7 +3,9 @@
 
 mod caller;
 mod changes;
+mod kinds;
 mod long_text;
+mod places;
 mod random_edits;
 
 use piece_text::{PieceText, Refusal, Scheme};

@@ -5,7 +5,7 @@ use Rattle.piece_text.proofs.stretches.stretch_round.Goals as goal
 pub loop-run-init : goal.loop-run-init
 loop-run-init c =
     let front = c.none-front.ensures c.args.s in
-    record { first = refl; front = front; state = search rules; looks = omega arith; past = omega (arith, front.len) }
+    record { first = refl; front = front; state = search rules; looks = omega arith; past = omega (arith, front.len); left = λ some. some }
 
 pub overflow_add-end : goal.overflow_add-end
 overflow_add-end c =
@@ -37,6 +37,7 @@ loop-run-preserved c =
       state = rw (← add_assoc) (c.pass-behind.ensures.state ∙ ap {A = PiecesState} (λ p. record p { looks = p.looks + 1 }) c.loop-run.invariant.state);
       looks = omega (arith, here.some, c.loop-run.invariant.looks);
       past = omega (arith, c.if-b-behind.false);
+      left = λ _. omega (arith, here.within, c.len-all.ensures.len, c.if-end-all.false);
     }
 
 pub returns-clause-stretch : goal.returns-clause-stretch
@@ -77,3 +78,23 @@ returns-then-b-behind-clause-looks c =
     c.loop-run.invariant.first in
     let state = c.pass-behind.ensures.state ∙ ap {A = PiecesState} (λ p. record p { looks = p.looks + 1 }) c.loop-run.invariant.state in
     omega (arith, here.within, c.len-all.ensures.len, ap (λ p. p.looks) state, c.loop-run.invariant.looks, c.if-end-all.false)
+
+-- the run has pieces
+pub returns-then-end-all-clause-some : goal.returns-then-end-all-clause-some
+returns-then-end-all-clause-some c =
+    let runs = c.runs-run-items.result.now in
+    let texts = c.args.p.now.texts in
+    let here = passing runs texts c.loop-run.first c.loop-run.run-index no_run c.runs-run-items.ensures c.loop-run-test.true
+    c.loop-run.invariant.first in
+    λ _. omega (arith, here.some)
+
+pub returns-then-b-behind-clause-some : goal.returns-then-b-behind-clause-some
+returns-then-b-behind-clause-some c =
+    let runs = c.runs-run-items.result.now in
+    let texts = c.args.p.now.texts in
+    let here = passing runs texts c.loop-run.first c.loop-run.run-index no_run c.runs-run-items.ensures c.loop-run-test.true
+    c.loop-run.invariant.first in
+    λ _. omega (arith, here.some)
+
+pub returns-clause-some : goal.returns-clause-some
+returns-clause-some c = λ some. grind (arith, c.len-all.ensures.len, some, c.loop-run.invariant.left)

@@ -1,4 +1,4 @@
-use Rattle.piece_text.proofs.lemmas.{◌≡◌, ◌≤◌, ◌+◌, take, joined, pieces_in, IsFront}
+use Rattle.piece_text.proofs.lemmas.{◌≡◌, ◌<◌, ◌≤◌, ◌+◌, length, take, joined, pieces_in, IsFront}
 use Rattle.piece_text.proofs.stretches.stretch_round.Given as goal
 
 -- what is before the run is known, for one look a run
@@ -9,4 +9,5 @@ invariant-loop-run l = record {
   state : l.p ≡ record l.fn.p { looks = l.fn.p.looks + l.run-index };
   looks : l.run-index ≤ l.first;
   past : l.front.len ≤ l.b;
+  left : 0 < length l.fn.p.texts → l.first < length l.fn.p.texts;
 }
