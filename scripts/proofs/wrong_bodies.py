@@ -74,8 +74,15 @@ def trial(names=()):
     return Trial(groups)
 
 
+def of_no_crate():
+    """The files of wrong bodies that no crate has."""
+    return [path.name for path in sorted((ROOT / "refusals/bodies").glob("*.edits")) if path.stem not in stands_on()]
+
+
 def main(names):
     tally = Tally()
+    for name in of_no_crate():
+        tally.result(False, f"{name} has the name of a crate")
     for good, told in trial(names).run():
         tally.result(good, told)
     return tally.end()
