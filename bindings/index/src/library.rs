@@ -1,7 +1,7 @@
 //! The exports of the static library.
 //!
-//! All of them require the same of a caller: an index that was made and is not freed yet, whose text is there and stays
-//! as it is. A `&str` is such a text, and UTF-8 too.
+//! You pass an index that was made and is not freed yet. Its text must stay where and as it is. A `&str` that is borrowed
+//! does, and is UTF-8.
 use core::marker::{PhantomData, PhantomPinned};
 use str_indices_positions::{Position, Range};
 

@@ -1,7 +1,7 @@
 //! The exports of the static library.
 //!
-//! All of them require the same of a caller: a handle that was zeroed once and that no other call has meanwhile,
-//! and bytes that are there and stay as they are until the call returns. A `&str` is such bytes, and UTF-8 too.
+//! You pass a handle that was zeroed once, and that no other call uses until this one returns. Bytes that you pass must
+//! stay where and as they are until then. Those of a `&str` do, and are UTF-8.
 use crate::Bytes;
 use core::ffi::c_void;
 use core::ptr;

@@ -24,8 +24,8 @@ pub struct Rope {
     handle: UnsafeCell<Handle>,
 }
 
-// SAFETY: all that a rope has is memory of the C library's heap, which threads share. What it shares with its clones is
-// not written to but for the number of its owners, which is counted atomically. The library keeps nothing of a rope
+// SAFETY: a rope has memory of the C library's heap alone, which threads share. The library writes to no memory that a
+// rope shares with its clones, except the number of its owners, which it counts atomically. It keeps nothing of a rope
 // elsewhere. The header for C does not promise that much: it is read, as README.md says, and not proved.
 unsafe impl Send for Rope {}
 
