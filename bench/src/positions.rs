@@ -29,7 +29,7 @@ pub fn table(library: &str, scale: &Scale, rounds: usize) -> Table {
 
 fn row(text: &str, scale: &Scale, rounds: usize) -> Vec<String> {
     let index = text.len() - LINE.len() / 2;
-    let work = Work::lasting(scale.timing, FUNCTIONS[1], vec![Input { text, index }]);
+    let work = Work::with_duration(scale.timing, FUNCTIONS[1], vec![Input { text, index }]);
     let mut bests = [Best::NONE, Best::NONE];
     for _ in 0..rounds {
         for (best, function) in bests.iter_mut().zip(FUNCTIONS) {

@@ -170,7 +170,7 @@ fn check(ours: &Function, (other, function): (&str, &Function), sample: &str, in
 
 fn cell<'a>(ours: Function, other: Function, inputs: Vec<Input<'a>>, scale: &Scale) -> Cell<'a> {
     Cell {
-        work: Work::lasting(scale.timing, other, inputs),
+        work: Work::with_duration(scale.timing, other, inputs),
         ours: Timed::new(ours),
         other: Timed::new(other),
         again: Timed::new(other),

@@ -28,7 +28,7 @@ impl Cell<'_> {
         }
     }
 
-    fn shown(&self) -> String {
+    fn show(&self) -> String {
         match &self.timed {
             Some((_, work)) => format!("{:.2}", work.bytes() as f64 / self.best.nanoseconds()),
             None => self.absent.to_string(),
@@ -63,7 +63,7 @@ pub fn table(scale: &Scale, rounds: usize) -> Table {
 
 fn row((sample, cells): (&Sample, &Vec<Cell>)) -> Vec<String> {
     let name = sample.name.clone();
-    [name].into_iter().chain(cells.iter().map(Cell::shown)).collect()
+    [name].into_iter().chain(cells.iter().map(Cell::show)).collect()
 }
 
 /// The texts, one in each sample.
@@ -82,7 +82,7 @@ fn cell<'a>(contender: &Contender, sample: &'a Sample, scale: &Scale) -> Cell<'a
     let timed = contender.count.map(|count| {
         let function = Function::Counting(contender.heading, count);
         let inputs = sample.texts.iter().map(|text| Input { text, index: 0 });
-        (function, Work::lasting(scale.timing, function, inputs.collect()))
+        (function, Work::with_duration(scale.timing, function, inputs.collect()))
     });
     Cell {
         timed,

@@ -18,7 +18,7 @@ pub struct Work<'a> {
 
 impl<'a> Work<'a> {
     /// The inputs, in the least power of two of passes that takes the function at least the duration.
-    pub fn lasting(duration: Duration, function: Function, inputs: Vec<Input<'a>>) -> Self {
+    pub fn with_duration(duration: Duration, function: Function, inputs: Vec<Input<'a>>) -> Self {
         let mut work = Self { inputs, passes: 1 };
         while work.time(function) < duration {
             work.passes *= 2;
@@ -99,7 +99,7 @@ mod tests {
     fn work_lasts_as_long_as_asked() {
         let function = Function::Counting("std", |text| text.chars().count());
         let duration = Duration::from_micros(50);
-        let work = Work::lasting(
+        let work = Work::with_duration(
             duration,
             function,
             vec![Input {

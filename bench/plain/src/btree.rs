@@ -53,13 +53,13 @@ fn kind_of(scheme: Scheme) -> usize {
 }
 
 /// The masks of children with room for one at `i`.
-fn opened(mask: u16, i: usize) -> u16 {
+fn open_slot(mask: u16, i: usize) -> u16 {
     let low = (1 << i) - 1;
     mask & low | (mask & !low) << 1
 }
 
 /// The masks of children without the one at `i`.
-fn closed(mask: u16, i: usize) -> u16 {
+fn close_slot(mask: u16, i: usize) -> u16 {
     let low = (1 << i) - 1;
     mask & low | mask >> 1 & !low
 }
@@ -177,8 +177,8 @@ impl Node {
         }
         self.children[i..=self.len].rotate_right(1);
         self.children[i] = Some(child);
-        self.starts_lf = opened(self.starts_lf, i);
-        self.ends_cr = opened(self.ends_cr, i);
+        self.starts_lf = open_slot(self.starts_lf, i);
+        self.ends_cr = open_slot(self.ends_cr, i);
         self.len += 1;
         self.set(i, summary);
     }
@@ -190,8 +190,8 @@ impl Node {
         }
         let child = self.children[i].take();
         self.children[i..self.len].rotate_left(1);
-        self.starts_lf = closed(self.starts_lf, i);
-        self.ends_cr = closed(self.ends_cr, i);
+        self.starts_lf = close_slot(self.starts_lf, i);
+        self.ends_cr = close_slot(self.ends_cr, i);
         self.len -= 1;
         child
     }
@@ -215,7 +215,7 @@ impl Node {
         match self.child_mut(i).insert(at - before as usize, more, old) {
             Left::One(new) => {
                 self.set(i, new);
-                Left::One(self.changed(whole, old, new, seams))
+                Left::One(self.update(whole, old, new, seams))
             }
             Left::Two(new, child, summary) => {
                 self.set(i, new);
@@ -241,7 +241,7 @@ impl Node {
     }
 
     /// The summary after that of one child has changed.
-    fn changed(&self, whole: Summary, old: Summary, new: Summary, seams: u16) -> Summary {
+    fn update(&self, whole: Summary, old: Summary, new: Summary, seams: u16) -> Summary {
         let mut counts = whole.less(old).plus(new).counts;
         counts[CRLF] = counts[CRLF]
             .wrapping_add(seams.count_ones())
@@ -266,7 +266,7 @@ impl Node {
             }
             let new = self.child_mut(i).remove(start, end, old);
             self.set(i, new);
-            changed = self.changed(changed, old, new, seams);
+            changed = self.update(changed, old, new, seams);
             i += 1;
         }
         if self.join_small(first) || !is_kept {

@@ -60,7 +60,7 @@ pub fn read<K: Kept>(text: &K, from: usize, to: usize, room: &mut [u8]) -> u64 {
 }
 
 /// A check sum of all bytes and their order.
-pub fn hashed<K: Kept>(text: &K) -> u64 {
+pub fn hash<K: Kept>(text: &K) -> u64 {
     let mut sum = 0_u64;
     text.read(0, text.len(), |part| {
         for byte in part {
@@ -71,7 +71,7 @@ pub fn hashed<K: Kept>(text: &K) -> u64 {
 }
 
 /// Makes a call. Each question waits for the answer before it, whose lowest bit is part of its index.
-pub fn made<K: Kept>(text: &mut K, call: Call, before: u64, room: &mut [u8]) -> u64 {
+pub fn make<K: Kept>(text: &mut K, call: Call, before: u64, room: &mut [u8]) -> u64 {
     let odd = (before & 1) as usize;
     match call {
         Call::To(scheme, index) => text.byte_of(scheme, index ^ odd) as u64,
@@ -165,7 +165,7 @@ pub fn changes<K: Kept>(text: &mut K, change: Change, seed: u64, calls: usize) -
         seed = next(next(seed));
         let call = next_change(text, change, seed, last);
         last = end_of(call);
-        made(text, call, 0, &mut []);
+        make(text, call, 0, &mut []);
         call
     };
     (0..calls).map(one).collect()

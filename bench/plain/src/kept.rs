@@ -2,7 +2,7 @@
 
 use crate::btree::BTree;
 use crate::leaf;
-use crate::questions::{byte_of, index_of};
+use crate::queries::{byte_of, index_of};
 use str_rope::{Rope, Scheme};
 
 /// What is timed of a text.

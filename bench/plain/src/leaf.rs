@@ -42,7 +42,7 @@ impl Summary {
         let steps = text.chunks_exact(STEP);
         let rest = steps.remainder();
         for step in steps {
-            add(Seen::of(loaded(step)));
+            add(Seen::of(load(step)));
         }
         if !rest.is_empty() {
             add(Seen::of_part(rest));
@@ -87,7 +87,7 @@ fn first(len: usize) -> u32 {
 }
 
 #[inline(always)]
-fn loaded(bytes: &[u8]) -> __m128i {
+fn load(bytes: &[u8]) -> __m128i {
     assert!(bytes.len() == STEP);
     // SAFETY: x86-64 has this instruction, and it reads so many bytes.
     unsafe { _mm_loadu_si128(bytes.as_ptr().cast()) }
@@ -114,7 +114,7 @@ impl Seen {
     #[inline(always)]
     pub fn of_any(part: &[u8]) -> Seen {
         if part.len() == STEP {
-            Seen::of(loaded(part))
+            Seen::of(load(part))
         } else {
             Seen::of_part(part)
         }
@@ -124,7 +124,7 @@ impl Seen {
     fn of_part(part: &[u8]) -> Seen {
         let mut bytes = [0; STEP];
         bytes[..part.len()].copy_from_slice(part);
-        Seen::of(loaded(&bytes)).of_first(part.len())
+        Seen::of(load(&bytes)).of_first(part.len())
     }
 
     fn of_first(self, len: usize) -> Seen {

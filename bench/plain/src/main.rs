@@ -8,11 +8,11 @@ mod btree;
 mod calls;
 mod kept;
 mod leaf;
-mod questions;
+mod queries;
 mod starts;
 
 use btree::BTree;
-use calls::{below, changes, end_of, hashed, made, next, next_change, questions, read, Call, Change};
+use calls::{below, changes, end_of, hash, make, next, next_change, questions, read, Call, Change};
 use kept::Kept;
 use starts::{Position, Starts};
 use std::hint::black_box;
@@ -54,13 +54,13 @@ fn tell(name: &str, figure: u128, sum: u64) {
 }
 
 /// Makes the calls, and takes the nanoseconds of one of each batch; answers a check sum of the first batch.
-fn timed<C: Copy>(calls: &[C], times: &mut Vec<u128>, mut made: impl FnMut(C, u64) -> u64) -> u64 {
+fn time<C: Copy>(calls: &[C], times: &mut Vec<u128>, mut make: impl FnMut(C, u64) -> u64) -> u64 {
     let mut sum = 0_u64;
     let mut first = None;
     for batch in calls.chunks(BATCH) {
         let start = Instant::now();
         for call in batch {
-            sum = sum.wrapping_add(made(*call, sum));
+            sum = sum.wrapping_add(make(*call, sum));
         }
         times.push(start.elapsed().as_nanos() / batch.len() as u128);
         first.get_or_insert(sum);
@@ -71,7 +71,7 @@ fn timed<C: Copy>(calls: &[C], times: &mut Vec<u128>, mut made: impl FnMut(C, u6
 /// The same of calls of a text that changes.
 fn timed_in<K: Kept>(text: &mut K, calls: &[Call], times: &mut Vec<u128>) -> u64 {
     let mut room = [0; ROOM];
-    timed(calls, times, |call, before| made(text, call, before, &mut room))
+    time(calls, times, |call, before| make(text, call, before, &mut room))
 }
 
 fn median(mut times: Vec<u128>) -> u128 {
@@ -125,7 +125,7 @@ fn tell_changes<K: Kept>(source: &str, scale: Scale) {
             let calls = changes(&mut twin, *change, round as u64, scale.changes);
             timed_in(&mut text, &calls, times);
         }
-        sum = sum.wrapping_add(hashed(&text));
+        sum = sum.wrapping_add(hash(&text));
     }
     for ((name, _), times) in rows.iter().zip(times) {
         tell(name, median(times), sum);
@@ -141,7 +141,7 @@ fn time_each<K: Kept>(texts: &mut [K], calls: &mut [Call], change: Change, seed:
     }
     let start = Instant::now();
     for (text, call) in texts.iter_mut().zip(calls.iter()) {
-        made(text, *call, 0, &mut []);
+        make(text, *call, 0, &mut []);
     }
     start.elapsed().as_nanos() / BATCH as u128
 }
@@ -162,7 +162,7 @@ fn tell_short<K: Kept>(source: &str, rounds: usize) {
         for ((_, change), times) in rows.iter().zip(&mut times) {
             times.push(time_each(&mut texts, &mut calls, *change, round as u64));
         }
-        sum = texts.iter().fold(sum, |sum, text| sum.wrapping_add(hashed(text)));
+        sum = texts.iter().fold(sum, |sum, text| sum.wrapping_add(hash(text)));
     }
     for ((name, _), times) in rows.iter().zip(times) {
         tell(name, median(times), sum);
@@ -213,7 +213,7 @@ fn tell_changed<K: Kept>(name: &str, source: &str, calls: &[Call]) {
     let mut text = K::of(source);
     let mut times = Vec::new();
     timed_in(&mut text, calls, &mut times);
-    tell(name, median(times), hashed(&text));
+    tell(name, median(times), hash(&text));
 }
 
 /// Changes where a piece begins or ends, or is shared.
@@ -243,12 +243,12 @@ fn tell_held<K: Kept>(source: &str, n: usize) {
         let _second = text.snapshot();
         timed_in(&mut text, some, &mut times);
     }
-    tell("held", median(times), hashed(&text));
+    tell("held", median(times), hash(&text));
 }
 
 fn tell_times<K: Kept>(source: &str, scale: Scale) {
     let mut text = K::of(source);
-    tell("load", rate(source.len(), || K::of(black_box(source))), hashed(&text));
+    tell("load", rate(source.len(), || K::of(black_box(source))), hash(&text));
     let mut room = [0; ROOM];
     let reading = rate(source.len(), || {
         read(black_box(&text), 0, source.len(), black_box(&mut room))
@@ -310,7 +310,7 @@ fn tell_all<K: Kept>(source: &str, job: &str, numbers: &[usize]) {
 
 fn tell_row<C: Copy>(name: &str, calls: &[C], made: impl FnMut(C, u64) -> u64) {
     let mut times = Vec::new();
-    let sum = timed(calls, &mut times, made);
+    let sum = time(calls, &mut times, made);
     tell(name, median(times), sum);
 }
 

@@ -20,7 +20,7 @@ pub enum Call {
 impl Call {
     /// Finds the counting call with this name, or `None` if none is built.
     #[tactic(auto, unfolding(crate::specs::Calls::counting_named))]
-    pub fn counting(name: &str) -> Option<Call>
+    pub fn find_count(name: &str) -> Option<Call>
         ensures { result ≡ counting_named name.now }
     {
         match name {
@@ -36,7 +36,7 @@ impl Call {
 
     /// Finds the conversion with this name, for the index, or `None` if none is built.
     #[tactic(auto, unfolding(crate::specs::Calls::conversion_named))]
-    pub fn conversion(name: &str, index: usize) -> Option<Call>
+    pub fn find_conversion(name: &str, index: usize) -> Option<Call>
         ensures { result ≡ conversion_named name.now index }
     {
         match name {

@@ -33,7 +33,7 @@ pub struct Kernel {
 impl ChunkType {
     /// Finds the chunk type with this name, or `None`.
     #[tactic(auto, unfolding(crate::specs::Requests::chunk_type_named))]
-    pub fn named(name: &str) -> Option<ChunkType>
+    pub fn find(name: &str) -> Option<ChunkType>
         ensures { result ≡ chunk_type_named name.now }
     {
         match name {

@@ -20,8 +20,8 @@ impl Request {
         ensures { result ≡ request_of (texts words.now) }
     {
         let call = match words {
-            [name] => Call::counting(name)?,
-            [name, index] => Call::conversion(name, parse_index(index)?)?,
+            [name] => Call::find_count(name)?,
+            [name, index] => Call::find_conversion(name, parse_index(index)?)?,
             [name, index, chunk, lead] => return Request::by_kernel(name, index, chunk, lead),
             _ => return None,
         };
@@ -56,9 +56,9 @@ fn parse_call(name: &str, index: &str) -> Option<Call>
     ensures { result ≡ call_of name.now index.now }
 {
     if index == "-" {
-        return Call::counting(name);
+        return Call::find_count(name);
     }
-    Call::conversion(name, parse_index(index)?)
+    Call::find_conversion(name, parse_index(index)?)
 }
 
 /// Reads how to run a kernel, or answers `None` if `chunk` names no chunk type or `lead` is no index.
@@ -66,7 +66,7 @@ fn parse_kernel(chunk: &str, lead: &str) -> Option<Kernel>
     ensures { result ≡ kernel_of chunk.now lead.now }
 {
     Some(Kernel {
-        chunk: ChunkType::named(chunk)?,
+        chunk: ChunkType::find(chunk)?,
         lead: parse_index(lead)?,
     })
 }

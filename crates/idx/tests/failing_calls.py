@@ -158,8 +158,7 @@ def try_last_allocation(tally, texts, at):
     done = subprocess.run(command, cwd=CRATE, capture_output=True, text=True)
     endings = endings_of(done)
     line = "; ".join(f"{name} {told(ending)}" for name, ending in endings.items())
-    if not tally.result(endings == wanted, f"rt try --fail-alloc {at}: {line}"):
-        print(done.stdout + done.stderr)
+    tally.result(endings == wanted, f"rt try --fail-alloc {at}: {line}", done.stdout + done.stderr)
 
 
 def main():

@@ -85,8 +85,7 @@ def build(tally):
     words = ["rt", "run", "--", "chars.count"]
     done = subprocess.run(words, cwd=CRATE, input="Hello せかい!".encode(), capture_output=True)
     right = done.returncode == 0 and done.stdout == b"10\n" and PROGRAM.is_file()
-    if not tally.result(right, f"the program is built, and its first run prints {done.stdout}"):
-        print(done.stderr.decode())
+    tally.result(right, f"the program is built, and its first run prints {done.stdout}", done.stderr.decode())
     return right
 
 

@@ -12,9 +12,9 @@ mod parts;
 mod piece;
 mod places;
 mod queries;
+mod ranges;
 mod refusals;
 mod runs;
-mod stretches;
 mod sums;
 mod view;
 

@@ -8,7 +8,7 @@ ghost use Rattle.piece_text.specs.Splits.{IsEdge, IsCut, IsSplit};
 ghost use Rattle.piece_text.specs.declared.refusals.Refusal.TheVariants.{NoPiece, NotBoundary, TooLong, NoMemory};
 
 use crate::piece::Piece;
-use crate::runs::{Runs, Swap, part_round};
+use crate::runs::{Runs, Swap, span_round};
 use crate::{Pieces, Refusal, Scheme, Summary, count_in, from_in, to_in};
 use std::alloc::{AllocError, Global};
 use std::marker::Model;
@@ -18,7 +18,7 @@ const MAX_LEN: usize = isize::MAX as usize;
 
 /// A text that is kept in pieces, none of them empty. A contract sees the list of the pieces' texts.
 ///
-/// A question passes up to 128 pieces at one look, then looks at some of the pieces one by one, and reads one at most.
+/// A question passes up to 128 pieces at one look, then looks at single pieces, and reads one at most.
 #[derive(Drop)]
 pub struct PieceText {
     pieces: Vec<Piece>,
@@ -41,7 +41,7 @@ impl Model for PieceText {
 }
 
 impl PieceText {
-    /// A text without pieces. Takes no memory, and keeps the allocator for the pieces to come.
+    /// Makes a text without pieces, which takes no memory. It keeps the allocator for pieces that are put in.
     pub fn new(alloc: Global) -> PieceText
         ensures { result ≡ [] }
     {
@@ -92,13 +92,10 @@ impl PieceText {
         if text.is_empty() {
             return Ok(());
         }
-        match self.put(at, text) {
-            Ok(()) => Ok(()),
-            Err(_) => Err(Refusal::NoMemory),
-        }
+        Ok(self.put(at, text)?)
     }
 
-    /// Puts a text in that is not empty. Its piece, and the room in all lists, are there before anything changes.
+    /// Puts in a text that is not empty. It takes memory for the piece and for all lists before anything changes.
     fn put(&mut self, at: usize, text: &str) -> Result<(), AllocError>
         requires within { at ≤ length self.old }
         requires some { chars text.now ≢ [] }
@@ -117,7 +114,7 @@ impl PieceText {
             out: Summary::none(),
             own,
         };
-        self.runs.swapped(self.pieces.as_slice(), at, swap);
+        self.runs.swap(self.pieces.as_slice(), at, swap);
         self.len += text.len();
         Ok(())
     }
@@ -144,7 +141,7 @@ impl PieceText {
             out: piece.summary(),
             own: Summary::none(),
         };
-        self.runs.swapped(self.pieces.as_slice(), at, swap);
+        self.runs.swap(self.pieces.as_slice(), at, swap);
         Ok(())
     }
 
@@ -152,7 +149,7 @@ impl PieceText {
     /// there already, and at the beginning and the end of the text, it changes nothing. The joined text stays as it is,
     /// also where the cut parts a CR from its LF.
     ///
-    /// After a refusal all is as it was. It is `NotBoundary` where the byte is inside a character or past the end, and
+    /// After a refusal all is as it was. It is `NotBoundary` where the byte is inside a char or past the end, and
     /// else `NoMemory` where memory was refused.
     pub fn split(&mut self, byte_idx: usize) -> Result<(), Refusal>
         ensures ok { OnOk result (IsSplit self.old self.new byte_idx) }
@@ -170,20 +167,17 @@ impl PieceText {
         if at == self.pieces.len() || !self.is_boundary_in(at, byte_idx - start) {
             return Err(Refusal::NotBoundary);
         }
-        match self.cut(at, byte_idx - start) {
-            Ok(()) => Ok(()),
-            Err(_) => Err(Refusal::NoMemory),
-        }
+        Ok(self.cut(at, byte_idx - start)?)
     }
 
-    /// The piece that a byte is in, and where that piece starts; past the end the number of pieces, and the length.
+    /// Finds the piece that a byte is in, and where it starts; past the end the number of pieces, and the text's length.
     fn piece_round(&self, byte_idx: usize) -> (usize, usize)
         ensures piece { result.0 ≤ length self.now }
         ensures start { result.1 ≡ joined_size (take result.0 self.now) }
         ensures past { result.1 ≤ byte_idx }
         ensures within { result.0 < length self.now → byte_idx < result.1 + size (piece_at self.now result.0) }
     {
-        let part = part_round(self.runs.as_slice(), self.pieces.as_slice(), byte_idx);
+        let part = span_round(self.runs.as_slice(), self.pieces.as_slice(), byte_idx);
         let mut start = part.start;
         for i in part.first..part.end {
             let piece = &self.pieces[i];
@@ -196,7 +190,7 @@ impl PieceText {
         (part.end, start)
     }
 
-    /// Whether a byte index in piece `i` is between its characters.
+    /// Whether a byte index in piece `i` is between its chars.
     fn is_boundary_in(&self, i: usize, at: usize) -> bool
         requires { i < length self.now }
         ensures { IsTrue result ↔ IsBoundary (piece_at self.now i) at }
@@ -204,7 +198,7 @@ impl PieceText {
         self.pieces[i].is_boundary(at)
     }
 
-    /// Cuts piece `i` in two. Both halves, and the room in all lists, are there before anything changes.
+    /// Cuts piece `i` in two. It takes memory for both halves and for all lists before anything changes.
     fn cut(&mut self, i: usize, at: usize) -> Result<(), AllocError>
         requires inside { i < length self.old }
         requires above { 0 < at }
@@ -226,7 +220,7 @@ impl PieceText {
             out: whole,
             own: whole,
         };
-        self.runs.swapped(self.pieces.as_slice(), i, swap);
+        self.runs.swap(self.pieces.as_slice(), i, swap);
         Ok(())
     }
 
@@ -237,7 +231,7 @@ impl PieceText {
         self.len
     }
 
-    /// How many pieces it has.
+    /// How many pieces the text has.
     pub fn pieces(&self) -> usize
         ensures { result ≡ length self.now }
     {
@@ -251,7 +245,7 @@ impl PieceText {
         Pieces::of(self.pieces.as_slice(), self.runs.as_slice())
     }
 
-    /// How many characters, UTF-16 code units or line breaks the joined text has.
+    /// How many chars, UTF-16 code units or line breaks the joined text has.
     pub fn count(&self, s: Scheme) -> usize
         ensures { result ≡ count s (joined self.now) }
     {

@@ -14,7 +14,7 @@ use byte_chunk::Chunk;
 use positions::{Encoding, LineType, Part, Parts, char_start, unit_scheme};
 use std::marker::Model;
 
-/// The pieces of a text of which positions are asked, with the summary of the joined text. A contract sees the view.
+/// The pieces of a text, for questions about positions, with the summary of the joined text. A contract sees the view.
 #[derive(Drop)]
 pub struct PieceParts<'a> {
     pieces: Pieces<'a>,
@@ -34,7 +34,7 @@ impl<'a> Model for PieceParts<'a> {
 }
 
 impl<'a> PieceParts<'a> {
-    /// The parts of a view. It looks at each run, and at each piece that is in none, and reads no piece.
+    /// Makes the parts of a view. It looks at each run, and at each piece that is in none, and reads no piece.
     pub fn of(pieces: Pieces<'a>) -> PieceParts<'a>
         ensures texts { result.texts ≡ pieces.entry.texts }
         ensures looks { result.looks ≤ pieces.entry.looks + length pieces.entry.texts }
@@ -89,7 +89,7 @@ impl<'a> Parts<'a> for PieceParts<'a> {
     }
 }
 
-/// The part that a byte is in, the last one where it is past the end.
+/// Finds the part that a byte is in; past the end, the last one.
 fn part_at_byte<'a>(
     p: &mut Pieces<'a>,
     lines: LineType,
@@ -108,7 +108,7 @@ fn part_at_byte<'a>(
     part_in(p, lines, encoding, &placed)
 }
 
-/// The part in which a line begins, the last one where the text has no such line.
+/// Finds the part in which a line begins; the last one if the text has no such line.
 fn part_at_line<'a>(
     p: &mut Pieces<'a>,
     lines: LineType,
@@ -129,7 +129,7 @@ fn part_at_line<'a>(
     part_in(p, lines, encoding, &placed)
 }
 
-/// The part that a piece is, for one read.
+/// Lends a piece as a part, for one read.
 #[inline(always)]
 fn part_in<'a>(p: &mut Pieces<'a>, lines: LineType, encoding: Encoding, placed: &Placed) -> Part<'a>
     requires { IsPlaced (scheme_of lines) p.old.texts placed.now }
@@ -143,7 +143,7 @@ fn part_in<'a>(p: &mut Pieces<'a>, lines: LineType, encoding: Encoding, placed: 
     Part::of_piece(lines, encoding, p.text(piece), &before, &own)
 }
 
-/// The greatest byte index between characters that is at most this one.
+/// Returns the greatest boundary at or before a byte index.
 fn char_start_in(p: &mut Pieces, byte: usize) -> usize
     ensures answer { IsGreatestBoundary (joined p.old.texts) byte result }
     ensures cost { Asks p.old p.new }

@@ -9,7 +9,7 @@ use crate::Summary;
 use std::alloc::{AllocError, Global};
 use std::marker::Model;
 
-/// A text that is not empty, and its summary. A contract sees the text's characters.
+/// A text that is not empty, and its summary. A contract sees the text's chars.
 ///
 /// It takes one word in a list, so that a change of the list moves little.
 #[derive(Drop)]
@@ -17,7 +17,7 @@ pub(crate) struct Piece {
     body: Box<Body>,
 }
 
-/// What a piece keeps.
+/// The text of a piece, and its summary.
 #[derive(Drop)]
 struct Body {
     text: String,
@@ -37,7 +37,7 @@ impl Model for Piece {
 }
 
 impl Piece {
-    /// The piece of a text that is not empty: a copy of it, and its summary.
+    /// Makes the piece of a text that is not empty: a copy of it, and its summary.
     pub(crate) fn of(alloc: Global, text: &str) -> Result<Piece, AllocError>
         requires { chars text.now ≢ [] }
         ensures { IfOk result (λ piece. piece ≡ chars text.now) }
@@ -76,14 +76,14 @@ impl Piece {
         self.body.text.as_str()
     }
 
-    /// Whether a byte index in it is between characters, or at its beginning or end.
+    /// Whether a byte index in the piece is a boundary of its text.
     pub(crate) fn is_boundary(&self, at: usize) -> bool
         ensures { IsTrue result ↔ IsBoundary self.now at }
     {
         is_boundary(self.body.text.as_str(), at)
     }
 
-    /// It in two pieces, cut between characters.
+    /// Cuts the piece in two at a boundary.
     pub(crate) fn halves(&self, alloc: Global, at: usize) -> Result<(Piece, Piece), AllocError>
         requires above { 0 < at }
         requires below { at < size self.now }
@@ -94,7 +94,7 @@ impl Piece {
         Ok((Piece::of(alloc, left)?, Piece::of(alloc, right)?))
     }
 
-    // Its text in two, neither of them empty.
+    // Cuts the text in two parts, neither of them empty.
     fn split(&self, at: usize) -> (&str, &str)
         requires above { 0 < at }
         requires below { at < size self.now }

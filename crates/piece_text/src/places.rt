@@ -1,12 +1,12 @@
-//! The piece that a byte is in, or in which a text comes to a count, with what is known of the text before it.
+//! Finds the piece that a byte is in, or in which a count is reached, with its summary and the front before it.
 ghost use Rattle.std.specs.Prelude.{◌≡◌, ◌+◌, ◌<◌, ◌≤◌, length};
 ghost use Rattle.piece_text.specs.Parts.{Comes, HasPlace};
 
-use crate::stretches::{stretch_for, stretch_round};
+use crate::ranges::{range_for, range_round};
 use crate::{Pieces, Scheme, Summary};
 use text_summary::Front;
 
-/// A piece, what is known of the text before it, and its summary.
+/// A piece, the front before it, and its summary.
 #[derive(Clone, Copy)]
 pub(crate) struct Placed {
     /// The number of the piece.
@@ -17,7 +17,7 @@ pub(crate) struct Placed {
     pub(crate) own: Summary,
 }
 
-/// The piece that a byte is in, and the last one where the byte is past the end. Reads no piece.
+/// Finds the piece that a byte is in; past the end, the last one. It reads no piece.
 pub(crate) fn piece_round(p: &mut Pieces, s: Scheme, b: usize) -> Placed
     requires { 0 < length p.old.texts }
     ensures place { HasPlace s p.old.texts result b }
@@ -26,10 +26,10 @@ pub(crate) fn piece_round(p: &mut Pieces, s: Scheme, b: usize) -> Placed
     ensures looks_kept { p.old.looks ≤ p.new.looks }
     ensures reads { p.new.reads ≡ p.old.reads }
 {
-    let stretch = stretch_round(p, s, b);
-    let last = stretch.end - 1;
-    let mut front = stretch.front;
-    for i in stretch.first..last {
+    let range = range_round(p, s, b);
+    let last = range.end - 1;
+    let mut front = range.front;
+    for i in range.first..last {
         let own = p.summary(i);
         let behind = front.look(s, own).behind;
         if b < behind.len {
@@ -48,8 +48,8 @@ pub(crate) fn piece_round(p: &mut Pieces, s: Scheme, b: usize) -> Placed
     }
 }
 
-/// The last piece before which the text does not come to a count, since a piece after it may take the break off that it ends
-/// with. Reads no piece.
+/// Finds the last piece before which the count is below `k`: an LF that begins a piece may take off the break that the piece
+/// before it ends with. It reads no piece.
 pub(crate) fn piece_up_to(p: &mut Pieces, s: Scheme, k: usize) -> Placed
     requires pieces { 0 < length p.old.texts }
     requires count { 0 < k }
@@ -59,14 +59,14 @@ pub(crate) fn piece_up_to(p: &mut Pieces, s: Scheme, k: usize) -> Placed
     ensures looks_kept { p.old.looks ≤ p.new.looks }
     ensures reads { p.new.reads ≡ p.old.reads }
 {
-    let stretch = stretch_for(p, s, k);
-    let mut front = stretch.front;
+    let range = range_for(p, s, k);
+    let mut front = range.front;
     let mut last = Placed {
-        piece: stretch.first,
+        piece: range.first,
         before: front,
         own: Summary::none(),
     };
-    for i in stretch.first..stretch.end {
+    for i in range.first..range.end {
         let own = p.summary(i);
         let look = front.look(s, own);
         if k <= look.reached {

@@ -4,11 +4,11 @@ ghost use Rattle.str_indices.specs.Schemes.{count, from_byte_idx, to_byte_idx};
 ghost use Rattle.piece_text.specs.Pieces.{joined, piece_at};
 ghost use Rattle.text_summary.specs.Fronts.{IsFront};
 
-use crate::stretches::{past_runs, stretch_for, stretch_round};
+use crate::ranges::{past_runs, range_for, range_round};
 use crate::{Pieces, Scheme};
 use text_summary::{Front, Look};
 
-/// A piece, where it starts in the joined text, and which index in it is asked for.
+/// A piece, where it starts in the joined text, and the index to ask for in it.
 #[derive(Clone, Copy)]
 struct Asked {
     piece: usize,
@@ -16,7 +16,7 @@ struct Asked {
     index: usize,
 }
 
-/// How many characters, UTF-16 code units or line breaks the joined text has. Reads no piece.
+/// How many chars, UTF-16 code units or line breaks the joined text has. Reads no piece.
 pub fn count_in(p: &mut Pieces, s: Scheme) -> usize
     ensures answer { result ≡ count s (joined p.old.texts) }
     ensures texts { p.new.texts ≡ p.old.texts }
@@ -42,9 +42,9 @@ pub fn from_in(p: &mut Pieces, s: Scheme, b: usize) -> usize
     ensures reads { p.new.reads ≤ p.old.reads + 1 }
     ensures reads_kept { p.old.reads ≤ p.new.reads }
 {
-    let stretch = stretch_round(p, s, b);
-    let mut front = stretch.front;
-    for i in stretch.first..stretch.end {
+    let range = range_round(p, s, b);
+    let mut front = range.front;
+    for i in range.first..range.end {
         let look = look_at(p, s, i, front);
         if b < look.behind.len {
             return look.reached + s.from_byte_idx(p.text(i), b - front.len);
@@ -71,8 +71,8 @@ pub fn to_in(p: &mut Pieces, s: Scheme, k: usize) -> usize
     asked.start + s.to_byte_idx(p.text(asked.piece), asked.index)
 }
 
-/// The piece that answers for an index: the last one before which the text does not reach it, since a piece after it
-/// may take the break off that it ends with.
+/// Finds the piece that answers for index `k`: the last one before which the count is below `k`. The piece after it may take
+/// off the break that it ends with.
 fn piece_for(p: &mut Pieces, s: Scheme, k: usize) -> Asked
     requires pieces { 0 < length p.old.texts }
     requires index { 0 < k }
@@ -84,14 +84,14 @@ fn piece_for(p: &mut Pieces, s: Scheme, k: usize) -> Asked
     ensures looks_kept { p.old.looks ≤ p.new.looks }
     ensures reads { p.new.reads ≡ p.old.reads }
 {
-    let stretch = stretch_for(p, s, k);
-    let mut front = stretch.front;
+    let range = range_for(p, s, k);
+    let mut front = range.front;
     let mut asked = Asked {
-        piece: stretch.first,
+        piece: range.first,
         start: 0,
         index: 0,
     };
-    for i in stretch.first..stretch.end {
+    for i in range.first..range.end {
         let look = look_at(p, s, i, front);
         if k <= look.reached {
             return asked;

@@ -1,30 +1,30 @@
 //! Sums over runs of pieces, so that a question passes many pieces at one look.
 //!
-//! The runs stand one after the other, from the first piece on. The pieces after the last run are in none: they are few,
-//! and so a change at the end of the list sums nothing. A change in a run corrects its sum by what goes out and what comes
-//! in. The list gets its room before a run is cut or a new one is made, and after that nothing is left to be refused.
+//! The runs stand one after the other, from the first piece on. The pieces after the last run are in none: they are few, so a
+//! change at the end of the list sums nothing. A change in a run corrects its sum by what goes out and what comes in. The list
+//! takes its memory before a run is cut or a new one is made, so nothing can be refused after that.
 ghost use Rattle.std.specs.Prelude.{◌≡◌, ◌≢◌, ◌+◌, ◌^◌, ◌<◌, ◌≤◌, [], List, length, take, drop};
 ghost use Rattle.str_indices.specs.Joins.{starts_with_feed, ends_in_return};
 ghost use Rattle.str_indices.specs.Text.{Text};
 ghost use Rattle.piece_text.specs.Pieces.{joined, joined_size};
 ghost use Rattle.piece_text.specs.Summaries.{summary_of};
 ghost use Rattle.piece_text.specs.Runs.{IsRun, AreRuns, IsRunSwapped, Swapped, pieces_in};
-ghost use Rattle.piece_text.specs.Stretches.{IsPartRound};
+ghost use Rattle.piece_text.specs.PieceRanges.{IsSpanRound};
 
 use crate::Summary;
 use crate::piece::Piece;
 use byte_chunk::Counter;
 use std::alloc::{AllocError, Global};
 use std::marker::Model;
-use text_summary::{Change, exchanged, joined};
+use text_summary::{Update, apply_update, join_summaries};
 
-/// How many pieces a run has when it is made. One that has twice as many is cut before it grows.
+/// How many pieces a new run has. A run with twice as many is cut before it grows.
 const RUN: usize = 64;
 
-/// Pieces that come into a list for others, at one place.
+/// The pieces that replace others at one place of a list.
 #[derive(Clone, Copy)]
 pub(crate) struct Swap {
-    /// How many pieces go out, one at most.
+    /// How many pieces go out: one at most.
     pub(crate) gone: usize,
     /// How many come in.
     pub(crate) come: usize,
@@ -34,17 +34,17 @@ pub(crate) struct Swap {
     pub(crate) own: Summary,
 }
 
-/// Pieces that stand one after the other, by their number and their sum.
+/// Neighbouring pieces: how many there are, and their sum.
 #[derive(Clone, Copy)]
 pub(crate) struct Run {
-    /// How many pieces it has.
+    /// How many pieces the run has.
     pub(crate) pieces: usize,
     /// The summary of their joined text.
     whole: Summary,
 }
 
 impl Run {
-    /// The run of so many pieces from a number on.
+    /// Makes the run of `count` pieces from piece `first` on.
     fn of(pieces: &[Piece], first: usize, count: usize) -> Run
         requires some { 0 < count }
         requires within { first + count ≤ length pieces.now }
@@ -59,7 +59,7 @@ impl Run {
         }
     }
 
-    /// The summary of the joined text of some pieces.
+    /// Sums some pieces: the summary of their joined text.
     fn sum(pieces: &[Piece]) -> Summary
         requires some { 0 < length pieces.now }
         requires short { joined_size pieces.now < 2 ^ 63 }
@@ -68,34 +68,35 @@ impl Run {
     {
         let mut whole = pieces[0].summary();
         for i in 1..pieces.len() {
-            whole = joined(whole, pieces[i].summary());
+            whole = join_summaries(whole, pieces[i].summary());
         }
         whole
     }
 
-    /// The run after pieces have come for others in it, by the pieces that it has then and the number of the first that came.
-    fn swapped(self, own: &[Piece], at: usize, swap: Swap) -> Run
+    /// Returns the run after a swap of pieces in it. `own` are the pieces that it has then, and `at` is the number of the first
+    /// new one.
+    fn swap(self, own: &[Piece], at: usize, swap: Swap) -> Run
         requires swapped { IsRunSwapped self own.now at swap }
         requires some { 0 < length own.now }
         requires short { joined_size own.now < 2 ^ 63 }
         ensures { IsRun result own.now }
     {
-        let change = Change {
+        let change = Update {
             ends_cr: ends_before(own, at),
             starts_lf: starts_from(own, at + swap.come),
-            out: swap.out,
-            own: swap.own,
+            removed: swap.out,
+            inserted: swap.own,
         };
         let count = own.len();
         let starts_lf = starts_from(own, 0);
         let ends_cr = ends_before(own, count);
         Run {
             pieces: count,
-            whole: exchanged(self.whole, change, starts_lf, ends_cr),
+            whole: apply_update(self.whole, change, starts_lf, ends_cr),
         }
     }
 
-    /// The summary of its pieces' joined text, for one look.
+    /// Lends the summary of its pieces' joined text, for one look.
     pub(crate) fn look(&self, looks: &mut Counter) -> Summary
         ensures whole { result ≡ self.now.whole }
         ensures looks { looks.new ≡ looks.old + 1 }
@@ -143,8 +144,8 @@ impl Runs {
         self.runs.as_slice()
     }
 
-    /// The run that a piece is in, and the number of that run's first piece. It goes over the runs from the last one back, a
-    /// step for each run after that one.
+    /// Finds the run that piece `at` is in, and the number of that run's first piece. It goes over the runs from the last one
+    /// back.
     fn run_of(&self, at: usize) -> (usize, usize)
         requires { at < pieces_in self.now }
         ensures run { result.0 < length self.now }
@@ -165,8 +166,8 @@ impl Runs {
         unreachable!()
     }
 
-    /// Makes sure that what grows at a place has few pieces: a run with many is cut in two, and of many pieces in none some
-    /// become a run. Where there is no memory for that, all stays.
+    /// Makes room for a piece at `at`: it cuts the run there in two if that is full, or makes a run of the first pieces that
+    /// are in none, if they are many. If memory for that is refused, all stays.
     #[inline(always)]
     pub(crate) fn make_room(&mut self, pieces: &[Piece], at: usize) -> Result<(), AllocError>
         requires are { AreRuns self.old pieces.now }
@@ -183,7 +184,7 @@ impl Runs {
         }
     }
 
-    /// Lets go of the last run where a piece that goes out is the last of all and in it, so that taking pieces out at the
+    /// Drops the last run, so that its pieces are in none, if the last piece is in it and goes out. So taking pieces out at the
     /// end sums nothing.
     #[inline(always)]
     pub(crate) fn open_end(&mut self, at: usize, last: usize)
@@ -197,21 +198,21 @@ impl Runs {
         }
     }
 
-    /// Corrects the sum of the run in which pieces came for others at a place.
+    /// Corrects the sum of the run in which pieces were swapped at `at`.
     #[inline(always)]
-    pub(crate) fn swapped(&mut self, pieces: &[Piece], at: usize, swap: Swap)
+    pub(crate) fn swap(&mut self, pieces: &[Piece], at: usize, swap: Swap)
         requires swapped { Swapped self.old pieces.now at swap }
         requires few { length pieces.now < 2 ^ 64 }
         requires short { joined_size pieces.now < 2 ^ 63 }
         ensures { AreRuns self.new pieces.now }
     {
         if at < self.pieces {
-            self.swapped_in_run(pieces, at, swap);
+            self.swap_in_run(pieces, at, swap);
         }
     }
 
-    /// The same where that run is.
-    fn swapped_in_run(&mut self, pieces: &[Piece], at: usize, swap: Swap)
+    /// Corrects the sum of the run of piece `at`, which there is.
+    fn swap_in_run(&mut self, pieces: &[Piece], at: usize, swap: Swap)
         requires swapped { Swapped self.old pieces.now at swap }
         requires few { length pieces.now < 2 ^ 64 }
         requires short { joined_size pieces.now < 2 ^ 63 }
@@ -226,10 +227,10 @@ impl Runs {
             self.runs.remove(r);
             return;
         }
-        self.runs[r] = run.swapped(&pieces[first..first + count], at - first, swap);
+        self.runs[r] = run.swap(&pieces[first..first + count], at - first, swap);
     }
 
-    /// Makes two runs of the one that a piece is in, where that has many.
+    /// Cuts the run that piece `at` is in in two, if it has many pieces.
     fn halve(&mut self, pieces: &[Piece], at: usize) -> Result<(), AllocError>
         requires are { AreRuns self.old pieces.now }
         requires few { length pieces.now < 2 ^ 64 }
@@ -266,7 +267,7 @@ impl Runs {
     }
 }
 
-/// Whether the pieces before a number end in CR.
+/// Whether the text of the pieces before piece `at` ends in CR.
 fn ends_before(pieces: &[Piece], at: usize) -> bool
     requires { at ≤ length pieces.now }
     ensures ends { result ≡ ends_in_return (joined (take at pieces.now)) }
@@ -278,7 +279,7 @@ fn ends_before(pieces: &[Piece], at: usize) -> bool
     pieces[at - 1].summary().ends_cr
 }
 
-/// Whether the pieces from a number on start with LF.
+/// Whether the text of the pieces from piece `at` on starts with LF.
 fn starts_from(pieces: &[Piece], at: usize) -> bool
     ensures { result ≡ starts_with_feed (joined (drop at pieces.now)) }
 {
@@ -288,9 +289,9 @@ fn starts_from(pieces: &[Piece], at: usize) -> bool
     pieces[at].summary().starts_lf
 }
 
-/// The pieces from one number up to another, and the byte index where they start.
+/// Neighbouring pieces, and the byte index where they start.
 #[derive(Clone, Copy)]
-pub(crate) struct Part {
+pub(crate) struct PieceSpan {
     /// The number of the first one.
     pub(crate) first: usize,
     /// The number of the piece after the last one.
@@ -299,11 +300,11 @@ pub(crate) struct Part {
     pub(crate) start: usize,
 }
 
-/// The pieces of the run that a byte is in, or those that are in no run.
-pub(crate) fn part_round(runs: &[Run], pieces: &[Piece], byte_idx: usize) -> Part
+/// Finds the pieces of the run that a byte is in, or those that are in no run.
+pub(crate) fn span_round(runs: &[Run], pieces: &[Piece], byte_idx: usize) -> PieceSpan
     requires runs { AreRuns runs.now pieces.now }
     requires short { joined_size pieces.now < 2 ^ 63 }
-    ensures { IsPartRound pieces.now byte_idx result }
+    ensures { IsSpanRound pieces.now byte_idx result }
 {
     let all = pieces.len();
     let mut first: usize = 0;
@@ -312,12 +313,12 @@ pub(crate) fn part_round(runs: &[Run], pieces: &[Piece], byte_idx: usize) -> Par
         let end = first + run.pieces;
         let len = run.whole.len;
         if byte_idx - start < len {
-            return Part { first, end, start };
+            return PieceSpan { first, end, start };
         }
         first = end;
         start += len;
     }
-    Part {
+    PieceSpan {
         first,
         end: all,
         start,

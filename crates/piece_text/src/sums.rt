@@ -4,7 +4,7 @@ ghost use Rattle.piece_text.specs.Pieces.{joined};
 ghost use Rattle.piece_text.specs.Summaries.{summary_of};
 
 use crate::{Pieces, Summary};
-use text_summary::joined;
+use text_summary::join_summaries;
 
 /// Some first pieces, and the summary of their joined text.
 #[derive(Clone, Copy)]
@@ -15,7 +15,7 @@ struct Sum {
     whole: Summary,
 }
 
-/// The summary of the joined text. Reads no piece.
+/// Returns the summary of the joined text. It reads no piece.
 pub(crate) fn summary_in(p: &mut Pieces) -> Summary
     ensures answer { result ≡ summary_of (joined p.old.texts) }
     ensures texts { p.new.texts ≡ p.old.texts }
@@ -27,12 +27,12 @@ pub(crate) fn summary_in(p: &mut Pieces) -> Summary
     let sum = sum_of_runs(p);
     let mut whole = sum.whole;
     for i in sum.pieces..all {
-        whole = joined(whole, p.summary(i));
+        whole = join_summaries(whole, p.summary(i));
     }
     whole
 }
 
-/// The pieces that are in runs, with their sum.
+/// Sums the pieces that are in runs.
 fn sum_of_runs(p: &mut Pieces) -> Sum
     ensures within { result.pieces ≤ length p.old.texts }
     ensures whole { result.whole ≡ summary_of (joined (take result.pieces p.old.texts)) }
@@ -45,7 +45,7 @@ fn sum_of_runs(p: &mut Pieces) -> Sum
     let mut pieces: usize = 0;
     let mut whole = Summary::none();
     for run in p.runs() {
-        whole = joined(whole, p.whole(run));
+        whole = join_summaries(whole, p.whole(run));
         pieces += run.pieces;
     }
     Sum { pieces, whole }

@@ -81,7 +81,7 @@ impl<'a> Pieces<'a> {
         pieces[i].text()
     }
 
-    /// The runs of its pieces. Counts nothing: a query gets the sum of one by `whole`.
+    /// The runs of its pieces. Counts nothing: `whole` lends the sum of one.
     pub(crate) fn runs(&self) -> &'a [Run]
         ensures { AreRuns result.now self.now.texts }
     {

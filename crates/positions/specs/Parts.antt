@@ -1,7 +1,7 @@
 -- A text in parts, and what finding a part costs.
 --     PartsState                  a text in parts, as contracts see it
 --     IsSearched state            the bounds of both searches are at least 1, which is 2 to the power of no look
---     Took bytes counts old new   at most `bytes` searches by a byte, and `counts` by a count
+--     Searched bytes counts old new   at most `bytes` searches by a byte, and `counts` by a count
 --     HasOwn l e text own         the counts of a part of a text
 --     IsPart text l e part        a part of the text, and what is counted before it
 --     HasByte text byte part      a byte is in the part
@@ -39,7 +39,7 @@ pub record IsSearched (state : PartsState) : Type 0 where
 
 -- at most `bytes` searches by a byte and `counts` by a count, each of which reads one part; the text and its pieces
 -- stay
-pub record Took (bytes counts : ℕ) (old new : PartsState) : Type 0 where
+pub record Searched (bytes counts : ℕ) (old new : PartsState) : Type 0 where
   pub text : new.text ≡ old.text
   pub pieces : new.pieces ≡ old.pieces
   pub begins : new.begins ≡ old.begins

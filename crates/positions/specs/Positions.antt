@@ -2,12 +2,13 @@
 -- in LF, CR or CRLF they are those of the Language Server Protocol 3.17, "Position".
 --     units_on_line l e text k byte     the units of the content of line k up to a byte index
 --     position_at l e text byte         the position of a byte index
+--     LineBeginsAfter l text byte start the line of a byte begins after a byte index, or with the text there
 --     byte_at l e text position         the byte index of a position
 --     is_exact l e text position        whether the position names a place, and not one that is cut to another
 --     exact_byte_at l e text position   the byte index of a position that names a place
 --     is_at_or_before p q               whether position p is at or before position q
 --     byte_range_at l e text range      the byte indices of a range whose end is not before its start
-use Rattle.std.specs.Prelude.{ℕ, ◌+◌, ◌-◌, ◌&&◌, ◌||◌, ◌==◌, Bool, Option, Some, None, if◌then◌else◌, nat_le, nat_lt}
+use Rattle.std.specs.Prelude.{ℕ, ◌≡◌, ◌⊎◌, ◌<◌, ◌+◌, ◌-◌, ◌&&◌, ◌||◌, ◌==◌, Bool, Option, Some, None, if◌then◌else◌, nat_le, nat_lt}
 use Rattle.std.specs.declared.ops.Range as bytes
 use Rattle.str_indices.specs.Text.{Text}
 use Rattle.str_indices.specs.Schemes.{count, from_byte_idx, to_byte_idx, weighed, boundary_weighed}
@@ -29,6 +30,11 @@ position_at l e text byte = record {
   line = from_byte_idx (scheme_of l) text byte;
   character = units_on_line l e text (from_byte_idx (scheme_of l) text byte) byte;
 }
+
+-- the line of `byte` begins after the byte index `start`, or the text begins there
+abbrev pub LineBeginsAfter : LineType → Text → ℕ → ℕ → Type 0
+LineBeginsAfter l text byte start =
+    (start < to_byte_idx (scheme_of l) text (from_byte_idx (scheme_of l) text byte)) ⊎ (start ≡ 0)
 
 -- where, in the line's content, the char of that unit begins; the line's end, where the content has no such unit
 abbrev pub byte_at : LineType → Encoding → Text → Position → ℕ

@@ -2,7 +2,7 @@
 ghost use Rattle.std.specs.Prelude.{◌≡◌, ◌≤◌, IfSome, IsCharBoundary, chars};
 ghost use Rattle.positions.specs.Positions.{byte_at, byte_range_at, exact_byte_at, position_at};
 
-use crate::{LineType, Position, Range, Whole, questions};
+use crate::{LineType, Position, Range, Whole, queries};
 use byte_chunk::{ByteChunk, Chunk};
 use std::ops;
 
@@ -71,7 +71,7 @@ impl Encoding {
     pub fn position_of_impl<T: ByteChunk>(self, text: &str, byte: usize) -> Position
         ensures { result ≡ position_at LineType.Crlf self (chars text.now) byte }
     {
-        questions::position_of(&mut Whole::<T>::of(text), LineType::Crlf, self, byte)
+        queries::position_of(&mut Whole::<T>::of(text), LineType::Crlf, self, byte)
     }
 
     /// Converts a position to a byte index, as [`Encoding::byte_of`], over chunks of any type.
@@ -79,7 +79,7 @@ impl Encoding {
         ensures answer { result ≡ byte_at LineType.Crlf self (chars text.now) position }
         ensures boundary { IsCharBoundary text.now result }
     {
-        questions::byte_of(&mut Whole::<T>::of(text), LineType::Crlf, self, position)
+        queries::byte_of(&mut Whole::<T>::of(text), LineType::Crlf, self, position)
     }
 
     /// Converts a position that names a place to a byte index, as [`Encoding::exact_byte_of`], over chunks of any type.
@@ -87,7 +87,7 @@ impl Encoding {
         ensures answer { result ≡ exact_byte_at LineType.Crlf self (chars text.now) position }
         ensures boundary { IfSome result (λ byte. IsCharBoundary text.now byte) }
     {
-        questions::exact_byte_of(&mut Whole::<T>::of(text), LineType::Crlf, self, position)
+        queries::exact_byte_of(&mut Whole::<T>::of(text), LineType::Crlf, self, position)
     }
 
     /// Converts a range to byte indices, as [`Encoding::byte_range`], over chunks of any type.
@@ -101,6 +101,6 @@ impl Encoding {
         ensures boundaries { IfSome result (λ bytes.
             IsCharBoundary text.now bytes.start × IsCharBoundary text.now bytes.end) }
     {
-        questions::byte_range(&mut Whole::<T>::of(text), LineType::Crlf, self, range)
+        queries::byte_range(&mut Whole::<T>::of(text), LineType::Crlf, self, range)
     }
 }

@@ -4,7 +4,7 @@ ghost use Rattle.str_indices.specs.Schemes.{boundary_weighed, count, weighed};
 ghost use Rattle.str_indices.specs.Text.{size};
 ghost use Rattle.positions.specs.Lines.{scheme_of};
 ghost use Rattle.positions.specs.Encodings.{units_of};
-ghost use Rattle.positions.specs.Parts.{HasByte, HasLine, IsPart, IsSearched, PartsState, Took};
+ghost use Rattle.positions.specs.Parts.{HasByte, HasLine, IsPart, IsSearched, PartsState, Searched};
 
 use crate::{Encoding, LineType};
 use byte_chunk::ByteChunk;
@@ -63,7 +63,7 @@ pub trait Parts<'a> {
         ensures round { HasByte (state self.old).text byte result }
         ensures start { result.start ≤ (state self.old).begins byte }
         ensures units { (state self.old).apart ≡ 0 → IsSome result.units }
-        ensures cost { Took 1 0 (state self.old) (state self.new) };
+        ensures cost { Searched 1 0 (state self.old) (state self.new) };
 
     /// The part in which a line begins: after its start, or at the text's start. A line past the last one is in the last
     /// part.
@@ -71,16 +71,16 @@ pub trait Parts<'a> {
         ensures part { IsPart (state self.old).text lines encoding result }
         ensures round { HasLine (state self.old).text lines line result }
         ensures units { (state self.old).apart ≡ 0 → IsSome result.units }
-        ensures cost { Took 0 1 (state self.old) (state self.new) };
+        ensures cost { Searched 0 1 (state self.old) (state self.new) };
 
     /// The units of the chars before a byte index.
     fn units_of_byte(&mut self, encoding: Encoding, byte: usize) -> usize
         ensures answer { result ≡ weighed (units_of encoding) (state self.old).text byte }
-        ensures cost { Took 1 0 (state self.old) (state self.new) };
+        ensures cost { Searched 1 0 (state self.old) (state self.new) };
 
     /// The byte index before which the chars have `units` units, or where the char begins that has that unit inside it; past
     /// them all the text's length in bytes.
     fn byte_of_units(&mut self, encoding: Encoding, units: usize) -> usize
         ensures answer { result ≡ boundary_weighed (units_of encoding) (state self.old).text units }
-        ensures cost { Took 0 1 (state self.old) (state self.new) };
+        ensures cost { Searched 0 1 (state self.old) (state self.new) };
 }

@@ -46,6 +46,8 @@ impl<'a> Part<'a> {
             IsPart (front ++ (chars text.now ++ back)) lines encoding result }
         ensures start { result.start ≡ before.now.len }
         ensures text { chars result.text.now ≡ chars text.now }
+        ensures counts { IsSome result.own }
+        ensures units { IsSome result.units ↔ ((unit_scheme encoding ≡ None) ⊎ (before.now.len ≡ 0)) }
     {
         Part {
             text,
@@ -83,7 +85,7 @@ fn own_units(encoding: Encoding, own: &Summary) -> usize
 /// The units of an encoding that `bytes` bytes of chars are, where it counts bytes or there are none.
 fn units_in(encoding: Encoding, bytes: usize) -> Option<usize>
     ensures bytes { IfSome result (λ units. units ≡ bytes) }
-    ensures some { IsSome result → (unit_scheme encoding ≡ None) ⊎ (bytes ≡ 0) }
+    ensures some { IsSome result ↔ ((unit_scheme encoding ≡ None) ⊎ (bytes ≡ 0)) }
 {
     match unit_scheme(encoding) {
         Some(_) if 0 < bytes => None,

@@ -4,11 +4,11 @@ ghost use Rattle.str_indices.specs.Schemes.{from_byte_idx, to_byte_idx};
 ghost use Rattle.str_indices.specs.Text.{Text, size};
 ghost use Rattle.positions.specs.declared.encodings.Encoding.{Encoding};
 ghost use Rattle.positions.specs.Lines.{IsPlace, scheme_of};
-ghost use Rattle.positions.specs.Parts.{HasByte, IsPart, Took};
-ghost use Rattle.positions.specs.Positions.{position_at};
+ghost use Rattle.positions.specs.Parts.{HasByte, IsPart, Searched};
+ghost use Rattle.positions.specs.Positions.{LineBeginsAfter, position_at};
 
 use crate::middles::return_behind;
-use crate::questions::{position_from, position_of};
+use crate::queries::{position_from, position_of};
 use crate::texts::{is_boundary, len_of};
 use crate::{Encoding, LineType, Part, Parts, Position, Range};
 use std::ops;
@@ -22,7 +22,7 @@ pub fn range_of<'a, P: Parts<'a>>(
 ) -> Range
     ensures start { result.start ≡ position_at lines encoding (P.state parts.old).text span.start }
     ensures end { result.end ≡ position_at lines encoding (P.state parts.old).text span.end }
-    ensures cost { Took (2 + 4 * (P.state parts.old).apart) 2 (P.state parts.old) (P.state parts.new) }
+    ensures cost { Searched (2 + 4 * (P.state parts.old).apart) 2 (P.state parts.old) (P.state parts.new) }
 {
     let part = parts.part_of_byte(lines, encoding, span.start);
     let _len = parts.len();
@@ -53,10 +53,9 @@ pub fn exact_position_of<'a, P: Parts<'a>>(
 ) -> Option<Position>
     ensures answer { IfSome result (λ position. position ≡ position_at lines encoding (P.state parts.old).text byte) }
     ensures some { IsSome result ↔ IsPlace lines (P.state parts.old).text byte }
-    ensures cost { Took (1 + 2 * (P.state parts.old).apart) 1 (P.state parts.old) (P.state parts.new) }
-    ensures near { let cs = (P.state parts.old).text in let begins = (P.state parts.old).begins byte in
-        (begins < to_byte_idx (scheme_of lines) cs (from_byte_idx (scheme_of lines) cs byte)) ⊎ (begins ≡ 0)
-        → Took 1 0 (P.state parts.old) (P.state parts.new) }
+    ensures cost { Searched (1 + 2 * (P.state parts.old).apart) 1 (P.state parts.old) (P.state parts.new) }
+    ensures near { LineBeginsAfter lines (P.state parts.old).text byte ((P.state parts.old).begins byte)
+        → Searched 1 0 (P.state parts.old) (P.state parts.new) }
 {
     let part = parts.part_of_byte(lines, encoding, byte);
     let _len = parts.len();

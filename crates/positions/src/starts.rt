@@ -5,7 +5,7 @@ ghost use Rattle.str_indices.specs.Schemes.{count, to_byte_idx, weighed};
 ghost use Rattle.str_indices.specs.Text.{size};
 ghost use Rattle.positions.specs.Encodings.{units_of};
 ghost use Rattle.positions.specs.Lines.{line_end, scheme_of};
-ghost use Rattle.positions.specs.Parts.{HasLine, IsPart, Took};
+ghost use Rattle.positions.specs.Parts.{HasLine, IsPart, Searched};
 
 use crate::middles::return_behind;
 use crate::texts::{char_start, from_byte, len_of};
@@ -35,7 +35,7 @@ pub(crate) fn line_in<'a, P: Parts<'a>>(
         result.own ≡ to_byte_idx (scheme_of lines) (chars part.text.now) (line - part.lines) }
     ensures boundary { IsBoundary (chars result.part.text.now) result.own }
     ensures units { (P.state parts.old).apart ≡ 0 → IsSome result.part.units }
-    ensures cost { Took 0 1 (P.state parts.old) (P.state parts.new) }
+    ensures cost { Searched 0 1 (P.state parts.old) (P.state parts.new) }
 {
     let part = parts.part_of_line(lines, encoding, line);
     let scheme = part.kind(lines).scheme();
@@ -83,8 +83,8 @@ pub(crate) fn later_line<'a, P: Parts<'a>>(
         result.own ≡ to_byte_idx (scheme_of lines) (chars part.text.now) (later - part.lines) }
     ensures boundary { IsBoundary (chars result.part.text.now) result.own }
     ensures units { (P.state parts.old).apart ≡ 0 → IsSome result.part.units }
-    ensures cost { Took 0 1 (P.state parts.old) (P.state parts.new) }
-    ensures same { line ≡ later → Took 0 0 (P.state parts.old) (P.state parts.new) }
+    ensures cost { Searched 0 1 (P.state parts.old) (P.state parts.new) }
+    ensures same { line ≡ later → Searched 0 0 (P.state parts.old) (P.state parts.new) }
 {
     let len = parts.len();
     let part = start.part;
@@ -121,7 +121,7 @@ pub(crate) fn units_up_to<'a, P: Parts<'a>>(
     requires units { (P.state parts.old).apart ≡ 0 → IsSome part.now.units }
     requires within { at ≤ size (chars part.now.text.now) }
     ensures answer { result ≡ weighed (units_of encoding) (P.state parts.old).text (part.now.start + at) }
-    ensures cost { Took (P.state parts.old).apart 0 (P.state parts.old) (P.state parts.new) }
+    ensures cost { Searched (P.state parts.old).apart 0 (P.state parts.old) (P.state parts.new) }
 {
     let _len = parts.len();
     match part.units {
@@ -156,7 +156,7 @@ pub(crate) fn end_before<'a, P: Parts<'a>>(
 pub fn line_end<'a, P: Parts<'a>>(parts: &mut P, lines: LineType, line: usize) -> usize
     ensures answer { result ≡ line_end lines (P.state parts.old).text line }
     ensures boundary { IsBoundary (P.state parts.old).text result }
-    ensures cost { Took 0 1 (P.state parts.old) (P.state parts.new) }
+    ensures cost { Searched 0 1 (P.state parts.old) (P.state parts.new) }
 {
     if parts.count(lines) <= line {
         return parts.len();
@@ -170,7 +170,7 @@ pub fn line_end<'a, P: Parts<'a>>(parts: &mut P, lines: LineType, line: usize) -
 pub fn line<'a, P: Parts<'a>>(parts: &mut P, lines: LineType, line: usize) -> ops::Range<usize>
     ensures start { result.start ≡ to_byte_idx (scheme_of lines) (P.state parts.old).text line }
     ensures end { result.end ≡ line_end lines (P.state parts.old).text line }
-    ensures cost { Took 0 2 (P.state parts.old) (P.state parts.new) }
+    ensures cost { Searched 0 2 (P.state parts.old) (P.state parts.new) }
 {
     let _len = parts.len();
     let start = line_in(parts, lines, Encoding::Utf8, line);

@@ -1,5 +1,5 @@
 -- Changes of a text, as a language server's client tells them.
---     part_at e text range          the byte indices of the part that a change exchanges
+--     part_at e text range          the byte indices of the part that a change replaces
 --     is_ordered range              whether the end of a change's range is not before its start
 --     exact_part_at e text range    the byte indices of that part, where each of the range's positions names a place
 use Rattle.std.specs.Prelude.{ℕ, Bool, true, Option, Some, None, ◌&&◌, if◌then◌else◌}
@@ -10,7 +10,7 @@ use Rattle.positions.specs.declared.Range.{Range}
 use Rattle.positions.specs.declared.encodings.Encoding.{Encoding}
 use Rattle.positions.specs.declared.line_type.LineType.TheVariants.{Crlf}
 
--- the byte indices of the part that a change exchanges: that of its range, or the whole text where it has none
+-- the byte indices of the part that a change replaces: that of its range, or the whole text where it has none
 abbrev pub part_at : Encoding → Text → Option Range → Option (bytes.Range ℕ)
 part_at e text (Some range) = byte_range_at Crlf e text range
 part_at e text None = Some (record { start = 0; end = size text })

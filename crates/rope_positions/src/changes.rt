@@ -14,13 +14,13 @@ use text_rope::{Refusal, Rope};
 /// A change of a text: the protocol's `TextDocumentContentChangeEvent`.
 #[derive(Clone, Copy)]
 pub struct Change<'a> {
-    /// What is exchanged for the text; the whole text, where it is none.
+    /// The range that is replaced, or `None` for the whole text.
     pub range: Option<Range>,
-    /// The text that is put there.
+    /// The text that comes in.
     pub text: &'a str,
 }
 
-/// Exchanges a part of a rope's text, or all of it, for a text.
+/// Replaces a part of a rope's text, or all of it, by a text.
 ///
 /// The range's bytes are those of its positions, as `byte_of` answers them. After a refusal the text is as before. It is
 /// `NotOrdered` where the range's end is before its start, or else `TooLong` where the text would have more than
@@ -36,7 +36,7 @@ pub fn apply(rope: &mut Rope, encoding: Encoding, change: Change<'_>) -> Result<
     ensures no_memory { IsErrOf result NoMemory → IsSomeAnd (part_at encoding rope.old change.entry.range) (λ part.
         (chars change.entry.text.now ≢ [])
         ⊎ ((part.start < part.end) × (part.end - part.start < size rope.old))) }
-    ensures not_boundary { ¬ (IsErrOf result NotBoundary) }
+    ensures not_boundary { result ≢ Err NotBoundary }
 {
     let Some(part) = part_of(rope, encoding, change.range) else {
         return Err(Refusal::NotOrdered);
@@ -44,7 +44,7 @@ pub fn apply(rope: &mut Rope, encoding: Encoding, change: Change<'_>) -> Result<
     rope.replace(part, change.text)
 }
 
-/// The byte indices of the part that a change exchanges, or `None` where its end is before its start.
+/// Finds the bytes that a change replaces, or `None` if the range's end is before its start.
 fn part_of(rope: &Rope, encoding: Encoding, range: Option<Range>) -> Option<ops::Range<usize>>
     ensures part { result ≡ part_at encoding rope.now range }
     ensures ordered { IfSome result (λ part. part.start ≤ part.end) }

@@ -11,7 +11,7 @@ use positions::{Encoding, Range};
 use std::ops;
 use text_rope::{Refusal, Rope};
 
-/// Exchanges a part of a rope's text, or all of it, for a text, where each of the range's positions names a place.
+/// Replaces a part of a rope's text, or all of it, by a text, if each of the range's positions names a place.
 ///
 /// So a server notices a client that is out of step: `apply` would cut the positions. After a refusal the text is as
 /// before. It is `NotOrdered` where the range's end is before its start, or else `NotBoundary` where a position names no
@@ -50,7 +50,7 @@ fn is_ordered(range: Option<Range>) -> bool
     }
 }
 
-/// The byte indices of the part that a change exchanges, or `None` where a position names no place.
+/// Finds the bytes that a change replaces, or `None` if a position names no place.
 fn exact_part_of(rope: &Rope, encoding: Encoding, range: Option<Range>) -> Option<ops::Range<usize>>
     requires ordered { IsTrue (is_ordered range) }
     ensures part { result ≡ exact_part_at encoding rope.now range }

@@ -6,13 +6,13 @@
 
 mod changes;
 mod exact_changes;
-mod questions;
+mod queries;
 mod ropes;
 
 pub use changes::{Change, apply};
 pub use exact_changes::apply_exact;
 pub use positions::{Encoding, LineType, Position, Range};
-pub use questions::{
+pub use queries::{
     byte_of_in, byte_range_in, exact_byte_of_in, exact_position_of_in, line_end_in, position_of_in,
     range_of_in,
 };

@@ -139,7 +139,8 @@ pub fn exact_position_of(rope: &Rope, encoding: Encoding, byte: usize) -> Option
     exact_position_by(rope, LineType::Crlf, encoding, byte)
 }
 
-/// As `exact_position_of`, where lines end in breaks of the kind `lines`: where CR is no break, the byte between CR and LF is a place too.
+/// As `exact_position_of`, where lines end in breaks of the kind `lines`: if CR is no break, the byte between CR and LF is a
+/// place too.
 pub fn exact_position_by(
     rope: &Rope,
     lines: LineType,

@@ -123,36 +123,27 @@ def run(lists, folder):
     return dict(zip(map(int, parts[1::2]), parts[2::2])), done
 
 
-def compare(tally):
-    """Compares all lists; one result for the program, and one for the answers."""
-    source = random.Random(SEED)
-    lists = [asked(source, number) for number in range(LISTS)]
-    with tempfile.TemporaryDirectory() as folder:
-        outputs, done = run(lists, pathlib.Path(folder))
-    if not tally.result(done.returncode == 0, f"rope_positions is built once, and comes to an end in {LISTS} runs"):
-        print((done.stdout + done.stderr)[-2000:])
-    wrong = []
-    answers = 0
-    for number, case in enumerate(lists):
-        said = outputs.get(number, "").splitlines()
-        answers += min(len(said), len(case.answers))
-        wrong += [
-            f"list {number}, {line}: {answer}, not {expected}"
-            for line, answer, expected in zip(case.lines, said, case.answers)
-            if answer != expected
-        ]
-        if len(said) != len(case.answers):
-            wrong.append(f"list {number}: {len(said)} lines, not {len(case.answers)}")
-    told = f"{answers} answers for {LISTS * CHANGES} random changes of a rope, of which {len(wrong)} are not the model's"
-    tally.result(not wrong, told)
-    tally.enough("answers of position_changes.py", answers, "answers of changes by positions")
-    for line in wrong[:10]:
-        print(line[:300])
+def faults(number, case, said):
+    """The answers to a list of changes in which the program differs from the model."""
+    rows = zip(case.lines, said, case.answers)
+    wrong = [f"list {number}, {line}: {answer}, not {expected}" for line, answer, expected in rows if answer != expected]
+    return wrong + [f"list {number}: {len(said)} lines, not {len(case.answers)}"] * (len(said) != len(case.answers))
 
 
 def main():
     tally = Tally()
-    compare(tally)
+    source = random.Random(SEED)
+    lists = [asked(source, number) for number in range(LISTS)]
+    with tempfile.TemporaryDirectory() as folder:
+        outputs, done = run(lists, pathlib.Path(folder))
+    ended = f"rope_positions is built once, and comes to an end in {LISTS} runs"
+    tally.result(done.returncode == 0, ended, (done.stdout + done.stderr)[-2000:])
+    said = [outputs.get(number, "").splitlines() for number in range(LISTS)]
+    wrong = [fault for number, case in enumerate(lists) for fault in faults(number, case, said[number])]
+    answers = sum(min(len(lines), len(case.answers)) for lines, case in zip(said, lists))
+    told = f"{answers} answers for {LISTS * CHANGES} random changes of a rope, of which {len(wrong)} are not the model's"
+    tally.result(not wrong, told, "\n".join(line[:300] for line in wrong[:10]))
+    tally.enough("answers of position_changes.py", answers, "answers of changes by positions")
     return tally.end()
 
 

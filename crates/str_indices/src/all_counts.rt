@@ -16,7 +16,7 @@ pub fn counts(text: &str) -> Counts
     let characters = characters_of(text, kinds);
     let units = units_of(text, kinds, characters);
     let lf = lines_lf::count_breaks(text);
-    let LineBreaks { crlf, lines } = line_breaks_of(text, kinds, lf);
+    let BreakCounts { crlf, lines } = line_breaks_of(text, kinds, lf);
     Counts {
         numbers: [characters, units, lf, crlf, lines],
     }
@@ -49,7 +49,7 @@ fn units_of(text: &str, kinds: Kinds, characters: usize) -> usize
 
 /// The numbers of line breaks of a text.
 #[derive(Clone, Copy)]
-struct LineBreaks {
+struct BreakCounts {
     /// By LF, CR and CRLF.
     crlf: usize,
     /// By all of the Rust crate's list.
@@ -57,7 +57,7 @@ struct LineBreaks {
 }
 
 /// Counts the line breaks of a text. Both numbers are equal if it has no break but LF, CR and CRLF.
-fn line_breaks_of(text: &str, kinds: Kinds, lf: usize) -> LineBreaks
+fn line_breaks_of(text: &str, kinds: Kinds, lf: usize) -> BreakCounts
     requires kinds { AreKinds kinds text.now }
     requires lf { lf ≡ count Lf (chars text.now) }
     ensures crlf { result.crlf ≡ count Crlf (chars text.now) }
@@ -65,10 +65,10 @@ fn line_breaks_of(text: &str, kinds: Kinds, lf: usize) -> LineBreaks
 {
     if has_narrow_breaks(text, kinds) {
         let crlf = returns_of(text, kinds, lf);
-        return LineBreaks { crlf, lines: crlf };
+        return BreakCounts { crlf, lines: crlf };
     }
     let lines = lines::count_breaks(text);
-    LineBreaks {
+    BreakCounts {
         crlf: breaks_of(text, kinds, lf, lines),
         lines,
     }

@@ -297,7 +297,7 @@ fn numbers_are(rt: &impl Abort, found: [usize; 4], want: [usize; 4]) {
     assert!(rt; found == want, "{found:?}");
 }
 
-/// What the functions above make of letters, of letters after a dash, and of bytes, and then the threes.
+/// The answers of the functions above: for letters, for letters after a dash, for bytes, and the threes.
 fn chunks_of<T: ByteChunk>(letters: &[u8], bytes: &[u8]) -> (T, T, T, T)
     requires letters { T.SIZE ≤ length letters.now }
     requires bytes { T.SIZE ≤ length bytes.now }

@@ -1,4 +1,4 @@
-//! Slices of a UTF-8 text, by characters and by lines: a caller that is proved with no proof file.
+//! Slices of a UTF-8 text, by chars and by lines: a caller that is proved with no proof file.
 //!
 //! Every text and index has an answer: nothing panics, nothing allocates.
 #[cfg(test)]
@@ -10,7 +10,7 @@ ghost use Rattle.str_indices.specs.declared.Scheme.TheVariants.{Chars, Lines};
 
 use str_indices::{chars, laws, lines};
 
-/// The text after its first `n` characters; nothing where it has no more.
+/// The text after its first `n` chars; nothing where it has no more.
 pub fn after_chars(text: &str, n: usize) -> &str
     ensures { result.now ≡ drop (to_byte_idx Chars (chars text.now) n) text.now }
 {

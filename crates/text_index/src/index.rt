@@ -59,7 +59,7 @@ impl<'a> TextIndex<'a> {
     }
 
     /// The same index, borrowed.
-    pub fn borrowed(&self) -> BorrowedIndex<'_>
+    pub fn as_borrowed(&self) -> BorrowedIndex<'_>
         ensures { result ≡ self.now }
     {
         BorrowedIndex::of(self.text, self.marks.as_slice(), &self.whole)
@@ -69,7 +69,7 @@ impl<'a> TextIndex<'a> {
     pub fn view(&self) -> Marks<'_>
         ensures { result ≡ record { text = self.now; looks = 0; reads = 0 } }
     {
-        let index = self.borrowed();
+        let index = self.as_borrowed();
         index.view()
     }
 
@@ -99,6 +99,6 @@ impl<'a> TextIndex<'a> {
     pub fn is_char_boundary(&self, b: usize) -> bool
         ensures { IsTrue result ↔ IsBoundary self.now b }
     {
-        self.borrowed().is_char_boundary(b)
+        self.as_borrowed().is_char_boundary(b)
     }
 }

@@ -45,7 +45,7 @@ impl Mark {
     }
 
     /// Returns the mark at a later place `to` of the text, by going over the text between the two.
-    pub(crate) fn moved(self, text: &str, to: usize) -> Mark
+    pub(crate) fn move_to(self, text: &str, to: usize) -> Mark
         requires mark { IsMark (chars text.now) self }
         requires order { self.byte ≤ to }
         requires place { IsWholeAt (chars text.now) to }

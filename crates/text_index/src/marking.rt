@@ -22,8 +22,8 @@ pub fn fill(text: &str, room: &mut [Mark]) -> Mark
 {
     let mut last = BEGINNING;
     'marks: for i in 0..room.len() {
-        last = last.moved(text, whole_place(text, (i + 1) * STRETCH));
+        last = last.move_to(text, whole_place(text, (i + 1) * STRETCH));
         room[i] = last;
     }
-    last.moved(text, text.len())
+    last.move_to(text, text.len())
 }

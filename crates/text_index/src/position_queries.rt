@@ -3,7 +3,7 @@ ghost use Rattle.std.specs.Prelude.{◌≡◌, ◌*◌, ◌^◌, ◌<◌, ◌≤
 ghost use Rattle.str_indices.specs.Relations.{IsBoundary};
 ghost use Rattle.str_indices.specs.Schemes.{from_byte_idx, to_byte_idx};
 ghost use Rattle.positions.specs.Lines.{IsPlace, line_end, scheme_of};
-ghost use Rattle.positions.specs.Positions.{byte_at, byte_range_at, exact_byte_at, position_at};
+ghost use Rattle.positions.specs.Positions.{LineBeginsAfter, byte_at, byte_range_at, exact_byte_at, position_at};
 ghost use Rattle.text_index.specs.Marks.{Asked, MarksState, begins_at, stretches_of};
 
 use crate::Marks;
@@ -29,14 +29,12 @@ pub fn line_in(m: &mut Marks, lines: LineType, line: usize) -> ops::Range<usize>
     positions::line(m, lines, line)
 }
 
-/// Converts a byte index to a position. It reads two stretches at most, and one if the line begins after the latest place
-/// where the byte's stretch begins, or that is 0.
+/// Converts a byte index to a position. It reads two stretches at most. It reads one if `begins_at byte`, the latest place
+/// where the byte's stretch may begin, is 0 or before the line's beginning.
 pub fn position_in(m: &mut Marks, lines: LineType, encoding: Encoding, byte: usize) -> Position
     ensures answer { result ≡ position_at lines encoding m.old.text byte }
     ensures cost { Asked 2 (8 * stretches_of m.old.text) m.old m.new }
-    ensures near { let cs = m.old.text in
-        (begins_at byte < to_byte_idx (scheme_of lines) cs (from_byte_idx (scheme_of lines) cs byte)) ⊎ (begins_at byte ≡ 0)
-        → Asked 1 4 m.old m.new }
+    ensures near { LineBeginsAfter lines m.old.text byte (begins_at byte) → Asked 1 4 m.old m.new }
 {
     positions::position_of(m, lines, encoding, byte)
 }
@@ -105,9 +103,7 @@ pub fn exact_position_in(
     ensures answer { IfSome result (λ position. position ≡ position_at lines encoding m.old.text byte) }
     ensures some { IsSome result ↔ IsPlace lines m.old.text byte }
     ensures cost { Asked 2 (8 * stretches_of m.old.text) m.old m.new }
-    ensures near { let cs = m.old.text in
-        (begins_at byte < to_byte_idx (scheme_of lines) cs (from_byte_idx (scheme_of lines) cs byte)) ⊎ (begins_at byte ≡ 0)
-        → Asked 1 4 m.old m.new }
+    ensures near { LineBeginsAfter lines m.old.text byte (begins_at byte) → Asked 1 4 m.old m.new }
 {
     positions::exact_position_of(m, lines, encoding, byte)
 }

@@ -10,4 +10,4 @@ mod index_lines;
 mod index_positions;
 mod making;
 mod numbers;
-mod questions;
+mod queries;

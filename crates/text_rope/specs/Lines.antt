@@ -1,12 +1,12 @@
 -- The lines of a text, where each break of a scheme ends one. In `Chars` and `Utf16`, which know no breaks, a line is what
 -- stands between two indices.
---     begins_break s c           whether a break of the scheme begins with a character
---     between text from to       the characters between two byte indices
---     line_text s text k         the characters of the k-th line, its break too
+--     begins_break s c           whether a break of the scheme begins with a char
+--     between text from to       the chars between two byte indices
+--     line_text s text k         the chars of the k-th line, its break too
 --     line_content s text k      those before its break
 --     line_end s text k          the byte index where they end
---     IsFeedOf s text c at       the character that ends there is the LF of a CRLF which is one break
---     IsBreakLen s text at n     so many bytes takes the break that ends there
+--     IsFeedOf s text c at       the char that ends there is the LF of a CRLF which is one break
+--     IsBreakLen s text at n     the break that ends at byte index `at` has `n` bytes
 use Rattle.std.specs.Prelude.{ℕ, ◌≡◌, ◌≢◌, ◌+◌, ◌-◌, ◌⊎◌, Bool, length, drop}
 use Rattle.std.specs.Char.{char_set_contains, len_utf8}
 use Rattle.std.specs.List.{before_first}
@@ -16,15 +16,15 @@ use Rattle.str_indices.specs.Text.{Text, size, cut, line_feed, carriage_return}
 use Rattle.str_indices.specs.declared.Scheme.{Scheme}
 use Rattle.str_indices.specs.declared.Scheme.TheVariants.{Lf}
 
--- whether a break of the scheme begins with a character
+-- whether a break of the scheme begins with a char
 abbrev pub begins_break : Scheme → ℕ → Bool
 begins_break s c = char_set_contains (break_characters s) c
 
--- the characters between two byte indices: those before the second, without those before the first
+-- the chars between two byte indices: those before the second, without those before the first
 abbrev pub between : Text → ℕ → ℕ → Text
 between text from to = drop (length (cut text from)) (cut text to)
 
--- the characters of the k-th line, counted from 0, its break too: none past the last line
+-- the chars of the k-th line, counted from 0, its break too: none past the last line
 abbrev pub line_text : Scheme → Text → ℕ → Text
 line_text s text k = between text (to_byte_idx s text k) (to_byte_idx s text (k + 1))
 
@@ -36,11 +36,11 @@ line_content s text k = before_first (begins_break s) (line_text s text k)
 abbrev pub line_end : Scheme → Text → ℕ → ℕ
 line_end s text k = to_byte_idx s text k + size (line_content s text k)
 
--- the character that ends at a byte index is the LF of a CRLF, which is one break of the scheme
+-- the char that ends at a byte index is the LF of a CRLF, which is one break of the scheme
 abbrev pub IsFeedOf : Scheme → Text → ℕ → ℕ → Type 0
 IsFeedOf s text c at = (c ≡ line_feed) × ((s ≢ Lf) × IsEndOf text carriage_return (at - 1))
 
--- so many bytes takes the break that ends at a byte index: the two of CRLF, or those of its one character
+-- the break that ends at byte index `at` has `n` bytes: two for CRLF, else those of its one char
 abbrev pub IsBreakLen : Scheme → Text → ℕ → ℕ → Type 0
 IsBreakLen s text at n = (c : ℕ) × IsEndOf text c at
     × ((IsFeedOf s text c at × (n ≡ 2)) ⊎ (¬ (IsFeedOf s text c at) × (n ≡ len_utf8 c)))

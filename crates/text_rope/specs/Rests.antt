@@ -1,32 +1,32 @@
--- The last rows of a block, in the order of the text.
---     IsRestFrom before texts rows start     rows of a text with so many bytes before it, and where they start
---     IsRestAt before texts rows start at    the same, where a byte is in the first of them
---     IsOnWay texts rows at end              what holds of each `Chunks`
+-- The last chunks of a leaf, in the order of the text.
+--     IsRestFrom before texts chunks start     `chunks` are neighbours in `texts`, and start at byte index `start`
+--     IsRestAt before texts chunks start at    the same, where a byte is in the first of them
+--     IsOnWay texts chunks at end              what holds of each `Chunks`
 use Rattle.std.specs.Prelude.{ℕ, ◌≡◌, ◌≢◌, ◌+◌, ◌<◌, ◌≤◌, List, [], ◌∷◌, ◌++◌}
 use Rattle.str_indices.specs.Text.{Text, size}
 use Rattle.text_summary.specs.Pieces.{joined, joined_size}
 use Rattle.text_rope.specs.Chunks.{IsWithin}
 
--- some rows of a text with so many bytes before it, and where the first of them starts
-pub record IsRestFrom (before : ℕ) (texts rows : List Text) (start : ℕ) : Type 0 where
+-- `chunks` are neighbours in `texts`, and start at byte index `start`, where `before` bytes are before `texts`
+pub record IsRestFrom (before : ℕ) (texts chunks : List Text) (start : ℕ) : Type 0 where
   pub front : List Text
   pub back : List Text
-  pub parts : texts ≡ front ++ (rows ++ back)
+  pub parts : texts ≡ front ++ (chunks ++ back)
   pub place : before + joined_size front ≡ start
 
 -- the same, where a byte is in the first of them
-pub record IsRestAt (before : ℕ) (texts rows : List Text) (start at : ℕ) : Type 0 where
+pub record IsRestAt (before : ℕ) (texts chunks : List Text) (start at : ℕ) : Type 0 where
   pub front : List Text
-  pub row : Text
+  pub chunk : Text
   pub others : List Text
   pub back : List Text
-  pub rows_are : rows ≡ row ∷ others
-  pub parts : texts ≡ front ++ row ∷ (others ++ back)
+  pub chunks_are : chunks ≡ chunk ∷ others
+  pub parts : texts ≡ front ++ chunk ∷ (others ++ back)
   pub place : before + joined_size front ≡ start
   pub after : start ≤ at
-  pub inside : at < start + size row
+  pub inside : at < start + size chunk
 
--- what holds of each `Chunks`: it is within the text, and before its end the rows at hand start where it is
-pub record IsOnWay (texts rows : List Text) (at end : ℕ) : Type 0 where
+-- what holds of each `Chunks`: it is within the text, and before its end the chunks at hand start where it is
+pub record IsOnWay (texts chunks : List Text) (at end : ℕ) : Type 0 where
   pub within : IsWithin (joined texts) at end
-  pub rows_are : at < end → rows ≢ [] → IsRestFrom 0 texts rows at
+  pub chunks_are : at < end → chunks ≢ [] → IsRestFrom 0 texts chunks at

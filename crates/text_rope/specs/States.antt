@@ -1,6 +1,6 @@
 -- A tree as a question sees it.
---     RowsState            the rows' texts, and how many nodes were looked at and rows read
---     texts_of root        the rows' texts of a tree that may have none
+--     RopeState            the chunks' texts, and how many nodes were looked at and chunks read
+--     texts_of root        the chunks' texts of a tree that may have none
 --     texts_under root     the same where it is lent
 use Rattle.std.specs.Prelude.{ℕ, List, [], Option, Some, None}
 use Rattle.std.specs.Borrow.{Bor}
@@ -9,15 +9,15 @@ use Rattle.str_indices.specs.Text.{Text}
 use Rattle.text_rope.specs.Shapes.{Seen}
 
 -- what contracts see of `View`
-pub record RowsState : Type 0 where
+pub record RopeState : Type 0 where
   pub texts : List Text
   pub looks : ℕ
   pub reads : ℕ
 
--- the rows' texts of a tree that may have none
+-- the chunks' texts of a tree that may have none
 abbrev pub texts_of : Option Seen → List Text
 texts_of None = []
-texts_of (Some side) = side.texts
+texts_of (Some subtree) = subtree.texts
 
 -- the same where it is lent
 abbrev pub texts_under : Option (Bor Seen) → List Text

@@ -1,139 +1,146 @@
-//! Whole rows of a tree exchanged for others, beside the tree as it was.
+//! Whole chunks of a tree replaced by others, beside the tree as it was.
 ghost use Rattle.std.specs.Prelude.{◌≡◌, ◌≢◌, ◌+◌, ◌-◌, ◌*◌, ◌^◌, ◌<◌, ◌≤◌, ◌++◌, ◌⊎◌, min, length, IfOk};
 ghost use Rattle.text_summary.specs.Pieces.{joined_size};
-ghost use Rattle.text_rope.specs.Blocks.{max_rows};
-ghost use Rattle.text_rope.specs.RowEnds.{AreExchanged, IsRowEnd};
+ghost use Rattle.text_rope.specs.Leaves.{leaf_capacity};
+ghost use Rattle.text_rope.specs.ChunkEnds.{AreExchanged, IsChunkEnd};
 ghost use Rattle.text_rope.specs.Shapes.{IsJoinedHeight};
 ghost use Rattle.text_rope.specs.States.{texts_of, texts_under};
 ghost use Rattle.text_rope.specs.Work.{WorkState, Costs, TakesLog, IsHeightOf, height_of, height_or, height_under};
 
-use crate::block::{MAX_ROWS, push_shared, row_up_to};
+use crate::chunk::Chunk;
 use crate::joins::join;
+use crate::leaf::{LEAF_CAPACITY, chunk_up_to, push_shared};
 use crate::loads::{few_of, tree_of};
-use crate::row::Row;
-use crate::tree::{Look, Side, Tree};
+use crate::tree::{Below, Subtree, Tree};
 use crate::work::Work;
 use std::alloc::{AllocError, Global};
 
-/// The tree with the rows between two of their ends exchanged for others; all nodes off the ways to both ends are shared.
-pub(crate) fn replaced(
+/// The tree with the chunks between two of their ends replaced by others; all nodes off the ways to both ends are shared.
+pub(crate) fn splice(
     work: &mut Work,
     alloc: Global,
-    side: &Side,
+    subtree: &Subtree,
     from: usize,
     to: usize,
-    rows: Vec<Row>,
-) -> Result<Option<Side>, AllocError>
+    chunks: Vec<Chunk>,
+) -> Result<Option<Subtree>, AllocError>
     requires some { from < to }
-    requires start { IsRowEnd side.now.texts from }
-    requires end { IsRowEnd side.now.texts to }
-    requires short { joined_size side.now.texts + joined_size rows.items < 2 ^ 63 + (to - from) }
-    ensures replaced { IfOk result (λ whole. AreExchanged side.now.texts (texts_of whole) from to rows.items) }
-    ensures few { length rows.items ≤ max_rows → Costs work.old work.new (44 * side.now.height + 12) 192 }
-    ensures work { Costs work.old work.new (50 * side.now.height + 44 * length rows.items + 47)
-        (2 * length rows.items + 240) }
+    requires start { IsChunkEnd subtree.now.texts from }
+    requires end { IsChunkEnd subtree.now.texts to }
+    requires short { joined_size subtree.now.texts + joined_size chunks.items < 2 ^ 63 + (to - from) }
+    ensures replaced { IfOk result (λ whole. AreExchanged subtree.now.texts (texts_of whole) from to chunks.items) }
+    ensures few { length chunks.items ≤ leaf_capacity → Costs work.old work.new (44 * subtree.now.height + 12) 192 }
+    ensures work { Costs work.old work.new (50 * subtree.now.height + 44 * length chunks.items + 47)
+        (2 * length chunks.items + 240) }
 {
-    if rows.len() <= MAX_ROWS {
-        return Ok(replaced_few(work, alloc, side, from, to, rows)?);
+    if chunks.len() <= LEAF_CAPACITY {
+        return Ok(splice_few(work, alloc, subtree, from, to, chunks)?);
     }
-    let front = replaced_few(work, alloc, side, from, side.summary().len, Vec::new(alloc))?;
-    let own = tree_of(work, alloc, rows)?;
-    let front = joined(work, alloc, front.as_ref(), own.as_ref())?;
-    let back = replaced_few(work, alloc, side, 0, to, Vec::new(alloc))?;
-    Ok(joined(work, alloc, front.as_ref(), back.as_ref())?)
+    let front = splice_few(
+        work,
+        alloc,
+        subtree,
+        from,
+        subtree.summary().len,
+        Vec::new(alloc),
+    )?;
+    let own = tree_of(work, alloc, chunks)?;
+    let front = join_options(work, alloc, front.as_ref(), own.as_ref())?;
+    let back = splice_few(work, alloc, subtree, 0, to, Vec::new(alloc))?;
+    Ok(join_options(work, alloc, front.as_ref(), back.as_ref())?)
 }
 
-/// The same for no more rows than a block has. They go into a block that stays, where one does: into the first that they
-/// take rows of.
-fn replaced_few(
+/// The same for no more chunks than a leaf has. They go into a leaf that stays, where one does: into the first that they
+/// take chunks of.
+fn splice_few(
     work: &mut Work,
     alloc: Global,
-    side: &Side,
+    subtree: &Subtree,
     from: usize,
     to: usize,
-    rows: Vec<Row>,
-) -> Result<Option<Side>, AllocError>
+    chunks: Vec<Chunk>,
+) -> Result<Option<Subtree>, AllocError>
     requires some { from < to }
-    requires start { IsRowEnd side.now.texts from }
-    requires end { IsRowEnd side.now.texts to }
-    requires short { joined_size side.now.texts + joined_size rows.items < 2 ^ 63 + (to - from) }
-    requires few { length rows.items ≤ max_rows }
-    ensures replaced { IfOk result (λ whole. AreExchanged side.now.texts (texts_of whole) from to rows.items) }
-    ensures low { height_or 0 result ≤ side.now.height + 1 }
-    ensures edge { (from ≡ 0) ⊎ (to ≡ joined_size side.now.texts) →
-        Costs work.old work.new (6 * height_or (side.now.height + 1) result + 16 * side.now.height + 6)
-        (48 + 16 * min side.now.height 2 + 16 * min (height_or 1 result) 1) }
-    ensures work { Costs work.old work.new (6 * height_or (side.now.height + 1) result + 38 * side.now.height + 6)
-        (144 + 16 * min side.now.height 2 + 16 * min (height_or 1 result) 1) }
+    requires start { IsChunkEnd subtree.now.texts from }
+    requires end { IsChunkEnd subtree.now.texts to }
+    requires short { joined_size subtree.now.texts + joined_size chunks.items < 2 ^ 63 + (to - from) }
+    requires few { length chunks.items ≤ leaf_capacity }
+    ensures replaced { IfOk result (λ whole. AreExchanged subtree.now.texts (texts_of whole) from to chunks.items) }
+    ensures low { height_or 0 result ≤ subtree.now.height + 1 }
+    ensures edge { (from ≡ 0) ⊎ (to ≡ joined_size subtree.now.texts) →
+        Costs work.old work.new (6 * height_or (subtree.now.height + 1) result + 16 * subtree.now.height + 6)
+        (48 + 16 * min subtree.now.height 2 + 16 * min (height_or 1 result) 1) }
+    ensures work { Costs work.old work.new (6 * height_or (subtree.now.height + 1) result + 38 * subtree.now.height + 6)
+        (144 + 16 * min subtree.now.height 2 + 16 * min (height_or 1 result) 1) }
 {
-    let whole = side.summary().len;
+    let whole = subtree.summary().len;
     if from == 0 && to == whole {
-        return few_of(work, alloc, rows);
+        return few_of(work, alloc, chunks);
     }
-    let (left, right) = match work.look(side) {
-        Look::Rows(own) => return replaced_rows(work, alloc, own, from, to, rows),
-        Look::Sides(left, right) => (left, right),
+    let (left, right) = match work.look(subtree) {
+        Below::Chunks(own) => return splice_chunks(work, alloc, own, from, to, chunks),
+        Below::Subtrees(left, right) => (left, right),
     };
     let middle = left.summary().len;
     if to <= middle {
-        let front = replaced_few(work, alloc, left, from, to, rows)?;
-        return joined(work, alloc, front.as_ref(), Some(right));
+        let front = splice_few(work, alloc, left, from, to, chunks)?;
+        return join_options(work, alloc, front.as_ref(), Some(right));
     }
     if middle <= from {
-        let back = replaced_few(work, alloc, right, from - middle, to - middle, rows)?;
-        return joined(work, alloc, Some(left), back.as_ref());
+        let back = splice_few(work, alloc, right, from - middle, to - middle, chunks)?;
+        return join_options(work, alloc, Some(left), back.as_ref());
     }
     if from == 0 {
-        return replaced_few(work, alloc, right, 0, to - middle, rows);
+        return splice_few(work, alloc, right, 0, to - middle, chunks);
     }
-    let front = replaced_few(work, alloc, left, from, middle, rows)?;
+    let front = splice_few(work, alloc, left, from, middle, chunks)?;
     if to == whole {
         return Ok(front);
     }
-    let back = replaced_few(work, alloc, right, 0, to - middle, Vec::new(alloc))?;
-    joined(work, alloc, front.as_ref(), back.as_ref())
+    let back = splice_few(work, alloc, right, 0, to - middle, Vec::new(alloc))?;
+    join_options(work, alloc, front.as_ref(), back.as_ref())
 }
 
-/// The same of the rows of one block.
+/// The same of the chunks of one leaf.
 #[inline(never)]
-fn replaced_rows(
+fn splice_chunks(
     work: &mut Work,
     alloc: Global,
-    own: &[Row],
+    own: &[Chunk],
     from: usize,
     to: usize,
-    mut rows: Vec<Row>,
-) -> Result<Option<Side>, AllocError>
+    mut chunks: Vec<Chunk>,
+) -> Result<Option<Subtree>, AllocError>
     requires some { from < to }
-    requires start { IsRowEnd own.now from }
-    requires end { IsRowEnd own.now to }
+    requires start { IsChunkEnd own.now from }
+    requires end { IsChunkEnd own.now to }
     requires short_own { joined_size own.now < 2 ^ 63 }
-    requires short { joined_size own.now + joined_size rows.items < 2 ^ 63 + (to - from) }
-    requires few_own { length own.now ≤ max_rows }
-    requires few { length rows.items ≤ max_rows }
-    ensures replaced { IfOk result (λ whole. AreExchanged own.now (texts_of whole) from to rows.items) }
+    requires short { joined_size own.now + joined_size chunks.items < 2 ^ 63 + (to - from) }
+    requires few_own { length own.now ≤ leaf_capacity }
+    requires few { length chunks.items ≤ leaf_capacity }
+    ensures replaced { IfOk result (λ whole. AreExchanged own.now (texts_of whole) from to chunks.items) }
     ensures low { height_or 0 result ≤ 1 }
     ensures work { Costs work.old work.new 5 48 }
 {
-    let (front, rest) = own.split_at(row_up_to(own, from + 1).row);
-    let (_, back) = rest.split_at(row_up_to(rest, to - from).row + 1);
-    let mut all = Vec::with_capacity(alloc, front.len() + rows.len() + back.len())?;
+    let (front, rest) = own.split_at(chunk_up_to(own, from + 1).chunk);
+    let (_, back) = rest.split_at(chunk_up_to(rest, to - from).chunk + 1);
+    let mut all = Vec::with_capacity(alloc, front.len() + chunks.len() + back.len())?;
     push_shared(work, &mut all, front)?;
-    all.append(&mut rows)?;
+    all.append(&mut chunks)?;
     push_shared(work, &mut all, back)?;
     Ok(few_of(work, alloc, all)?)
 }
 
-/// One tree of two that may have no rows.
+/// One tree of two that may have no chunks.
 #[inline(never)]
-pub(crate) fn joined(
+pub(crate) fn join_options(
     work: &mut Work,
     alloc: Global,
-    front: Option<&Side>,
-    back: Option<&Side>,
-) -> Result<Option<Side>, AllocError>
+    front: Option<&Subtree>,
+    back: Option<&Subtree>,
+) -> Result<Option<Subtree>, AllocError>
     requires short { joined_size (texts_under front) + joined_size (texts_under back) < 2 ^ 63 }
-    ensures rows { IfOk result (λ whole. texts_of whole ≡ texts_under front.entry ++ texts_under back.entry) }
+    ensures chunks { IfOk result (λ whole. texts_of whole ≡ texts_under front.entry ++ texts_under back.entry) }
     ensures height { IfOk result (λ whole. IsJoinedHeight (height_under front.entry) (height_under back.entry) (height_of whole)) }
     ensures work { Costs work.old work.new
         (6 * ((height_under front.entry - height_under back.entry) + (height_under back.entry - height_under front.entry)) + 3)
@@ -141,29 +148,29 @@ pub(crate) fn joined(
 {
     match (front, back) {
         (Some(left), Some(right)) => Ok(Some(join(work, alloc, left, right)?)),
-        (Some(side), None) => Ok(Some(side.share()?)),
-        (None, Some(side)) => Ok(Some(side.share()?)),
+        (Some(subtree), None) => Ok(Some(subtree.share()?)),
+        (None, Some(subtree)) => Ok(Some(subtree.share()?)),
         (None, None) => Ok(None),
     }
 }
 
-/// The height of a tree that may have no rows.
-pub(crate) fn height_of(root: Option<&Side>) -> usize
+/// The height of a tree that may have no chunks.
+pub(crate) fn height_of(root: Option<&Subtree>) -> usize
     ensures height { result ≡ height_under root.entry }
     ensures low { IsHeightOf (height_under root.entry) (joined_size (texts_under root.entry)) }
     ensures most { height_under root.entry ≤ 126 }
 {
     match root {
         None => 0,
-        Some(side) => {
-            let _short = side.summary();
-            side.height()
+        Some(subtree) => {
+            let _short = subtree.summary();
+            subtree.height()
         }
     }
 }
 
-/// All of two trees in one, beside both. Neither is one row.
-pub(crate) fn appended(
+/// All of two trees in one, beside both. Neither is one chunk.
+pub(crate) fn append_trees(
     work: &mut Work,
     alloc: Global,
     front: &Tree,
@@ -172,10 +179,10 @@ pub(crate) fn appended(
     requires short { joined_size front.now + joined_size back.now < 2 ^ 63 }
     requires front { length front.now ≢ 1 }
     requires back { length back.now ≢ 1 }
-    ensures rows { IfOk result (λ tree. tree ≡ front.now ++ back.now) }
+    ensures chunks { IfOk result (λ tree. tree ≡ front.now ++ back.now) }
     ensures work { TakesLog 6 16 (joined_size front.now + joined_size back.now) 0 work.old work.new }
 {
     let (front, back) = (front.root(), back.root());
     let _heights = (height_of(front), height_of(back));
-    Ok(Tree::of(joined(work, alloc, front, back)?))
+    Ok(Tree::of(join_options(work, alloc, front, back)?))
 }

@@ -5,95 +5,95 @@ ghost use Rattle.str_indices.specs.Schemes.{count, to_byte_idx};
 ghost use Rattle.str_indices.specs.Text.{size};
 ghost use Rattle.text_summary.specs.Pieces.{joined, joined_size};
 ghost use Rattle.text_summary.specs.Summaries.{summary_of};
-ghost use Rattle.text_rope.specs.Chunks.{IsChunkAt, IsLocated, IsRound};
-ghost use Rattle.text_rope.specs.Rows.{max_piece};
+ghost use Rattle.text_rope.specs.Chunks.{IsChunkAt, IsChunkAtByte, IsRound};
+ghost use Rattle.text_rope.specs.ChunkSizes.{max_chunk};
 ghost use Rattle.text_rope.specs.Looks.{Asks};
-ghost use Rattle.text_rope.specs.States.{RowsState};
+ghost use Rattle.text_rope.specs.States.{RopeState};
 
+use crate::chunk::Chunk;
 use crate::queries::{place_at, place_of};
-use crate::row::Row;
 use crate::tree::View;
 use text_summary::{Front, Scheme, Summary};
 
-/// A row's text, and the byte index where it starts.
+/// A chunk's text, and the byte index where it starts.
 #[derive(Clone, Copy)]
-pub struct Chunk<'a> {
+pub struct ChunkAt<'a> {
     pub text: &'a str,
     pub start: usize,
 }
 
-/// A row's text with its summary, where it starts, and what is known of the text before it.
+/// A chunk's text with its summary, where it starts, and what is known of the text before it.
 #[derive(Clone, Copy)]
-pub struct Located<'a> {
-    /// The row's text, and the byte index where it starts.
-    pub chunk: Chunk<'a>,
-    /// The summary of the row's text.
+pub struct ChunkAtByte<'a> {
+    /// The chunk's text, and the byte index where it starts.
+    pub chunk: ChunkAt<'a>,
+    /// The summary of the chunk's text.
     pub own: Summary,
     /// The bytes of the text before it, its count in the scheme, and whether it ends in CR.
     pub before: Front,
 }
 
-/// A byte index, and a row that it is in or at the end of.
+/// A byte index, and a chunk that it is in or at the end of.
 #[derive(Clone, Copy)]
-pub struct Found<'a> {
+pub struct ChunkAtCount<'a> {
     /// The byte index in the whole text.
     pub byte: usize,
-    /// The row's text, and where it starts; an empty text only at the beginning of the text, for none of them, and at its
+    /// The chunk's text, and where it starts; an empty text only at the beginning of the text, for none of them, and at its
     /// end, for more than it has.
-    pub chunk: Chunk<'a>,
+    pub chunk: ChunkAt<'a>,
 }
 
-/// A part of the text that a byte is in, of at most `MAX_PIECE` bytes, and where it starts; none from the end of the text on.
-/// One question: at most 2 log₂ (rows + 1) looks, and one read.
-pub fn chunk_in<'a>(v: &mut View<'a>, at: usize) -> Option<Chunk<'a>>
+/// A part of the text that a byte is in, of at most `MAX_CHUNK` bytes, and where it starts; none from the end of the text on.
+/// One question: at most 2 log₂ (chunks + 1) looks, and one read.
+pub fn chunk_in<'a>(v: &mut View<'a>, at: usize) -> Option<ChunkAt<'a>>
     ensures chunk { IfSome result (λ chunk. IsChunkAt (joined v.old.texts) (chars chunk.text.now) chunk.start at) }
-    ensures piece { IfSome result (λ chunk. size (chars chunk.text.now) ≤ max_piece) }
+    ensures piece { IfSome result (λ chunk. size (chars chunk.text.now) ≤ max_chunk) }
     ensures some { IsSome result ↔ (at < joined_size v.old.texts) }
     ensures cost { Asks 1 v.old v.new }
 {
-    match located_in(v, Scheme::Lf, at) {
+    match chunk_at_byte_in(v, Scheme::Lf, at) {
         Some(located) => Some(located.chunk),
         None => None,
     }
 }
 
-/// A part of the text that a byte is in, of at most `MAX_PIECE` bytes, its summary, where it starts, and what is counted in a
+/// A part of the text that a byte is in, of at most `MAX_CHUNK` bytes, its summary, where it starts, and what is counted in a
 /// scheme before it; none from the end of the text on. One question, as `chunk_in`.
 #[tactic(auto, using(crate::proofs::lemmas::Asking::power_one))]
-pub fn located_in<'a>(v: &mut View<'a>, s: Scheme, at: usize) -> Option<Located<'a>>
+pub fn chunk_at_byte_in<'a>(v: &mut View<'a>, s: Scheme, at: usize) -> Option<ChunkAtByte<'a>>
     ensures located { IfSome result (λ l.
-        IsLocated s (joined v.old.texts) (chars l.chunk.text.now) l.chunk.start l.before at) }
+        IsChunkAtByte s (joined v.old.texts) (chars l.chunk.text.now) l.chunk.start l.before at) }
     ensures own { IfSome result (λ l. l.own ≡ summary_of (chars l.chunk.text.now)) }
-    ensures piece { IfSome result (λ l. size (chars l.chunk.text.now) ≤ max_piece) }
+    ensures piece { IfSome result (λ l. size (chars l.chunk.text.now) ≤ max_chunk) }
     ensures some { IsSome result ↔ (at < joined_size v.old.texts) }
     ensures cost { Asks 1 v.old v.new }
 {
-    let Some(side) = v.root() else {
+    let Some(subtree) = v.root() else {
         return None;
     };
-    let whole = side.summary();
+    let whole = subtree.summary();
     if whole.len <= at {
         return None;
     }
-    let place = place_at(v, side, s, at);
+    let place = place_at(v, subtree, s, at);
     v.read();
-    Some(lent(place.row, place.before))
+    Some(lend(place.chunk, place.before))
 }
 
-/// A row, lent with its text and its summary.
-fn lent(row: &Row, before: Front) -> Located<'_>
-    ensures text { chars result.chunk.text.now ≡ row.now }
+/// A chunk, lent with its text and its summary.
+fn lend(chunk: &Chunk, before: Front) -> ChunkAtByte<'_>
+    ensures text { chars result.chunk.text.now ≡ chunk.now }
     ensures start { result.chunk.start ≡ before.len }
     ensures own { result.own ≡ summary_of (chars result.chunk.text.now) }
-    ensures piece { size (chars result.chunk.text.now) ≤ max_piece }
+    ensures piece { size (chars result.chunk.text.now) ≤ max_chunk }
     ensures before { result.before ≡ before }
 {
-    Located {
-        chunk: Chunk {
-            text: row.text(),
+    ChunkAtByte {
+        chunk: ChunkAt {
+            text: chunk.text(),
             start: before.len,
         },
-        own: row.summary(),
+        own: chunk.summary(),
         before,
     }
 }
@@ -102,32 +102,32 @@ fn lent(row: &Row, before: Front) -> Located<'_>
 /// chunk round it: so you read what stands there without another way down. A break that ends there has its last byte in the
 /// chunk. One question, as `chunk_in`.
 #[tactic(auto, using(crate::proofs::lemmas::Asking::power_one))]
-pub fn found_in<'a>(v: &mut View<'a>, s: Scheme, k: usize) -> Found<'a>
+pub fn chunk_at_count_in<'a>(v: &mut View<'a>, s: Scheme, k: usize) -> ChunkAtCount<'a>
     ensures byte { result.byte ≡ to_byte_idx s (joined v.old.texts) k }
     ensures chunk { IsRound (joined v.old.texts) (chars result.chunk.text.now) result.chunk.start result.byte }
     ensures empty { chars result.chunk.text.now ≡ [] ↔ ((k ≡ 0) ⊎ (count s (joined v.old.texts) < k)) }
     ensures inside { IsLineScheme s → 0 < k → k ≤ count s (joined v.old.texts) → result.chunk.start < result.byte }
-    ensures piece { size (chars result.chunk.text.now) ≤ max_piece }
+    ensures piece { size (chars result.chunk.text.now) ≤ max_chunk }
     ensures cost { Asks 1 v.old v.new }
 {
-    let Some(side) = v.root() else {
+    let Some(subtree) = v.root() else {
         return found_empty(0);
     };
-    let whole = side.summary();
+    let whole = subtree.summary();
     if k == 0 {
         return found_empty(0);
     }
     if whole.count(s) < k {
         return found_empty(whole.len);
     }
-    let place = place_of(v, side, s, k);
+    let place = place_of(v, subtree, s, k);
     v.read();
-    let row = place.row;
-    let text = row.text();
-    let look = place.before.look(s, row.summary());
-    Found {
-        byte: place.before.len + row.to_byte_idx(s, k - look.reached),
-        chunk: Chunk {
+    let chunk = place.chunk;
+    let text = chunk.text();
+    let look = place.before.look(s, chunk.summary());
+    ChunkAtCount {
+        byte: place.before.len + chunk.to_byte_idx(s, k - look.reached),
+        chunk: ChunkAt {
             text,
             start: place.before.len,
         },
@@ -135,14 +135,14 @@ pub fn found_in<'a>(v: &mut View<'a>, s: Scheme, k: usize) -> Found<'a>
 }
 
 /// A byte index with an empty text there.
-fn found_empty<'a>(byte: usize) -> Found<'a>
+fn found_empty<'a>(byte: usize) -> ChunkAtCount<'a>
     ensures byte { result.byte ≡ byte }
     ensures start { result.chunk.start ≡ byte }
     ensures text { chars result.chunk.text.now ≡ [] }
 {
-    Found {
+    ChunkAtCount {
         byte,
-        chunk: Chunk {
+        chunk: ChunkAt {
             text: "",
             start: byte,
         },

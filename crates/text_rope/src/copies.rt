@@ -14,7 +14,7 @@ pub(crate) fn read_at(tree: &Tree, at: usize, room: &mut [u8]) -> usize
     if tree.len() <= at {
         return 0;
     }
-    let (mut chunks, skip) = Chunks::from_row(tree, at);
+    let (mut chunks, skip) = Chunks::from_chunk(tree, at);
     read_chunks(&mut chunks, skip, room)
 }
 

@@ -1,13 +1,13 @@
-//! The summary of a row in few bytes.
+//! The summary of a chunk in few bytes.
 ghost use Rattle.std.specs.Prelude.{◌≡◌};
-ghost use Rattle.text_rope.specs.Rows.{IsSmall};
-ghost use Rattle.text_rope.specs.Counts.{summary_in};
+ghost use Rattle.text_rope.specs.ChunkSizes.{IsSmall};
+ghost use Rattle.text_rope.specs.ChunkCounts.{summary_in};
 
 use text_summary::Summary;
 
-/// The summary of a text of at most `MAX_PIECE` bytes, in 16 bits a number.
+/// The summary of a text of at most `MAX_CHUNK` bytes, in 16 bits a number.
 #[derive(Clone, Copy)]
-pub(crate) struct Counts {
+pub(crate) struct ChunkCounts {
     len: u16,
     chars: u16,
     utf16: u16,
@@ -18,13 +18,13 @@ pub(crate) struct Counts {
     ends_cr: bool,
 }
 
-impl Counts {
+impl ChunkCounts {
     /// The counts of a summary.
-    pub(crate) fn of(summary: Summary) -> Counts
+    pub(crate) fn of(summary: Summary) -> ChunkCounts
         requires { IsSmall summary }
         ensures { summary_in result ≡ summary }
     {
-        Counts {
+        ChunkCounts {
             len: summary.len as u16,
             chars: summary.chars as u16,
             utf16: summary.utf16 as u16,

@@ -1,32 +1,32 @@
-//! A part of a text exchanged for another text, beside the tree as it was.
+//! A part of a text replaced by another text, beside the tree as it was.
 ghost use Rattle.std.specs.Prelude.{◌≡◌, ◌+◌, ◌-◌, ◌*◌, ◌/◌, ◌^◌, ◌<◌, ◌≤◌, ◌++◌, ◌⊎◌, chars, length, string_bytes, IfOk};
 ghost use Rattle.str_indices.specs.Relations.{IsBoundary};
 ghost use Rattle.str_indices.specs.Text.{size};
 ghost use Rattle.text_summary.specs.Changes.{IsReplaced};
 ghost use Rattle.text_summary.specs.Pieces.{joined, joined_size};
 ghost use Rattle.text_rope.specs.Edits.{IsPatch, IsSpread, patched};
-ghost use Rattle.text_rope.specs.RowEnds.{IsRowOf};
-ghost use Rattle.text_rope.specs.Rows.{max_piece, min_piece, IsFilled};
+ghost use Rattle.text_rope.specs.ChunkEnds.{IsChunkOf};
+ghost use Rattle.text_rope.specs.ChunkSizes.{max_chunk, min_chunk, IsFilled};
 ghost use Rattle.text_rope.specs.Work.{WorkState, Costs, TakesLog};
 
-use crate::changes::replaced;
-use crate::iter::{between, rest_in};
-use crate::loads::{rows_in, tree_from};
-use crate::row::{MIN_PIECE, memory_for};
-use crate::tree::{Side, Tree};
+use crate::changes::splice;
+use crate::chunk::{MIN_CHUNK, memory_for};
+use crate::iter::{rest_in, text_between};
+use crate::loads::{chunks_in, tree_from};
+use crate::tree::{Subtree, Tree};
 use crate::work::Work;
 use std::alloc::{AllocError, Global};
 
-/// A row's text, and the byte indices where it starts and ends.
+/// A chunk's text, and the byte indices where it starts and ends.
 #[derive(Clone, Copy)]
-struct Stretch<'a> {
+struct ChunkSpan<'a> {
     text: &'a str,
     start: usize,
     end: usize,
 }
 
-/// Whole rows in which a part is exchanged: the byte indices where they start and end, and what of them stays before the part
-/// and behind it, each in two texts.
+/// Whole chunks in which a part is replaced: the byte indices where they start and end, and what of them stays before the part
+/// and after it, each in two texts.
 #[derive(Clone, Copy)]
 pub(crate) struct Patch<'a> {
     pub(crate) start: usize,
@@ -37,8 +37,8 @@ pub(crate) struct Patch<'a> {
     pub(crate) behind: &'a str,
 }
 
-/// The tree of a text with what is between two boundaries exchanged for another one; either may have no rows.
-pub(crate) fn exchanged(
+/// The tree of a text with what is between two boundaries replaced by another one; either may have no chunks.
+pub(crate) fn replace_text(
     work: &mut Work,
     alloc: Global,
     tree: &Tree,
@@ -54,35 +54,35 @@ pub(crate) fn exchanged(
     ensures work { TakesLog 53 240 (joined_size tree.now) (length more.now) work.old work.new }
 {
     match tree.root() {
-        Some(side) => {
-            let (_height, _summary) = (side.height(), side.summary());
-            exchanged_in(work, alloc, side, from, to, more)
+        Some(subtree) => {
+            let (_height, _summary) = (subtree.height(), subtree.summary());
+            replace_text_in(work, alloc, subtree, from, to, more)
         }
         None => Ok(tree_from(work, alloc, more)?),
     }
 }
 
-/// The same where it has rows: those that the part is in are written anew, with one beside them where they would be short.
-fn exchanged_in(
+/// The same where it has chunks: those that the part is in are written anew, with one beside them where they would be short.
+fn replace_text_in(
     work: &mut Work,
     alloc: Global,
-    side: &Side,
+    subtree: &Subtree,
     from: usize,
     to: usize,
     more: &str,
 ) -> Result<Tree, AllocError>
-    requires filled { IsFilled side.now.texts }
+    requires filled { IsFilled subtree.now.texts }
     requires order { from ≤ to }
-    requires start { IsBoundary (joined side.now.texts) from }
-    requires end { IsBoundary (joined side.now.texts) to }
-    requires short { joined_size side.now.texts + length more.now < 2 ^ 63 + (to - from) }
-    ensures replaced { IfOk result (λ whole. IsReplaced (joined side.now.texts) (joined whole) from to (chars more.now)) }
-    ensures work { Costs work.old work.new (53 * side.now.height + 64 * (length more.now / min_piece) + 100)
-        (3 * (length more.now / min_piece) + 240) }
+    requires start { IsBoundary (joined subtree.now.texts) from }
+    requires end { IsBoundary (joined subtree.now.texts) to }
+    requires short { joined_size subtree.now.texts + length more.now < 2 ^ 63 + (to - from) }
+    ensures replaced { IfOk result (λ whole. IsReplaced (joined subtree.now.texts) (joined whole) from to (chars more.now)) }
+    ensures work { Costs work.old work.new (53 * subtree.now.height + 64 * (length more.now / min_chunk) + 100)
+        (3 * (length more.now / min_chunk) + 240) }
 {
-    let _each = side.summary();
-    let patch = patch_of(work, side, from, to);
-    let patch = widened(work, side, from, to, patch, more.len());
+    let _each = subtree.summary();
+    let patch = patch_of(work, subtree, from, to);
+    let patch = widen(work, subtree, from, to, patch, more.len());
     let Patch {
         before,
         head,
@@ -91,81 +91,86 @@ fn exchanged_in(
         ..
     } = patch;
     let text = text_of(alloc, before, head, more, tail, behind)?;
-    let rows = rows_in(alloc, text)?;
-    let root = replaced(work, alloc, side, patch.start, patch.end, rows)?;
+    let chunks = chunks_in(alloc, text)?;
+    let root = splice(work, alloc, subtree, patch.start, patch.end, chunks)?;
     Ok(Tree::of(root))
 }
 
-/// The rows that a part is in. A part of no bytes between two rows is in the one that ends there.
-fn patch_of<'a>(work: &mut Work, side: &'a Side, from: usize, to: usize) -> Patch<'a>
+/// The chunks that a part is in. A part of no bytes between two chunks is in the one that ends there.
+fn patch_of<'a>(work: &mut Work, subtree: &'a Subtree, from: usize, to: usize) -> Patch<'a>
     requires order { from ≤ to }
-    requires start { IsBoundary (joined side.now.texts) from }
-    requires end { IsBoundary (joined side.now.texts) to }
-    ensures patch { IsPatch side.now.texts from to result }
-    ensures short { length result.head.now + length result.tail.now ≤ 2 * max_piece }
+    requires start { IsBoundary (joined subtree.now.texts) from }
+    requires end { IsBoundary (joined subtree.now.texts) to }
+    ensures patch { IsPatch subtree.now.texts from to result }
+    ensures short { length result.head.now + length result.tail.now ≤ 2 * max_chunk }
     ensures before { length result.before.now ≡ 0 }
     ensures behind { length result.behind.now ≡ 0 }
-    ensures work { Costs work.old work.new (2 * side.now.height + 2) 0 }
+    ensures work { Costs work.old work.new (2 * subtree.now.height + 2) 0 }
 {
-    let _some = side.summary();
-    let last = stretch_at(work, side, to.saturating_sub(1));
-    let first = first_from(work, side, last, from);
+    let _some = subtree.summary();
+    let last = stretch_at(work, subtree, to.saturating_sub(1));
+    let first = first_from(work, subtree, last, from);
     Patch {
         start: first.start,
         end: last.end,
         before: "",
-        head: between(first.text, 0, from - first.start),
-        tail: between(last.text, to - last.start, last.text.len()),
+        head: text_between(first.text, 0, from - first.start),
+        tail: text_between(last.text, to - last.start, last.text.len()),
         behind: "",
     }
 }
 
-/// The row that a part begins in, where the one that it ends in is known.
-fn first_from<'a>(work: &mut Work, side: &'a Side, last: Stretch<'a>, from: usize) -> Stretch<'a>
-    requires row { IsRowOf side.now.texts (chars last.text.now) last.start last.end }
-    requires piece { size (chars last.text.now) ≤ max_piece }
+/// The chunk that a part begins in, where the one that it ends in is known.
+fn first_from<'a>(
+    work: &mut Work,
+    subtree: &'a Subtree,
+    last: ChunkSpan<'a>,
+    from: usize,
+) -> ChunkSpan<'a>
+    requires chunk { IsChunkOf subtree.now.texts (chars last.text.now) last.start last.end }
+    requires piece { size (chars last.text.now) ≤ max_chunk }
     requires within { from ≤ last.end }
-    ensures row { IsRowOf side.now.texts (chars result.text.now) result.start result.end }
-    ensures piece { size (chars result.text.now) ≤ max_piece }
+    ensures chunk { IsChunkOf subtree.now.texts (chars result.text.now) result.start result.end }
+    ensures piece { size (chars result.text.now) ≤ max_chunk }
     ensures after { result.start ≤ from }
     ensures within { from ≤ result.end }
     ensures first { result.start ≤ last.entry.start }
-    ensures work { Costs work.old work.new (side.now.height + 1) 0 }
+    ensures work { Costs work.old work.new (subtree.now.height + 1) 0 }
 {
     if last.start <= from {
         return last;
     }
-    stretch_at(work, side, from)
+    stretch_at(work, subtree, from)
 }
 
-/// The same with the row behind it, or else the one before it, where `more` bytes with what stays are too few for a row.
-fn widened<'a>(
+/// The same with the chunk after it, or else the one before it, where `more` bytes with what stays are too few for a chunk.
+fn widen<'a>(
     work: &mut Work,
-    side: &'a Side,
+    subtree: &'a Subtree,
     from: usize,
     to: usize,
     patch: Patch<'a>,
     more: usize,
 ) -> Patch<'a>
-    requires filled { IsFilled side.now.texts }
-    requires patch { IsPatch side.now.texts from to patch }
-    requires short { length patch.head.now + length patch.tail.now ≤ 2 * max_piece }
+    requires filled { IsFilled subtree.now.texts }
+    requires patch { IsPatch subtree.now.texts from to patch }
+    requires short { length patch.head.now + length patch.tail.now ≤ 2 * max_chunk }
     requires before { length patch.before.now ≡ 0 }
     requires behind { length patch.behind.now ≡ 0 }
     requires more { more < 2 ^ 63 }
-    ensures patch { IsPatch side.now.texts from to result }
-    ensures short { IsSpread result (3 * max_piece) }
-    ensures filled { (patched result more ≡ 0) ⊎ (min_piece ≤ patched result more)
-        ⊎ ((result.start ≡ 0) × (result.end ≡ joined_size side.now.texts)) }
-    ensures work { Costs work.old work.new (side.now.height + 1) 0 }
+    ensures patch { IsPatch subtree.now.texts from to result }
+    ensures short { IsSpread result (3 * max_chunk) }
+    ensures filled { (patched result more ≡ 0) ⊎ (min_chunk ≤ patched result more)
+        ⊎ ((result.start ≡ 0) × (result.end ≡ joined_size subtree.now.texts)) }
+    ensures work { Costs work.old work.new (subtree.now.height + 1) 0 }
 {
-    let whole = side.summary().len;
+    let whole = subtree.summary().len;
     let len = patch.head.len() + more + patch.tail.len();
-    if len == 0 || MIN_PIECE <= len {
+    if len == 0 || MIN_CHUNK <= len {
         return patch;
     }
     if patch.end < whole {
-        let next = stretch_at(work, side, patch.end);
+        let next = stretch_at(work, subtree, patch.end);
         return Patch {
             end: next.end,
             behind: next.text,
@@ -173,7 +178,7 @@ fn widened<'a>(
         };
     }
     if 0 < patch.start {
-        let prior = stretch_at(work, side, patch.start - 1);
+        let prior = stretch_at(work, subtree, patch.start - 1);
         return Patch {
             start: prior.start,
             before: prior.text,
@@ -192,7 +197,7 @@ fn text_of(
     tail: &str,
     behind: &str,
 ) -> Result<String, AllocError>
-    requires { length before.now + length head.now + length tail.now + length behind.now ≤ 3 * max_piece }
+    requires { length before.now + length head.now + length tail.now + length behind.now ≤ 3 * max_chunk }
     ensures text { IfOk result (λ text. chars (string_bytes text)
         ≡ (chars before.now ++ chars head.now) ++ (chars more.now ++ (chars tail.now ++ chars behind.now))) }
     ensures len { IfOk result (λ text. length (string_bytes text)
@@ -208,21 +213,21 @@ fn text_of(
     Ok(text)
 }
 
-/// The row that a byte is in.
-fn stretch_at<'a>(work: &mut Work, side: &'a Side, at: usize) -> Stretch<'a>
-    requires { at < joined_size side.now.texts }
-    ensures row { IsRowOf side.now.texts (chars result.text.now) result.start result.end }
+/// The chunk that a byte is in.
+fn stretch_at<'a>(work: &mut Work, subtree: &'a Subtree, at: usize) -> ChunkSpan<'a>
+    requires { at < joined_size subtree.now.texts }
+    ensures chunk { IsChunkOf subtree.now.texts (chars result.text.now) result.start result.end }
     ensures after { result.start ≤ at }
     ensures inside { at < result.end }
     ensures len { length result.text.now ≡ size (chars result.text.now) }
-    ensures piece { size (chars result.text.now) ≤ max_piece }
-    ensures work { Costs work.old work.new (side.now.height + 1) 0 }
+    ensures piece { size (chars result.text.now) ≤ max_chunk }
+    ensures work { Costs work.old work.new (subtree.now.height + 1) 0 }
 {
-    let _short = side.summary();
-    let rest = rest_in(work, side, 0, at);
-    let row = &rest.rows[0];
-    let text = row.text();
-    Stretch {
+    let _short = subtree.summary();
+    let rest = rest_in(work, subtree, 0, at);
+    let chunk = &rest.chunks[0];
+    let text = chunk.text();
+    ChunkSpan {
         text,
         start: rest.start,
         end: rest.start + text.len(),

@@ -1,29 +1,29 @@
 //! Two trees in one balanced tree. The nodes of both may have other owners: none is changed.
 ghost use Rattle.std.specs.Prelude.{◌≡◌, ◌+◌, ◌-◌, ◌*◌, ◌^◌, ◌<◌, ◌≤◌, ◌++◌, min, length, IfOk, IfSome};
 ghost use Rattle.text_summary.specs.Pieces.{joined_size};
-ghost use Rattle.text_rope.specs.Blocks.{max_rows};
-ghost use Rattle.text_rope.specs.Shapes.{DifferByAtMost, IsForkOf, IsJoined, IsJoinedHeight};
+ghost use Rattle.text_rope.specs.Leaves.{leaf_capacity};
+ghost use Rattle.text_rope.specs.Shapes.{DifferByAtMost, IsBranchOf, IsJoined, IsJoinedHeight};
 ghost use Rattle.text_rope.specs.Work.{WorkState, Costs};
 
-use crate::block::{MAX_ROWS, push_shared};
-use crate::row::Row;
-use crate::tree::{Look, Side, block_of, fork_of};
+use crate::chunk::Chunk;
+use crate::leaf::{LEAF_CAPACITY, push_shared};
+use crate::tree::{Below, Subtree, branch_of, leaf_of};
 use crate::work::Work;
 use std::alloc::{AllocError, Global};
 
-/// Two blocks with no more rows than this are put into one.
-const FEW_ROWS: usize = MAX_ROWS / 2;
+/// Two leaves with no more chunks than this are put into one.
+const HALF_LEAF: usize = LEAF_CAPACITY / 2;
 
-/// One tree of all rows of two.
-#[tactic(auto, using(crate::proofs::lemmas::Forks::fork_size))]
+/// One tree of all chunks of two.
+#[tactic(auto, using(crate::proofs::lemmas::Branches::branch_size))]
 pub(crate) fn join(
     work: &mut Work,
     alloc: Global,
-    left: &Side,
-    right: &Side,
-) -> Result<Side, AllocError>
+    left: &Subtree,
+    right: &Subtree,
+) -> Result<Subtree, AllocError>
     requires short { joined_size left.now.texts + joined_size right.now.texts < 2 ^ 63 }
-    ensures joined { IfOk result (λ side. IsJoined side left.now right.now) }
+    ensures joined { IfOk result (λ subtree. IsJoined subtree left.now right.now) }
     ensures work { Costs work.old work.new
         (6 * ((left.now.height - right.now.height) + (right.now.height - left.now.height)) + 3)
         (16 * (1 - min left.now.height right.now.height)) }
@@ -32,23 +32,23 @@ pub(crate) fn join(
     if l > r + 1 {
         let (front, back) = open(work, left);
         let back = join(work, alloc, back, right)?;
-        balanced(work, alloc, front.share()?, back)
+        balance(work, alloc, front.share()?, back)
     } else if r > l + 1 {
         let (front, back) = open(work, right);
         let front = join(work, alloc, left, front)?;
-        balanced(work, alloc, front, back.share()?)
+        balance(work, alloc, front, back.share()?)
     } else {
-        beside(work, alloc, left, right)
+        merge_or_branch(work, alloc, left, right)
     }
 }
 
-/// Both sides of a fork.
-fn open<'a>(work: &mut Work, side: &'a Side) -> (&'a Side, &'a Side)
-    requires { 0 < side.now.height }
-    ensures fork { IsForkOf side.now result.0.now result.1.now }
+/// Both subtrees of a branch.
+fn open<'a>(work: &mut Work, subtree: &'a Subtree) -> (&'a Subtree, &'a Subtree)
+    requires { 0 < subtree.now.height }
+    ensures branch { IsBranchOf subtree.now result.0.now result.1.now }
     ensures work { Costs work.old work.new 1 0 }
 {
-    let Look::Sides(left, right) = work.look(side) else {
+    let Below::Subtrees(left, right) = work.look(subtree) else {
         unreachable!()
     };
     (left, right)
@@ -56,11 +56,16 @@ fn open<'a>(work: &mut Work, side: &'a Side) -> (&'a Side, &'a Side)
 
 /// One tree of two that differ in height by two at most: with no rotation, one, or two.
 #[inline(never)]
-fn balanced(work: &mut Work, alloc: Global, left: Side, right: Side) -> Result<Side, AllocError>
+fn balance(
+    work: &mut Work,
+    alloc: Global,
+    left: Subtree,
+    right: Subtree,
+) -> Result<Subtree, AllocError>
     requires near { DifferByAtMost 2 left.height right.height }
     requires short { joined_size left.texts + joined_size right.texts < 2 ^ 63 }
-    ensures joined { IfOk result (λ side. IsJoined side left right) }
-    ensures even { DifferByAtMost 1 left.height right.height → IfOk result (λ side. IsForkOf side left right) }
+    ensures joined { IfOk result (λ subtree. IsJoined subtree left right) }
+    ensures even { DifferByAtMost 1 left.height right.height → IfOk result (λ subtree. IsBranchOf subtree left right) }
     ensures work { Costs work.old work.new 5 0 }
 {
     let (l, r) = (left.height(), right.height());
@@ -69,83 +74,98 @@ fn balanced(work: &mut Work, alloc: Global, left: Side, right: Side) -> Result<S
     } else if r > l + 1 {
         lean_left(work, alloc, left, &right)
     } else {
-        fork_of(work, alloc, left, right)
+        branch_of(work, alloc, left, right)
     }
 }
 
 /// The left tree is higher by two.
-fn lean_right(work: &mut Work, alloc: Global, left: &Side, right: Side) -> Result<Side, AllocError>
+fn lean_right(
+    work: &mut Work,
+    alloc: Global,
+    left: &Subtree,
+    right: Subtree,
+) -> Result<Subtree, AllocError>
     requires near { left.now.height ≡ right.height + 2 }
     requires short { joined_size left.now.texts + joined_size right.texts < 2 ^ 63 }
-    ensures joined { IfOk result (λ side. IsJoined side left.now right) }
+    ensures joined { IfOk result (λ subtree. IsJoined subtree left.now right) }
     ensures work { Costs work.old work.new 5 0 }
 {
     let (front, back) = open(work, left);
     if front.height() >= back.height() {
-        let back = fork_of(work, alloc, back.share()?, right)?;
-        return fork_of(work, alloc, front.share()?, back);
+        let back = branch_of(work, alloc, back.share()?, right)?;
+        return branch_of(work, alloc, front.share()?, back);
     }
     let (inner, rest) = open(work, back);
-    let front = fork_of(work, alloc, front.share()?, inner.share()?)?;
-    let back = fork_of(work, alloc, rest.share()?, right)?;
-    fork_of(work, alloc, front, back)
+    let front = branch_of(work, alloc, front.share()?, inner.share()?)?;
+    let back = branch_of(work, alloc, rest.share()?, right)?;
+    branch_of(work, alloc, front, back)
 }
 
 /// The right tree is higher by two.
-fn lean_left(work: &mut Work, alloc: Global, left: Side, right: &Side) -> Result<Side, AllocError>
+fn lean_left(
+    work: &mut Work,
+    alloc: Global,
+    left: Subtree,
+    right: &Subtree,
+) -> Result<Subtree, AllocError>
     requires near { right.now.height ≡ left.height + 2 }
     requires short { joined_size left.texts + joined_size right.now.texts < 2 ^ 63 }
-    ensures joined { IfOk result (λ side. IsJoined side left right.now) }
+    ensures joined { IfOk result (λ subtree. IsJoined subtree left right.now) }
     ensures work { Costs work.old work.new 5 0 }
 {
     let (front, back) = open(work, right);
     if back.height() >= front.height() {
-        let front = fork_of(work, alloc, left, front.share()?)?;
-        return fork_of(work, alloc, front, back.share()?);
+        let front = branch_of(work, alloc, left, front.share()?)?;
+        return branch_of(work, alloc, front, back.share()?);
     }
     let (first, inner) = open(work, front);
-    let front = fork_of(work, alloc, left, first.share()?)?;
-    let back = fork_of(work, alloc, inner.share()?, back.share()?)?;
-    fork_of(work, alloc, front, back)
+    let front = branch_of(work, alloc, left, first.share()?)?;
+    let back = branch_of(work, alloc, inner.share()?, back.share()?)?;
+    branch_of(work, alloc, front, back)
 }
 
-/// One tree of two that differ in height by one at most: of two small blocks, one block.
+/// One tree of two that differ in height by one at most: of two small leaves, one leaf.
 #[inline(never)]
-#[tactic(auto, using(crate::proofs::lemmas::Forks::fork_size))]
-fn beside(work: &mut Work, alloc: Global, left: &Side, right: &Side) -> Result<Side, AllocError>
+#[tactic(auto, using(crate::proofs::lemmas::Branches::branch_size))]
+fn merge_or_branch(
+    work: &mut Work,
+    alloc: Global,
+    left: &Subtree,
+    right: &Subtree,
+) -> Result<Subtree, AllocError>
     requires near { DifferByAtMost 1 left.now.height right.now.height }
     requires short { joined_size left.now.texts + joined_size right.now.texts < 2 ^ 63 }
-    ensures joined { IfOk result (λ side. IsJoined side left.now right.now) }
+    ensures joined { IfOk result (λ subtree. IsJoined subtree left.now right.now) }
     ensures work { Costs work.old work.new 3 (16 * (1 - min left.now.height right.now.height)) }
 {
-    match merged(work, alloc, left, right)? {
-        Some(rows) => block_of(work, alloc, rows),
-        None => fork_of(work, alloc, left.share()?, right.share()?),
+    match merge_leaves(work, alloc, left, right)? {
+        Some(chunks) => leaf_of(work, alloc, chunks),
+        None => branch_of(work, alloc, left.share()?, right.share()?),
     }
 }
 
-/// The rows of two small blocks.
-fn merged(
+/// The chunks of two small leaves.
+fn merge_leaves(
     work: &mut Work,
     alloc: Global,
-    left: &Side,
-    right: &Side,
-) -> Result<Option<Vec<Row>>, AllocError>
-    ensures rows { IfOk result (λ o. IfSome o (λ rows. rows.items ≡ left.now.texts ++ right.now.texts)) }
-    ensures some { IfOk result (λ o. IfSome o (λ rows. 0 < length rows.items)) }
-    ensures few { IfOk result (λ o. IfSome o (λ rows. length rows.items ≤ max_rows)) }
+    left: &Subtree,
+    right: &Subtree,
+) -> Result<Option<Vec<Chunk>>, AllocError>
+    ensures chunks { IfOk result (λ o. IfSome o (λ chunks. chunks.items ≡ left.now.texts ++ right.now.texts)) }
+    ensures some { IfOk result (λ o. IfSome o (λ chunks. 0 < length chunks.items)) }
+    ensures few { IfOk result (λ o. IfSome o (λ chunks. length chunks.items ≤ leaf_capacity)) }
     ensures low { IfOk result (λ o. IfSome o (λ _. IsJoinedHeight left.now.height right.now.height 0)) }
     ensures work { Costs work.old work.new 2 (16 * (1 - min left.now.height right.now.height)) }
 {
-    let (Look::Rows(front), Look::Rows(back)) = (work.look(left), work.look(right)) else {
+    let (Below::Chunks(front), Below::Chunks(back)) = (work.look(left), work.look(right)) else {
         return Ok(None);
     };
     let all = front.len() + back.len();
-    if FEW_ROWS < all {
+    if HALF_LEAF < all {
         return Ok(None);
     }
-    let mut rows = Vec::with_capacity(alloc, all)?;
-    push_shared(work, &mut rows, front)?;
-    push_shared(work, &mut rows, back)?;
-    Ok(Some(rows))
+    let mut chunks = Vec::with_capacity(alloc, all)?;
+    push_shared(work, &mut chunks, front)?;
+    push_shared(work, &mut chunks, back)?;
+    Ok(Some(chunks))
 }

@@ -9,9 +9,9 @@ ghost use Rattle.text_summary.specs.Pieces.{joined};
 ghost use Rattle.text_rope.specs.Chunks.{IsRound};
 ghost use Rattle.text_rope.specs.Lines.{line_end, IsBreakLen};
 ghost use Rattle.text_rope.specs.Looks.{Asks};
-ghost use Rattle.text_rope.specs.States.{RowsState};
+ghost use Rattle.text_rope.specs.States.{RopeState};
 
-use crate::chunks::{Chunk, Found, chunk_in, found_in};
+use crate::chunks::{ChunkAt, ChunkAtCount, chunk_at_count_in, chunk_in};
 use crate::queries::{count_in, to_in};
 use crate::tree::View;
 use text_summary::Scheme;
@@ -27,7 +27,7 @@ pub struct Line {
     pub next: usize,
 }
 
-/// Line `k` by a scheme, counted from 0. Three questions: each at most 2 log₂ (rows + 1) looks, and one read.
+/// Line `k` by a scheme, counted from 0. Three questions: each at most 2 log₂ (chunks + 1) looks, and one read.
 ///
 /// In `Lf`, `Crlf` and `Lines` a break is what the scheme counts. `Chars` and `Utf16` know no breaks: there `start` and
 /// `next` are the byte indices of `k` and `k + 1`. The last line ends where the text does, and past it all three are that.
@@ -46,7 +46,7 @@ pub fn line_in(v: &mut View, s: Scheme, k: usize) -> Line
             next: len,
         };
     }
-    let Found { byte: next, chunk } = found_in(v, s, k + 1);
+    let ChunkAtCount { byte: next, chunk } = chunk_at_count_in(v, s, k + 1);
     let end = if has_breaks(s) {
         next - break_len_in(v, s, &chunk, next)
     } else {
@@ -62,9 +62,9 @@ fn has_breaks(s: Scheme) -> bool
     matches!(s, Scheme::Lf | Scheme::Crlf | Scheme::Lines)
 }
 
-/// How many bytes the break takes that ends at a boundary above 0, which a piece has in it or at its end. Looks at nodes
-/// only where that is an LF at the beginning of the piece.
-fn break_len_in(v: &mut View, s: Scheme, chunk: &Chunk<'_>, next: usize) -> usize
+/// How many bytes the break takes that ends at a boundary above 0, which a chunk has in it or at its end. Looks at nodes
+/// only where that is an LF at the beginning of the chunk.
+fn break_len_in(v: &mut View, s: Scheme, chunk: &ChunkAt<'_>, next: usize) -> usize
     requires chunk { IsRound (joined v.old.texts) (chars chunk.now.text.now) chunk.now.start next }
     requires boundary { IsBoundary (joined v.old.texts) next }
     requires above { chunk.now.start < next }
@@ -87,9 +87,9 @@ fn pairs_returns(s: Scheme) -> bool
     !matches!(s, Scheme::Lf)
 }
 
-/// Whether CR ends at a boundary, which a piece has in it or at an end.
+/// Whether CR ends at a boundary, which a chunk has in it or at an end.
 #[tactic(auto, using(crate::proofs::lemmas::Asking::power_one))]
-fn is_after_return_in(v: &mut View, chunk: &Chunk<'_>, at: usize) -> bool
+fn is_after_return_in(v: &mut View, chunk: &ChunkAt<'_>, at: usize) -> bool
     requires chunk { IsRound (joined v.old.texts) (chars chunk.now.text.now) chunk.now.start at }
     requires boundary { IsBoundary (joined v.old.texts) at }
     ensures after { IsTrue result ↔ IsEndOf (joined v.old.texts) carriage_return at }
@@ -110,7 +110,7 @@ fn is_after_return_in(v: &mut View, chunk: &Chunk<'_>, at: usize) -> bool
     }
 }
 
-/// The character before a boundary, none at the beginning.
+/// The char before a boundary, none at the beginning.
 fn last_before(text: &str, at: usize) -> Option<char>
     requires { IsBoundary (chars text.now) at }
     ensures some { IfSome result (λ c. IsEndOf (chars text.now) c at) }

@@ -1,4 +1,4 @@
-//! The rows of a text, as the parts in which positions are searched.
+//! The chunks of a text, as the parts in which positions are searched.
 ghost use Rattle.std.specs.Prelude.{◌≡◌, ◌≢◌, [], IsTrue, chars};
 ghost use Rattle.str_indices.specs.Starts.{IsGreatestBoundary};
 ghost use Rattle.str_indices.specs.Schemes.{count};
@@ -9,10 +9,10 @@ ghost use Rattle.positions.specs.Parts.{IsPart, PartsState};
 ghost use Rattle.text_rope.specs.Looks.{Asks};
 ghost use Rattle.text_rope.specs.Parts.{parts_of};
 ghost use Rattle.text_rope.specs.Places.{IsPlaced};
-ghost use Rattle.text_rope.specs.States.{RowsState};
+ghost use Rattle.text_rope.specs.States.{RopeState};
 
 use crate::chunks::chunk_in;
-use crate::queries::{Place, from_in, place_at, place_of, to_in};
+use crate::queries::{Placed, from_in, place_at, place_of, to_in};
 use crate::tree::View;
 use byte_chunk::Chunk;
 use positions::{Encoding, LineType, Part, Parts, char_start, unit_scheme};
@@ -29,17 +29,17 @@ impl<'a> Parts<'a> for View<'a> {
     fn count(&self, lines: LineType) -> usize {
         match self.root() {
             None => 0,
-            Some(side) => side.summary().count(lines.scheme()),
+            Some(subtree) => subtree.summary().count(lines.scheme()),
         }
     }
 
     fn part_of_byte(&mut self, lines: LineType, encoding: Encoding, byte: usize) -> Part<'a> {
-        let Some(side) = self.root() else {
+        let Some(subtree) = self.root() else {
             return Part::of_nothing();
         };
-        // the last row has the text's end too
-        let last = side.summary().len - 1;
-        let place = place_at(self, side, lines.scheme(), byte.min(last));
+        // the last chunk has the text's end too
+        let last = subtree.summary().len - 1;
+        let place = place_at(self, subtree, lines.scheme(), byte.min(last));
         self.read();
         part_in(self, lines, encoding, &place)
     }
@@ -48,10 +48,10 @@ impl<'a> Parts<'a> for View<'a> {
         if line == 0 {
             return self.part_of_byte(lines, encoding, 0);
         }
-        let Some(side) = self.root() else {
+        let Some(subtree) = self.root() else {
             return Part::of_nothing();
         };
-        let place = place_of(self, side, lines.scheme(), line);
+        let place = place_of(self, subtree, lines.scheme(), line);
         self.read();
         part_in(self, lines, encoding, &place)
     }
@@ -83,27 +83,27 @@ fn is_ascii(v: &View) -> bool
 {
     match v.root() {
         None => true,
-        Some(side) => side.summary().chars == side.summary().len,
+        Some(subtree) => subtree.summary().chars == subtree.summary().len,
     }
 }
 
-/// The part that a row is, by what is known of the text before it: its line breaks and its bytes, and so its units only where
+/// The part that a chunk is, by what is known of the text before it: its line breaks and its bytes, and so its units only where
 /// these are bytes.
 #[inline(always)]
-fn part_in<'a>(v: &View<'_>, lines: LineType, encoding: Encoding, place: &Place<'a>) -> Part<'a>
-    requires { IsPlaced (scheme_of lines) v.now.texts place.now.row.now place.now.before }
+fn part_in<'a>(v: &View<'_>, lines: LineType, encoding: Encoding, place: &Placed<'a>) -> Part<'a>
+    requires { IsPlaced (scheme_of lines) v.now.texts place.now.chunk.now place.now.before }
     ensures part { IsPart (joined v.now.texts) lines encoding result }
-    ensures text { chars result.text.now ≡ place.now.row.now }
-    ensures some { place.now.row.now ≢ [] }
+    ensures text { chars result.text.now ≡ place.now.chunk.now }
+    ensures some { place.now.chunk.now ≢ [] }
     ensures start { result.start ≡ place.now.before.len }
 {
     let _len = v.len();
-    let Place { row, before } = *place;
-    let own = row.summary();
-    Part::of_piece(lines, encoding, row.text(), &before, &own)
+    let Placed { chunk, before } = *place;
+    let own = chunk.summary();
+    Part::of_piece(lines, encoding, chunk.text(), &before, &own)
 }
 
-/// The greatest byte index between characters that is at most this one, in as many looks and reads at most as a question.
+/// The greatest byte index between chars that is at most this one, in as many looks and reads at most as a question.
 fn char_start_in(v: &mut View, byte: usize) -> usize
     ensures answer { IsGreatestBoundary (joined v.old.texts) byte result }
     ensures cost { Asks 1 v.old v.new }

@@ -1,4 +1,4 @@
-//! A text that is kept in a balanced tree of its rows.
+//! A text that is kept in a balanced tree of its chunks.
 ghost use Rattle.std.specs.Prelude.{◌≡◌, ◌≢◌, ◌+◌, ◌-◌, ◌*◌, ◌^◌, ◌<◌, ◌≤◌, ◌↔◌, ◌⊎◌, [], ◌++◌, chars, length, encode_utf8_all, Err, IsOk, IsErr, IsErrOf, IsTrue, IsOkUnless, IsSome, IfSome, IfOk, OnOk, OnErr};
 ghost use Rattle.str_indices.specs.Relations.{IsBoundary};
 ghost use Rattle.str_indices.specs.Schemes.{count, from_byte_idx, to_byte_idx};
@@ -8,20 +8,20 @@ ghost use Rattle.text_summary.specs.Pieces.{joined};
 ghost use Rattle.text_rope.specs.Chunks.{IsChunkAt, ChunksState, IsCopied, IsRead};
 ghost use Rattle.text_rope.specs.Edits.{IsCutAt};
 ghost use Rattle.text_rope.specs.Lines.{line_end};
-ghost use Rattle.text_rope.specs.Rows.{max_piece, min_piece, IsFilled};
-ghost use Rattle.text_rope.specs.States.{RowsState};
+ghost use Rattle.text_rope.specs.ChunkSizes.{max_chunk, min_chunk, IsFilled};
+ghost use Rattle.text_rope.specs.States.{RopeState};
 ghost use Rattle.text_rope.specs.Work.{WorkState, TakesLog};
 ghost use Rattle.text_rope.specs.declared.refusals.Refusal.TheVariants.{NotOrdered, NotBoundary, TooLong, NoMemory};
 
-use crate::changes::appended;
+use crate::changes::append_trees;
+use crate::chunk::{MAX_CHUNK, Unplaced};
 use crate::copies::{read_at, read_chunks};
-use crate::edits::exchanged;
+use crate::edits::replace_text;
 use crate::loads::tree_from;
-use crate::row::{MAX_PIECE, Unplaced};
 use crate::tree::Tree;
 use crate::work::Work;
 use crate::{
-    Chunk, Chunks, Line, Refusal, Scheme, View, chunk_in, count_in, from_in, is_boundary_in,
+    ChunkAt, Chunks, Line, Refusal, Scheme, View, chunk_in, count_in, from_in, is_boundary_in,
     line_in, to_in,
 };
 use std::alloc::{AllocError, Global};
@@ -32,9 +32,9 @@ use std::ops::Range;
 /// The greatest length of a text in bytes.
 const MAX_LEN: usize = isize::MAX as usize;
 
-/// A text that is kept in a balanced tree of its rows. A contract sees the text, the list of its characters.
+/// A text that is kept in a balanced tree of its chunks. A contract sees the text, the list of its chars.
 ///
-/// A question looks at a number of nodes that is logarithmic in the number of rows, and reads one row at most; a line asks up to
+/// A question looks at a number of nodes that is logarithmic in the number of chunks, and reads one chunk at most; a line asks up to
 /// three.
 #[derive(Drop)]
 pub struct Rope {
@@ -52,7 +52,7 @@ impl Model for Rope {
 }
 
 impl Rope {
-    /// An empty text. Takes no memory, and keeps the allocator for the rows to come.
+    /// An empty text. Takes no memory, and keeps the allocator for the chunks to come.
     pub fn new(alloc: Global) -> Rope
         ensures { result ≡ [] }
     {
@@ -62,7 +62,7 @@ impl Rope {
         }
     }
 
-    /// A rope of a text, in chunks of at most `MAX_PIECE` bytes. It is `NoMemory` where memory was refused; an empty text takes
+    /// A rope of a text, in chunks of at most `MAX_CHUNK` bytes. It is `NoMemory` where memory was refused; an empty text takes
     /// none.
     pub fn from_str(alloc: Global, text: &str) -> Result<Rope, Refusal>
         ensures ok { IfOk result (λ rope. rope ≡ chars text.now) }
@@ -75,10 +75,10 @@ impl Rope {
         if MAX_LEN < text.len() {
             return Err(Refusal::NoMemory);
         }
-        match tree_from(&mut Work::none(), alloc, text) {
-            Ok(tree) => Ok(Rope { tree, alloc }),
-            Err(_) => Err(Refusal::NoMemory),
-        }
+        Ok(Rope {
+            tree: tree_from(&mut Work::none(), alloc, text)?,
+            alloc,
+        })
     }
 
     /// A second rope with this text, in one step, whatever its length: a change of either leaves the other. It is
@@ -88,13 +88,11 @@ impl Rope {
         ensures empty { self.now ≡ [] → IsOk result }
         ensures no_other { IsOkUnless result NoMemory }
     {
-        match self.tree.share() {
-            Ok(tree) => Ok(Rope {
-                tree,
-                alloc: self.alloc,
-            }),
-            Err(_) => Err(Refusal::NoMemory),
-        }
+        let tree = self.tree.share()?;
+        Ok(Rope {
+            tree,
+            alloc: self.alloc,
+        })
     }
 
     /// How many bytes the text has.
@@ -114,18 +112,18 @@ impl Rope {
 
     /// The text as a question with counted looks and reads sees it: `count_in`, `from_in`, `to_in`, `line_in`, `is_boundary_in`.
     ///
-    /// Each row has `MIN_PIECE` bytes or more where there are several, so a text of n bytes has at most n / `MIN_PIECE` + 1 rows.
+    /// Each chunk has `MIN_CHUNK` bytes or more where there are several, so a text of n bytes has at most n / `MIN_CHUNK` + 1 chunks.
     pub fn view(&self) -> View<'_>
         ensures text { joined result.texts ≡ self.now }
         ensures filled { IsFilled result.texts }
-        ensures few { min_piece * length result.texts ≤ size self.now + min_piece }
+        ensures few { min_chunk * length result.texts ≤ size self.now + min_chunk }
         ensures looks { result.looks ≡ 0 }
         ensures reads { result.reads ≡ 0 }
     {
         self.tree.view()
     }
 
-    /// How many characters, UTF-16 code units or line breaks the text has.
+    /// How many chars, UTF-16 code units or line breaks the text has.
     pub fn count(&self, s: Scheme) -> usize
         ensures { result ≡ count s self.now }
     {
@@ -167,24 +165,24 @@ impl Rope {
         is_boundary_in(&mut self.view(), byte_idx)
     }
 
-    /// A part of the text that a byte is in, of at most `MAX_PIECE` bytes, and where it starts; none from the end of the text
+    /// A part of the text that a byte is in, of at most `MAX_CHUNK` bytes, and where it starts; none from the end of the text
     /// on.
-    pub fn chunk_at(&self, byte_idx: usize) -> Option<Chunk<'_>>
+    pub fn chunk_at(&self, byte_idx: usize) -> Option<ChunkAt<'_>>
         ensures chunk { IfSome result (λ chunk. IsChunkAt self.now (chars chunk.text.now) chunk.start byte_idx) }
-        ensures piece { IfSome result (λ chunk. size (chars chunk.text.now) ≤ max_piece) }
+        ensures piece { IfSome result (λ chunk. size (chars chunk.text.now) ≤ max_chunk) }
         ensures some { IsSome result ↔ (byte_idx < size self.now) }
     {
         chunk_in(&mut self.view(), byte_idx)
     }
 
-    /// The text in order, in parts of at most `MAX_PIECE` bytes; their join is the text.
+    /// The text in order, in parts of at most `MAX_CHUNK` bytes; their join is the text.
     pub fn chunks(&self) -> Chunks<'_>
         ensures { result ≡ record { text = self.now; at = 0; end = size self.now } }
     {
         Chunks::of(&self.tree, 0, self.len())
     }
 
-    /// The text between two byte indices, each between chars, in order, in parts of at most `MAX_PIECE` bytes.
+    /// The text between two byte indices, each between chars, in order, in parts of at most `MAX_CHUNK` bytes.
     ///
     /// It is `NotOrdered` where the first index is above the second, and else `NotBoundary` where one is inside a char or
     /// past the end.
@@ -193,8 +191,8 @@ impl Rope {
         ensures not_ordered { IsErrOf result NotOrdered ↔ (range.end < range.start) }
         ensures not_boundary { IsErrOf result NotBoundary
             ↔ ((range.start ≤ range.end) × ¬ (IsBoundary self.now range.start × IsBoundary self.now range.end)) }
-        ensures too_long { ¬ (IsErrOf result TooLong) }
-        ensures no_memory { ¬ (IsErrOf result NoMemory) }
+        ensures too_long { result ≢ Err TooLong }
+        ensures no_memory { result ≢ Err NoMemory }
     {
         if range.end < range.start {
             return Err(Refusal::NotOrdered);
@@ -205,11 +203,11 @@ impl Rope {
         Ok(Chunks::of(&self.tree, range.start, range.end))
     }
 
-    /// Writes the bytes between two byte indices, each between characters, to the beginning of a room, and answers how many
+    /// Writes the bytes between two byte indices, each between chars, to the beginning of a room, and answers how many
     /// they are.
     ///
     /// After a refusal the room is as before. It is `NotOrdered` where the first index is above the second, or else
-    /// `NotBoundary` where one is inside a character or past the end, and else `TooLong` where the room is shorter than
+    /// `NotBoundary` where one is inside a char or past the end, and else `TooLong` where the room is shorter than
     /// that part.
     pub fn copy_to(&self, range: Range<usize>, room: &mut [u8]) -> Result<usize, Refusal>
         ensures ok { IfOk result (λ n. IsCopied self.now range.start range.end n room.old room.new) }
@@ -220,7 +218,7 @@ impl Rope {
         ensures too_long { IsErrOf result TooLong
             ↔ ((range.start ≤ range.end) × (IsBoundary self.now range.start × IsBoundary self.now range.end)
             × (range.start + length room.old < range.end)) }
-        ensures no_memory { ¬ (IsErrOf result NoMemory) }
+        ensures no_memory { result ≢ Err NoMemory }
     {
         if range.end < range.start {
             return Err(Refusal::NotOrdered);
@@ -237,7 +235,7 @@ impl Rope {
 
     /// Writes the bytes from a byte index on to the beginning of a room, as far as there is room, and answers how many.
     ///
-    /// The index may be any, and so may the last byte that is written: both may be inside a character. None are written
+    /// The index may be any, and so may the last byte that is written: both may be inside a char. None are written
     /// from the text's end on.
     pub fn read_at(&self, byte_idx: usize, room: &mut [u8]) -> usize
         ensures { IsRead (encode_utf8_all self.now) byte_idx result room.old room.new }
@@ -266,7 +264,7 @@ impl Rope {
         if range.end < range.start {
             return Err(Refusal::NotOrdered);
         }
-        self.exchange(&mut Work::none(), range.start, range.end, text)
+        self.replace_range(&mut Work::none(), range.start, range.end, text)
     }
 
     /// Inserts a text at a byte index between chars.
@@ -283,7 +281,7 @@ impl Rope {
         ensures no_memory { IsErrOf result NoMemory → chars text.now ≢ [] }
         ensures not_ordered { result ≢ Err NotOrdered }
     {
-        self.exchange(&mut Work::none(), at, at, text)
+        self.replace_range(&mut Work::none(), at, at, text)
     }
 
     /// Removes the text between two byte indices, each between chars.
@@ -305,7 +303,7 @@ impl Rope {
             return Err(Refusal::NotOrdered);
         }
         let _len = self.len();
-        self.exchange(&mut Work::none(), range.start, range.end, "")?;
+        self.replace_range(&mut Work::none(), range.start, range.end, "")?;
         Ok(())
     }
 
@@ -335,39 +333,34 @@ impl Rope {
         self.append_some(&mut Work::none(), other)
     }
 
-    /// The same where neither is empty. One row is put in as a text is, and two trees are joined.
+    /// The same where neither is empty. One chunk is put in as a text is, and two trees are joined.
     fn append_some(&mut self, work: &mut Work, other: &mut Rope) -> Result<(), Refusal>
         requires short { size self.old + size other.old < 2 ^ 63 }
         ensures ok { OnOk result (self.new ≡ self.old ++ other.old) }
         ensures moved { OnOk result (other.new ≡ []) }
         ensures err { OnErr result ((self.new ≡ self.old) × (other.new ≡ other.old)) }
         ensures no_other { IsOkUnless result NoMemory }
-        ensures work { TakesLog 54 241 (size self.old + size other.old) max_piece work.old work.new }
+        ensures work { TakesLog 54 241 (size self.old + size other.old) max_chunk work.old work.new }
     {
         let len = self.len();
-        if let Some(row) = other.tree.only_row() {
-            self.exchange(work, len, len, row.text())?;
+        if let Some(chunk) = other.tree.only_chunk() {
+            self.replace_range(work, len, len, chunk.text())?;
             other.tree = Tree::of(None);
             return Ok(());
         }
-        if let Some(row) = self.tree.only_row() {
-            other.exchange(work, 0, 0, row.text())?;
+        if let Some(chunk) = self.tree.only_chunk() {
+            other.replace_range(work, 0, 0, chunk.text())?;
             self.tree = mem::replace(&mut other.tree, Tree::of(None));
             return Ok(());
         }
-        match appended(work, self.alloc, &self.tree, &other.tree) {
-            Ok(tree) => {
-                self.tree = tree;
-                other.tree = Tree::of(None);
-                Ok(())
-            }
-            Err(_) => Err(Refusal::NoMemory),
-        }
+        self.tree = append_trees(work, self.alloc, &self.tree, &other.tree)?;
+        other.tree = Tree::of(None);
+        Ok(())
     }
 
     /// Takes what is from a byte index on out of the text, into a rope of its own.
     ///
-    /// After a refusal every answer is as before. It is `NotBoundary` where the byte index is inside a character or past
+    /// After a refusal every answer is as before. It is `NotBoundary` where the byte index is inside a char or past
     /// the end, and else `NoMemory` where memory was refused, of which it takes none at the beginning and the end.
     pub fn split_off(&mut self, at: usize) -> Result<Rope, Refusal>
         ensures ok { IfOk result (λ back. IsCutAt self.old self.new back at) }
@@ -380,10 +373,7 @@ impl Rope {
         if !self.is_char_boundary(at) {
             return Err(Refusal::NotBoundary);
         }
-        match self.cut(&mut Work::none(), at) {
-            Ok(back) => Ok(back),
-            Err(_) => Err(Refusal::NoMemory),
-        }
+        Ok(self.cut(&mut Work::none(), at)?)
     }
 
     /// Cuts the text at a boundary: what is from there on is the result.
@@ -413,7 +403,7 @@ impl Rope {
         Ok(back)
     }
 
-    /// Takes out what is from a boundary on: in place where one row has it and no node on the way is shared.
+    /// Takes out what is from a boundary on: in place where one chunk has it and no node on the way is shared.
     fn take_end(&mut self, work: &mut Work, at: usize) -> Result<(), AllocError>
         requires { IsBoundary self.old at }
         ensures ok { OnOk result (IsReplaced self.old self.new at (size self.old) []) }
@@ -427,9 +417,9 @@ impl Rope {
         }
     }
 
-    /// Exchanges what is between two byte indices, each between characters, for a text: in place where no node on the way is
-    /// shared and one row has room for it.
-    fn exchange(
+    /// Replaces what is between two byte indices, each between chars, by a text: in place where no node on the way is
+    /// shared and one chunk has room for it.
+    fn replace_range(
         &mut self,
         work: &mut Work,
         from: usize,
@@ -455,18 +445,18 @@ impl Rope {
             self.tree = Tree::of(None);
             return Ok(());
         }
-        if MAX_PIECE < text.len() || MAX_LEN - (len - (to - from)) < text.len() {
-            return self.exchange_beside(work, from, to, text);
+        if MAX_CHUNK < text.len() || MAX_LEN - (len - (to - from)) < text.len() {
+            return self.replace_range_beside(work, from, to, text);
         }
         match self.tree.replace_in_place(work, from, to, text) {
             Ok(()) => Ok(()),
             Err(Unplaced::NotBoundary) => Err(Refusal::NotBoundary),
-            Err(Unplaced::NoRoom) => self.exchange_beside(work, from, to, text),
+            Err(Unplaced::NoRoom) => self.replace_range_beside(work, from, to, text),
         }
     }
 
     /// The same where it is not done in place.
-    fn exchange_beside(
+    fn replace_range_beside(
         &mut self,
         work: &mut Work,
         from: usize,
@@ -494,13 +484,10 @@ impl Rope {
         if from == to && text.is_empty() {
             return Ok(());
         }
-        match self.rewrite(work, from, to, text) {
-            Ok(()) => Ok(()),
-            Err(_) => Err(Refusal::NoMemory),
-        }
+        Ok(self.rewrite(work, from, to, text)?)
     }
 
-    /// Exchanges what is between two boundaries for a text: all is made beside the tree, and the root is exchanged last.
+    /// Replaces what is between two boundaries by a text: all is made beside the tree, and the root is replaced last.
     fn rewrite(
         &mut self,
         work: &mut Work,
@@ -516,7 +503,7 @@ impl Rope {
         ensures err { OnErr result (self.new ≡ self.old) }
         ensures work { TakesLog 53 240 (size self.old) (length text.now) work.old work.new }
     {
-        self.tree = exchanged(work, self.alloc, &self.tree, from, to, text)?;
+        self.tree = replace_text(work, self.alloc, &self.tree, from, to, text)?;
         Ok(())
     }
 }

@@ -1,4 +1,4 @@
-//! A row that another takes the place of, weighed by the summaries of both.
+//! A chunk that another takes the place of, weighed by the summaries of both.
 ghost use Rattle.std.specs.Prelude.{◌≡◌, ◌++◌, true};
 ghost use Rattle.str_indices.specs.Text.{Text};
 ghost use Rattle.text_summary.specs.Summaries.{summary_of};
@@ -6,7 +6,7 @@ ghost use Rattle.text_rope.specs.Shifts.{IsShift, FitsShift};
 
 use text_summary::Summary;
 
-/// The summaries of a row before and after a change.
+/// The summaries of a chunk before and after a change.
 #[derive(Clone, Copy)]
 pub(crate) struct Shift {
     pub(crate) out: Summary,
@@ -22,7 +22,7 @@ impl Shift {
         }
     }
 
-    /// Whether the row starts with LF as before or not, and ends in CR as before or not: so nothing has to be known of the text
+    /// Whether the chunk starts with LF as before or not, and ends in CR as before or not: so nothing has to be known of the text
     /// round it.
     pub(crate) fn keeps_ends(&self) -> bool
         ensures starts { result ≡ true → self.now.own.starts_lf ≡ self.now.out.starts_lf }
@@ -32,7 +32,7 @@ impl Shift {
     }
 }
 
-/// Brings the summary of a text up to date in which a row has changed so. The row keeps its ends, and so does the text.
+/// Brings the summary of a text up to date in which a chunk has changed so. The chunk keeps its ends, and so does the text.
 pub(crate) fn shift_by(whole: &mut Summary, shift: &Shift)
     requires fits { FitsShift whole.old shift.now }
     requires starts { shift.now.own.starts_lf ≡ shift.now.out.starts_lf }

@@ -1,34 +1,34 @@
-//! A balanced tree of rows, whose nodes may have several owners.
+//! A balanced tree of chunks, whose nodes may have several owners.
 ghost use Rattle.std.specs.Prelude.{◌≡◌, ◌≢◌, ◌+◌, ◌-◌, ◌^◌, ◌<◌, ◌≤◌, [], ◌∷◌, ◌++◌, ◌⊎◌, chars, length, Err, IsNone, IsOk, IfSome, IfOk, OnOk, OnErr};
 ghost use Rattle.str_indices.specs.Relations.{IsBoundary};
 ghost use Rattle.str_indices.specs.Text.{size};
 ghost use Rattle.text_summary.specs.Changes.{IsReplaced};
 ghost use Rattle.text_summary.specs.Pieces.{joined, joined_size};
 ghost use Rattle.text_summary.specs.Summaries.{summary_of};
-ghost use Rattle.text_rope.specs.Blocks.{max_rows, AreSome};
-ghost use Rattle.text_rope.specs.Shapes.{DifferByAtMost, IsBlockOf, IsForkOf, fewest};
+ghost use Rattle.text_rope.specs.Leaves.{leaf_capacity, AreSome};
+ghost use Rattle.text_rope.specs.Shapes.{DifferByAtMost, IsLeafOf, IsBranchOf, fewest};
 ghost use Rattle.text_rope.specs.Looks.{IsLookAt};
 ghost use Rattle.text_rope.specs.Shifts.{IsChangedIn, IsOneChanged};
-ghost use Rattle.text_rope.specs.States.{RowsState, texts_of, texts_under};
-ghost use Rattle.text_rope.specs.Rows.{min_piece, IsFilled};
-ghost use Rattle.text_rope.specs.Views.{IsFork, seen};
+ghost use Rattle.text_rope.specs.States.{RopeState, texts_of, texts_under};
+ghost use Rattle.text_rope.specs.ChunkSizes.{min_chunk, IsFilled};
+ghost use Rattle.text_rope.specs.Views.{IsBranch, seen};
 ghost use Rattle.text_rope.specs.Work.{WorkState, Costs, TakesLog};
-ghost use Rattle.text_rope.specs.declared.row.Unplaced.TheVariants.{NotBoundary};
+ghost use Rattle.text_rope.specs.declared.chunk.Unplaced.TheVariants.{NotBoundary};
 
-use crate::block::{Block, summary_of_rows};
-use crate::row::{MIN_PIECE, Row, Unplaced};
+use crate::chunk::{Chunk, MIN_CHUNK, Unplaced};
+use crate::leaf::{Leaf, summary_of_chunks};
 use crate::shifts::{Shift, shift_by};
 use crate::work::Work;
 use byte_chunk::Counter;
 use std::alloc::{AllocError, Global};
 use std::marker::Model;
 use std::sync::Arc;
-use text_summary::{Summary, joined};
+use text_summary::{Summary, join_summaries};
 
-/// A tree and the summary of its text, which is not empty. A contract sees the texts of its rows in order, and its height.
+/// A tree and the summary of its text, which is not empty. A contract sees the texts of its chunks in order, and its height.
 #[cycle(tree)]
 #[derive(Drop)]
-pub(crate) struct Side {
+pub(crate) struct Subtree {
     node: Node,
     summary: Summary,
 }
@@ -36,20 +36,20 @@ pub(crate) struct Side {
 #[cycle(tree)]
 #[derive(Drop)]
 enum Node {
-    Block(Arc<Block>),
-    Fork(Arc<Fork>),
+    Leaf(Arc<Leaf>),
+    Branch(Arc<Branch>),
 }
 
 /// Two trees, one after the other. A way down reads the summary of the left one here.
 #[cycle(tree)]
 #[derive(Drop)]
-struct Fork {
-    left: Side,
-    right: Side,
+struct Branch {
+    left: Subtree,
+    right: Subtree,
     height: usize,
 }
 
-impl Model for Side {
+impl Model for Subtree {
     ghost use Rattle.text_rope.specs.Shapes.{Seen};
 
     ghost Value = { Seen };
@@ -70,14 +70,14 @@ impl Model for Side {
 
 /// What a tree consists of.
 #[derive(Clone, Copy)]
-pub(crate) enum Look<'a> {
-    Rows(&'a [Row]),
-    Sides(&'a Side, &'a Side),
+pub(crate) enum Below<'a> {
+    Chunks(&'a [Chunk]),
+    Subtrees(&'a Subtree, &'a Subtree),
 }
 
-impl Side {
+impl Subtree {
     /// The summary of its text.
-    #[tactic(auto, using(crate::proofs::lemmas::Rows::few_some))]
+    #[tactic(auto, using(crate::proofs::lemmas::ChunkSizes::few_some))]
     pub(crate) fn summary(&self) -> &Summary
         ensures summary { result.now ≡ summary_of (joined self.now.texts) }
         ensures some { 0 < length self.now.texts }
@@ -89,8 +89,8 @@ impl Side {
         &self.summary
     }
 
-    /// How many levels of forks it has.
-    #[tactic(auto, using(crate::proofs::lemmas::Rows::few_some))]
+    /// How many levels of branches it has.
+    #[tactic(auto, using(crate::proofs::lemmas::ChunkSizes::few_some))]
     pub(crate) fn height(&self) -> usize
         ensures height { result ≡ self.now.height }
         ensures low { self.now.height < length self.now.texts }
@@ -98,43 +98,43 @@ impl Side {
         ensures short { self.now.height < 2 ^ 63 }
     {
         match &self.node {
-            Node::Block(_) => 0,
-            Node::Fork(fork) => fork.height,
+            Node::Leaf(_) => 0,
+            Node::Branch(branch) => branch.height,
         }
     }
 
     /// What it consists of.
-    #[tactic(auto, using(crate::proofs::lemmas::Forks::fork_size))]
-    pub(crate) fn look(&self) -> Look<'_>
+    #[tactic(auto, using(crate::proofs::lemmas::Branches::branch_size))]
+    pub(crate) fn look(&self) -> Below<'_>
         ensures { IsLookAt self.now result }
     {
         match &self.node {
-            Node::Block(block) => Look::Rows(block.rows()),
-            Node::Fork(fork) => {
-                let fork: &Fork = fork;
-                Look::Sides(&fork.left, &fork.right)
+            Node::Leaf(leaf) => Below::Chunks(leaf.chunks()),
+            Node::Branch(branch) => {
+                let branch: &Branch = branch;
+                Below::Subtrees(&branch.left, &branch.right)
             }
         }
     }
 
     /// The same tree once more. Copies no node.
-    pub(crate) fn share(&self) -> Result<Side, AllocError>
-        ensures { IfOk result (λ side. side ≡ self.now) }
+    pub(crate) fn share(&self) -> Result<Subtree, AllocError>
+        ensures { IfOk result (λ subtree. subtree ≡ self.now) }
     {
         let node = match &self.node {
-            Node::Block(block) => Node::Block(Arc::try_clone(block)?),
-            Node::Fork(fork) => Node::Fork(Arc::try_clone(fork)?),
+            Node::Leaf(leaf) => Node::Leaf(Arc::try_clone(leaf)?),
+            Node::Branch(branch) => Node::Branch(Arc::try_clone(branch)?),
         };
-        Ok(Side {
+        Ok(Subtree {
             node,
             summary: self.summary,
         })
     }
 
-    /// Exchanges what is between two byte indices for a text, in the one row that both are in, where no node on the way has
-    /// another owner and the row has room for it; else nothing changes. Copies no node.
+    /// Replaces what is between two byte indices by a text, in the one chunk that both are in, where no node on the way has
+    /// another owner and the chunk has room for it; else nothing changes. Copies no node.
     #[cycle(replace_in_place)]
-    #[tactic(auto, using(crate::proofs::lemmas::Forks::fork_size))]
+    #[tactic(auto, using(crate::proofs::lemmas::Branches::branch_size))]
     fn replace_in_place(
         &mut self,
         work: &mut Work,
@@ -161,22 +161,22 @@ impl Side {
         let _few = self.summary();
         work.make();
         match &mut self.node {
-            Node::Block(block) => match Arc::get_mut(block) {
-                Some(block) => block.replace_in_place(work, from, to, more, least, shift)?,
+            Node::Leaf(leaf) => match Arc::get_mut(leaf) {
+                Some(leaf) => leaf.replace_in_place(work, from, to, more, least, shift)?,
                 None => return Err(Unplaced::NoRoom),
             },
-            Node::Fork(fork) => match Arc::get_mut(fork) {
-                Some(fork) => fork.replace_in_place(work, from, to, more, least, shift)?,
+            Node::Branch(branch) => match Arc::get_mut(branch) {
+                Some(branch) => branch.replace_in_place(work, from, to, more, least, shift)?,
                 None => return Err(Unplaced::NoRoom),
             },
         }
-        follow(&mut self.summary, &self.node, shift);
+        update_summary(&mut self.summary, &self.node, shift);
         Ok(())
     }
 }
 
-impl Fork {
-    /// The same in the side that both indices are in.
+impl Branch {
+    /// The same in the subtree that both indices are in.
     #[cycle(replace_in_place)]
     fn replace_in_place(
         &mut self,
@@ -188,12 +188,12 @@ impl Fork {
         shift: &mut Shift,
     ) -> Result<(), Unplaced>
         requires some { 0 < least }
-        requires sound { IsFork self.old.left self.old.right self.old.height }
+        requires sound { IsBranch self.old.left self.old.right self.old.height }
         requires order { from ≤ to }
         requires within { to ≤ joined_size (self.old.left.texts ++ self.old.right.texts) }
         requires short { joined_size (self.old.left.texts ++ self.old.right.texts) + size (chars more.now)
             < 2 ^ 63 + (to - from) }
-        ensures sound { IsFork self.new.left self.new.right self.new.height }
+        ensures sound { IsBranch self.new.left self.new.right self.new.height }
         ensures height { self.new.height ≡ self.old.height }
         ensures changed { OnOk result (IsOneChanged (self.old.left.texts ++ self.old.right.texts)
             (self.new.left.texts ++ self.new.right.texts) from to (chars more.now) shift.new) }
@@ -220,9 +220,9 @@ impl Fork {
     }
 }
 
-/// Brings the summary of the text under a node up to date in which a row has changed. Reads no row, and sums them anew only
-/// where the row does not keep its ends.
-fn follow(whole: &mut Summary, node: &Node, shift: &Shift)
+/// Brings the summary of the text under a node up to date in which a chunk has changed. Reads no chunk, and sums them anew only
+/// where the chunk does not keep its ends.
+fn update_summary(whole: &mut Summary, node: &Node, shift: &Shift)
     requires { IsChangedIn whole.old (seen node.now).texts shift.now }
     ensures { whole.new ≡ summary_of (joined (seen node.now).texts) }
 {
@@ -233,65 +233,69 @@ fn follow(whole: &mut Summary, node: &Node, shift: &Shift)
     }
 }
 
-/// The summary of the text under a node, by those of its rows or trees.
+/// The summary of the text under a node, by those of its chunks or trees.
 fn summary_under(node: &Node) -> Summary
     requires { joined_size (seen node.now).texts < 2 ^ 63 }
     ensures { result ≡ summary_of (joined (seen node.now).texts) }
 {
     match node {
-        Node::Block(block) => summary_of_rows(block.rows()),
-        Node::Fork(fork) => joined(*fork.left.summary(), *fork.right.summary()),
+        Node::Leaf(leaf) => summary_of_chunks(leaf.chunks()),
+        Node::Branch(branch) => join_summaries(*branch.left.summary(), *branch.right.summary()),
     }
 }
 
-/// A tree of one block.
-pub(crate) fn block_of(work: &mut Work, alloc: Global, rows: Vec<Row>) -> Result<Side, AllocError>
-    requires some { 0 < length rows.items }
-    requires few { length rows.items ≤ max_rows }
-    requires short { joined_size rows.items < 2 ^ 63 }
-    ensures block { IfOk result (λ side. IsBlockOf side rows.items) }
+/// A tree of one leaf.
+pub(crate) fn leaf_of(
+    work: &mut Work,
+    alloc: Global,
+    chunks: Vec<Chunk>,
+) -> Result<Subtree, AllocError>
+    requires some { 0 < length chunks.items }
+    requires few { length chunks.items ≤ leaf_capacity }
+    requires short { joined_size chunks.items < 2 ^ 63 }
+    ensures leaf { IfOk result (λ subtree. IsLeafOf subtree chunks.items) }
     ensures work { Costs work.old work.new 1 0 }
 {
     work.make();
-    let summary = summary_of_rows(rows.as_slice());
-    let block = Arc::new(alloc, Block::of(rows))?;
-    Ok(Side {
-        node: Node::Block(block),
+    let summary = summary_of_chunks(chunks.as_slice());
+    let leaf = Arc::new(alloc, Leaf::of(chunks))?;
+    Ok(Subtree {
+        node: Node::Leaf(leaf),
         summary,
     })
 }
 
-/// A fork over two trees.
-#[tactic(auto, using(crate::proofs::lemmas::Forks::fork_size))]
-pub(crate) fn fork_of(
+/// A branch over two trees.
+#[tactic(auto, using(crate::proofs::lemmas::Branches::branch_size))]
+pub(crate) fn branch_of(
     work: &mut Work,
     alloc: Global,
-    left: Side,
-    right: Side,
-) -> Result<Side, AllocError>
+    left: Subtree,
+    right: Subtree,
+) -> Result<Subtree, AllocError>
     requires balanced { DifferByAtMost 1 left.height right.height }
     requires short { joined_size left.texts + joined_size right.texts < 2 ^ 63 }
-    ensures fork { IfOk result (λ side. IsForkOf side left right) }
+    ensures branch { IfOk result (λ subtree. IsBranchOf subtree left right) }
     ensures work { Costs work.old work.new 1 0 }
 {
     work.make();
     let height = left.height().max(right.height()) + 1;
-    let summary = joined(*left.summary(), *right.summary());
-    let fork = Fork {
+    let summary = join_summaries(*left.summary(), *right.summary());
+    let branch = Branch {
         left,
         right,
         height,
     };
-    Ok(Side {
-        node: Node::Fork(Arc::new(alloc, fork)?),
+    Ok(Subtree {
+        node: Node::Branch(Arc::new(alloc, branch)?),
         summary,
     })
 }
 
-/// A tree that may have no rows, and none that is short where it is not alone. A contract sees their texts in order.
+/// A tree that may have no chunks, and none that is short where it is not alone. A contract sees their texts in order.
 #[derive(Drop)]
 pub(crate) struct Tree {
-    root: Option<Side>,
+    root: Option<Subtree>,
 }
 
 impl Model for Tree {
@@ -304,47 +308,47 @@ impl Model for Tree {
 
     ghost view = { λ t. texts_of t.root };
 
-    ghost use Rattle.text_rope.specs.Rows.{IsFilled};
+    ghost use Rattle.text_rope.specs.ChunkSizes.{IsFilled};
 
     ghost invariant = { λ t. IsFilled (texts_of t.root) };
 }
 
 impl Tree {
-    /// A tree, or none where there are no rows.
-    pub(crate) fn of(root: Option<Side>) -> Tree
+    /// A tree, or none where there are no chunks.
+    pub(crate) fn of(root: Option<Subtree>) -> Tree
         requires { IsFilled (texts_of root) }
         ensures { result ≡ texts_of root }
     {
         Tree { root }
     }
 
-    /// The tree lent; none where there are no rows.
-    pub(crate) fn root(&self) -> Option<&Side>
-        ensures rows { texts_under result ≡ self.now }
+    /// The tree lent; none where there are no chunks.
+    pub(crate) fn root(&self) -> Option<&Subtree>
+        ensures chunks { texts_under result ≡ self.now }
         ensures filled { IsFilled self.now }
     {
         self.root.as_ref()
     }
 
-    /// Its row, where it has one alone.
-    pub(crate) fn only_row(&self) -> Option<&Row>
-        ensures some { IfSome result (λ row. self.now ≡ row.now ∷ []) }
+    /// Its chunk, where it has one alone.
+    pub(crate) fn only_chunk(&self) -> Option<&Chunk>
+        ensures some { IfSome result (λ chunk. self.now ≡ chunk.now ∷ []) }
         ensures none { IsNone result → length self.now ≢ 1 }
     {
         match self.root()?.look() {
-            Look::Rows(rows) if rows.len() == 1 => Some(&rows[0]),
+            Below::Chunks(chunks) if chunks.len() == 1 => Some(&chunks[0]),
             _ => None,
         }
     }
 
-    /// How many bytes a row has at least after a change: it may be short where it is alone.
+    /// How many bytes a chunk has at least after a change: it may be short where it is alone.
     fn least(&self) -> usize
         ensures some { 0 < result }
-        ensures full { (result ≡ min_piece) ⊎ (length self.now ≡ 1) }
+        ensures full { (result ≡ min_chunk) ⊎ (length self.now ≡ 1) }
     {
-        match self.only_row() {
+        match self.only_chunk() {
             Some(_) => 1,
-            None => MIN_PIECE,
+            None => MIN_CHUNK,
         }
     }
 
@@ -363,17 +367,17 @@ impl Tree {
     {
         match &self.root {
             None => Ok(Tree { root: None }),
-            Some(side) => {
-                let _some = side.summary();
+            Some(subtree) => {
+                let _some = subtree.summary();
                 Ok(Tree {
-                    root: Some(side.share()?),
+                    root: Some(subtree.share()?),
                 })
             }
         }
     }
 
-    /// Exchanges what is between two byte indices for a text, in the one row that both are in, where no node on the way has
-    /// another owner and the row has room for it; else nothing changes. Takes memory only where that row outgrows its own, or
+    /// Replaces what is between two byte indices by a text, in the one chunk that both are in, where no node on the way has
+    /// another owner and the chunk has room for it; else nothing changes. Takes memory only where that chunk outgrows its own, or
     /// shares it.
     pub(crate) fn replace_in_place(
         &mut self,
@@ -392,12 +396,12 @@ impl Tree {
         ensures work { TakesLog 1 1 (joined_size self.old) 0 work.old work.new }
     {
         let least = self.least();
-        let Some(side) = &mut self.root else {
+        let Some(subtree) = &mut self.root else {
             return Err(Unplaced::NoRoom);
         };
-        let _height = side.height();
-        let _short = side.summary();
-        side.replace_in_place(work, from, to, more, least, &mut Shift::none())
+        let _height = subtree.height();
+        let _short = subtree.summary();
+        subtree.replace_in_place(work, from, to, more, least, &mut Shift::none())
     }
 
     /// It as a question sees it, with nothing counted.
@@ -413,28 +417,28 @@ impl Tree {
     }
 }
 
-/// A tree as a question sees it: contracts see its rows, how many nodes were looked at, and how often a row was read.
+/// A tree as a question sees it: contracts see its chunks, how many nodes were looked at, and how often a chunk was read.
 ///
 /// It has the size of a reference: only contracts see its counters. It is neither `Copy` nor `Clone`, and a `Tree` alone
 /// lends it.
 #[derive(Drop)]
 pub struct View<'a> {
-    root: Option<&'a Side>,
+    root: Option<&'a Subtree>,
     looks: Counter,
     reads: Counter,
 }
 
 impl<'a> Model for View<'a> {
-    ghost use Rattle.text_rope.specs.States.{RowsState, texts_under};
+    ghost use Rattle.text_rope.specs.States.{RopeState, texts_under};
 
-    ghost Value = { RowsState };
+    ghost Value = { RopeState };
 
     ghost view = { λ v. record { texts = texts_under v.root; looks = v.looks; reads = v.reads } };
 }
 
 impl<'a> View<'a> {
-    /// Its root; none where there are no rows. Counts nothing.
-    pub(crate) fn root(&self) -> Option<&'a Side>
+    /// Its root; none where there are no chunks. Counts nothing.
+    pub(crate) fn root(&self) -> Option<&'a Subtree>
         ensures { texts_under result ≡ self.now.texts }
     {
         self.root
@@ -447,20 +451,20 @@ impl<'a> View<'a> {
     {
         match self.root {
             None => 0,
-            Some(side) => side.summary().len,
+            Some(subtree) => subtree.summary().len,
         }
     }
 
     /// What a tree consists of, for one look.
-    pub(crate) fn look<'b>(&mut self, side: &'b Side) -> Look<'b>
-        ensures look { IsLookAt side.now result }
+    pub(crate) fn look<'b>(&mut self, subtree: &'b Subtree) -> Below<'b>
+        ensures look { IsLookAt subtree.now result }
         ensures state { self.new ≡ record self.old { looks = self.old.looks + 1 } }
     {
         self.looks.tick();
-        side.look()
+        subtree.look()
     }
 
-    /// A row is read.
+    /// A chunk is read.
     pub(crate) fn read(&mut self)
         ensures { self.new ≡ record self.old { reads = self.old.reads + 1 } }
     {

@@ -3,16 +3,16 @@ ghost use Rattle.std.specs.Prelude.{◌≡◌, ◌+◌};
 ghost use Rattle.text_rope.specs.Looks.{IsLookAt};
 ghost use Rattle.text_rope.specs.Work.{WorkState};
 
-use crate::tree::{Look, Side};
+use crate::tree::{Below, Subtree};
 use byte_chunk::Counter;
 use std::marker::Model;
 
-/// How many nodes a change has looked at, made or changed, and how many rows it has put into another node or changed. It
+/// How many nodes a change has looked at, made or changed, and how many chunks it has put into another node or changed. It
 /// takes no memory.
 #[derive(Drop)]
 pub(crate) struct Work {
     nodes: Counter,
-    rows: Counter,
+    chunks: Counter,
 }
 
 impl Model for Work {
@@ -20,43 +20,43 @@ impl Model for Work {
 
     ghost Value = { WorkState };
 
-    ghost view = { λ w. record { nodes = w.nodes; rows = w.rows } };
+    ghost view = { λ w. record { nodes = w.nodes; chunks = w.chunks } };
 }
 
 impl Work {
     /// Nothing was done yet.
     pub(crate) fn none() -> Work
-        ensures { result ≡ record { nodes = 0; rows = 0 } }
+        ensures { result ≡ record { nodes = 0; chunks = 0 } }
     {
         Work {
             nodes: Counter::zero(),
-            rows: Counter::zero(),
+            chunks: Counter::zero(),
         }
     }
 
     /// What a tree consists of, for one node.
-    pub(crate) fn look<'a>(&mut self, side: &'a Side) -> Look<'a>
-        ensures look { IsLookAt side.now result }
+    pub(crate) fn look<'a>(&mut self, subtree: &'a Subtree) -> Below<'a>
+        ensures look { IsLookAt subtree.now result }
         ensures nodes { self.new.nodes ≡ self.old.nodes + 1 }
-        ensures rows { self.new.rows ≡ self.old.rows }
+        ensures chunks { self.new.chunks ≡ self.old.chunks }
     {
         self.make();
-        side.look()
+        subtree.look()
     }
 
     /// A node is made, or changed in place.
     pub(crate) fn make(&mut self)
         ensures nodes { self.new.nodes ≡ self.old.nodes + 1 }
-        ensures rows { self.new.rows ≡ self.old.rows }
+        ensures chunks { self.new.chunks ≡ self.old.chunks }
     {
         self.nodes.tick();
     }
 
-    /// A row is put into another node, without a copy of its text, or changed in place.
+    /// A chunk is put into another node, without a copy of its text, or changed in place.
     pub(crate) fn copy(&mut self)
         ensures nodes { self.new.nodes ≡ self.old.nodes }
-        ensures rows { self.new.rows ≡ self.old.rows + 1 }
+        ensures chunks { self.new.chunks ≡ self.old.chunks + 1 }
     {
-        self.rows.tick();
+        self.chunks.tick();
     }
 }

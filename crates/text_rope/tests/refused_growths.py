@@ -9,8 +9,8 @@ answer as before, and succeed at the second try. The second program compares the
 alone. The last runs come to an end with no growth refused. The rope is changed once more with a snapshot held before each
 step, which must keep its text.
 
-Then small_rows.rt.txt changes a rope at random beside a plain text, and compares what is answered of both, with no growth
-refused. Of the rope's rows and blocks small numbers are put into the copy of its library, so that the tree is deep.
+Then small_chunks.rt.txt changes a rope at random beside a plain text, and compares what is answered of both, with no growth
+refused. The copy of its library has small numbers for the rope's chunks and leaves, so that the tree is deep.
 The last line printed is 'N passed, M failed'.
 """
 import pathlib
@@ -115,8 +115,8 @@ PROGRAMS = (
 
 SMALL = (
     # the deepest trees: no two blocks go into one
-    Small({"row": (("MAX_PIECE", 16), ("STEP", 4)), "block": (("MAX_ROWS", 2),), "loads": (("LOADED_ROWS", 2),)}, ()),
-    Small({"row": (("MAX_PIECE", 64), ("STEP", 8)), "block": (("MAX_ROWS", 8),)}, (("CHANGES", 600), ("LONG", 2800))),
+    Small({"chunk": (("MAX_CHUNK", 16), ("STEP", 4)), "leaf": (("LEAF_CAPACITY", 2),), "loads": (("LOADED_LEAF", 2),)}, ()),
+    Small({"chunk": (("MAX_CHUNK", 64), ("STEP", 8)), "leaf": (("LEAF_CAPACITY", 8),)}, (("CHANGES", 600), ("LONG", 2800))),
 )
 
 REFUSED = "no memory, and all as before\n"
@@ -164,8 +164,8 @@ def try_program(program, tally):
             with open(folder / f"crates/{program.library}/src/{name}.rt", "a", encoding="utf-8") as library:
                 library.write(told)
         done = run_all(program, crate, folder / "cases")
-    if not tally.result(done.returncode == 0, f"{program.name} is built once, and comes to an end in {program.runs} runs"):
-        print(done.stdout + done.stderr)
+    ended = f"{program.name} is built once, and comes to an end in {program.runs} runs"
+    tally.result(done.returncode == 0, ended, done.stdout + done.stderr)
     outputs = outputs_of(done)
     refused = [number for number in range(1, program.runs + 1) if outputs.get(number) != program.made]
     for number in refused:
@@ -177,11 +177,11 @@ def try_program(program, tally):
 
 
 def try_small(small, tally):
-    """Changes a rope of small rows and blocks beside a plain text, and tells how many answers were compared."""
+    """Changes a rope of small chunks and leaves beside a plain text, and tells how many answers were compared."""
     with tempfile.TemporaryDirectory() as folder:
         folder = pathlib.Path(folder)
-        source = source_of("small_rows", small.numbers)
-        crate = copy_program("small_rows", ["text_rope"], source, folder, left_out=LEFT_OUT)
+        source = source_of("small_chunks", small.numbers)
+        crate = copy_program("small_chunks", ["text_rope"], source, folder, left_out=LEFT_OUT)
         shutil.copy(ROOT / "crates/text_tests/src/random.rt", crate / "src")
         for name, numbers in small.sources.items():
             path = folder / f"crates/text_rope/src/{name}.rt"
@@ -189,8 +189,8 @@ def try_small(small, tally):
         command = ["rt", "try", "--steps", "1", "--seconds", "900"]
         done = subprocess.run(command, cwd=crate, capture_output=True, text=True)
     told = re.match("([0-9]+) answers, .*", done.stdout)
-    if not tally.result(done.returncode == 0 and told is not None, f"small rows: {told[0] if told else 'no answers'}"):
-        print(done.stdout + done.stderr)
+    right = done.returncode == 0 and told is not None
+    tally.result(right, f"small chunks: {told[0] if told else 'no answers'}", done.stdout + done.stderr)
     return int(told[1]) if told else 0
 
 
@@ -199,7 +199,7 @@ def main():
     for program in PROGRAMS:
         try_program(program, tally)
     answers = sum(try_small(small, tally) for small in SMALL)
-    tally.enough("answers of small_rows.rt.txt", answers, "answers of ropes with small rows")
+    tally.enough("answers of small_chunks.rt.txt", answers, "answers of ropes with small chunks")
     return tally.end()
 
 

@@ -8,7 +8,7 @@ ghost use Rattle.text_rope.specs.declared.refusals.Refusal.TheVariants.{NotOrder
 ghost use Rattle.text_rope_c.specs.Numbers.{done, encoding_of, no_memory, not_boundary, not_ordered, not_utf8, too_long};
 ghost use Rattle.positions.specs.declared.line_type.LineType.TheVariants.{Crlf};
 
-use crate::handles::{kept, put, taken};
+use crate::handles::{put_rope, store, take_rope};
 use crate::numbers::{NOT_UTF8, encoding_at, status_at};
 use crate::slot::Slot;
 use positions::{Encoding, Range};
@@ -16,7 +16,7 @@ use rope_positions::{Change, apply_exact};
 use std::alloc::Global;
 use text_rope::{Refusal, Rope};
 
-/// Exchanges a range for a text, as a client of a language server tells it, where each of its positions names a place.
+/// Replaces a range by a text, as a client of a language server tells it, if each of its positions names a place.
 ///
 /// The status is `not_utf8` where the bytes are not UTF-8, or else `not_ordered` where the range's end is before its
 /// start, or else `not_boundary` where a position names no place, or else `too_long` where the text would have more than
@@ -46,12 +46,12 @@ pub extern "C" fn str_rope_change_exact(
     ensures known { result ≤ not_utf8 }
 {
     match str::from_utf8(text) {
-        Ok(text) => status_at(changed(alloc, rope, encoding_at(encoding), range, text)),
+        Ok(text) => status_at(apply_change(alloc, rope, encoding_at(encoding), range, text)),
         Err(_) => NOT_UTF8,
     }
 }
 
-fn changed(
+fn apply_change(
     alloc: Global,
     rope: &mut Slot,
     encoding: Encoding,
@@ -73,15 +73,15 @@ fn changed(
         range: Some(range),
         text,
     };
-    match taken(alloc, rope) {
+    match take_rope(alloc, rope) {
         None => {
             let mut whole = Rope::new(alloc);
             apply_exact(&mut whole, encoding, change)?;
-            kept(alloc, rope, whole)
+            store(alloc, rope, whole)
         }
         Some(mut inner) => {
             let answer = apply_exact(&mut inner, encoding, change);
-            put(alloc, rope, inner);
+            put_rope(alloc, rope, inner);
             answer
         }
     }

@@ -10,8 +10,8 @@ use std::alloc::Global;
 use std::mem;
 use text_rope::{Refusal, Rope};
 
-/// The rope of a handle, which is then null; none where it was null already.
-pub(crate) fn taken(alloc: Global, rope: &mut Slot) -> Option<Box<Rope>>
+/// Takes the rope out of a handle, which is then null; `None` if it was null already.
+pub(crate) fn take_rope(alloc: Global, rope: &mut Slot) -> Option<Box<Rope>>
     ensures some { IfSome result (λ inner. inner.value ≡ rope.old.text) }
     ensures none { IfNone result (rope.old.text ≡ []) }
     ensures empty { rope.new.text ≡ [] }
@@ -23,7 +23,7 @@ pub(crate) fn taken(alloc: Global, rope: &mut Slot) -> Option<Box<Rope>>
 }
 
 /// Frees a text.
-fn freed(alloc: Global, rope: Slot) {
+fn free_rope(alloc: Global, rope: Slot) {
     match rope.into_loose(alloc) {
         None => {}
         Some(loose) => {
@@ -33,51 +33,49 @@ fn freed(alloc: Global, rope: Slot) {
 }
 
 /// Frees the text of a handle, which is then null.
-pub(crate) fn emptied(alloc: Global, rope: &mut Slot)
+pub(crate) fn empty_handle(alloc: Global, rope: &mut Slot)
     ensures text { rope.new.text ≡ [] }
     ensures null { rope.new.at ≡ null }
 {
-    freed(alloc, mem::replace(rope, Slot::none()));
+    free_rope(alloc, mem::replace(rope, Slot::none()));
 }
 
 /// Puts a rope into a handle, and frees what was there.
-pub(crate) fn put(alloc: Global, rope: &mut Slot, inner: Box<Rope>)
+pub(crate) fn put_rope(alloc: Global, rope: &mut Slot, inner: Box<Rope>)
     ensures { rope.new.text ≡ inner.value }
 {
-    freed(alloc, mem::replace(rope, Slot::of(Loose::of(inner))));
+    free_rope(alloc, mem::replace(rope, Slot::of(Loose::of(inner))));
 }
 
 /// Puts a text into a handle, and frees what was there. An empty text takes no memory.
-pub(crate) fn kept(alloc: Global, rope: &mut Slot, whole: Rope) -> Result<(), Refusal>
+pub(crate) fn store(alloc: Global, rope: &mut Slot, whole: Rope) -> Result<(), Refusal>
     ensures ok { OnOk result (rope.new.text ≡ whole) }
     ensures err { OnErr result (rope.new.text ≡ rope.old.text) }
     ensures some { IsErr result → whole ≢ [] }
     ensures no_other { IsOkUnless result NoMemory }
 {
     if whole.is_empty() {
-        emptied(alloc, rope);
+        empty_handle(alloc, rope);
         return Ok(());
     }
-    match Box::new(alloc, whole) {
-        Ok(inner) => {
-            put(alloc, rope, inner);
-            Ok(())
-        }
-        Err(_) => Err(Refusal::NoMemory),
-    }
+    let Ok(inner) = Box::new(alloc, whole) else {
+        return Err(Refusal::NoMemory);
+    };
+    put_rope(alloc, rope, inner);
+    Ok(())
 }
 
-/// What a question answers of the text, which stays as it is.
-pub(crate) fn asked<A, F: FnOnce(&Rope) -> A>(alloc: Global, rope: &mut Slot, question: F) -> A
+/// Answers a question about the text, which stays as it is.
+pub(crate) fn ask<A, F: FnOnce(&Rope) -> A>(alloc: Global, rope: &mut Slot, question: F) -> A
     requires { F.IsAlwaysCallable question }
     ensures answer { FnOnceReturnsAt F.FnOnce question rope.old.text result }
     ensures same { rope.new.text ≡ rope.old.text }
 {
-    match taken(alloc, rope) {
+    match take_rope(alloc, rope) {
         None => question(&Rope::new(alloc)),
         Some(inner) => {
             let answer = question(&inner);
-            put(alloc, rope, inner);
+            put_rope(alloc, rope, inner);
             answer
         }
     }

@@ -11,7 +11,7 @@ mod exact_changes;
 mod handles;
 mod loose;
 mod numbers;
-mod questions;
+mod queries;
 mod reads;
 mod slot;
 mod text_lines;

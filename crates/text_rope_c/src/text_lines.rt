@@ -6,7 +6,7 @@ ghost use Rattle.positions.specs.Lines.{IsPlace, line_end, scheme_of};
 ghost use Rattle.positions.specs.Positions.{byte_at, position_at};
 ghost use Rattle.text_rope_c.specs.Numbers.{encoding_of, kind_of};
 
-use crate::handles::asked;
+use crate::handles::ask;
 use crate::numbers::{encoding_at, kind_at};
 use crate::slot::Slot;
 use crate::text_positions::Bytes;
@@ -33,7 +33,7 @@ pub extern "C" fn str_rope_line_by(
     ensures end { result.end ≡ line_end (kind_of lines) rope.old.text line_idx }
     ensures same { rope.new.text ≡ rope.old.text }
 {
-    asked(alloc, rope, |text| line_of(text, kind_at(lines), line_idx))
+    ask(alloc, rope, |text| line_of(text, kind_at(lines), line_idx))
 }
 
 fn line_of(text: &Rope, lines: LineType, line_idx: usize) -> Bytes
@@ -58,7 +58,7 @@ pub extern "C" fn str_rope_position_by(
     ensures answer { result ≡ position_at (kind_of lines) (encoding_of encoding) rope.old.text byte_idx }
     ensures same { rope.new.text ≡ rope.old.text }
 {
-    asked(
+    ask(
         alloc,
         rope,
         |text| position_by(text, kind_at(lines), encoding_at(encoding), byte_idx),
@@ -80,7 +80,7 @@ pub extern "C" fn str_rope_exact_position_by(
         → result ≡ record { line = 2 ^ 64 - 1; character = 2 ^ 64 - 1 } }
     ensures same { rope.new.text ≡ rope.old.text }
 {
-    let place = asked(
+    let place = ask(
         alloc,
         rope,
         |text| exact_position_by(text, kind_at(lines), encoding_at(encoding), byte_idx),
@@ -104,7 +104,7 @@ pub extern "C" fn str_rope_byte_by(
     ensures boundary { IsBoundary rope.old.text result }
     ensures same { rope.new.text ≡ rope.old.text }
 {
-    asked(
+    ask(
         alloc,
         rope,
         |text| byte_by(text, kind_at(lines), encoding_at(encoding), position),
@@ -124,7 +124,7 @@ pub extern "C" fn str_rope_range_by(
     ensures end { result.end ≡ position_at (kind_of lines) (encoding_of encoding) rope.old.text span.end }
     ensures same { rope.new.text ≡ rope.old.text }
 {
-    asked(
+    ask(
         alloc,
         rope,
         |text| range_by(

@@ -2,4 +2,4 @@ pub mod Pieces
 pub mod Summaries
 pub mod Changes
 pub mod Fronts
-pub mod Questions
+pub mod Queries

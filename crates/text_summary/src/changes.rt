@@ -5,76 +5,80 @@ ghost use Rattle.str_indices.specs.Joins.{starts_with_feed, ends_in_return, seam
 ghost use Rattle.str_indices.specs.Relations.{IsBoundary};
 ghost use Rattle.str_indices.specs.declared.Scheme.TheVariants.{Crlf};
 ghost use Rattle.text_summary.specs.Summaries.{summary_of};
-ghost use Rattle.text_summary.specs.Changes.{IsReplaced, IsChange, FitsIn};
+ghost use Rattle.text_summary.specs.Changes.{IsReplaced, IsUpdate, FitsIn};
 
 use crate::seams::{joined_ends_cr, joined_starts_lf};
 use crate::{Scheme, Summary, ends_cr, halves, lost_at_seam, starts_lf};
 
 /// A part of a text that is replaced by another text, wherever it is, and the edges of the text around it.
 #[derive(Clone, Copy)]
-pub struct Change {
+pub struct Update {
     /// Whether the text before the part ends in CR.
     pub ends_cr: bool,
     /// Whether the text after the part starts with LF.
     pub starts_lf: bool,
     /// The summary of the part, which goes out.
-    pub out: Summary,
+    pub removed: Summary,
     /// The summary of the text that comes in for it.
-    pub own: Summary,
+    pub inserted: Summary,
 }
 
-/// Returns the summary of `text` after the part between the boundaries `from` and `to` is replaced by `more`. Of `text`
-/// it reads the part that goes out, and the chars beside it.
-pub fn changed(
+/// Returns the summary of `text` after the part between the boundaries `from` and `to` is replaced by
+/// `inserted`, whose summary is `own`. Of `text` it reads the part that goes out, and the chars beside it.
+pub fn summary_after(
     text: &str,
     whole: Summary,
     from: usize,
     to: usize,
-    more: &str,
+    inserted: &str,
     own: Summary,
 ) -> Summary
     requires whole { whole ≡ summary_of (chars text.now) }
-    requires own { own ≡ summary_of (chars more.now) }
+    requires own { own ≡ summary_of (chars inserted.now) }
     requires order { from ≤ to }
     requires start { IsBoundary (chars text.now) from }
     requires end { IsBoundary (chars text.now) to }
-    requires short { length text.now + length more.now < 2 ^ 63 + (to - from) }
-    ensures summary { (new : Text) → IsReplaced (chars text.now) new from to (chars more.now) → result ≡ summary_of new }
-    ensures len { result.len + (to - from) ≡ length text.now + length more.now }
+    requires short { length text.now + length inserted.now < 2 ^ 63 + (to - from) }
+    ensures summary { (new : Text) → IsReplaced (chars text.now) new from to (chars inserted.now) → result ≡ summary_of new }
+    ensures len { result.len + (to - from) ≡ length text.now + length inserted.now }
 {
     let (front, back) = halves(text, to);
     let (front, part) = halves(front, from);
-    let change = Change {
+    let change = Update {
         ends_cr: ends_cr(front),
         starts_lf: starts_lf(back),
-        out: Summary::of(part),
-        own,
+        removed: Summary::of(part),
+        inserted: own,
     };
     let own_starts = joined_starts_lf(own.len, own.starts_lf, change.starts_lf);
     let own_ends = joined_ends_cr(change.ends_cr, own.len, own.ends_cr);
     let starts_lf = joined_starts_lf(from, whole.starts_lf, own_starts);
     let ends_cr = joined_ends_cr(own_ends, whole.len - to, whole.ends_cr);
-    exchanged(whole, change, starts_lf, ends_cr)
+    apply_update(whole, change, starts_lf, ends_cr)
 }
 
 /// Returns the summary of a text after a change, from its summary before and from how it starts and ends afterwards.
 #[inline(always)]
-pub fn exchanged(whole: Summary, change: Change, starts_lf: bool, ends_cr: bool) -> Summary
-    requires { FitsIn whole change }
-    ensures { (a m b t : Text) → whole ≡ summary_of (a ++ (m ++ b)) → IsChange a m b t change →
+pub fn apply_update(whole: Summary, update: Update, starts_lf: bool, ends_cr: bool) -> Summary
+    requires { FitsIn whole update }
+    ensures { (a m b t : Text) → whole ≡ summary_of (a ++ (m ++ b)) → IsUpdate a m b t update →
         starts_lf ≡ starts_with_feed (a ++ (t ++ b)) → ends_cr ≡ ends_in_return (a ++ (t ++ b)) →
         result ≡ summary_of (a ++ (t ++ b)) }
 {
-    let Change { out, own, .. } = change;
-    let gained = lost_round(change.ends_cr, out, change.starts_lf);
-    let lost = lost_round(change.ends_cr, own, change.starts_lf);
+    let Update {
+        removed,
+        inserted,
+        ..
+    } = update;
+    let gained = lost_round(update.ends_cr, removed, update.starts_lf);
+    let lost = lost_round(update.ends_cr, inserted, update.starts_lf);
     Summary {
-        len: whole.len - out.len + own.len,
-        chars: whole.chars - out.chars + own.chars,
-        utf16: whole.utf16 - out.utf16 + own.utf16,
-        lf: whole.lf - out.lf + own.lf,
-        crlf: whole.crlf + gained - out.crlf + own.crlf - lost,
-        lines: whole.lines + gained - out.lines + own.lines - lost,
+        len: whole.len - removed.len + inserted.len,
+        chars: whole.chars - removed.chars + inserted.chars,
+        utf16: whole.utf16 - removed.utf16 + inserted.utf16,
+        lf: whole.lf - removed.lf + inserted.lf,
+        crlf: whole.crlf + gained - removed.crlf + inserted.crlf - lost,
+        lines: whole.lines + gained - removed.lines + inserted.lines - lost,
         starts_lf,
         ends_cr,
     }

@@ -43,7 +43,7 @@ impl Front {
 
     /// Returns the count of the text before, less what the seam takes off. `starts_lf` says whether the text after it
     /// starts with LF.
-    pub fn reached(self, s: Scheme, starts_lf: bool) -> usize
+    pub fn count_before(self, s: Scheme, starts_lf: bool) -> usize
         requires { IsBefore s self starts_lf }
         ensures { (a b : Text) → IsFront s a self → starts_lf ≡ starts_with_feed b →
             result ≡ count s a - seam_loss s a b }
@@ -56,7 +56,7 @@ impl Front {
         requires { IsFollowed s self piece }
         ensures { (a b : Text) → IsFront s a self → piece ≡ summary_of b → b ≢ [] → IsLook s a b result }
     {
-        let reached = self.reached(s, piece.starts_lf);
+        let reached = self.count_before(s, piece.starts_lf);
         let len = self.len + piece.len;
         let total = reached + piece.count(s);
         Look {

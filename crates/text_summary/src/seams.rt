@@ -20,7 +20,7 @@ pub fn lost_at_seam(s: Scheme, ends_cr: bool, starts_lf: bool) -> usize
 }
 
 /// Returns the summary of two texts, one after the other, from those of each.
-pub fn joined(front: Summary, after: Summary) -> Summary
+pub fn join_summaries(front: Summary, after: Summary) -> Summary
     requires { AreSummaries front after }
     ensures { (a b : Text) → front ≡ summary_of a → after ≡ summary_of b → result ≡ summary_of (a ++ b) }
 {

@@ -44,7 +44,7 @@ impl Summary {
         match text.as_bytes() {
             [] => Summary::none(),
             [byte] if *byte < 128 => Summary::of_ascii(*byte),
-            _ => Summary::counted(text),
+            _ => Summary::count_text(text),
         }
     }
 
@@ -68,7 +68,7 @@ impl Summary {
 
     /// Summarizes a text by counting it in every scheme.
     #[inline(never)]
-    fn counted(text: &str) -> Summary
+    fn count_text(text: &str) -> Summary
         ensures { result ≡ summary_of (chars text.now) }
     {
         Summary::with_counts(text, &counts(text))

@@ -83,7 +83,7 @@ fn assert_as_joined(rt: &impl Abort, text: &PieceText, joined: &str) {
     }
 }
 
-/// The text in pieces of this many characters, the last one of fewer.
+/// The text in pieces of this many chars, the last one of fewer.
 fn cut_up(alloc: Global, text: &str, chars_each: usize) -> Result<PieceText, Refusal> {
     let mut pieces = PieceText::new(alloc);
     let mut rest = text;

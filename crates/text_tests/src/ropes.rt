@@ -13,12 +13,12 @@ mod two_ropes;
 use std::alloc::{AllocError, Global};
 use std::process::Abort;
 use std::test::Fail;
-use text_rope::{Line, MAX_PIECE, Refusal, Rope, Scheme};
+use text_rope::{Line, MAX_CHUNK, Refusal, Rope, Scheme};
 
-/// A line with characters of every length.
+/// A line with chars of every length.
 const LINE: &str = "Zeile – über 🐸 und せかい, und so weiter\r\n";
 
-/// A change of a text: what is between two bytes goes, and another text comes there.
+/// A change of a text: another text replaces the part between two bytes.
 #[derive(Clone, Copy, Debug)]
 struct Change<'a> {
     from: usize,
@@ -39,18 +39,18 @@ fn make(rope: &mut Rope, change: Change<'_>) -> Result<(), Refusal> {
 }
 
 /// A plain text after a change.
-fn changed(alloc: Global, text: &str, change: Change<'_>) -> Result<String, Fail> {
+fn change_text(alloc: Global, text: &str, change: Change<'_>) -> Result<String, Fail> {
     let front = text.get(..change.from).ok_or("no boundary")?;
     let back = text.get(change.to..).ok_or("no boundary")?;
-    Ok(joined(alloc, [front, change.put, back])?)
+    Ok(concat(alloc, [front, change.put, back])?)
 }
 
 /// Three texts in one.
-fn joined(alloc: Global, parts: [&str; 3]) -> Result<String, AllocError> {
+fn concat(alloc: Global, parts: [&str; 3]) -> Result<String, AllocError> {
     parts.concat(alloc)
 }
 
-/// A line so many times.
+/// A line, repeated.
 fn lines(alloc: Global, count: usize) -> Result<String, AllocError> {
     LINE.repeat(alloc, count)
 }
@@ -87,7 +87,7 @@ impl Both {
 
     /// Makes a change of both.
     fn make(&mut self, change: Change<'_>) -> Result<(), Fail> {
-        self.text = changed(self.alloc, &self.text, change)?;
+        self.text = change_text(self.alloc, &self.text, change)?;
         make(&mut self.rope, change)?;
         Ok(())
     }
@@ -102,13 +102,13 @@ impl Both {
         assert_same_counts(rt, &self.rope, &self.text);
     }
 
-    /// Compares the pieces, one after the other, with the text, and answers how many there are.
+    /// Compares the chunks, one after the other, with the text, and answers how many there are.
     fn assert_same_pieces(&self, rt: &impl Abort) -> Result<usize, AllocError> {
         assert_same_pieces(rt, self.alloc, &self.rope, &self.text)
     }
 }
 
-/// Whether a break of a scheme begins with a character.
+/// Whether a break of a scheme begins with a char.
 fn begins_break(s: Scheme, c: char) -> bool {
     match s {
         Scheme::Chars | Scheme::Utf16 => false,
@@ -175,8 +175,8 @@ fn assert_same_counts(rt: &impl Abort, rope: &Rope, text: &str) {
     }
 }
 
-/// Compares the pieces, one after the other, with the text, and answers how many there are: at most twice as many as the
-/// text has to have, and one.
+/// Compares the chunks, one after the other, with the text, and answers how many there are: at most twice as many as the text
+/// has to have, and one.
 fn assert_same_pieces(
     rt: &impl Abort,
     alloc: Global,
@@ -201,9 +201,9 @@ fn assert_same_pieces(
     Ok(pieces)
 }
 
-/// As few pieces as a text of so many bytes can have.
+/// The fewest chunks that a text of this length can have.
 fn fewest_pieces(bytes: usize) -> usize {
-    bytes.div_ceil(MAX_PIECE)
+    bytes.div_ceil(MAX_CHUNK)
 }
 
 /// Compares every answer with the one for the plain text, up to past its end.

@@ -1,5 +1,5 @@
 //! Awkward texts: one line of a megabyte, nothing but line feeds, all breaks in one text, CR LF that changes part, changes
-//! always at the same place, and parts taken out all over, so that pieces are put together.
+//! always at the same place, and parts taken out all over, so that chunks are put together.
 
 use crate::digest::Digest;
 use crate::faults::Fault;
@@ -98,7 +98,7 @@ fn stay_at_a_place(rope: &mut Rope, random: &mut Random, digest: &mut Digest) ->
     Ok(())
 }
 
-/// Parts taken out all over the text, so that pieces are put together.
+/// Parts taken out all over the text, so that chunks are put together.
 fn leave_little(rope: &mut Rope, random: &mut Random, digest: &mut Digest) -> Result<(), Fault> {
     for _ in 0..CHANGES {
         let at = random_place(rope, random);

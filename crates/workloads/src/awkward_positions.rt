@@ -1,4 +1,4 @@
-//! Positions on lines that go over pieces: one line of a megabyte, and lines of some thousand chars that are not
+//! Positions on lines that go over chunks: one line of a megabyte, and lines of some thousand chars that are not
 //! ASCII. They are asked in each encoding, exactly and as they come, and changes are made by exact positions.
 
 use crate::digest::Digest;

@@ -1,6 +1,6 @@
 //! A digest of all answers.
 
-/// How far apart the bytes are that are taken of a text that is read in parts.
+/// The distance of the bytes that are taken of a text that is read in parts.
 const STEP: usize = 997;
 
 /// A number that depends on each number that it took, and on their order.
@@ -10,7 +10,7 @@ pub(crate) struct Digest {
 }
 
 impl Digest {
-    /// That of no number.
+    /// The digest of no number.
     pub(crate) fn new() -> Digest {
         Digest {
             sum: 0xcbf2_9ce4_8422_2325,
@@ -38,8 +38,7 @@ impl Digest {
         }
     }
 
-    /// Takes of a text that is read from its beginning on, and of which a part begins at a byte, what is in that part at
-    /// multiples of 997.
+    /// Takes a part of a text that is read from its beginning on: its bytes at the text's multiples of 997.
     pub(crate) fn part(&mut self, start: usize, part: &str) {
         let bytes = part.as_bytes();
         let first = STEP - 1 - start.saturating_add(STEP - 1) % STEP;

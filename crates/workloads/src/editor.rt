@@ -116,7 +116,7 @@ fn paste(
     Ok(())
 }
 
-/// Exchanges three chars for a name at a thousand cursors, from the last one back.
+/// Replaces three chars by a name at a thousand cursors, from the last one back.
 fn replace_all(rope: &mut Rope, digest: &mut Digest) -> Result<(), Fault> {
     let step = rope.count(Scheme::Chars) / CURSORS;
     for i in 0..CURSORS {

@@ -1,5 +1,5 @@
 //! Workloads that a user waits for, as programs to be timed: a language server's day, an editor, a large file, spans of
-//! a text, a buffer of pieces, awkward texts, positions on lines that go over pieces, buffers of few pieces, undo,
+//! a text, a buffer of pieces, awkward texts, positions on lines that go over chunks, buffers of few pieces, undo,
 //! spans by an index, and lines moved by cuts.
 //!
 //! Its words are the workload's name, a seed, and how many rounds it takes. It makes its own texts from the seed, and prints

@@ -37,7 +37,7 @@ fn work_on(
 ) -> Result<(), Fault> {
     let shape = Shape::daily(random);
     let source = text_of(alloc, random, shape, 400_000)?;
-    let mut text = pushed(alloc, source.as_str(), random, pieces)?;
+    let mut text = push_all(alloc, source.as_str(), random, pieces)?;
     for i in 0..CHANGES {
         change(&mut text, source.as_str(), i, random)?;
         ask(&text, random, digest);
@@ -48,7 +48,7 @@ fn work_on(
 }
 
 /// Makes a buffer of `pieces` pieces, of 50 bytes to 2 kB mostly: parts of a text, from its beginning again at its end.
-fn pushed(
+fn push_all(
     alloc: Global,
     source: &str,
     random: &mut Random,

@@ -57,7 +57,7 @@ fn encoding_of(random: &mut Random) -> Encoding {
     }
 }
 
-fn opened(alloc: Global, random: &mut Random, bytes: usize) -> Result<File, Fault> {
+fn open_file(alloc: Global, random: &mut Random, bytes: usize) -> Result<File, Fault> {
     let shape = Shape::daily(random);
     let source = text_of(alloc, random, shape, bytes)?;
     let rope = Rope::from_str(alloc, source.as_str())?;
@@ -74,7 +74,7 @@ fn work_on(
     bytes: usize,
     digest: &mut Digest,
 ) -> Result<(), Fault> {
-    let mut file = opened(alloc, random, bytes)?;
+    let mut file = open_file(alloc, random, bytes)?;
     digest.take(file.rope.count(Scheme::Crlf));
     read_all(&file.rope, digest);
     for _ in 0..WORDS {
@@ -99,17 +99,17 @@ impl File {
     fn type_word(&mut self, random: &mut Random) -> Result<(), Fault> {
         let mut at = position_of(&self.rope, self.encoding, self.somewhere(random));
         for i in 0..random.from(3, 6) {
-            self.exchange(at, at, letter(i))?;
+            self.replace(at, at, letter(i))?;
             at.character = at.character.saturating_add(1);
         }
         let before = Position {
             line: at.line,
             character: at.character.saturating_sub(1),
         };
-        self.exchange(before, at, "")
+        self.replace(before, at, "")
     }
 
-    fn exchange(&mut self, start: Position, end: Position, text: &str) -> Result<(), Fault> {
+    fn replace(&mut self, start: Position, end: Position, text: &str) -> Result<(), Fault> {
         let change = Change {
             range: Some(Range { start, end }),
             text,
@@ -156,7 +156,7 @@ impl File {
         }
     }
 
-    /// A name exchanged for a longer one at places all over the file, from its end.
+    /// Replaces a name by a longer one at places all over the file, from its end.
     fn rename(&mut self, digest: &mut Digest) -> Result<(), Fault> {
         let step = self.rope.len() / RENAMED;
         for i in 0..RENAMED {
@@ -173,7 +173,7 @@ impl File {
             let done = apply_exact(&mut self.rope, self.encoding, change);
             digest.mark(done.is_ok());
             if done.is_err() {
-                self.exchange(start, end, "renamed")?;
+                self.replace(start, end, "renamed")?;
             }
         }
         digest.take(self.rope.len());
@@ -187,7 +187,7 @@ impl File {
             let line = lines.saturating_mul(FORMATTED.saturating_sub(i)) / FORMATTED;
             let start = Position { line, character: 0 };
             let end = Position { line, character: 2 };
-            self.exchange(start, end, "    ")?;
+            self.replace(start, end, "    ")?;
         }
         digest.take(self.rope.len());
         Ok(())

@@ -49,7 +49,7 @@ fn work_on(
 ) -> Result<(), Fault> {
     let shape = Shape::daily(random);
     let source = text_of(alloc, random, shape, BYTES)?;
-    let mut text = pushed(alloc, source.as_str(), random, pieces)?;
+    let mut text = push_all(alloc, source.as_str(), random, pieces)?;
     for i in 0..TURNS {
         ask(&text, SCHEMES[i % 5], random, digest);
         read_in_order(&text, digest);
@@ -70,7 +70,7 @@ fn part<'a>(source: &'a str, random: &mut Random) -> &'a str {
 }
 
 /// Makes a buffer of `pieces` pieces.
-fn pushed(
+fn push_all(
     alloc: Global,
     source: &str,
     random: &mut Random,

@@ -1,5 +1,5 @@
 //! Spans of a text by line and column, and the counts and conversions as callers of the functions use them: on a rope's
-//! leaves, on lines, and on whole texts.
+//! chunks, on lines, and on whole texts.
 
 use crate::digest::Digest;
 use crate::faults::Fault;
@@ -14,10 +14,10 @@ const SIZES: [usize; 6] = [1_000, 4_000, 16_000, 64_000, 250_000, 1_000_000];
 /// How many spans are told of a text.
 const SPANS: usize = 50;
 
-/// How many bytes a leaf has at most.
+/// How many bytes a chunk has at most.
 const LEAF: usize = 1000;
 
-/// How many leaves and lines of a text are asked.
+/// How many chunks and lines of a text are asked.
 const PARTS: usize = 400;
 
 /// Works on `rounds` texts, one after the other.
@@ -82,7 +82,7 @@ fn ask_all(text: &str, random: &mut Random, digest: &mut Digest) {
     digest.take(lines::to_byte_idx(text, lines::from_byte_idx(text, byte)));
 }
 
-/// Asks leaves of a rope, one after the other.
+/// Asks chunks of a rope, one after the other.
 fn ask_leaves(text: &str, random: &mut Random, digest: &mut Digest) {
     let mut rest = text;
     for _ in 0..PARTS {

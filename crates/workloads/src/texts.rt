@@ -94,7 +94,7 @@ impl Shape {
         }
     }
 
-    /// One of the three whose lines go over pieces.
+    /// One of the three whose lines go over chunks.
     pub(crate) fn long_lines(i: usize) -> Shape {
         match i % 3 {
             0 => Shape::OneLine,

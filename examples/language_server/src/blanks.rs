@@ -22,9 +22,9 @@ pub struct Warnings {
 }
 
 impl Warnings {
-    /// Takes in that a part of some lines was exchanged for another text, by which the text came to have other lines: how
+    /// Takes in that a part of some lines was replaced by another text, by which the text came to have other lines: how
     /// many they were before. The lines before those, and the lines after them, have the content that they had.
-    pub fn changed(
+    pub fn update(
         &mut self,
         rope: &Rope,
         encoding: Encoding,
@@ -46,7 +46,7 @@ impl Warnings {
         self.read_to(rope, encoding, next_now)?;
         if self.read == next_now && lines.end <= read_before {
             for one in after {
-                self.found.push(one.moved(lines.end, next_now)?);
+                self.found.push(one.move_to(lines.end, next_now)?);
             }
             self.read = read_before - lines.end + next_now;
         }
@@ -195,7 +195,7 @@ mod tests {
                 let (lines, before) = (line(start)..line(end) + 1, number_of_lines(&rope));
                 let text = numbers.text(if turn % 100 == 0 { 8_000 } else { 24 });
                 rope.replace(start..end, &text).unwrap();
-                kept.changed(&rope, encoding, lines, before).unwrap();
+                kept.update(&rope, encoding, lines, before).unwrap();
                 if numbers.below(3) == 0 {
                     assert_eq!(kept.first(&rope, encoding).unwrap(), all(&rope, encoding), "{rope:?}");
                 }

@@ -158,7 +158,7 @@ impl Text {
         let lines = line(from)..line(to) + 1;
         let lines_before = number_of_lines(&self.rope);
         self.rope.replace(from..to, &change.text)?;
-        self.warnings.changed(&self.rope, self.encoding, lines, lines_before)
+        self.warnings.update(&self.rope, self.encoding, lines, lines_before)
     }
 
     /// The byte that a position means, where it names a place. Beside those of the rope, these do:

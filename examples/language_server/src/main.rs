@@ -49,7 +49,7 @@ fn serve() -> io::Result<ExitCode> {
         if frames.is_idle() {
             server.rest();
         }
-        for message in server.outgoing() {
+        for message in server.take_outgoing() {
             frames::write(&mut output, &message)?;
         }
         output.flush()?;

@@ -56,7 +56,7 @@ impl Span {
     }
 
     /// The same, where what was a line came to be another one.
-    pub fn moved(mut self, line: usize, now: usize) -> Result<Span, Fault> {
+    pub fn move_to(mut self, line: usize, now: usize) -> Result<Span, Fault> {
         for place in [&mut self.start, &mut self.end] {
             place.line = u32::try_from(place.position().line - line + now)?;
         }
@@ -214,7 +214,7 @@ pub fn version(version: Raw<'_>) -> Result<Option<i64>, Fault> {
 }
 
 /// The first encoding of a client's list that the server has, or the protocol's default.
-pub fn negotiated(capabilities: &Capabilities<'_>) -> Encoding {
+pub fn negotiate(capabilities: &Capabilities<'_>) -> Encoding {
     let list = capabilities
         .general
         .iter()

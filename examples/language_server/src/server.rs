@@ -37,7 +37,7 @@ enum Phase {
 
 impl Server {
     /// What is to be sent to the client since this was asked last.
-    pub fn outgoing(&mut self) -> std::vec::Drain<'_, Vec<u8>> {
+    pub fn take_outgoing(&mut self) -> std::vec::Drain<'_, Vec<u8>> {
         self.outbox.drain(..)
     }
 
@@ -64,7 +64,7 @@ impl Server {
                 }
             }
             (Kind::Notification, Some(method)) => {
-                if let Err(fault) = self.notified(method, call.params) {
+                if let Err(fault) = self.handle_notification(method, call.params) {
                     self.tell("window/logMessage", 1, format!("{method}: {fault}"));
                     self.lose_meant(Some(method), call.params, &fault);
                 }
@@ -149,7 +149,7 @@ impl Server {
 
     /// Takes a notification, which has no response: where it is refused, the client's log is told. A request is answered
     /// before the next message is read, so there is nothing to do for `$/cancelRequest`.
-    fn notified(&mut self, method: &str, params: Raw<'_>) -> Result<(), Fault> {
+    fn handle_notification(&mut self, method: &str, params: Raw<'_>) -> Result<(), Fault> {
         match (&self.phase, method) {
             (_, "exit") => {
                 self.phase = Phase::Exited(self.phase == Phase::ShutDown);
@@ -165,7 +165,7 @@ impl Server {
 
     fn initialize(&mut self, params: Raw<'_>) -> Answer {
         let client: Initialize = protocol::read(params)?;
-        self.encoding = protocol::negotiated(&client.capabilities);
+        self.encoding = protocol::negotiate(&client.capabilities);
         self.phase = Phase::Initialized;
         if let Some(process) = client.process_id {
             system::end_with(process);

@@ -213,7 +213,9 @@ def test_a_return_alone(client):
     assert client.change(URI, ((3, 1), (3, 1), "y")) == [SHOWN] and client.text(URI) == OUT_OF_STEP
 
 
-# what is no frame or no message, and the code of the error that it gets
+RIGHT = changed(URI, [event((0, 0), (0, 0), "X")], 2)
+HALF = {"method": "textDocument/hover", "params": {"textDocument": {"uri": "\ud83d"}}}
+# what is no frame, or is refused and may have been a change, and the code of its error; a notification without a uri is logged
 WRONG = {
     "a body that is no JSON": (frame(b"{\"jsonrpc\": "), PARSE_ERROR),
     "an empty body": (frame(b""), PARSE_ERROR),
@@ -233,6 +235,11 @@ WRONG = {
     "a header that is not UTF-8": (b"\xff: y\r\n\r\n", INVALID_REQUEST),
     "a body that is said to be UTF-16": (frame(body({"method": "x"}), b"Content-Type: a; charset=utf-16\r\n"), INVALID_REQUEST),
     "a batch": (frame(b"[%s]" % body({"method": "x"})), INVALID_REQUEST),
+    "a change in a batch": (frame(json.dumps([{"jsonrpc": "1.0", **RIGHT}]).encode()), INVALID_REQUEST),
+    "one with half a pair in a batch": (frame(b"[%s, %s]" % (body(HALF), body(RIGHT))), INVALID_REQUEST),
+    "a change that is a request": (frame(body({"id": 1, **RIGHT})), NO_METHOD),
+    "a change without a uri": (frame(body({"method": RIGHT["method"], "params": {}})), LOGGED),
+    "a change whose method is none": (frame(body({**RIGHT, "method": 7})), INVALID_REQUEST),
 }
 # the same for what can be no change of a document
 HARMLESS = {
@@ -243,20 +250,14 @@ HARMLESS = {
 }
 
 
-@pytest.mark.parametrize("what", WRONG)
+@pytest.mark.parametrize("what", [*WRONG, *HARMLESS])
 def test_wrong(client, what):
-    """Each wrong thing gets one error. It may be a part of a change, so the document is out of step, and told so."""
-    data, code = WRONG[what]
+    """Each wrong thing gets one error. If it may be a part of a change, the document is out of step, and told so."""
+    data, code = WRONG.get(what) or (frame(HARMLESS[what]), INVALID_REQUEST)
     client.open(URI, "kept")
     client.write(data)
-    assert sorted(client.said(), key=str) == [code, SHOWN] and client.text(URI) == OUT_OF_STEP
-
-
-@pytest.mark.parametrize("what", HARMLESS)
-def test_harmless(client, what):
-    client.open(URI, "kept")
-    client.write(frame(HARMLESS[what]))
-    assert client.said() == [INVALID_REQUEST] and client.text(URI) == "kept"
+    said, text = ([code], "kept") if what in HARMLESS else ([code, SHOWN], OUT_OF_STEP)
+    assert sorted(client.said(), key=str) == said and client.text(URI) == text
 
 
 @pytest.mark.parametrize("healed", [lambda client: client.change(URI, (None, None, ">Xhello"), version=4),
@@ -280,21 +281,6 @@ def test_odd_change(client, what):
     client.open(URI, "hello")
     client.write(ODD[what](body(changed(URI, [event((0, 0), (0, 0), "X")], 2))))
     assert client.change(URI, ((0, 0), (0, 0), ">"), version=3) == [] and client.text(URI) == ">Xhello"
-
-
-RIGHT = changed(URI, [event((0, 0), (0, 0), "X")], 2)
-HALF = {"method": "textDocument/hover", "params": {"textDocument": {"uri": "\ud83d"}}}
-
-
-@pytest.mark.parametrize("data", [
-    body({"id": 1, **RIGHT}), json.dumps([{"jsonrpc": "1.0", **RIGHT}]).encode(), b"[%s, %s]" % (body(HALF), body(RIGHT)),
-    body({"method": RIGHT["method"], "params": {}}), body({**RIGHT, "method": 7}),
-], ids=["a request", "in a batch", "in a batch with half a pair", "no uri", "a method that is none"])
-def test_changes_of_none(client, data):
-    """Whole messages that are refused, each of which may have been a change."""
-    client.open(URI, "hello")
-    client.write(frame(data))
-    assert client.said().count(SHOWN) == 1 and client.text(URI) == OUT_OF_STEP
 
 
 def test_half_a_pair_elsewhere(client):

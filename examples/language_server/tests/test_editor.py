@@ -50,8 +50,7 @@ def try_own_tests(server, tally):
     """The tests of the server's own, in Rust."""
     done = cargo(server, "test", "--release")
     passed = sum(map(int, re.findall(r"^test result: ok\. (\d+) passed", done.stdout, re.MULTILINE)))
-    if not tally.enough("tests of examples/language_server", passed, "tests of examples/language_server"):
-        print(done.stdout + done.stderr)
+    tally.enough("tests of examples/language_server", passed, "tests of examples/language_server", done.stdout + done.stderr)
 
 
 def try_server(folder, tally):
@@ -61,7 +60,7 @@ def try_server(folder, tally):
         missing = "the crate serde_json is not at hand (Debian's package librust-serde-json-dev)"
         tally.leave_out(least("test_editor.py"), missing)
         return
-    library, rope = build(tally, "build_library"), build(tally, "build_rope")
+    library, rope = build(tally, "str_indices"), build(tally, "str_rope")
     if not library or not rope:
         return
     os.environ.update(STR_INDICES_LIB_DIR=str(library.parent), CARGO_TARGET_DIR=str(folder / "target"))
@@ -92,8 +91,6 @@ import pytest  # noqa: E402
 import server_by_hand  # noqa: E402, F401
 import wrong_client  # noqa: E402, F401
 
-# the first Neovim that computes the changes of a buffer by itself, in each encoding
-NEOVIM = (0, 7)
 # how many bytes an editor pastes and takes back at once: in one run of Neovim and those of Emacs, and in the others
 LONG_PASTE = 5_000_000
 PASTE = 1_000_000
@@ -106,24 +103,28 @@ IN_NEOVIM = [*NEOVIM_WITH_NOTHING, "-c", f"luafile {FOLDER / 'changes.lua'}", "-
 IN_EMACS = ["emacs", "--batch", "-l", str(FOLDER / "changes.el")]
 
 
+def needs(editor, what, packages, *words):
+    """Leaves out what needs an editor, where it is missing or comes to no good end with words that ask what it has."""
+    if not shutil.which(editor) or subprocess.run([editor, *words], stdin=subprocess.DEVNULL, capture_output=True).returncode:
+        pytest.skip(f"no {what} is here ({packages})")
+
+
 @pytest.fixture(scope="session")
 def neovim():
-    """Leaves out what needs Neovim, where it is missing or old."""
-    if not shutil.which("nvim"):
-        pytest.skip("no nvim is on the path (Debian's package neovim)")
-    told = subprocess.run(["nvim", "--version"], capture_output=True, text=True).stdout
-    version = re.search(r"v(\d+)\.(\d+)", told)
-    if not version or tuple(map(int, version.groups())) < NEOVIM:
-        pytest.skip(f"nvim is older than {'.'.join(map(str, NEOVIM))}: {told.splitlines()[:1]}")
+    """The first Neovim that computes the changes of a buffer by itself, in each encoding, is 0.7."""
+    is_old = "if !has('nvim-0.7') | cquit | endif"
+    needs("nvim", "Neovim from 0.7 on", "Debian's package neovim", *NEOVIM_WITH_NOTHING[1:], "-c", is_old, "-c", "qall!")
 
 
 @pytest.fixture(scope="session")
 def emacs():
-    """Leaves out what needs Emacs with eglot, where it is missing."""
-    if not shutil.which("emacs"):
-        pytest.skip("no emacs is on the path (Debian's packages emacs-nox and elpa-eglot)")
-    if subprocess.run(["emacs", "--batch", "--eval", "(require 'eglot)"], capture_output=True).returncode != 0:
-        pytest.skip("emacs has no eglot (Debian's package elpa-eglot)")
+    needs("emacs", "Emacs with eglot", "Debian's packages emacs-nox and elpa-eglot", "--batch", "--eval", "(require 'eglot)")
+
+
+@pytest.fixture(scope="session")
+def vim():
+    has_ale = "try | packadd ale | catch | cquit | endtry"
+    needs("vim", "Vim with ALE", "Debian's packages vim and vim-ale", "-N", "-u", "NONE", "-es", "-c", has_ale, "-c", "qall!")
 
 
 def found_by(command, folder, line_break, **job):
@@ -228,14 +229,6 @@ call setline(1, map(ale#engine#GetLoclist(bufnr('')), 'v:val.text'))
 noautocmd write
 qall!
 """
-
-
-@pytest.fixture(scope="session")
-def vim():
-    """Leaves out what needs Vim with ALE, where it is missing."""
-    command = ["vim", "-N", "-u", "NONE", "-es", "-c", "try | packadd ale | catch | cquit | endtry", "-c", "qall!"]
-    if not shutil.which("vim") or subprocess.run(command, stdin=subprocess.DEVNULL, capture_output=True).returncode != 0:
-        pytest.skip("no vim with ALE is here (Debian's packages vim and vim-ale)")
 
 
 @pytest.fixture

@@ -9,13 +9,13 @@ use std::process::Abort;
 use std::test::Fail;
 use str_indices::{Scheme, chars, laws, lines, lines_crlf, lines_lf, utf16};
 
-/// Numbers of leading bytes, up to more than a chunk and the longest character have.
+/// Numbers of leading bytes, up to more than a chunk and the longest char have.
 const LEADS: [usize; 41] = [
     0, 1, 2, 3, 4, 5, 6, 7, 8, 9, 10, 11, 12, 13, 14, 15, 16, 17, 18, 19, 20, 21, 22, 23, 24, 25,
     26, 27, 28, 29, 30, 31, 32, 33, 34, 35, 36, 37, 38, 39, 40,
 ];
 
-/// Those at which a chunk begins or ends elsewhere.
+/// The numbers of leading bytes that make a chunk begin or end elsewhere.
 const FEW_LEADS: [usize; 14] = [0, 1, 2, 3, 5, 7, 8, 9, 10, 15, 16, 31, 32, 40];
 
 const TEXTS: [&str; 6] = [
@@ -47,7 +47,7 @@ const MIDDLES: [&str; 16] = [
     "\u{1F438}",
 ];
 
-/// Characters, and how often each is repeated, so that they fill all lanes of many rounds.
+/// Chars, and how often each is repeated, so that they fill all lanes of many rounds.
 const REPEATED: [(&str, usize); 6] = [
     ("\n", 4097),
     ("\r", 4097),
@@ -77,7 +77,7 @@ fn count_at_byte(call: Call, text: &str, end: usize, lead: usize) -> Option<usiz
     }
 }
 
-/// The count of a kernel that takes an end at a character alone.
+/// The count of a kernel that takes an end at a char alone.
 fn count_at_boundary(call: Call, text: &str, end: usize, lead: usize) -> Option<usize> {
     if !text.is_char_boundary(end) {
         return None;
@@ -103,7 +103,7 @@ fn compare_whole(rt: &impl Abort, call: Call, text: &str, index: usize, leads: &
     }
 }
 
-/// Compares the kernel of the call, where it counts, with the walk for the characters before `end`.
+/// Compares the kernel of the call, where it counts, with the walk for the chars before `end`.
 fn compare_front(rt: &impl Abort, call: Call, text: &str, end: usize, leads: &[usize]) {
     let Some(front) = text.get(..text.floor_char_boundary(end)) else {
         return;
@@ -173,7 +173,7 @@ fn thirty_two_lanes_see_each_break_at_every_edge(rt: HostRuntime) -> Result<(), 
     Ok(())
 }
 
-/// Compares them for a character repeated, where as many as these are counted or have as many bytes.
+/// Compares them for a char repeated, where as many as these are counted or have as many bytes.
 fn compare_repeated(rt: &impl Abort, alloc: Global, unit: &str, times: usize) -> Result<(), Fail> {
     let text = unit.repeat(alloc, times)?;
     compare_counts(rt, &text, &FEW_LEADS);

@@ -11,9 +11,9 @@ pub use Rattle.piece_text.specs.Splits.{IsEdge, IsHalved, IsCut}
 pub use Rattle.text_summary.proofs.lemmas.Callers.{TellsAt, tells_at}
 pub use Rattle.text_summary.specs.Fronts.{IsFront}
 pub use Rattle.piece_text.specs.Runs.{IsRun, AreRuns, pieces_in, IsSwap, IsRunSwapped, Swapped}
-pub use Rattle.piece_text.specs.Stretches.{IsRunAt, IsStretch, IsSettled, IsPartRound}
+pub use Rattle.piece_text.specs.PieceRanges.{IsRunAt, IsPieceRange, IsSettled, IsSpanRound}
 pub use Rattle.piece_text.specs.Summaries.{summary_of}
 pub use Rattle.piece_text.specs.declared.runs.Run.{Run}
 pub use Rattle.piece_text.specs.declared.runs.Swap.{Swap}
-pub use Rattle.piece_text.specs.declared.stretches.Stretch.{Stretch}
+pub use Rattle.piece_text.specs.declared.ranges.PieceRange.{PieceRange}
 pub use Rattle.std.proofs.lemmas.Bool.{cases_lt}

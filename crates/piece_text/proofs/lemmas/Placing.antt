@@ -71,7 +71,7 @@ come_before s texts i k inside some within =
     let same = seam_loss-same s a (b ++ c) a b refl (starts_with_feed-append b c some) in
     rw whole (seam.to_before k (omega (arith, same, within, seam.loss_within)))
 
--- nor at the end of a stretch
+-- nor at the end of a range
 pub come_to_end : (s : Scheme) (texts : List Text) (end k last : ℕ) → end ≡ last + 1 → piece_at texts last ≢ []
     → (end < length texts → IsSettled s texts end k)
     → to_byte_idx s (joined texts) k ≡ to_byte_idx s (joined (take (last + 1) texts)) k

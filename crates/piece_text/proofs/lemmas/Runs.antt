@@ -11,7 +11,7 @@ use Rattle.text_summary.specs.declared.summaries.Summary.{Summary}
 use Rattle.piece_text.proofs.lemmas.Joining.{joined-append, joined-split, joined_size-take, drop-piece}
 use Rattle.piece_text.proofs.lemmas.Splitting.{cut_list}
 use Rattle.piece_text.specs.Runs.{IsRun, AreRuns, pieces_in}
-use Rattle.piece_text.specs.Stretches.{IsRunAt}
+use Rattle.piece_text.specs.PieceRanges.{IsRunAt}
 use Rattle.piece_text.specs.declared.runs.Run.{Run}
 
 -- a list past its first texts, and up to some of the others

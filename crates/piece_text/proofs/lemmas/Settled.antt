@@ -32,7 +32,7 @@ none_taken Crlf a b starts = crlf_none a b starts
 none_taken Lines a b starts = crlf_none a b starts
 none_taken s a b starts = refl
 
--- two seams take no more of one character between them than it counts
+-- two seams take no more of one char between them than it counts
 of_feed : (s : Scheme) (a d : Text) → seam_loss s a (10 ∷ []) + seam_loss s (10 ∷ []) d ≤ count s (10 ∷ [])
 of_feed Chars a d = omega arith
 of_feed Utf16 a d = omega arith

@@ -129,7 +129,7 @@ joined-cut old new byte cut =
     ∙ ap (λ t. t ++ joined cut.behind) (sym cut.halved.halves))
     ∙ sym (joined-append cut.before (cut.text ∷ cut.behind)) ∙ ap joined (sym cut.was)
 
--- the halves of a text, cut between its characters
+-- the halves of a text, cut between its chars
 pub is_halved : (bytes : List ℕ) → IsUtf8 bytes → (at : ℕ) → IsBoundary (chars bytes) at → 0 < at
     → at < size (chars bytes) → IsHalved (chars bytes) (chars (take at bytes)) (chars (drop at bytes)) at
 is_halved bytes utf8 at boundary above below =

@@ -3,7 +3,7 @@ use Rattle.std.specs.Prelude.{◌*◌, ◌^◌}
 use Rattle.std.proofs.Common.{pow_pos}
 use Rattle.std.proofs.Math.Nat.{one-mul, pow-zero, pow-suc, pow-le-pow_right}
 use Rattle.positions.proofs.lemmas.Callers.{none_taken, taken_within}
-use Rattle.positions.specs.Parts.{Took}
+use Rattle.positions.specs.Parts.{Searched}
 use Rattle.piece_text.specs.Parts.{Asks, parts_of}
 use Rattle.piece_text.proofs.lemmas.Common.{◌≡◌, ℕ, ◌-◌, ◌≤◌, length, refl, ap, ◌∙◌, arith, PiecesState, joined}
 
@@ -15,12 +15,12 @@ few_looks : {old new : PiecesState} → Asks old new → 2 ^ (new.looks - old.lo
 few_looks {old} {new} asks = pow-le-pow_right (omega arith) (omega (arith, asks.looks, asks.looks_kept))
 
 -- no search
-pub took_none : (state : PiecesState) {b c : ℕ} → Took b c (parts_of state) (parts_of state)
+pub took_none : (state : PiecesState) {b c : ℕ} → Searched b c (parts_of state) (parts_of state)
 took_none state = taken_within (record { by_byte = pow_pos (length state.texts); by_count = pow_pos (length state.texts) })
     (omega arith) (omega arith) (none_taken (parts_of state))
 
 -- one by a byte
-pub took_byte : {old new : PiecesState} → Asks old new → Took 1 0 (parts_of old) (parts_of new)
+pub took_byte : {old new : PiecesState} → Asks old new → Searched 1 0 (parts_of old) (parts_of new)
 took_byte {old} {new} asks =
     let m = 2 ^ length old.texts in
     record {
@@ -37,7 +37,7 @@ took_byte {old} {new} asks =
     }
 
 -- one by a count
-pub took_count : {old new : PiecesState} → Asks old new → Took 0 1 (parts_of old) (parts_of new)
+pub took_count : {old new : PiecesState} → Asks old new → Searched 0 1 (parts_of old) (parts_of new)
 took_count {old} {new} asks =
     let m = 2 ^ length old.texts in
     record {

@@ -1,9 +1,9 @@
 -- The cost of several searches together.
 use Rattle.std.proofs.Math.Nat.{pow-zero, pow-le-pow_right, mul-mul-mul_comm}
-use Rattle.positions.proofs.lemmas.Common.{◌≡◌, ℕ, ◌+◌, ◌-◌, ◌*◌, ◌^◌, ◌≤◌, refl, sym, ◌∙◌, ap, arith, pow-add, mul-le-mul, PartsState, IsSearched, Took}
+use Rattle.positions.proofs.lemmas.Common.{◌≡◌, ℕ, ◌+◌, ◌-◌, ◌*◌, ◌^◌, ◌≤◌, refl, sym, ◌∙◌, ap, arith, pow-add, mul-le-mul, PartsState, IsSearched, Searched}
 
 -- none
-pub none_taken : (state : PartsState) → Took 0 0 state state
+pub none_taken : (state : PartsState) → Searched 0 0 state state
 none_taken state = record {
   text = refl;
   pieces = refl;
@@ -25,7 +25,7 @@ none_taken state = record {
 }
 
 -- some, and then others
-pub taken_after : {i j k m : ℕ} {a b c : PartsState} → Took i j a b → Took k m b c → Took (i + k) (j + m) a c
+pub taken_after : {i j k m : ℕ} {a b c : PartsState} → Searched i j a b → Searched k m b c → Searched (i + k) (j + m) a c
 taken_after {i} {j} {k} {m} {a} {b} {c} first next =
     let together : (b.looks - a.looks) + (c.looks - b.looks) ≡ c.looks - a.looks =
     omega (arith, first.looks_kept, next.looks_kept) in
@@ -51,7 +51,7 @@ taken_after {i} {j} {k} {m} {a} {b} {c} first next =
     }
 
 -- at most fewer searches is at most more
-pub taken_within : {i j k m : ℕ} {a b : PartsState} → IsSearched a → i ≤ k → j ≤ m → Took i j a b → Took k m a b
+pub taken_within : {i j k m : ℕ} {a b : PartsState} → IsSearched a → i ≤ k → j ≤ m → Searched i j a b → Searched k m a b
 taken_within {i} {j} {k} {m} {a} {b} some le more took =
     let byte = pow-le-pow_right some.by_byte le in
     let count = pow-le-pow_right some.by_count more in
@@ -69,12 +69,12 @@ taken_within {i} {j} {k} {m} {a} {b} some le more took =
     }
 
 -- some, and then others, at most these together
-pub taken_both : {i j k m p q : ℕ} {a b c : PartsState} → IsSearched a → Took i j a b → Took k m b c → i + k ≤ p → j + m ≤ q
-    → Took p q a c
+pub taken_both : {i j k m p q : ℕ} {a b c : PartsState} → IsSearched a → Searched i j a b → Searched k m b c → i + k ≤ p → j + m ≤ q
+    → Searched p q a c
 taken_both some first next le more = taken_within some le more (taken_after first next)
 
 -- a search leaves what another may take
-pub searched_before : {i j : ℕ} {a b : PartsState} → Took i j a b → IsSearched b → IsSearched a
+pub searched_before : {i j : ℕ} {a b : PartsState} → Searched i j a b → IsSearched b → IsSearched a
 searched_before {i} {j} {a} {b} took some = record {
   by_byte = omega (arith, took.by_byte, some.by_byte);
   by_count = omega (arith, took.by_count, some.by_count);

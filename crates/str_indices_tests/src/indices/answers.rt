@@ -5,16 +5,16 @@ use byte_chunk::ByteChunk;
 use std::process::Abort;
 use str_indices::Scheme;
 
-/// What the kernels of a scheme are to answer for an index.
+/// The answers of a scheme's kernels for an index.
 #[derive(Clone, Copy)]
 pub struct Answers {
-    /// The count before that byte, where the counting kernel takes it as an end.
+    /// The count before that byte, if the counting kernel takes it as an end.
     pub before: Option<usize>,
     pub from: usize,
     pub to: usize,
 }
 
-/// The count before the byte by the plain walk, where the counting kernel takes it as an end.
+/// Counts before the byte by the plain walk, if the counting kernel takes it as an end.
 pub fn walked_before(scheme: Scheme, text: &str, index: usize) -> Option<usize> {
     let anywhere = matches!(scheme, Scheme::Lf | Scheme::Crlf) && index <= text.len();
     if anywhere || text.is_char_boundary(index) {
@@ -25,7 +25,7 @@ pub fn walked_before(scheme: Scheme, text: &str, index: usize) -> Option<usize> 
 }
 
 /// The answers of the plain walk.
-pub fn walked(scheme: Scheme, text: &str, index: usize) -> Answers {
+pub fn walk(scheme: Scheme, text: &str, index: usize) -> Answers {
     Answers {
         before: walked_before(scheme, text, index),
         from: walk::from_byte_idx(scheme, text, index),
@@ -33,7 +33,7 @@ pub fn walked(scheme: Scheme, text: &str, index: usize) -> Answers {
     }
 }
 
-/// The surrogate pairs before a byte by the plain walk, where the byte is at a character.
+/// Counts the surrogate pairs before a byte by the plain walk, if the byte is a boundary.
 fn walked_pairs(text: &str, end: usize) -> Option<usize> {
     Some(surrogate_pairs(text.get(..end)?))
 }
@@ -45,7 +45,7 @@ fn answers_are<T: ByteChunk>(rt: &impl Abort, asked: Asked, answers: Answers) {
     rows::to_is::<T>(rt, asked, answers.to);
 }
 
-/// Compares them with the plain walk, after any of these numbers of leading bytes.
+/// Compares the kernels of a scheme with the plain walk, after each of these numbers of leading bytes.
 fn answer_as_the_walk<T: ByteChunk>(
     rt: &impl Abort,
     scheme: Scheme,
@@ -53,13 +53,13 @@ fn answer_as_the_walk<T: ByteChunk>(
     index: usize,
     leads: &[usize],
 ) {
-    let answers = walked(scheme, text, index);
+    let answers = walk(scheme, text, index);
     for &lead in leads {
         answers_are::<T>(rt, Asked::new(scheme, text, index, lead), answers);
     }
 }
 
-/// The same of the kernel that counts surrogate pairs.
+/// Compares the kernel that counts surrogate pairs with the plain walk.
 fn count_pairs_as_the_walk<T: ByteChunk>(
     rt: &impl Abort,
     text: &str,
@@ -72,7 +72,7 @@ fn count_pairs_as_the_walk<T: ByteChunk>(
     }
 }
 
-/// The same of all kernels.
+/// Compares all kernels with the plain walk at an index.
 pub fn all_answer_as_the_walk<T: ByteChunk>(
     rt: &impl Abort,
     text: &str,
@@ -85,7 +85,7 @@ pub fn all_answer_as_the_walk<T: ByteChunk>(
     }
 }
 
-/// The same at every index up to past the text's end, and at the greatest.
+/// Compares all kernels with the plain walk at every index up to past the text's end, and at the greatest.
 pub fn all_answer_everywhere<T: ByteChunk>(rt: &impl Abort, text: &str, leads: &[usize]) {
     for index in 0..usize::max(4, text.len() + 2) {
         all_answer_as_the_walk::<T>(rt, text, index, leads);

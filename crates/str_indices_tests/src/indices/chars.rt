@@ -96,7 +96,7 @@ fn char_begins_at_its_byte(rt: HostRuntime) {
     rows::to_bytes(&rt, Scheme::Chars, BEGINS);
 }
 
-/// The index of a byte of `ENGLISH_AND_JAPANESE`: after 88 characters of one byte are those of three.
+/// The index of a byte of `ENGLISH_AND_JAPANESE`: after 88 chars of one byte are those of three.
 fn char_of(byte: usize) -> usize {
     if byte < 88 {
         byte
@@ -105,7 +105,7 @@ fn char_of(byte: usize) -> usize {
     }
 }
 
-/// The byte where a character of `ENGLISH_AND_JAPANESE` begins.
+/// The byte where a char of `ENGLISH_AND_JAPANESE` begins.
 fn byte_of(index: usize) -> usize {
     if index < 88 {
         index

@@ -10,13 +10,13 @@ use std::simd::{u8x16, u8x32};
 use std::test::Fail;
 use str_indices::Scheme;
 
-/// Numbers of leading bytes, up to more than a chunk and the longest character have.
+/// Numbers of leading bytes, up to more than a chunk and the longest char have.
 const LEADS: [usize; 45] = [
     0, 1, 2, 3, 4, 5, 6, 7, 8, 9, 10, 11, 12, 13, 14, 15, 16, 17, 18, 19, 20, 21, 22, 23, 24, 25,
     26, 27, 28, 29, 30, 31, 32, 33, 34, 35, 36, 37, 38, 39, 40, 63, 64, 65, 68,
 ];
 
-/// Those at which a chunk begins or ends elsewhere.
+/// The numbers of leading bytes that make a chunk begin or end elsewhere.
 const FEW_LEADS: [usize; 15] = [0, 1, 2, 3, 5, 7, 8, 9, 10, 15, 16, 31, 32, 63, 64];
 
 /// Texts with chars of one to four bytes and with every kind of line break.
@@ -29,7 +29,7 @@ const TEXTS: [&str; 6] = [
     "",
 ];
 
-/// What stands between letters, and how many breaks it has by LF alone, by LF and CR, and by all.
+/// Middles, which stand between letters, and how many breaks each has by LF alone, by LF and CR, and by all.
 const MIDDLES: [(&str, [usize; 3]); 16] = [
     ("\n", [1, 1, 1]),
     ("\r", [0, 1, 1]),
@@ -98,7 +98,7 @@ fn surround(alloc: Global, letters: usize, middle: &str) -> Result<String, Alloc
     Ok(text)
 }
 
-/// Where a line module's conversions go, with `breaks` breaks after so many letters.
+/// The answers of a line module's conversions at `index`, with `breaks` breaks after the letters.
 fn around_breaks(letters: usize, middle: &str, breaks: usize, index: usize) -> (usize, usize) {
     let behind = letters.saturating_add(middle.len());
     let two_characters_apart = middle == "\n\r";
@@ -121,7 +121,7 @@ fn around_breaks(letters: usize, middle: &str, breaks: usize, index: usize) -> (
     (from, to)
 }
 
-/// Compares the plain walk with what the line modules answer at an index, by the numbers of breaks.
+/// Compares the plain walk at an index with the answers that the numbers of breaks give.
 fn walk_sees_breaks_at(
     rt: &impl Abort,
     text: &str,
@@ -141,7 +141,7 @@ fn walk_sees_breaks_at(
     }
 }
 
-/// The same at every index up to past the text's end, and at the greatest.
+/// Compares the plain walk at every index up to past the text's end, and at the greatest.
 fn walk_sees_breaks(rt: &impl Abort, text: &str, letters: usize, middle: &str, breaks: [usize; 3]) {
     for index in 0..text.len() + 2 {
         walk_sees_breaks_at(rt, text, letters, middle, breaks, index);
@@ -149,7 +149,7 @@ fn walk_sees_breaks(rt: &impl Abort, text: &str, letters: usize, middle: &str, b
     walk_sees_breaks_at(rt, text, letters, middle, breaks, usize::MAX);
 }
 
-/// The same of a text that has so many letters before a middle.
+/// Compares the plain walk for a text that has `letters` letters before a middle.
 fn walk_sees_middle(
     rt: &impl Abort,
     alloc: Global,
@@ -177,7 +177,7 @@ fn the_walk_sees_each_break(rt: HostRuntime) -> Result<(), Fail> {
     Ok(())
 }
 
-/// Compares the kernels at every index of a text that has so many letters before a middle.
+/// Compares the kernels at every index of a text that has `letters` letters before a middle.
 fn middle_behind<T: ByteChunk>(
     rt: &impl Abort,
     alloc: Global,
@@ -189,7 +189,7 @@ fn middle_behind<T: ByteChunk>(
     Ok(())
 }
 
-/// The same with each middle.
+/// Compares the kernels for each middle, after `letters` letters.
 fn middles_behind<T: ByteChunk>(
     rt: &impl Abort,
     alloc: Global,
@@ -201,7 +201,7 @@ fn middles_behind<T: ByteChunk>(
     Ok(())
 }
 
-/// With `first` letters before the middle, and with each number more below `end`.
+/// Compares the kernels for each middle, after each number of letters from `first` up to `end`.
 fn middles_behind_each<T: ByteChunk>(
     rt: &impl Abort,
     alloc: Global,

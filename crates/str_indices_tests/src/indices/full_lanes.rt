@@ -10,7 +10,7 @@ use std::simd::{u8x16, u8x32};
 use std::test::Fail;
 use str_indices::Scheme;
 
-/// A character repeated, and its count in each scheme, in the order of `Scheme::ALL`.
+/// A char repeated, and its count in each scheme, in the order of `Scheme::ALL`.
 const REPEATED: [(&str, usize, [usize; 5]); 7] = [
     ("", 1, [0, 0, 0, 0, 0]),
     ("é", 4097, [4097, 4097, 0, 0, 0]),
@@ -21,10 +21,10 @@ const REPEATED: [(&str, usize, [usize; 5]); 7] = [
     ("\u{1F438}", 1025, [1025, 2050, 0, 0, 0]),
 ];
 
-/// The indices before, at and past the last of a character that is repeated so often, by what is counted and by bytes.
+/// Indices before, at and past the last repetition, counted in chars, units or breaks, and in bytes.
 const INDICES: [usize; 5] = [1, 4096, 4098, 8193, 12290];
 
-/// A repeated character, its scheme, a byte or an index, and the index or the byte that it is given.
+/// A repeated char, its scheme, a byte or an index, and the index or the byte that it is given.
 type Row = (&'static str, usize, Scheme, usize, usize);
 
 /// Bytes that are given an index, and the index.
@@ -63,7 +63,7 @@ const TO: &[Row] = &[
     ("\u{1F438}", 1025, Scheme::Utf16, 2050, 4100),
 ];
 
-/// The count of all of the text, and what the greatest index gives, after so many leading bytes.
+/// Compares the count of the whole text, and the answers for the greatest index, after `lead` leading bytes.
 fn count_after<T: ByteChunk>(
     rt: &impl Abort,
     scheme: Scheme,

@@ -28,7 +28,7 @@ fn count_at_byte<T: ByteChunk>(
     }
 }
 
-/// The count of a scheme whose kernel takes an end at a character alone.
+/// The count of a scheme whose kernel takes an end at a char alone.
 fn count_at_boundary<T: ByteChunk>(
     scheme: Scheme,
     text: &str,

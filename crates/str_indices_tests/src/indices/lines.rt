@@ -188,12 +188,12 @@ fn same_line(rt: &impl Abort, text: &str, index: usize, found: usize, want: usiz
     rows::same_at(rt, "by characters", asked, found, want);
 }
 
-/// The line of a character.
+/// The line of a char.
 fn line_of_char(text: &str, index: usize) -> usize {
     from_byte_idx(text, chars::to_byte_idx(text, index))
 }
 
-/// The character that a line begins with.
+/// The char that a line begins with.
 fn char_of_line(text: &str, line: usize) -> usize {
     chars::from_byte_idx(text, to_byte_idx(text, line))
 }
@@ -205,7 +205,7 @@ fn each_char_is_on(rt: &impl Abort, row: RangeRow) {
     }
 }
 
-/// Characters, and the line that they are on.
+/// Chars, and the line that they are on.
 const CHARS: &[RangeRow] = &[
     (THREE_LINES, 0, 8, 0),
     (THREE_LINES, 8, 10, 1),
@@ -223,7 +223,7 @@ fn line_of_each_char(rt: HostRuntime) {
     }
 }
 
-/// Lines, and the character that each begins with.
+/// Lines, and the char that each begins with.
 const CHARS_OF_LINES: &[Row] = &[
     (THREE_LINES, 0, 0),
     (THREE_LINES, 1, 8),

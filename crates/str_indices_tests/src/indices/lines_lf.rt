@@ -144,7 +144,7 @@ fn any_number_of_leading_bytes_gives_one_answer(rt: HostRuntime) {
 const ENDING_WITH_FOUR_CHUNKS: KernelRows = KernelRows {
     scheme: Scheme::Lf,
     leads: 131,
-    // an end may stand inside a character
+    // an end may stand inside a char
     counts: &[("é\n", 1, 0), ("é\n", 2, 0), ("é\n", 3, 1)],
     from: &[
         (LINE_OF_64, 63, 0),

@@ -9,13 +9,13 @@ use std::simd::{u8x16, u8x32};
 use std::test::Fail;
 use str_indices::Scheme;
 
-/// A text, what a function is given, and what it is to answer.
+/// A text, a function's argument, and its answer.
 pub type Row = (&'static str, usize, usize);
 
 /// A text, the first byte and the end of a range, and the index that each byte of it has.
 pub type RangeRow = (&'static str, usize, usize, usize);
 
-/// What a function is asked, for the words of a failed assertion.
+/// A question to a function, for the message of a failed assertion.
 #[derive(Clone, Copy, Debug)]
 pub struct Asked<'a> {
     scheme: Scheme,
@@ -34,18 +34,18 @@ impl<'a> Asked<'a> {
         }
     }
 
-    /// As a public function is asked, which has no leading bytes.
+    /// Asks a public function, which has no leading bytes.
     pub fn at(scheme: Scheme, text: &'a str, index: usize) -> Asked<'a> {
         Asked::new(scheme, text, index, 0)
     }
 }
 
-/// Asserts that a call has answered what is wanted.
+/// Asserts that a call answered as the table has it.
 pub fn same(rt: &impl Abort, call: &str, asked: Asked, found: Option<usize>, want: Option<usize>) {
     assert_eq!(rt; found, want, "{call} {asked:?}");
 }
 
-/// As `same`, where the call always has an answer.
+/// Asserts as `same` does, for a call that always has an answer.
 pub fn same_at(rt: &impl Abort, call: &str, asked: Asked, found: usize, want: usize) {
     same(rt, call, asked, Some(found), Some(want));
 }
@@ -103,7 +103,7 @@ pub fn round_trips(rt: &impl Abort, scheme: Scheme, rows: &[Row]) {
     }
 }
 
-/// What is repeated, how often, how many of what the scheme counts there are, and an index and the byte where it begins.
+/// A text to repeat, how often, its count, and an index with the byte where it begins.
 pub type RepeatedRow = (&'static str, usize, usize, usize, usize);
 
 pub fn repeated_texts(

@@ -1,7 +1,7 @@
-//! What the schemes answer by a walk over the chars of a text, one after the other.
+//! The answers of the schemes, by a walk over the chars of a text, one after the other.
 use str_indices::Scheme;
 
-/// How many of what the scheme counts end where the char does, with this char after it.
+/// Counts the ends of the scheme where a char ends, by that char and the one after it.
 fn ending_with(scheme: Scheme, c: char, after: Option<char>) -> usize {
     let return_alone = c == '\r' && after != Some('\n');
     match scheme {
@@ -18,7 +18,7 @@ fn ending_with(scheme: Scheme, c: char, after: Option<char>) -> usize {
     }
 }
 
-/// How many end at or before the byte.
+/// Counts the ends at or before the byte.
 pub fn from_byte_idx(scheme: Scheme, text: &str, byte_idx: usize) -> usize {
     let mut count = 0usize;
     for (start, c) in text.char_indices() {

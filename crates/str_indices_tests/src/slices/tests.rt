@@ -9,7 +9,7 @@ fn text_is(rt: &impl Abort, found: &str, wanted: &str, at: usize) {
     assert!(rt; found == wanted, "{at}: {found:?}");
 }
 
-/// Numbers of characters, and what is left of the text after them.
+/// Numbers of chars, and what is left of the text after them.
 const RESTS: [(usize, &str); 6] = [
     (0, TEXT),
     (3, "🐸lo world! こん🐸にち🐸🐸は!"),

@@ -12,7 +12,7 @@ use Rattle.positions.specs.declared.encodings.Encoding.{Encoding}
 use Rattle.positions.specs.declared.encodings.Encoding.TheVariants.{Utf8, Utf16, Utf32}
 use Rattle.positions.proofs.lemmas.Callers.{none_before}
 use Rattle.positions.specs.Lines.{scheme_of}
-use Rattle.positions.specs.Parts.{HasOwn, Took, HasByte, HasLine}
+use Rattle.positions.specs.Parts.{HasOwn, Searched, HasByte, HasLine}
 use Rattle.positions.specs.Parts as parts
 use Rattle.positions.specs.Units.{unit_scheme}
 use Rattle.positions.specs.declared.parts.Own.{Own}
@@ -145,7 +145,7 @@ module _ (old new : MarksState) (text : new.text ≡ old.text) (kept : old.looks
   abbrev most : ℕ
   most = 2 * stretches_of old.text
 
-  pub took_byte : new.looks ≤ old.looks + 2 → Took 1 0 (parts_of old) (parts_of new)
+  pub took_byte : new.looks ≤ old.looks + 2 → Searched 1 0 (parts_of old) (parts_of new)
   took_byte few =
       let two : new.looks - old.looks ≤ 2 = omega (arith, few) in
       let four : 2 ^ (new.looks - old.looks) ≤ 2 ^ 2 = pow-le-pow_right (omega arith) two in
@@ -162,7 +162,7 @@ module _ (old new : MarksState) (text : new.text ≡ old.text) (kept : old.looks
         reads_kept = reads_kept;
       }
 
-  pub took_count : 2 ^ (new.looks - old.looks) ≤ most → Took 0 1 (parts_of old) (parts_of new)
+  pub took_count : 2 ^ (new.looks - old.looks) ≤ most → Searched 0 1 (parts_of old) (parts_of new)
   took_count few = record {
     text = text;
     pieces = ap (λ t. t ∷ []) text;
@@ -177,7 +177,7 @@ module _ (old new : MarksState) (text : new.text ≡ old.text) (kept : old.looks
   }
 
 -- the cost of searches, in looks at marks and reads of stretches
-pub asked : {b c most : ℕ} {old new : MarksState} → Took b c (parts_of old) (parts_of new)
+pub asked : {b c most : ℕ} {old new : MarksState} → Searched b c (parts_of old) (parts_of new)
     → (4 ^ b) * ((2 * stretches_of old.text) ^ c) ≤ most → Asked (b + c) most old new
 asked {b} {c} {most} {old} {new} took within = record {
   text = took.text;

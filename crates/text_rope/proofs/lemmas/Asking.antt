@@ -3,7 +3,7 @@ use Rattle.std.proofs.Common.{pow-add}
 use Rattle.std.proofs.Math.Nat.{one-mul, pow-zero, pow-suc, pow-le-pow_right}
 use Rattle.text_rope.proofs.lemmas.Common.{◌≡◌, ℕ, ◌+◌, ◌-◌, ◌*◌, ◌^◌, ◌<◌, ◌≤◌, length, refl, sym, ◌∙◌, ap, arith, mul-le-mul}
 use Rattle.text_rope.specs.Looks.{Asks}
-use Rattle.text_rope.specs.States.{RowsState}
+use Rattle.text_rope.specs.States.{RopeState}
 
 -- none and one of equal factors
 power_none : (m : ℕ) → m ^ 0 ≡ 1
@@ -16,7 +16,7 @@ sub_same : (n : ℕ) → n - n ≡ 0
 sub_same n = omega arith
 
 -- none
-pub none_asked : (state : RowsState) → Asks 0 state state
+pub none_asked : (state : RopeState) → Asks 0 state state
 none_asked state = let still : 2 ^ (state.looks - state.looks) ≡ 1 = ap (λ n. 2 ^ n) (sub_same state.looks) in record {
   texts = refl;
   looks = omega (arith, power_none ((length state.texts + 1) * (length state.texts + 1)), still);
@@ -26,7 +26,7 @@ none_asked state = let still : 2 ^ (state.looks - state.looks) ≡ 1 = ap (λ n.
 }
 
 -- some questions, and then others
-pub asked_after : {j k : ℕ} {a b c : RowsState} → Asks j a b → Asks k b c → Asks (j + k) a c
+pub asked_after : {j k : ℕ} {a b c : RopeState} → Asks j a b → Asks k b c → Asks (j + k) a c
 asked_after {j} {k} {a} {b} {c} first next =
     let n = length a.texts in
     let m = (n + 1) * (n + 1) in
@@ -44,7 +44,7 @@ asked_after {j} {k} {a} {b} {c} first next =
     }
 
 -- fewer than so many
-pub asked_within : {j k : ℕ} {a b : RowsState} → j ≤ k → Asks j a b → Asks k a b
+pub asked_within : {j k : ℕ} {a b : RopeState} → j ≤ k → Asks j a b → Asks k a b
 asked_within {j} {k} {a} {b} le asks =
     let n = length a.texts in
     let some : 0 < (n + 1) * (n + 1) = omega arith in

@@ -19,6 +19,6 @@ pub use Rattle.text_summary.specs.Changes.{IsReplaced}
 pub use Rattle.text_summary.specs.Pieces.{joined, joined_size, piece_at}
 pub use Rattle.text_summary.specs.Summaries.{summary_of, count_of}
 pub use Rattle.text_summary.specs.declared.summaries.Summary.{Summary}
-pub use Rattle.text_rope.specs.Rows.{max_piece, min_piece, IsFull, AreFull, IsFilled, IsKept}
+pub use Rattle.text_rope.specs.ChunkSizes.{max_chunk, min_chunk, IsLongEnough, AreLongEnough, IsFilled, IsKept}
 pub use Rattle.text_rope.specs.Shifts.{IsShift, FitsShift}
-pub use Rattle.text_rope.specs.Shapes.{Seen, DifferByAtMost, IsForkOf, IsBlockOf, IsJoinedHeight, IsJoined, fewest}
+pub use Rattle.text_rope.specs.Shapes.{Seen, DifferByAtMost, IsBranchOf, IsLeafOf, IsJoinedHeight, IsJoined, fewest}

@@ -1,119 +1,119 @@
--- A part of a text exchanged by the rows round it.
+-- A part of a text exchanged by the chunks round it.
 use Rattle.text_rope.proofs.lemmas.Common.{◌≡◌, ℕ, ◌+◌, ◌-◌, ◌<◌, ◌≤◌, List, [], ◌∷◌, ◌++◌, refl, sym, ap, ◌∙◌, arith, append_assoc, Text, size, size-append, joined, joined_size, IsBoundary, boundary_right, boundary_upto, same_cut, same_parts, none_of, append-nil, joined-append, IsReplaced}
-use Rattle.text_rope.proofs.lemmas.Forks.{joined_size-append}
+use Rattle.text_rope.proofs.lemmas.Branches.{joined_size-append}
 use Rattle.text_rope.proofs.lemmas.Places.{text_of_place}
-use Rattle.text_rope.proofs.lemmas.RowEnds.{cut_twice, size-row}
+use Rattle.text_rope.proofs.lemmas.ChunkEnds.{cut_twice, size-chunk}
 use Rattle.text_rope.specs.Chunks.{IsPartAt}
 use Rattle.text_rope.specs.Edits.{IsCutAt}
-use Rattle.text_rope.specs.RowEnds.{IsRowOf, IsRowEnd}
+use Rattle.text_rope.specs.ChunkEnds.{IsChunkOf, IsChunkEnd}
 
--- where the row starts, and where it ends
-pub row_start : (texts : List Text) (row : Text) (start end : ℕ) → IsRowOf texts row start end → IsRowEnd texts start
-row_start texts row start end is = record { front = is.front; back = row ∷ is.back; split = is.parts; place = sym is.start_is }
+-- where the chunk starts, and where it ends
+pub chunk_start : (texts : List Text) (chunk : Text) (start end : ℕ) → IsChunkOf texts chunk start end → IsChunkEnd texts start
+chunk_start texts chunk start end is = record { front = is.front; back = chunk ∷ is.back; split = is.parts; place = sym is.start_is }
 
-pub row_end : (texts : List Text) (row : Text) (start end : ℕ) → IsRowOf texts row start end → IsRowEnd texts end
-row_end texts row start end is = record {
-  front = is.front ++ row ∷ [];
+pub chunk_end : (texts : List Text) (chunk : Text) (start end : ℕ) → IsChunkOf texts chunk start end → IsChunkEnd texts end
+chunk_end texts chunk start end is = record {
+  front = is.front ++ chunk ∷ [];
   back = is.back;
-  split = is.parts ∙ sym (append_assoc is.front (row ∷ []) is.back);
-  place = omega (arith, joined_size-append is.front (row ∷ []), size-append row [], is.start_is, is.end_is);
+  split = is.parts ∙ sym (append_assoc is.front (chunk ∷ []) is.back);
+  place = omega (arith, joined_size-append is.front (chunk ∷ []), size-append chunk [], is.start_is, is.end_is);
 }
 
--- a boundary of the text is one of the row that it is in or at an end of
-pub boundary_in_row : (texts : List Text) (row : Text) (start end at : ℕ) → IsRowOf texts row start end → start ≤ at → at ≤ end
-    → IsBoundary (joined texts) at → IsBoundary row (at - start)
-boundary_in_row texts row start end at is after within boundary =
-    let whole = text_of_place texts is.front row is.back is.parts in
+-- a boundary of the text is one of the chunk that it is in or at an end of
+pub boundary_by_chunk : (texts : List Text) (chunk : Text) (start end at : ℕ) → IsChunkOf texts chunk start end → start ≤ at → at ≤ end
+    → IsBoundary (joined texts) at → IsBoundary chunk (at - start)
+boundary_by_chunk texts chunk start end at is after within boundary =
+    let whole = text_of_place texts is.front chunk is.back is.parts in
     let back = joined is.back in
-    let outer = boundary_right (joined is.front) (row ++ back) at (at - start) (omega (arith, is.start_is, after)) in
-    boundary_upto row back (at - start) (omega (arith, within, is.end_is)) (outer.0 (rw whole at boundary))
+    let outer = boundary_right (joined is.front) (chunk ++ back) at (at - start) (omega (arith, is.start_is, after)) in
+    boundary_upto chunk back (at - start) (omega (arith, within, is.end_is)) (outer.0 (rw whole at boundary))
 
--- a row that starts before a byte and ends after it starts there where one ends there
-begins_at : (xs fs : List Text) (row : Text) (bs front back : List Text) (at : ℕ) → xs ≡ fs ++ row ∷ bs → xs ≡ front ++ back
-    → joined_size front ≡ at → joined_size fs ≤ at → at < joined_size fs + size row → joined_size fs ≡ at
-begins_at xs [] row bs [] back at parts split place after inside = place
-begins_at xs [] row bs (f ∷ front) back at parts split place after inside =
-    let both : row ∷ bs ≡ f ∷ (front ++ back) = sym parts ∙ split in
-    let head : row ≡ f = cc in
-    absurd (omega (arith, size-row f front, ap size head, place, inside))
-begins_at xs (y ∷ fs) row bs [] back at parts split place after inside = omega (arith, place, after)
-begins_at xs (y ∷ fs) row bs (f ∷ front) back at parts split place after inside =
-    let both : y ∷ (fs ++ row ∷ bs) ≡ f ∷ (front ++ back) = sym parts ∙ split in
+-- a chunk that starts before a byte and ends after it starts there where one ends there
+begins_at : (xs fs : List Text) (chunk : Text) (bs front back : List Text) (at : ℕ) → xs ≡ fs ++ chunk ∷ bs → xs ≡ front ++ back
+    → joined_size front ≡ at → joined_size fs ≤ at → at < joined_size fs + size chunk → joined_size fs ≡ at
+begins_at xs [] chunk bs [] back at parts split place after inside = place
+begins_at xs [] chunk bs (f ∷ front) back at parts split place after inside =
+    let both : chunk ∷ bs ≡ f ∷ (front ++ back) = sym parts ∙ split in
+    let head : chunk ≡ f = cc in
+    absurd (omega (arith, size-chunk f front, ap size head, place, inside))
+begins_at xs (y ∷ fs) chunk bs [] back at parts split place after inside = omega (arith, place, after)
+begins_at xs (y ∷ fs) chunk bs (f ∷ front) back at parts split place after inside =
+    let both : y ∷ (fs ++ chunk ∷ bs) ≡ f ∷ (front ++ back) = sym parts ∙ split in
     let head : y ≡ f = cc in
-    let tails : fs ++ row ∷ bs ≡ front ++ back = cc in
-    let sizes = size-row y fs in
-    let own = size-row f front in
+    let tails : fs ++ chunk ∷ bs ≡ front ++ back = cc in
+    let sizes = size-chunk y fs in
+    let own = size-chunk f front in
     let same = ap size head in
-    let inner = begins_at (fs ++ row ∷ bs) fs row bs front back (at - size y) refl tails (omega (arith, own, same, place))
+    let inner = begins_at (fs ++ chunk ∷ bs) fs chunk bs front back (at - size y) refl tails (omega (arith, own, same, place))
     (omega (arith, sizes, after)) (omega (arith, sizes, own, same, place, inside)) in
     omega (arith, inner, sizes, own, same, place)
 
-pub row_begins : (texts : List Text) (row : Text) (start end at : ℕ) → IsRowEnd texts at → IsRowOf texts row start end → start ≤ at
+pub chunk_begins : (texts : List Text) (chunk : Text) (start end at : ℕ) → IsChunkEnd texts at → IsChunkOf texts chunk start end → start ≤ at
     → at < end → start ≡ at
-row_begins texts row start end at ends is after inside = is.start_is
-    ∙ begins_at texts is.front row is.back ends.front ends.back at is.parts ends.split ends.place (omega (arith, is.start_is, after))
+chunk_begins texts chunk start end at ends is after inside = is.start_is
+    ∙ begins_at texts is.front chunk is.back ends.front ends.back at is.parts ends.split ends.place (omega (arith, is.start_is, after))
     (omega (arith, is.start_is, is.end_is, inside))
 
 -- and one that the byte before is in ends there
-ends_at : (xs fs : List Text) (row : Text) (bs front back : List Text) (at : ℕ) → xs ≡ fs ++ row ∷ bs → xs ≡ front ++ back
-    → joined_size front ≡ at → joined_size fs < at → at ≤ joined_size fs + size row → joined_size fs + size row ≡ at
-ends_at xs [] row bs [] back at parts split place after within = absurd (omega (arith, place, after))
-ends_at xs [] row bs (f ∷ front) back at parts split place after within =
-    let both : row ∷ bs ≡ f ∷ (front ++ back) = sym parts ∙ split in
-    let head : row ≡ f = cc in
-    omega (arith, size-row f front, ap size head, place, within)
-ends_at xs (y ∷ fs) row bs [] back at parts split place after within = absurd (omega (arith, place, after))
-ends_at xs (y ∷ fs) row bs (f ∷ front) back at parts split place after within =
-    let both : y ∷ (fs ++ row ∷ bs) ≡ f ∷ (front ++ back) = sym parts ∙ split in
+ends_at : (xs fs : List Text) (chunk : Text) (bs front back : List Text) (at : ℕ) → xs ≡ fs ++ chunk ∷ bs → xs ≡ front ++ back
+    → joined_size front ≡ at → joined_size fs < at → at ≤ joined_size fs + size chunk → joined_size fs + size chunk ≡ at
+ends_at xs [] chunk bs [] back at parts split place after within = absurd (omega (arith, place, after))
+ends_at xs [] chunk bs (f ∷ front) back at parts split place after within =
+    let both : chunk ∷ bs ≡ f ∷ (front ++ back) = sym parts ∙ split in
+    let head : chunk ≡ f = cc in
+    omega (arith, size-chunk f front, ap size head, place, within)
+ends_at xs (y ∷ fs) chunk bs [] back at parts split place after within = absurd (omega (arith, place, after))
+ends_at xs (y ∷ fs) chunk bs (f ∷ front) back at parts split place after within =
+    let both : y ∷ (fs ++ chunk ∷ bs) ≡ f ∷ (front ++ back) = sym parts ∙ split in
     let head : y ≡ f = cc in
-    let tails : fs ++ row ∷ bs ≡ front ++ back = cc in
-    let sizes = size-row y fs in
-    let own = size-row f front in
+    let tails : fs ++ chunk ∷ bs ≡ front ++ back = cc in
+    let sizes = size-chunk y fs in
+    let own = size-chunk f front in
     let same = ap size head in
-    let inner = ends_at (fs ++ row ∷ bs) fs row bs front back (at - size y) refl tails (omega (arith, own, same, place))
+    let inner = ends_at (fs ++ chunk ∷ bs) fs chunk bs front back (at - size y) refl tails (omega (arith, own, same, place))
     (omega (arith, sizes, own, same, place, after)) (omega (arith, sizes, within)) in
     omega (arith, inner, sizes, own, same, place)
 
-pub row_ends : (texts : List Text) (row : Text) (start end at : ℕ) → IsRowEnd texts at → IsRowOf texts row start end → start < at
+pub chunk_ends : (texts : List Text) (chunk : Text) (start end at : ℕ) → IsChunkEnd texts at → IsChunkOf texts chunk start end → start < at
     → at ≤ end → end ≡ at
-row_ends texts row start end at ends is after within =
-    let inner = ends_at texts is.front row is.back ends.front ends.back at is.parts ends.split ends.place
+chunk_ends texts chunk start end at ends is after within =
+    let inner = ends_at texts is.front chunk is.back ends.front ends.back at is.parts ends.split ends.place
     (omega (arith, is.start_is, after)) (omega (arith, is.start_is, is.end_is, within)) in
     omega (arith, inner, is.end_is, is.start_is)
 
 -- a boundary of the text
-pub row_end_boundary : (texts : List Text) (at : ℕ) → IsRowEnd texts at → IsBoundary (joined texts) at
-row_end_boundary texts at is = record {
+pub chunk_end_boundary : (texts : List Text) (at : ℕ) → IsChunkEnd texts at → IsBoundary (joined texts) at
+chunk_end_boundary texts at is = record {
   front = joined is.front;
   back = joined is.back;
   split = ap joined is.split ∙ joined-append is.front is.back;
   place = is.place;
 }
 
--- no row ends behind the end
-pub row_within : (texts : List Text) (row : Text) (start end : ℕ) → IsRowOf texts row start end → end ≤ joined_size texts
-row_within texts row start end is = omega (
+-- no chunk ends behind the end
+pub chunk_within : (texts : List Text) (chunk : Text) (start end : ℕ) → IsChunkOf texts chunk start end → end ≤ joined_size texts
+chunk_within texts chunk start end is = omega (
   arith,
   is.start_is,
   is.end_is,
   ap joined_size is.parts,
-  joined_size-append is.front (row ∷ is.back),
-  size-row row is.back,
+  joined_size-append is.front (chunk ∷ is.back),
+  size-chunk chunk is.back,
 )
 
--- a row is a part of the text, and so is a part of it
-pub part_row : (texts : List Text) (row : Text) (start end : ℕ) → IsRowOf texts row start end → IsPartAt (joined texts) row start end
-part_row texts row start end is = record {
+-- a chunk is a part of the text, and so is a part of it
+pub part_chunk : (texts : List Text) (chunk : Text) (start end : ℕ) → IsChunkOf texts chunk start end → IsPartAt (joined texts) chunk start end
+part_chunk texts chunk start end is = record {
   front = joined is.front;
   back = joined is.back;
-  parts = text_of_place texts is.front row is.back is.parts;
+  parts = text_of_place texts is.front chunk is.back is.parts;
   start = sym is.start_is;
   end = omega (arith, is.start_is, is.end_is);
 }
 
-pub part_of_row : (texts : List Text) (row part : Text) (start end a b from to : ℕ) → IsRowOf texts row start end → IsPartAt row part a b
+pub part_by_chunk : (texts : List Text) (chunk part : Text) (start end a b from to : ℕ) → IsChunkOf texts chunk start end → IsPartAt chunk part a b
     → start + a ≡ from → start + b ≡ to → IsPartAt (joined texts) part from to
-part_of_row texts row part start end a b from to is p from_is to_is =
+part_by_chunk texts chunk part start end a b from to is p from_is to_is =
     let x = joined is.front in
     let y = joined is.back in
     let same : x ++ ((p.front ++ (part ++ p.back)) ++ y) ≡ (x ++ p.front) ++ (part ++ (p.back ++ y)) = simp append_assoc in
@@ -121,7 +121,7 @@ part_of_row texts row part start end a b from to is p from_is to_is =
     record {
       front = x ++ p.front;
       back = p.back ++ y;
-      parts = text_of_place texts is.front row is.back is.parts ∙ ap (λ r. x ++ (r ++ y)) p.parts ∙ same;
+      parts = text_of_place texts is.front chunk is.back is.parts ∙ ap (λ r. x ++ (r ++ y)) p.parts ∙ same;
       start = omega (arith, whole, p.start, is.start_is, from_is);
       end = omega (arith, whole, p.end, is.start_is, to_is);
     }

@@ -1,8 +1,8 @@
--- The fewest rows of a tree of a height.
+-- The fewest chunks of a tree of a height.
 use Rattle.std.proofs.Math.Pow.{pow_mono}
 use Rattle.std.specs.Prelude.{min}
 use Rattle.text_rope.specs.Work.{WorkState, Costs, IsHeightOf, TakesLog}
-use Rattle.text_rope.proofs.lemmas.Common.{◌≡◌, ℕ, zero, suc, ◌+◌, ◌-◌, ◌*◌, ◌/◌, ◌^◌, ◌<◌, ◌≤◌, inl, inr, arith, max, min_piece, cases_lt, mul-le-mul, DifferByAtMost, fewest}
+use Rattle.text_rope.proofs.lemmas.Common.{◌≡◌, ℕ, zero, suc, ◌+◌, ◌-◌, ◌*◌, ◌/◌, ◌^◌, ◌<◌, ◌≤◌, inl, inr, arith, max, min_chunk, cases_lt, mul-le-mul, DifferByAtMost, fewest}
 
 -- more for a greater height
 pub fewest-suc : (h : ℕ) → fewest h + 1 ≤ fewest (suc h)
@@ -21,10 +21,10 @@ same_height l nl nr left right = omega (arith, fewest-twice l)
 one_higher : (r nl nr : ℕ) → fewest (suc r) ≤ nl → fewest r ≤ nr → fewest (suc (suc r)) ≤ nl + nr
 one_higher r nl nr left right = omega arith
 
--- a fork has enough rows where both trees have
-pub fewest-fork : (l r nl nr h : ℕ) → h ≡ max l r + 1 → fewest l ≤ nl → fewest r ≤ nr → DifferByAtMost 1 l r
+-- a branch has enough chunks where both trees have
+pub fewest-branch : (l r nl nr h : ℕ) → h ≡ max l r + 1 → fewest l ≤ nl → fewest r ≤ nr → DifferByAtMost 1 l r
     → fewest h ≤ nl + nr
-fewest-fork l r nl nr h is left right near =
+fewest-branch l r nl nr h is left right near =
     elim (cases_lt l r) [
       | inl less ↦
           let r_is : r ≡ suc l = omega (arith, near.left, near.right) in
@@ -98,7 +98,7 @@ height_wider h n bytes is le =
     let wide : n + 1 ≤ bytes + 1 = omega arith in
     record { low = omega (arith, is.low, mul-le-mul wide wide) }
 
--- a tree without rows
+-- a tree without chunks
 pub height_none : (bytes : ℕ) → IsHeightOf 0 bytes
 height_none bytes =
     let one : 1 ≤ bytes + 1 = omega arith in
@@ -106,9 +106,9 @@ height_none bytes =
     record { low = omega (arith, square) }
 
 -- a cost by the height of a tree
-pub takes_log : (h n bytes times rows more : ℕ) (old new : WorkState) → fewest h ≤ n → n ≤ bytes
-    → Costs old new (times * (h + 3) + 64 * (more / min_piece)) (rows + 3 * (more / min_piece)) → TakesLog times rows bytes more old new
-takes_log h n bytes times rows more old new many few costs =
+pub takes_log : (h n bytes times chunks more : ℕ) (old new : WorkState) → fewest h ≤ n → n ≤ bytes
+    → Costs old new (times * (h + 3) + 64 * (more / min_chunk)) (chunks + 3 * (more / min_chunk)) → TakesLog times chunks bytes more old new
+takes_log h n bytes times chunks more old new many few costs =
     record { height = h; is = height_of_bytes h n bytes many few; costs = costs }
 
 -- by the heights of two
@@ -121,9 +121,9 @@ takes_both a b n m old new of_a of_b costs =
         is = height_wider b m (n + m) of_b (omega arith);
         costs = record {
           nodes_at_most = omega (arith, less, costs.nodes_at_most);
-          rows_at_most = omega (arith, costs.rows_at_most);
+          chunks_at_most = omega (arith, costs.chunks_at_most);
           nodes_kept = costs.nodes_kept;
-          rows_kept = costs.rows_kept;
+          chunks_kept = costs.chunks_kept;
         };
       }
       | inr not_less ↦ record {
@@ -131,25 +131,25 @@ takes_both a b n m old new of_a of_b costs =
         is = height_wider a n (n + m) of_a (omega arith);
         costs = record {
           nodes_at_most = omega (arith, not_less, costs.nodes_at_most);
-          rows_at_most = omega (arith, costs.rows_at_most);
+          chunks_at_most = omega (arith, costs.chunks_at_most);
           nodes_kept = costs.nodes_kept;
-          rows_kept = costs.rows_kept;
+          chunks_kept = costs.chunks_kept;
         };
       }
     ]
 
 -- a change in place that was tried first, and two changes of one text
 takes_of : (h a b bytes more : ℕ) (old middle new : WorkState) → IsHeightOf h bytes → a ≤ h → b ≤ h
-    → Costs old middle (1 * (a + 3) + 64 * (0 / min_piece)) (1 + 3 * (0 / min_piece))
-    → Costs middle new (53 * (b + 3) + 64 * (more / min_piece)) (240 + 3 * (more / min_piece)) → TakesLog 54 241 bytes more old new
+    → Costs old middle (1 * (a + 3) + 64 * (0 / min_chunk)) (1 + 3 * (0 / min_chunk))
+    → Costs middle new (53 * (b + 3) + 64 * (more / min_chunk)) (240 + 3 * (more / min_chunk)) → TakesLog 54 241 bytes more old new
 takes_of h a b bytes more old middle new is a_low b_low first then = record {
   height = h;
   is = is;
   costs = record {
     nodes_at_most = omega (arith, a_low, b_low, first.nodes_at_most, then.nodes_at_most);
-    rows_at_most = omega (arith, first.rows_at_most, then.rows_at_most);
+    chunks_at_most = omega (arith, first.chunks_at_most, then.chunks_at_most);
     nodes_kept = omega (arith, first.nodes_kept, then.nodes_kept);
-    rows_kept = omega (arith, first.rows_kept, then.rows_kept);
+    chunks_kept = omega (arith, first.chunks_kept, then.chunks_kept);
   };
 }
 
@@ -162,16 +162,16 @@ takes_further bytes more old middle new a b = elim (cases_lt a.height b.height) 
 ]
 
 twice_of : (h a b bytes : ℕ) (old middle new : WorkState) → IsHeightOf h bytes → a ≤ h → b ≤ h
-    → Costs old middle (53 * (a + 3) + 64 * (0 / min_piece)) (240 + 3 * (0 / min_piece))
-    → Costs middle new (54 * (b + 3) + 64 * (0 / min_piece)) (241 + 3 * (0 / min_piece)) → TakesLog 107 481 bytes 0 old new
+    → Costs old middle (53 * (a + 3) + 64 * (0 / min_chunk)) (240 + 3 * (0 / min_chunk))
+    → Costs middle new (54 * (b + 3) + 64 * (0 / min_chunk)) (241 + 3 * (0 / min_chunk)) → TakesLog 107 481 bytes 0 old new
 twice_of h a b bytes old middle new is a_low b_low first then = record {
   height = h;
   is = is;
   costs = record {
     nodes_at_most = omega (arith, a_low, b_low, first.nodes_at_most, then.nodes_at_most);
-    rows_at_most = omega (arith, first.rows_at_most, then.rows_at_most);
+    chunks_at_most = omega (arith, first.chunks_at_most, then.chunks_at_most);
     nodes_kept = omega (arith, first.nodes_kept, then.nodes_kept);
-    rows_kept = omega (arith, first.rows_kept, then.rows_kept);
+    chunks_kept = omega (arith, first.chunks_kept, then.chunks_kept);
   };
 }
 
@@ -191,9 +191,9 @@ takes_wider n m more most old new le within takes = record {
   is = height_wider takes.height n m takes.is le;
   costs = record {
     nodes_at_most = omega (arith, takes.costs.nodes_at_most, within);
-    rows_at_most = omega (arith, takes.costs.rows_at_most, within);
+    chunks_at_most = omega (arith, takes.costs.chunks_at_most, within);
     nodes_kept = takes.costs.nodes_kept;
-    rows_kept = takes.costs.rows_kept;
+    chunks_kept = takes.costs.chunks_kept;
   };
 }
 
@@ -204,8 +204,8 @@ takes_join m most old new takes = record {
   is = takes.is;
   costs = record {
     nodes_at_most = omega (arith, takes.costs.nodes_at_most);
-    rows_at_most = omega (arith, takes.costs.rows_at_most);
+    chunks_at_most = omega (arith, takes.costs.chunks_at_most);
     nodes_kept = takes.costs.nodes_kept;
-    rows_kept = takes.costs.rows_kept;
+    chunks_kept = takes.costs.chunks_kept;
   };
 }

@@ -1,4 +1,4 @@
--- The character that ends at a byte index, by the piece that the index is in or at the end of.
+-- The char that ends at a byte index, by the chunk that the index is in or at the end of.
 use Rattle.std.proofs.Math.Utf8.{encode}
 use Rattle.std.proofs.lemmas.List.{reverse-append}
 use Rattle.std.proofs.lemmas.Str.{chars_past_char, length-encode, IsUtf8-drop, IsCharBoundary-past_char}
@@ -20,7 +20,7 @@ end_above cs c p is = omega (arith, one_more is.front c, len_utf8_bounds c, is.p
 pub end_within : (cs : Text) (c p : ℕ) → IsEndOf cs c p → p ≤ size cs
 end_within cs c p is = omega (arith, ap size is.split, size-append (is.front ++ c ∷ []) is.back, is.place)
 
--- one character ends there
+-- one char ends there
 pub same_character : (cs : Text) (c d p : ℕ) → IsEndOf cs c p → IsEndOf cs d p → c ≡ d
 same_character cs c d p is other =
     let same = (same_cut (is.front ++ c ∷ []) is.back (other.front ++ d ∷ []) other.back (sym is.split ∙ other.split)
@@ -39,7 +39,7 @@ boundary_before_end cs c p q is width = record {
   place = omega (arith, one_more is.front c, is.place, width);
 }
 
--- the bytes from the greatest boundary before a place up to it are those of one character
+-- the bytes from the greatest boundary before a place up to it are those of one char
 module _ (bytes : List ℕ) (utf8 : IsUtf8 bytes) (at start c : ℕ) (rest : List ℕ) (here : IsCharBoundary bytes at)
     (there : IsCharBoundary bytes start) (before : start < at)
     (nearest : (i : ℕ) → start < i → i ≤ at - 1 → ¬ (IsCharBoundary bytes i))
@@ -87,7 +87,7 @@ module _ (bytes : List ℕ) (utf8 : IsUtf8 bytes) (at start c : ℕ) (rest : Lis
         );
       }
 
--- the first character of those bytes, where there is one
+-- the first char of those bytes, where there is one
 pub last_of : (bytes : List ℕ) (utf8 : IsUtf8 bytes) (at start below : ℕ) (part rest : List ℕ) (none : Type 0)
     → IsCharBoundary bytes at → IsCharBoundary bytes start → start ≤ below → below ≡ at - 1
     → ((i : ℕ) → start < i → i ≤ below → ¬ (IsCharBoundary bytes i)) → part ≡ take (at - start) (drop start bytes)
@@ -101,7 +101,7 @@ last_of bytes utf8 at start below part rest none here there le below_is nearest 
     (sym part_is ∙ is) (ap length (sym part_is) ∙ long)
 
 module _ {whole chunk : Text} {start at : ℕ} (is : IsRound whole chunk start at) where
-  -- the character that ends there in a piece is that of the text
+  -- the char that ends there in a chunk is that of the text
   pub end_in_round : (c : ℕ) → IsEndOf chunk c (at - start) → IsEndOf whole c at
   end_in_round c own =
       let same : is.front ++ (((own.front ++ c ∷ []) ++ own.back) ++ is.back) ≡ ((is.front ++ own.front) ++ c ∷ []) ++ (own.back ++ is.back) =
@@ -121,14 +121,14 @@ module _ {whole chunk : Text} {start at : ℕ} (is : IsRound whole chunk start a
         );
       }
 
-  -- a boundary of the text is one of the piece
+  -- a boundary of the text is one of the chunk
   pub boundary_in_round : IsBoundary whole at → IsBoundary chunk (at - start)
   boundary_in_round boundary =
       let rest = (boundary_right is.front (chunk ++ is.back) at (at - start) (omega (arith, is.place, is.after))).0
       (rw is.parts at boundary) in
       boundary_upto chunk is.back (at - start) (omega (arith, is.within)) rest
 
-  -- a place before it is in the piece too
+  -- a place before it is in the chunk too
   pub round_before : (q : ℕ) → start ≤ q → q ≤ at → IsRound whole chunk start q
   round_before q after before = record {
     front = is.front;
@@ -139,7 +139,7 @@ module _ {whole chunk : Text} {start at : ℕ} (is : IsRound whole chunk start a
     within = omega (arith, is.within, before);
   }
 
--- the piece that the byte before a place is in has the place in it or at its end
+-- the chunk that the byte before a place is in has the place in it or at its end
 pub round_behind : {whole chunk : Text} {start : ℕ} (at : ℕ) → 0 < at → IsChunkAt whole chunk start (at - 1)
     → IsRound whole chunk start at
 round_behind at above is = record {
@@ -151,7 +151,7 @@ round_behind at above is = record {
   within = omega (arith, is.inside, above);
 }
 
--- which character ends there, a test of it tells
+-- which char ends there, a test of it tells
 pub tells_character : (cs : Text) (c d p : ℕ) → IsEndOf cs c p
     → (IsTrue (nat_eq c d) → IsEndOf cs d p) × (IsEndOf cs d p → IsTrue (nat_eq c d))
 tells_character cs c d p is = (

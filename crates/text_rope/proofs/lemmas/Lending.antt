@@ -1,11 +1,11 @@
--- A row as the part in which positions are searched, and what the searches cost.
+-- A chunk as the part in which positions are searched, and what the searches cost.
 use Rattle.std.specs.Prelude.{min}
 use Rattle.std.proofs.Common.{pow-add}
 use Rattle.std.proofs.Math.Nat.{pow-zero}
 use Rattle.positions.specs.declared.encodings.Encoding.{Encoding}
 use Rattle.positions.proofs.lemmas.Callers.{lines_before, reached_by, none_taken, taken_within}
 use Rattle.positions.specs.Lines.{scheme_of}
-use Rattle.positions.specs.Parts.{HasByte, HasLine, IsPart, Took}
+use Rattle.positions.specs.Parts.{HasByte, HasLine, IsPart, Searched}
 use Rattle.positions.specs.declared.line_type.LineType.{LineType}
 use Rattle.positions.specs.declared.parts.Part.{Part}
 use Rattle.text_rope.proofs.lemmas.Common.{◌≡◌, ◌≢◌, ℕ, ◌+◌, ◌-◌, ◌*◌, ◌^◌, ◌<◌, ◌≤◌, List, [], ◌++◌, length, refl, ap, ◌∙◌, inl, inr, arith, cases_lt, chars, Text, size, size-append, from_byte_idx, to_byte_idx-le-size, seam_loss, joined, Front, Scheme}
@@ -14,16 +14,16 @@ use Rattle.text_rope.proofs.lemmas.Places.{text_of_place}
 use Rattle.text_rope.specs.Looks.{Asks}
 use Rattle.text_rope.specs.Parts.{parts_of}
 use Rattle.text_rope.specs.Places.{IsPlaceAt, IsPlaceOf}
-use Rattle.text_rope.specs.States.{RowsState}
+use Rattle.text_rope.specs.States.{RopeState}
 
--- a byte is in its row, and one past the end in the last
-pub row_has_byte : {s : Scheme} {texts : List Text} {row : Text} {before : Front} {at : ℕ} (byte : ℕ) (part : Part)
-    (place : IsPlaceAt s [] texts row before at) → at ≡ min byte (size (joined texts) - 1) → chars part.text.now ≡ row
+-- a byte is in its chunk, and one past the end in the last
+pub chunk_has_byte : {s : Scheme} {texts : List Text} {chunk : Text} {before : Front} {at : ℕ} (byte : ℕ) (part : Part)
+    (place : IsPlaceAt s [] texts chunk before at) → at ≡ min byte (size (joined texts) - 1) → chars part.text.now ≡ chunk
     → part.start ≡ before.len → HasByte (joined texts) byte part
-row_has_byte {texts = texts} {row = row} byte part place at_is text start =
+chunk_has_byte {texts = texts} {chunk = chunk} byte part place at_is text start =
     let a = joined place.front in
     let back = joined place.back in
-    let sizes = ap size (text_of_place texts place.front row place.back place.parts) ∙ size-append a (row ++ back) in
+    let sizes = ap size (text_of_place texts place.front chunk place.back place.parts) ∙ size-append a (chunk ++ back) in
     record {
       after = omega (arith, place.after, at_is, start);
       before = elim (cases_lt byte (size (joined texts))) [
@@ -37,43 +37,43 @@ row_has_byte {texts = texts} {row = row} byte part place at_is text start =
           start,
           ap size text,
           sizes,
-          size-append row back,
+          size-append chunk back,
         ))
       ];
     }
 
--- the row of a line has the place where it begins
-pub row_has_line : (l : LineType) (e : Encoding) (texts : List Text) (row : Text) (before : Front) (line : ℕ) (part : Part)
-    → IsPart (joined texts) l e part → IsPlaceOf (scheme_of l) [] texts row before line → row ≢ [] → chars part.text.now ≡ row
+-- the chunk of a line has the place where it begins
+pub chunk_has_line : (l : LineType) (e : Encoding) (texts : List Text) (chunk : Text) (before : Front) (line : ℕ) (part : Part)
+    → IsPart (joined texts) l e part → IsPlaceOf (scheme_of l) [] texts chunk before line → chunk ≢ [] → chars part.text.now ≡ chunk
     → part.start ≡ before.len → HasLine (joined texts) l line part
-row_has_line l e texts row before line part is place some text start =
+chunk_has_line l e texts chunk before line part is place some text start =
     let a = joined place.front in
     let back = joined place.back in
     let s = scheme_of l in
-    let reached = before.total - seam_loss s a row in
-    let sizes = ap size (text_of_place texts place.front row place.back place.parts) ∙ size-append a (row ++ back) in
+    let reached = before.total - seam_loss s a chunk in
+    let sizes = ap size (text_of_place texts place.front chunk place.back place.parts) ∙ size-append a (chunk ++ back) in
     let counted : reached ≡ from_byte_idx s (joined texts) before.len =
-    lines_before l (joined texts) a row back before (text_of_place texts place.front row place.back place.parts) place.before_is some in
+    lines_before l (joined texts) a chunk back before (text_of_place texts place.front chunk place.back place.parts) place.before_is some in
     let past : reached < line = place.past in
     record {
       after = inl (omega (arith, is.lines, ap (from_byte_idx s (joined texts)) start, counted, past));
       before = reached_by l (joined texts) line (part.start + size (chars part.text.now)) (omega (
         arith,
         place.answer,
-        to_byte_idx-le-size s row (line - reached),
+        to_byte_idx-le-size s chunk (line - reached),
         start,
         ap size text,
-      )) (omega (arith, sizes, size-append row back, place.before_is.len, start, ap size text));
+      )) (omega (arith, sizes, size-append chunk back, place.before_is.len, start, ap size text));
     }
 
--- the first row has line 0
+-- the first chunk has line 0
 pub first_has_line : (l : LineType) (texts : List Text) (part : Part) → part.start ≡ 0 → HasLine (joined texts) l 0 part
 first_has_line l texts part start = record { after = inr start; before = inl (omega arith) }
 
 -- what a search by a count took
-pub took_count : {old new : RowsState} → new.texts ≡ old.texts
+pub took_count : {old new : RopeState} → new.texts ≡ old.texts
     → 2 ^ (new.looks - old.looks) ≤ (length old.texts + 1) * (length old.texts + 1) → old.looks ≤ new.looks
-    → new.reads ≤ old.reads + 1 → old.reads ≤ new.reads → Took 0 1 (parts_of old) (parts_of new)
+    → new.reads ≤ old.reads + 1 → old.reads ≤ new.reads → Searched 0 1 (parts_of old) (parts_of new)
 took_count {old} {new} texts looks kept reads reads_kept =
     let m = (length old.texts + 1) * (length old.texts + 1) in
     record {
@@ -90,12 +90,12 @@ took_count {old} {new} texts looks kept reads reads_kept =
     }
 
 -- no search is one at most
-pub took_none : (state : RowsState) {b c : ℕ} → Took b c (parts_of state) (parts_of state)
+pub took_none : (state : RopeState) {b c : ℕ} → Searched b c (parts_of state) (parts_of state)
 took_none state = taken_within (record { by_byte = omega arith; by_count = omega arith }) (omega arith) (omega arith)
     (none_taken (parts_of state))
 
 -- what searches took, as questions
-pub asks : {b c : ℕ} {old new : RowsState} → Took b c (parts_of old) (parts_of new) → Asks (b + c) old new
+pub asks : {b c : ℕ} {old new : RopeState} → Searched b c (parts_of old) (parts_of new) → Asks (b + c) old new
 asks {b} {c} {old} {new} took =
     let m = (length old.texts + 1) * (length old.texts + 1) in
     record {

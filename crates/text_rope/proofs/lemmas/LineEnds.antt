@@ -1,4 +1,4 @@
--- Where the content of a line ends, by where the next line begins and the character before that.
+-- Where the content of a line ends, by where the next line begins and the char before that.
 use Rattle.std.proofs.Common.{true, false, cond}
 use Rattle.std.proofs.Math.Seq.{drop-append_seam}
 use Rattle.std.proofs.lemmas.Bool.{cases_Bool}
@@ -15,7 +15,7 @@ use Rattle.text_rope.proofs.lemmas.LastCharacters.{end_above, same_character}
 use Rattle.text_rope.proofs.lemmas.Places.{to_past}
 use Rattle.text_rope.specs.Lines.{begins_break, line_text, line_content, line_end, IsFeedOf, IsBreakLen}
 
--- a text, split before its first character that passes a test, or at its end
+-- a text, split before its first char that passes a test, or at its end
 record SplitAtFirst (p : ℕ → Bool) (cs : Text) : Type 0 where
   after : Text
   split : cs ≡ before_first p cs ++ after
@@ -48,7 +48,7 @@ split_at_first p (c ∷ cs) =
           }
     ]
 
--- each scheme counts breaks, or characters
+-- each scheme counts breaks, or chars
 pub breaks_or_characters : (s : Scheme) → IsLineScheme s ⊎ IsCharacterScheme s
 breaks_or_characters Chars = inr tt
 breaks_or_characters Utf16 = inr tt
@@ -56,7 +56,7 @@ breaks_or_characters Lf = inl tt
 breaks_or_characters Crlf = inl tt
 breaks_or_characters Lines = inl tt
 
--- no break begins in a scheme that counts characters
+-- no break begins in a scheme that counts chars
 no_break : (s : Scheme) → IsCharacterScheme s → (c : ℕ) → begins_break s c ≡ false
 no_break Chars is c = refl
 no_break Utf16 is c = refl
@@ -144,7 +144,7 @@ middle_of cs p return feed =
       place = return.place;
     }
 
--- a line in the text: what is before it, its characters, and what is after it
+-- a line in the text: what is before it, its chars, and what is after it
 module _ (s : Scheme) (cs : Text) (k : ℕ) where
   abbrev start : ℕ
   start = to_byte_idx s cs k
@@ -233,7 +233,7 @@ module _ (s : Scheme) (cs : Text) (k : ℕ) where
         first.none,
       )
 
-  -- in a scheme that counts characters the content is all of the line
+  -- in a scheme that counts chars the content is all of the line
   pub end_of_characters : IsCharacterScheme s → line_end s cs k ≡ next
   end_of_characters is = (elim first.after as (λ after. first.after ≡ after → line_end s cs k ≡ next) [
     | [] ↦ λ none. end_at_next none
@@ -255,7 +255,7 @@ module _ (s : Scheme) (cs : Text) (k : ℕ) where
           | inr le ↦ absurd (omega (arith, reached, to_byte_idx-le s cs j k le))
         ]
 
-    -- after the character with which a break begins it ends, or one byte further where the place is between CR and LF
+    -- after the char with which a break begins it ends, or one byte further where the place is between CR and LF
     ends_behind : (front : Text) (c : ℕ) (back : Text) → cs ≡ front ++ c ∷ back → begins_break s c ≡ true
         → IsEnd s cs (size front + len_utf8 c)
         ⊎ (IsCrlfMiddle cs (size front + len_utf8 c) × IsEnd s cs (size front + len_utf8 c + 1))
@@ -331,7 +331,7 @@ module _ (s : Scheme) (cs : Text) (k : ℕ) where
       next_not_middle : ¬ (IsCrlfMiddle cs next)
       next_not_middle = not_middle_at next (rw on_next at (to-from_is_greatest s not_utf16 cs next).end_or_zero)
 
-      -- so where a break of one character begins at the content's end, no CR ends there that belongs to it
+      -- so where a break of one char begins at the content's end, no CR ends there that belongs to it
       no_feed : (c : ℕ) → line_end s cs k + len_utf8 c ≡ next → IsEndOf cs c next → ¬ (IsFeedOf s cs c next)
       no_feed c width end = λ feed.
           let is : c ≡ line_feed = feed.0 in
@@ -349,7 +349,7 @@ module _ (s : Scheme) (cs : Text) (k : ℕ) where
                 start_not_middle (subst (IsCrlfMiddle cs) same (middle_of cs _ return last))
           ]
 
-      -- where the content ends, by the character before the next line
+      -- where the content ends, by the char before the next line
       abbrev EndsBy : ℕ → Type 0
       EndsBy c = (IsFeedOf s cs c next × (line_end s cs k + 2 ≡ next))
           ⊎ (¬ (IsFeedOf s cs c next) × (line_end s cs k + len_utf8 c ≡ next))

@@ -1,72 +1,72 @@
--- Some rows of which one has changed.
+-- Some chunks of which one has changed.
 use Rattle.text_rope.proofs.lemmas.Common.{◌≡◌, ◌≢◌, ℕ, suc, take-append-drop, ◌+◌, ◌-◌, ◌^◌, ◌<◌, ◌≤◌, List, [], ◌∷◌, ◌++◌, length, take, drop, sym, ap, ◌∙◌, arith, append_assoc, length-append, Text, size, size-append, IsBoundary, boundary_upto, boundary_right, joined, joined_size, joined-append, piece_at, IsReplaced, size-replaced, summary_of, Summary, IsShift, Seen}
 use Rattle.std.proofs.lemmas.List.{take-set, drop-set}
 use Rattle.std.specs.Prelude.{slice_set, Result, Ok, Err, OnOk, OnErr}
 use Rattle.text_summary.proofs.lemmas.Callers.{drop-piece}
-use Rattle.text_rope.specs.Blocks.{AreSome}
+use Rattle.text_rope.specs.Leaves.{AreSome}
 use Rattle.text_rope.specs.Shifts.{IsChangedIn, IsOneChanged}
-use Rattle.text_rope.specs.Views.{IsSide}
-use Rattle.text_rope.specs.declared.row.Unplaced.{Unplaced}
+use Rattle.text_rope.specs.Views.{IsSubtree}
+use Rattle.text_rope.specs.declared.chunk.Unplaced.{Unplaced}
 use Rattle.text_rope.specs.declared.shifts.Shift.{Shift}
-use Rattle.text_rope.proofs.lemmas.Forks.{joined_size-append}
+use Rattle.text_rope.proofs.lemmas.Branches.{joined_size-append}
 
--- a row in the place of another
-set-round : (rows : List Text) (i : ℕ) (own : Text) → i < length rows
-    → slice_set rows i own ≡ take i rows ++ own ∷ drop (suc i) rows
-set-round rows i own inside =
+-- a chunk in the place of another
+set-round : (chunks : List Text) (i : ℕ) (own : Text) → i < length chunks
+    → slice_set chunks i own ≡ take i chunks ++ own ∷ drop (suc i) chunks
+set-round chunks i own inside =
     let next : i + 1 ≡ suc i = omega arith in
-    sym (take-append-drop i (slice_set rows i own)) ∙ ap (λ t. t ++ drop i (slice_set rows i own)) (take-set rows i own)
-    ∙ ap (λ d. take i rows ++ d) (drop-set rows i own inside) ∙ ap (λ n. take i rows ++ own ∷ drop n rows) next
+    sym (take-append-drop i (slice_set chunks i own)) ∙ ap (λ t. t ++ drop i (slice_set chunks i own)) (take-set chunks i own)
+    ∙ ap (λ d. take i chunks ++ d) (drop-set chunks i own inside) ∙ ap (λ n. take i chunks ++ own ∷ drop n chunks) next
 
--- one row, by its place
-pub changed_at : (rows : List Text) (i start from to : ℕ) (own text : Text) (shift : Shift) → i < length rows
-    → start ≡ joined_size (take i rows) → start ≤ from
-    → IsReplaced (piece_at rows i) own (from - start) (to - start) text → IsShift (piece_at rows i) own shift
-    → IsOneChanged rows (slice_set rows i own) from to text shift
-changed_at rows i start from to own text shift inside start_is after replaced is = record {
-  front = take i rows;
-  row = piece_at rows i;
+-- one chunk, by its place
+pub changed_at : (chunks : List Text) (i start from to : ℕ) (own text : Text) (shift : Shift) → i < length chunks
+    → start ≡ joined_size (take i chunks) → start ≤ from
+    → IsReplaced (piece_at chunks i) own (from - start) (to - start) text → IsShift (piece_at chunks i) own shift
+    → IsOneChanged chunks (slice_set chunks i own) from to text shift
+changed_at chunks i start from to own text shift inside start_is after replaced is = record {
+  front = take i chunks;
+  chunk = piece_at chunks i;
   own = own;
-  back = drop (suc i) rows;
-  was = sym (take-append-drop i rows) ∙ ap (λ r. take i rows ++ r) (drop-piece rows i inside);
-  is = set-round rows i own inside;
+  back = drop (suc i) chunks;
+  was = sym (take-append-drop i chunks) ∙ ap (λ r. take i chunks ++ r) (drop-piece chunks i inside);
+  is = set-round chunks i own inside;
   after = omega (arith, start_is, after);
   replaced = rw start_is at replaced;
   shift_is = is;
 }
 
 -- the same of an answer that may be a refusal
-pub changed_if : {A : Type 0} (rows : List Text) (i start from to : ℕ) (own text : Text) (shift : Shift)
-    (result : Result A Unplaced) → i < length rows → start ≡ joined_size (take i rows) → start ≤ from
-    → OnOk result (IsReplaced (piece_at rows i) own (from - start) (to - start) text)
-    → OnOk result (IsShift (piece_at rows i) own shift)
-    → OnOk result (IsOneChanged rows (slice_set rows i own) from to text shift)
-changed_if rows i start from to own text shift (Ok done) inside start_is after replaced is =
-    changed_at rows i start from to own text shift inside start_is after replaced is
-changed_if rows i start from to own text shift (Err e) inside start_is after replaced is = replaced
+pub changed_if : {A : Type 0} (chunks : List Text) (i start from to : ℕ) (own text : Text) (shift : Shift)
+    (result : Result A Unplaced) → i < length chunks → start ≡ joined_size (take i chunks) → start ≤ from
+    → OnOk result (IsReplaced (piece_at chunks i) own (from - start) (to - start) text)
+    → OnOk result (IsShift (piece_at chunks i) own shift)
+    → OnOk result (IsOneChanged chunks (slice_set chunks i own) from to text shift)
+changed_if chunks i start from to own text shift (Ok done) inside start_is after replaced is =
+    changed_at chunks i start from to own text shift inside start_is after replaced is
+changed_if chunks i start from to own text shift (Err e) inside start_is after replaced is = replaced
 
--- and a row is not empty after it
+-- and a chunk is not empty after it
 pub some_after : {A : Type 0} (old new : Text) (shift : Shift) (result : Result A Unplaced) → OnOk result (IsShift old new shift)
     → OnErr result (new ≡ old) → old ≢ [] → new ≢ []
 some_after old new shift (Ok done) is same some = is.some_new
 some_after old new shift (Err e) is same some = λ none. some (sym same ∙ none)
 
--- with rows behind it
+-- with chunks behind it
 pub changed_left : (left new right : List Text) (from to : ℕ) (text : Text) (shift : Shift)
     → IsOneChanged left new from to text shift → IsOneChanged (left ++ right) (new ++ right) from to text shift
 changed_left left new right from to text shift c = record {
   front = c.front;
-  row = c.row;
+  chunk = c.chunk;
   own = c.own;
   back = c.back ++ right;
-  was = ap (λ l. l ++ right) c.was ∙ append_assoc c.front (c.row ∷ c.back) right;
+  was = ap (λ l. l ++ right) c.was ∙ append_assoc c.front (c.chunk ∷ c.back) right;
   is = ap (λ l. l ++ right) c.is ∙ append_assoc c.front (c.own ∷ c.back) right;
   after = c.after;
   replaced = c.replaced;
   shift_is = c.shift_is;
 }
 
--- with rows before it
+-- with chunks before it
 pub changed_right : (left right new : List Text) (n from to : ℕ) (text : Text) (shift : Shift) → n ≡ joined_size left → n ≤ from
     → IsOneChanged right new (from - n) (to - n) text shift → IsOneChanged (left ++ right) (left ++ new) from to text shift
 changed_right left right new n from to text shift n_is behind c =
@@ -75,10 +75,10 @@ changed_right left right new n from to text shift n_is behind c =
     let end : (to - n) - joined_size c.front ≡ to - joined_size (left ++ c.front) = omega (arith, sizes, n_is) in
     record {
       front = left ++ c.front;
-      row = c.row;
+      chunk = c.chunk;
       own = c.own;
       back = c.back;
-      was = ap (λ r. left ++ r) c.was ∙ sym (append_assoc left c.front (c.row ∷ c.back));
+      was = ap (λ r. left ++ r) c.was ∙ sym (append_assoc left c.front (c.chunk ∷ c.back));
       is = ap (λ r. left ++ r) c.is ∙ sym (append_assoc left c.front (c.own ∷ c.back));
       after = omega (arith, sizes, n_is, c.after, behind);
       replaced = rw (start, end) at c.replaced;
@@ -92,12 +92,12 @@ right_if left right new n from to text shift (Ok done) n_is behind is =
     changed_right left right new n from to text shift n_is behind is
 right_if left right new n from to text shift (Err e) n_is behind is = is
 
--- the joined text of rows round one
-joined-round : (rows front back : List Text) (row : Text) → rows ≡ front ++ row ∷ back
-    → joined rows ≡ joined front ++ (row ++ joined back)
-joined-round rows front back row is = ap joined is ∙ joined-append front (row ∷ back)
+-- the joined text of chunks round one
+joined-round : (chunks front back : List Text) (chunk : Text) → chunks ≡ front ++ chunk ∷ back
+    → joined chunks ≡ joined front ++ (chunk ++ joined back)
+joined-round chunks front back chunk is = ap joined is ∙ joined-append front (chunk ∷ back)
 
--- the joined text is exchanged as the row's is
+-- the joined text is exchanged as the chunk's is
 replaced_whole : (old new : List Text) (from to : ℕ) (text : Text) (shift : Shift) → IsOneChanged old new from to text shift
     → from ≤ to → IsReplaced (joined old) (joined new) from to text
 replaced_whole old new from to text shift c order =
@@ -110,7 +110,7 @@ replaced_whole old new from to text shift c order =
       front = x ++ r.front;
       middle = r.middle;
       back = r.back ++ y;
-      was = joined-round old c.front c.back c.row c.was ∙ ap (λ t. x ++ (t ++ y)) r.was ∙ was;
+      was = joined-round old c.front c.back c.chunk c.was ∙ ap (λ t. x ++ (t ++ y)) r.was ∙ was;
       start = omega (arith, size-append x r.front, r.start, c.after);
       end = omega (arith, size-append x r.front, r.end, r.start, c.after, order);
       is = joined-round new c.front c.back c.own c.is ∙ ap (λ t. x ++ (t ++ y)) r.is ∙ is;
@@ -122,15 +122,15 @@ pub replaced_if : {A : Type 0} (old new : List Text) (from to : ℕ) (text : Tex
 replaced_if old new from to text shift (Ok done) c order = replaced_whole old new from to text shift c order
 replaced_if old new from to text shift (Err e) c order = c
 
--- the row stands in the text of a summary
+-- the chunk stands in the text of a summary
 pub changed_in : (old new : List Text) (from to : ℕ) (text : Text) (shift : Shift) (whole : Summary)
     → IsOneChanged old new from to text shift → from ≤ to → whole ≡ summary_of (joined old) → joined_size old < 2 ^ 63
     → joined_size old + size text < 2 ^ 63 + (to - from) → IsChangedIn whole new shift
 changed_in old new from to text shift whole c order whole_is short room =
-    let was = joined-round old c.front c.back c.row c.was in
+    let was = joined-round old c.front c.back c.chunk c.was in
     record {
       x = joined c.front;
-      row = c.row;
+      chunk = c.chunk;
       own = c.own;
       y = joined c.back;
       whole_is = rw was at whole_is;
@@ -145,30 +145,30 @@ changed_in old new from to text shift whole c order whole_is short room =
     }
 
 -- what is known of a tree holds after that
-pub side_changed : (old new : Seen) (from to : ℕ) (text : Text) (shift : Shift) (whole after : Summary)
-    → IsSide old whole → IsOneChanged old.texts new.texts from to text shift → from ≤ to → new.height ≡ old.height
+pub subtree_changed : (old new : Seen) (from to : ℕ) (text : Text) (shift : Shift) (whole after : Summary)
+    → IsSubtree old whole → IsOneChanged old.texts new.texts from to text shift → from ≤ to → new.height ≡ old.height
     → after ≡ summary_of (joined new.texts)
-    → joined_size old.texts + size text < 2 ^ 63 + (to - from) → AreSome new.texts → IsSide new after
-side_changed old new from to text shift whole after side c order height after_is room each =
+    → joined_size old.texts + size text < 2 ^ 63 + (to - from) → AreSome new.texts → IsSubtree new after
+subtree_changed old new from to text shift whole after subtree c order height after_is room each =
     let sizes = size-replaced (joined old.texts) (joined new.texts) from to text
     (replaced_whole old.texts new.texts from to text shift c order) in
     let many : length new.texts ≡ length old.texts = omega (
       arith,
       ap length c.was,
       ap length c.is,
-      length-append c.front (c.row ∷ c.back),
+      length-append c.front (c.chunk ∷ c.back),
       length-append c.front (c.own ∷ c.back),
     ) in
     record {
       summary_is = after_is;
-      some = omega (arith, many, side.some);
+      some = omega (arith, many, subtree.some);
       short = omega (arith, sizes, room);
       each = each;
-      low = omega (arith, many, height, side.low);
-      many = rw (many, height) side.many;
+      low = omega (arith, many, height, subtree.low);
+      many = rw (many, height) subtree.many;
     }
 
--- boundaries of the text of a left side, and of a right one
+-- boundaries of the text of a left subtree, and of a right one
 pub boundaries_left : (left right : List Text) (from to : ℕ) → to ≤ joined_size left → from ≤ to
     → IsBoundary (joined (left ++ right)) from × IsBoundary (joined (left ++ right)) to
     → IsBoundary (joined left) from × IsBoundary (joined left) to
@@ -189,20 +189,20 @@ boundaries_right left right n from to n_is behind order both =
       (boundary_right (joined left) (joined right) to (to - n) (omega (arith, n_is, behind, order))).0 end,
     )
 
--- and of one row
-pub boundaries_at : (rows : List Text) (i start from to : ℕ) → i < length rows → start ≡ joined_size (take i rows) → start ≤ from
-    → from ≤ to → to ≤ start + size (piece_at rows i) → IsBoundary (joined rows) from × IsBoundary (joined rows) to
-    → IsBoundary (piece_at rows i) (from - start) × IsBoundary (piece_at rows i) (to - start)
-boundaries_at rows i start from to inside start_is after order within both =
-    let row = piece_at rows i in
-    let front = take i rows in
-    let back = drop (suc i) rows in
-    let was = sym (take-append-drop i rows) ∙ ap (λ r. front ++ r) (drop-piece rows i inside) in
-    let whole = joined-round rows front back row was in
-    let from_is : IsBoundary (joined front ++ (row ++ joined back)) from = rw whole at both.0 in
-    let to_is : IsBoundary (joined front ++ (row ++ joined back)) to = rw whole at both.1 in
-    let from_inner = (boundary_right (joined front) (row ++ joined back) from (from - start) (omega (arith, start_is, after))).0 from_is in
-    let to_inner = (boundary_right (joined front) (row ++ joined back) to (to - start) (omega (arith, start_is, after, order))).0 to_is in (
-      boundary_upto row (joined back) (from - start) (omega (arith, within, order)) from_inner,
-      boundary_upto row (joined back) (to - start) (omega (arith, within)) to_inner,
+-- and of one chunk
+pub boundaries_at : (chunks : List Text) (i start from to : ℕ) → i < length chunks → start ≡ joined_size (take i chunks) → start ≤ from
+    → from ≤ to → to ≤ start + size (piece_at chunks i) → IsBoundary (joined chunks) from × IsBoundary (joined chunks) to
+    → IsBoundary (piece_at chunks i) (from - start) × IsBoundary (piece_at chunks i) (to - start)
+boundaries_at chunks i start from to inside start_is after order within both =
+    let chunk = piece_at chunks i in
+    let front = take i chunks in
+    let back = drop (suc i) chunks in
+    let was = sym (take-append-drop i chunks) ∙ ap (λ r. front ++ r) (drop-piece chunks i inside) in
+    let whole = joined-round chunks front back chunk was in
+    let from_is : IsBoundary (joined front ++ (chunk ++ joined back)) from = rw whole at both.0 in
+    let to_is : IsBoundary (joined front ++ (chunk ++ joined back)) to = rw whole at both.1 in
+    let from_inner = (boundary_right (joined front) (chunk ++ joined back) from (from - start) (omega (arith, start_is, after))).0 from_is in
+    let to_inner = (boundary_right (joined front) (chunk ++ joined back) to (to - start) (omega (arith, start_is, after, order))).0 to_is in (
+      boundary_upto chunk (joined back) (from - start) (omega (arith, within, order)) from_inner,
+      boundary_upto chunk (joined back) (to - start) (omega (arith, within)) to_inner,
     )

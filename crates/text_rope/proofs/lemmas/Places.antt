@@ -1,81 +1,81 @@
--- A row of a tree, and what the text answers by it.
+-- A chunk of a tree, and what the text answers by it.
 use Rattle.text_rope.proofs.lemmas.Common.{◌≡◌, ◌≢◌, ℕ, ◌+◌, ◌-◌, ◌^◌, ◌<◌, ◌≤◌, List, [], ◌∷◌, ◌++◌, length, take, drop, refl, sym, ap, ◌∙◌, arith, append_assoc, append-nil, take-append-drop, Text, size, size-append, count, from_byte_idx, to_byte_idx, seam_loss, is_joined, seam_loss-same, starts_with_feed, starts_with_feed-append, IsBoundary, boundary_left, boundary_right, joined, joined_size, piece_at, joined-append, joined-take, drop-piece, add-one, IsFront, IsLook, Scheme, Front, Look, tells, from_byte_idx-le-count, count-nil, to_byte_idx-le-size}
 use Rattle.text_rope.specs.Places.{IsPlaceAt, IsPlaceOf}
 
--- the rows of two trees behind a text
+-- the chunks of two trees behind a text
 pub behind-append : (a : Text) (xs ys : List Text) → a ++ joined (xs ++ ys) ≡ (a ++ joined xs) ++ joined ys
 behind-append a xs ys = ap (λ r. a ++ r) (joined-append xs ys) ∙ sym (append_assoc a (joined xs) (joined ys))
 
--- the bytes of a text, and of the rows behind it
-pub size-parts : (a : Text) (front : List Text) (row : Text) (back : List Text)
-    → size a + joined_size (front ++ row ∷ back) ≡ size (a ++ joined front) + size row + joined_size back
-size-parts a front row back = omega (
+-- the bytes of a text, and of the chunks behind it
+pub size-parts : (a : Text) (front : List Text) (chunk : Text) (back : List Text)
+    → size a + joined_size (front ++ chunk ∷ back) ≡ size (a ++ joined front) + size chunk + joined_size back
+size-parts a front chunk back = omega (
   arith,
-  ap size (joined-append front (row ∷ back)),
-  size-append (joined front) (row ++ joined back),
-  size-append row (joined back),
+  ap size (joined-append front (chunk ∷ back)),
+  size-append (joined front) (chunk ++ joined back),
+  size-append chunk (joined back),
   size-append a (joined front),
 )
 
--- and those up to a row
-pub behind-take : (a : Text) (xs : List Text) (i : ℕ) (row : Text) → i < length xs → row ≡ piece_at xs i
-    → a ++ joined (take (i + 1) xs) ≡ (a ++ joined (take i xs)) ++ row
-behind-take a xs i row inside is = ap (λ r. a ++ r) (joined-take xs i inside ∙ ap (λ r. joined (take i xs) ++ r) (sym is))
-    ∙ sym (append_assoc a (joined (take i xs)) row)
+-- and those up to a chunk
+pub behind-take : (a : Text) (xs : List Text) (i : ℕ) (chunk : Text) → i < length xs → chunk ≡ piece_at xs i
+    → a ++ joined (take (i + 1) xs) ≡ (a ++ joined (take i xs)) ++ chunk
+behind-take a xs i chunk inside is = ap (λ r. a ++ r) (joined-take xs i inside ∙ ap (λ r. joined (take i xs) ++ r) (sym is))
+    ∙ sym (append_assoc a (joined (take i xs)) chunk)
 
--- a row and those behind it
-pub rows_at : (xs : List Text) (i : ℕ) (row : Text) → i < length xs → row ≡ piece_at xs i → drop i xs ≡ row ∷ drop (i + 1) xs
-rows_at xs i row inside is = rw add-one (drop-piece xs i inside) ∙ ap (λ r. r ∷ drop (i + 1) xs) (sym is)
+-- a chunk and those behind it
+pub chunks_at : (xs : List Text) (i : ℕ) (chunk : Text) → i < length xs → chunk ≡ piece_at xs i → drop i xs ≡ chunk ∷ drop (i + 1) xs
+chunks_at xs i chunk inside is = rw add-one (drop-piece xs i inside) ∙ ap (λ r. r ∷ drop (i + 1) xs) (sym is)
 
--- a list in three, by one of its rows
-pub parts_at : (xs : List Text) (i : ℕ) (row : Text) → i < length xs → row ≡ piece_at xs i
-    → xs ≡ take i xs ++ row ∷ drop (i + 1) xs
-parts_at xs i row inside is = sym (take-append-drop i xs) ∙ ap (λ r. take i xs ++ r) (rows_at xs i row inside is)
+-- a list in three, by one of its chunks
+pub parts_at : (xs : List Text) (i : ℕ) (chunk : Text) → i < length xs → chunk ≡ piece_at xs i
+    → xs ≡ take i xs ++ chunk ∷ drop (i + 1) xs
+parts_at xs i chunk inside is = sym (take-append-drop i xs) ∙ ap (λ r. take i xs ++ r) (chunks_at xs i chunk inside is)
 
--- so the row is not too long behind what is before it
-pub short_at : (a : Text) (xs : List Text) (i : ℕ) (row : Text) → i < length xs → row ≡ piece_at xs i
-    → size a + joined_size xs < 2 ^ 63 → size (a ++ joined (take i xs)) + size row < 2 ^ 63
-short_at a xs i row inside is short = omega (
+-- so the chunk is not too long behind what is before it
+pub short_at : (a : Text) (xs : List Text) (i : ℕ) (chunk : Text) → i < length xs → chunk ≡ piece_at xs i
+    → size a + joined_size xs < 2 ^ 63 → size (a ++ joined (take i xs)) + size chunk < 2 ^ 63
+short_at a xs i chunk inside is short = omega (
   arith,
-  ap joined_size (parts_at xs i row inside is),
-  size-parts a (take i xs) row (drop (i + 1) xs),
+  ap joined_size (parts_at xs i chunk inside is),
+  size-parts a (take i xs) chunk (drop (i + 1) xs),
   short,
 )
 
--- a row of the first of two trees
-pub place_left : {s : Scheme} {a : Text} {xs : List Text} {row : Text} {before : Front} {at : ℕ} (ys : List Text)
-    → IsPlaceAt s a xs row before at → IsPlaceAt s a (xs ++ ys) row before at
-place_left {row = row} ys own = record {
+-- a chunk of the first of two trees
+pub place_left : {s : Scheme} {a : Text} {xs : List Text} {chunk : Text} {before : Front} {at : ℕ} (ys : List Text)
+    → IsPlaceAt s a xs chunk before at → IsPlaceAt s a (xs ++ ys) chunk before at
+place_left {chunk = chunk} ys own = record {
   front = own.front;
   back = own.back ++ ys;
-  parts = ap (λ p. p ++ ys) own.parts ∙ append_assoc own.front (row ∷ own.back) ys;
+  parts = ap (λ p. p ++ ys) own.parts ∙ append_assoc own.front (chunk ∷ own.back) ys;
   before_is = own.before_is;
   after = own.after;
   inside = own.inside;
 }
 
 -- and of the second
-pub place_right : {s : Scheme} {a : Text} {ys : List Text} {row : Text} {before : Front} {at : ℕ} (xs : List Text)
-    → IsPlaceAt s (a ++ joined xs) ys row before at → IsPlaceAt s a (xs ++ ys) row before at
-place_right {a = a} {row = row} xs own = record {
+pub place_right : {s : Scheme} {a : Text} {ys : List Text} {chunk : Text} {before : Front} {at : ℕ} (xs : List Text)
+    → IsPlaceAt s (a ++ joined xs) ys chunk before at → IsPlaceAt s a (xs ++ ys) chunk before at
+place_right {a = a} {chunk = chunk} xs own = record {
   front = xs ++ own.front;
   back = own.back;
-  parts = ap (λ p. xs ++ p) own.parts ∙ sym (append_assoc xs own.front (row ∷ own.back));
+  parts = ap (λ p. xs ++ p) own.parts ∙ sym (append_assoc xs own.front (chunk ∷ own.back));
   before_is = rw (behind-append a xs own.front) own.before_is;
   after = own.after;
   inside = own.inside;
 }
 
--- the row of a count that the first of two trees reaches, whatever the second has
-pub place_of_left : {s : Scheme} {a : Text} {xs : List Text} {row : Text} {before : Front} {k : ℕ} (ys : List Text)
-    → k ≤ count s (a ++ joined xs) - seam_loss s (a ++ joined xs) (joined ys) → IsPlaceOf s a xs row before k
-    → IsPlaceOf s a (xs ++ ys) row before k
-place_of_left {s = s} {a = a} {xs = xs} {row = row} {k = k} ys reached own =
+-- the chunk of a count that the first of two trees reaches, whatever the second has
+pub place_of_left : {s : Scheme} {a : Text} {xs : List Text} {chunk : Text} {before : Front} {k : ℕ} (ys : List Text)
+    → k ≤ count s (a ++ joined xs) - seam_loss s (a ++ joined xs) (joined ys) → IsPlaceOf s a xs chunk before k
+    → IsPlaceOf s a (xs ++ ys) chunk before k
+place_of_left {s = s} {a = a} {xs = xs} {chunk = chunk} {k = k} ys reached own =
     let seam = is_joined s (a ++ joined xs) (joined ys) in
     record {
       front = own.front;
       back = own.back ++ ys;
-      parts = ap (λ p. p ++ ys) own.parts ∙ append_assoc own.front (row ∷ own.back) ys;
+      parts = ap (λ p. p ++ ys) own.parts ∙ append_assoc own.front (chunk ∷ own.back) ys;
       before_is = own.before_is;
       past = own.past;
       answer = ap (λ t. to_byte_idx s t k) (behind-append a xs ys) ∙ seam.to_before k (omega (arith, reached, seam.loss_within))
@@ -83,30 +83,30 @@ place_of_left {s = s} {a = a} {xs = xs} {row = row} {k = k} ys reached own =
     }
 
 -- and of one that the first does not reach
-pub place_of_right : {s : Scheme} {a : Text} {ys : List Text} {row : Text} {before : Front} {k : ℕ} (xs : List Text)
-    → IsPlaceOf s (a ++ joined xs) ys row before k → IsPlaceOf s a (xs ++ ys) row before k
-place_of_right {s = s} {a = a} {ys = ys} {row = row} {k = k} xs own =
+pub place_of_right : {s : Scheme} {a : Text} {ys : List Text} {chunk : Text} {before : Front} {k : ℕ} (xs : List Text)
+    → IsPlaceOf s (a ++ joined xs) ys chunk before k → IsPlaceOf s a (xs ++ ys) chunk before k
+place_of_right {s = s} {a = a} {ys = ys} {chunk = chunk} {k = k} xs own =
     let whole = behind-append a xs ys in
     let front = behind-append a xs own.front in
     record {
       front = xs ++ own.front;
       back = own.back;
-      parts = ap (λ p. xs ++ p) own.parts ∙ sym (append_assoc xs own.front (row ∷ own.back));
+      parts = ap (λ p. xs ++ p) own.parts ∙ sym (append_assoc xs own.front (chunk ∷ own.back));
       before_is = rw front own.before_is;
       past = rw front own.past;
       answer = rw (whole, front) own.answer;
     }
 
--- the last row of some, where the count is not reached before it
-pub place_of_last : (s : Scheme) (a : Text) (xs : List Text) (row : Text) (before : Front) (k : ℕ)
-    → IsFront s (a ++ joined xs) before → count s (a ++ joined xs) - seam_loss s (a ++ joined xs) row < k
-    → IsPlaceOf s a (xs ++ row ∷ []) row before k
-place_of_last s a xs row before k is past =
+-- the last chunk of some, where the count is not reached before it
+pub place_of_last : (s : Scheme) (a : Text) (xs : List Text) (chunk : Text) (before : Front) (k : ℕ)
+    → IsFront s (a ++ joined xs) before → count s (a ++ joined xs) - seam_loss s (a ++ joined xs) chunk < k
+    → IsPlaceOf s a (xs ++ chunk ∷ []) chunk before k
+place_of_last s a xs chunk before k is past =
     let x = a ++ joined xs in
-    let seam = is_joined s x row in
-    let reached = count s x - seam_loss s x row in
-    let whole : a ++ joined (xs ++ row ∷ []) ≡ x ++ row =
-    behind-append a xs (row ∷ []) ∙ ap (λ r. x ++ r) (append-nil row) in
+    let seam = is_joined s x chunk in
+    let reached = count s x - seam_loss s x chunk in
+    let whole : a ++ joined (xs ++ chunk ∷ []) ≡ x ++ chunk =
+    behind-append a xs (chunk ∷ []) ∙ ap (λ r. x ++ r) (append-nil chunk) in
     record {
       front = xs;
       back = [];
@@ -117,44 +117,44 @@ place_of_last s a xs row before k is past =
           (omega (arith, past, seam.loss_within)));
     }
 
--- the seam of a text and rows is that of the first row
-pub seam_of_rows : (s : Scheme) (x row : Text) (xs : List Text) → row ≢ []
-    → seam_loss s x (joined (row ∷ xs)) ≡ seam_loss s x row
-seam_of_rows s x row xs some = seam_loss-same s x (row ++ joined xs) x row refl (starts_with_feed-append row (joined xs) some)
+-- the seam of a text and chunks is that of the first chunk
+pub seam_of_chunks : (s : Scheme) (x chunk : Text) (xs : List Text) → chunk ≢ []
+    → seam_loss s x (joined (chunk ∷ xs)) ≡ seam_loss s x chunk
+seam_of_chunks s x chunk xs some = seam_loss-same s x (chunk ++ joined xs) x chunk refl (starts_with_feed-append chunk (joined xs) some)
 
 -- so is that of a text and two trees
-pub seam_of_sides : (s : Scheme) (a : Text) (xs ys : List Text) → joined xs ≢ []
+pub seam_of_subtrees : (s : Scheme) (a : Text) (xs ys : List Text) → joined xs ≢ []
     → seam_loss s a (joined (xs ++ ys)) ≡ seam_loss s a (joined xs)
-seam_of_sides s a xs ys some = seam_loss-same s a (joined (xs ++ ys)) a (joined xs) refl
+seam_of_subtrees s a xs ys some = seam_loss-same s a (joined (xs ++ ys)) a (joined xs) refl
     (ap starts_with_feed (joined-append xs ys) ∙ starts_with_feed-append (joined xs) (joined ys) some)
 
--- a text in three, by one of its rows
-pub text_of_place : (texts front : List Text) (row : Text) (back : List Text) → texts ≡ front ++ row ∷ back
-    → joined texts ≡ joined front ++ (row ++ joined back)
-text_of_place texts front row back parts = ap joined parts ∙ joined-append front (row ∷ back)
+-- a text in three, by one of its chunks
+pub text_of_place : (texts front : List Text) (chunk : Text) (back : List Text) → texts ≡ front ++ chunk ∷ back
+    → joined texts ≡ joined front ++ (chunk ++ joined back)
+text_of_place texts front chunk back parts = ap joined parts ∙ joined-append front (chunk ∷ back)
 
--- what the text answers at a byte, by the row that it is in
-pub answer_at : {s : Scheme} {texts : List Text} {row : Text} {before : Front} {at : ℕ} (look : Look)
-    (place : IsPlaceAt s [] texts row before at) → row ≢ [] → IsLook s (joined place.front) row look
-    → from_byte_idx s (joined texts) at ≡ look.reached + from_byte_idx s row (at - before.len)
-answer_at {s = s} {texts = texts} {row = row} {before = before} {at = at} look place some told =
+-- what the text answers at a byte, by the chunk that it is in
+pub answer_at : {s : Scheme} {texts : List Text} {chunk : Text} {before : Front} {at : ℕ} (look : Look)
+    (place : IsPlaceAt s [] texts chunk before at) → chunk ≢ [] → IsLook s (joined place.front) chunk look
+    → from_byte_idx s (joined texts) at ≡ look.reached + from_byte_idx s chunk (at - before.len)
+answer_at {s = s} {texts = texts} {chunk = chunk} {before = before} {at = at} look place some told =
     let front = joined place.front in
-    let own = (tells s front row (joined place.back) look some told).from_here at
+    let own = (tells s front chunk (joined place.back) look some told).from_here at
     (omega (arith, place.after, place.before_is.len))
-    (omega (arith, place.inside, place.before_is.len, told.behind.len, size-append front row)) in
-    rw (text_of_place texts place.front row place.back place.parts, place.before_is.len) own
+    (omega (arith, place.inside, place.before_is.len, told.behind.len, size-append front chunk)) in
+    rw (text_of_place texts place.front chunk place.back place.parts, place.before_is.len) own
 
 -- and whether that byte is a boundary
-pub boundary_at : {s : Scheme} {texts : List Text} {row : Text} {before : Front} {at : ℕ}
-    (place : IsPlaceAt s [] texts row before at)
-    → (IsBoundary row (at - before.len) → IsBoundary (joined texts) at)
-    × (IsBoundary (joined texts) at → IsBoundary row (at - before.len))
-boundary_at {texts = texts} {row = row} {before = before} {at = at} place =
-    let whole = text_of_place texts place.front row place.back place.parts in
+pub boundary_at : {s : Scheme} {texts : List Text} {chunk : Text} {before : Front} {at : ℕ}
+    (place : IsPlaceAt s [] texts chunk before at)
+    → (IsBoundary chunk (at - before.len) → IsBoundary (joined texts) at)
+    × (IsBoundary (joined texts) at → IsBoundary chunk (at - before.len))
+boundary_at {texts = texts} {chunk = chunk} {before = before} {at = at} place =
+    let whole = text_of_place texts place.front chunk place.back place.parts in
     let back = joined place.back in
-    let outer = boundary_right (joined place.front) (row ++ back) at (at - before.len)
+    let outer = boundary_right (joined place.front) (chunk ++ back) at (at - before.len)
     (omega (arith, place.after, place.before_is.len)) in
-    let inner = boundary_left row back (at - before.len) (omega (arith, place.after, place.inside)) in (
+    let inner = boundary_left chunk back (at - before.len) (omega (arith, place.after, place.inside)) in (
       λ own. rw whole (outer.1 (inner.1 own)),
       λ own. inner.0 (outer.0 (rw whole at own)),
     )
@@ -166,10 +166,10 @@ from_nil s b = omega (arith, from_byte_idx-le-count s [] b, count-nil s)
 pub to_nil : (s : Scheme) (k : ℕ) → to_byte_idx s [] k ≡ 0
 to_nil s k = omega (arith, to_byte_idx-le-size s [] k)
 
--- a row is not too long behind what is before it
-pub short_of : (texts front : List Text) (row : Text) (back : List Text) → texts ≡ front ++ row ∷ back
-    → joined_size texts < 2 ^ 63 → size (joined front) + size row < 2 ^ 63
-short_of texts front row back parts short = omega (arith, ap joined_size parts, size-parts [] front row back, short)
+-- a chunk is not too long behind what is before it
+pub short_of : (texts front : List Text) (chunk : Text) (back : List Text) → texts ≡ front ++ chunk ∷ back
+    → joined_size texts < 2 ^ 63 → size (joined front) + size chunk < 2 ^ 63
+short_of texts front chunk back parts short = omega (arith, ap joined_size parts, size-parts [] front chunk back, short)
 
 -- past the last, the answer is the length
 pub to_past : (s : Scheme) (cs : Text) (k : ℕ) → count s cs < k → to_byte_idx s cs k ≡ size cs

@@ -1,4 +1,4 @@
--- A text in which a row has another's place, where both begin and end alike.
+-- A text in which a chunk has another's place, where both begin and end alike.
 use Rattle.text_rope.proofs.lemmas.Common.{◌≡◌, ◌≢◌, ℕ, ◌+◌, ◌-◌, ◌≤◌, [], ◌∷◌, ◌++◌, refl, sym, ap, ◌∙◌, arith, append-nil, Text, size, size-append, count, count-le-size, is_joined, seam_loss-same, starts_with_feed, starts_with_feed-append, ends_in_return, ends_in_return-append, summary_of, count_of, count_of-summary, same_fields, Summary, Scheme, Chars, Utf16, Lf, Crlf, Lines, IsShift, FitsShift}
 use Rattle.text_rope.specs.declared.shifts.Shift.{Shift}
 
@@ -8,7 +8,7 @@ pub record IsShifted (whole own out new bytes : ℕ) : Type 0 where
   pub out_le : out ≤ whole + own
   pub is : whole + own - out ≡ new
 
--- a row that is not empty stays so with a text behind it
+-- a chunk that is not empty stays so with a text behind it
 some-append : (a b : Text) → a ≢ [] → a ++ b ≢ []
 some-append [] b some is = some refl
 some-append (c ∷ cs) b some is = cc
@@ -57,7 +57,7 @@ ends_alike x old new y some some_new ends =
     ends_in_return-append x (old ++ y) (some-append old y some) ∙ ends_behind old new y ends
     ∙ sym (ends_in_return-append x (new ++ y) (some-append new y some_new))
 
--- the rows begin and end alike where their summaries say so
+-- the chunks begin and end alike where their summaries say so
 starts_of : (shift : Shift) (old new : Text) → IsShift old new shift → shift.own.starts_lf ≡ shift.out.starts_lf
     → starts_with_feed new ≡ starts_with_feed old
 starts_of shift old new is same = sym (ap (λ s. s.starts_lf) is.own) ∙ same ∙ ap (λ s. s.starts_lf) is.out

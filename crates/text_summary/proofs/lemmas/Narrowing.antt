@@ -9,7 +9,7 @@ use Rattle.std.specs.Char.{char_set_contains}
 use Rattle.str_indices.proofs.lemmas.Callers.{IsCutAt, cut_is, count_characters, boundary_weighed_is_greatest, count-units, weight-some, weight-le, characters_weighed, boundary_of_characters}
 use Rattle.str_indices.specs.Schemes.{break_characters, is_break_end, ends, ends_up_to, end_at, weighed, boundary_weighed}
 use Rattle.str_indices.specs.Text.{Placed, placed, cut, weight}
-use Rattle.text_summary.specs.Questions.{AnswersAs, CountsBytes}
+use Rattle.text_summary.specs.Queries.{AnswersAs, CountsBytes}
 
 -- if each element that passes q passes p, at least as many pass p as q
 filter_fewer : {X : Type 0} (p q : X → Bool) → ((x : X) → q x ≡ true → p x ≡ true) → (xs : List X)

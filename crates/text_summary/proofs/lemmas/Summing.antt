@@ -1,5 +1,5 @@
 -- The numbers of texts, one after the other, by those of each.
-use Rattle.text_summary.proofs.lemmas.Common.{◌≡◌, ◌≢◌, ℕ, ◌+◌, ◌-◌, ◌<◌, ◌≤◌, Bool, [], ◌∷◌, ◌++◌, refl, arith, sym, ◌∙◌, ap, len_utf8_bounds, Text, size, Scheme, Chars, Utf16, Lf, Crlf, Lines, count, seam_loss, starts_with_feed, ends_in_return, size-append, size-cons, is_joined, count-le-size, summary_of, count_of, AreSummaries, IsChange, FitsIn, Change, Summary}
+use Rattle.text_summary.proofs.lemmas.Common.{◌≡◌, ◌≢◌, ℕ, ◌+◌, ◌-◌, ◌<◌, ◌≤◌, Bool, [], ◌∷◌, ◌++◌, refl, arith, sym, ◌∙◌, ap, len_utf8_bounds, Text, size, Scheme, Chars, Utf16, Lf, Crlf, Lines, count, seam_loss, starts_with_feed, ends_in_return, size-append, size-cons, is_joined, count-le-size, summary_of, count_of, AreSummaries, IsUpdate, FitsIn, Update, Summary}
 
 -- a text of no bytes is empty
 pub none_of : (a : Text) → size a ≡ 0 → a ≡ []
@@ -89,29 +89,29 @@ exchange_of s a m b t =
     }
 
 -- the exchange of a number in a scheme, by the change that fits
-pub exchanged : (s : Scheme) (whole : Summary) (change : Change) (fits : FitsIn whole change)
-    → IsExchange (count_of whole s) (count_of change.out s) (count_of change.own s)
+pub exchanged : (s : Scheme) (whole : Summary) (change : Update) (fits : FitsIn whole change)
+    → IsExchange (count_of whole s) (count_of change.removed s) (count_of change.inserted s)
     (lost_round s fits.a fits.m fits.b) (lost_round s fits.a fits.t fits.b) (size (fits.a ++ (fits.m ++ fits.b)))
     (size (fits.a ++ (fits.t ++ fits.b))) (count s (fits.a ++ (fits.t ++ fits.b)))
 exchanged s whole change fits =
     let old = ap (λ w. count_of w s) fits.whole_is ∙ count_of-summary s (fits.a ++ (fits.m ++ fits.b)) in
-    let out = ap (λ w. count_of w s) fits.change_is.out ∙ count_of-summary s fits.m in
-    let own = ap (λ w. count_of w s) fits.change_is.own ∙ count_of-summary s fits.t in
+    let out = ap (λ w. count_of w s) fits.update_is.removed ∙ count_of-summary s fits.m in
+    let own = ap (λ w. count_of w s) fits.update_is.inserted ∙ count_of-summary s fits.t in
     rw (old, out, own) (exchange_of s fits.a fits.m fits.b fits.t)
 
 -- the ends that both seams around a part take, whatever the texts are
-abbrev pub IsLost : Scheme → Change → Summary → ℕ → Type 0
+abbrev pub IsLost : Scheme → Update → Summary → ℕ → Type 0
 IsLost s change part lost = (a m b : Text) → change.ends_cr ≡ ends_in_return a → part ≡ summary_of m
     → change.starts_lf ≡ starts_with_feed b → lost ≡ lost_round s a m b
 
 -- and by what they took before and take then
-pub exchanged_by : (s : Scheme) (whole : Summary) (change : Change) (fits : FitsIn whole change) (gained lost : ℕ)
-    → IsLost s change change.out gained → IsLost s change change.own lost
-    → IsExchange (count_of whole s) (count_of change.out s) (count_of change.own s) gained lost
+pub exchanged_by : (s : Scheme) (whole : Summary) (change : Update) (fits : FitsIn whole change) (gained lost : ℕ)
+    → IsLost s change change.removed gained → IsLost s change change.inserted lost
+    → IsExchange (count_of whole s) (count_of change.removed s) (count_of change.inserted s) gained lost
     (size (fits.a ++ (fits.m ++ fits.b))) (size (fits.a ++ (fits.t ++ fits.b))) (count s (fits.a ++ (fits.t ++ fits.b)))
 exchanged_by s whole change fits gained lost gained_is lost_is =
-    let is = fits.change_is in
-    rw (gained_is fits.a fits.m fits.b is.ends_cr is.out is.starts_lf, lost_is fits.a fits.t fits.b is.ends_cr is.own is.starts_lf)
+    let is = fits.update_is in
+    rw (gained_is fits.a fits.m fits.b is.ends_cr is.removed is.starts_lf, lost_is fits.a fits.t fits.b is.ends_cr is.inserted is.starts_lf)
     (exchanged s whole change fits)
 
 -- and the sum of two summaries
@@ -142,22 +142,22 @@ joined_numbers front after a b lost starts ends front_is after_is lost_is starts
     starts_is ends_is)
 
 -- and each number of a text of which a part is exchanged, such a difference
-pub exchanged_numbers : (whole : Summary) (change : Change) (a m b t : Text) (gained lost : ℕ) (starts ends : Bool)
-    → whole ≡ summary_of (a ++ (m ++ b)) → IsChange a m b t change → gained ≡ lost_round Crlf a m b
+pub exchanged_numbers : (whole : Summary) (change : Update) (a m b t : Text) (gained lost : ℕ) (starts ends : Bool)
+    → whole ≡ summary_of (a ++ (m ++ b)) → IsUpdate a m b t change → gained ≡ lost_round Crlf a m b
     → lost ≡ lost_round Crlf a t b → starts ≡ starts_with_feed (a ++ (t ++ b)) → ends ≡ ends_in_return (a ++ (t ++ b))
     → ◌≡◌ {A = Summary} (record {
-      len = whole.len - change.out.len + change.own.len;
-      chars = whole.chars - change.out.chars + change.own.chars;
-      utf16 = whole.utf16 - change.out.utf16 + change.own.utf16;
-      lf = whole.lf - change.out.lf + change.own.lf;
-      crlf = whole.crlf + gained - change.out.crlf + change.own.crlf - lost;
-      lines = whole.lines + gained - change.out.lines + change.own.lines - lost;
+      len = whole.len - change.removed.len + change.inserted.len;
+      chars = whole.chars - change.removed.chars + change.inserted.chars;
+      utf16 = whole.utf16 - change.removed.utf16 + change.inserted.utf16;
+      lf = whole.lf - change.removed.lf + change.inserted.lf;
+      crlf = whole.crlf + gained - change.removed.crlf + change.inserted.crlf - lost;
+      lines = whole.lines + gained - change.removed.lines + change.inserted.lines - lost;
       starts_lf = starts;
       ends_cr = ends;
     }) (summary_of (a ++ (t ++ b)))
 exchanged_numbers whole change a m b t gained lost starts ends whole_is is gained_is lost_is starts_is ends_is =
     let len : size (a ++ (m ++ b)) - size m + size t ≡ size (a ++ (t ++ b)) =
     omega (arith, size-append a (m ++ b), size-append m b, size-append a (t ++ b), size-append t b) in
-    rw (whole_is, is.out, is.own, gained_is, lost_is) (same_fields len (omega (arith, (exchange_of Chars a m b t).is))
+    rw (whole_is, is.removed, is.inserted, gained_is, lost_is) (same_fields len (omega (arith, (exchange_of Chars a m b t).is))
     (omega (arith, (exchange_of Utf16 a m b t).is)) (omega (arith, (exchange_of Lf a m b t).is))
     (exchange_of Crlf a m b t).is (exchange_of Lines a m b t).is starts_is ends_is)

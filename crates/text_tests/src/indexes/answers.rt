@@ -1,6 +1,6 @@
 //! The counts and conversions, beside those of the plain functions.
 use super::STRETCH;
-use super::texts::{BEFORE, mixed, round_marks};
+use super::texts::{BEFORE, mixed_text, round_marks};
 use std::process::Abort;
 use std::test::Fail;
 use text_index::{Scheme, TextIndex};
@@ -36,7 +36,7 @@ fn assert_counts(rt: &impl Abort, index: &TextIndex<'_>) {
 #[test]
 fn every_index_of_a_mixed_text(rt: HostRuntime) -> Result<(), Fail> {
     for many in [0, 1, 60] {
-        let text = mixed(rt.alloc(), many)?;
+        let text = mixed_text(rt.alloc(), many)?;
         let index = TextIndex::of(rt.alloc(), text.as_str())?;
         assert_counts(&rt, &index);
         for i in 0..text.len() + 3 {

@@ -1,6 +1,6 @@
 //! Positions and lines of each kind of line break, beside those that `positions` answers for a text by itself.
 use super::STRETCH;
-use super::texts::{mixed, round_marks};
+use super::texts::{mixed_text, round_marks};
 use byte_chunk::Chunk;
 use positions::{Encoding, LineType, Position, Range, Whole};
 use std::process::Abort;
@@ -78,7 +78,7 @@ fn assert_byte(rt: &impl Abort, index: &TextIndex<'_>, l: LineType, byte: usize)
 
 #[test]
 fn every_byte_by_each_kind_of_line(rt: HostRuntime) -> Result<(), Fail> {
-    let mixed = mixed(rt.alloc(), 19)?;
+    let mixed = mixed_text(rt.alloc(), 19)?;
     let ascii = "one line".repeat(rt.alloc(), 260)?;
     for text in [mixed, ascii] {
         let index = TextIndex::of(rt.alloc(), text.as_str())?;

@@ -1,6 +1,6 @@
 //! Positions, beside those of a text by itself.
 use super::STRETCH;
-use super::texts::{BEFORE, mixed, round_marks};
+use super::texts::{BEFORE, mixed_text, round_marks};
 use positions::{Encoding, LineType, Position, Range};
 use std::process::Abort;
 use std::test::Fail;
@@ -101,7 +101,7 @@ fn assert_line(rt: &impl Abort, index: &TextIndex<'_>, line: usize) {
 #[test]
 fn every_byte_and_line_of_a_mixed_text(rt: HostRuntime) -> Result<(), Fail> {
     for many in [0, 1, 30] {
-        let text = mixed(rt.alloc(), many)?;
+        let text = mixed_text(rt.alloc(), many)?;
         let index = TextIndex::of(rt.alloc(), text.as_str())?;
         for byte in 0..text.len() + 3 {
             assert_byte(&rt, &index, byte);

@@ -3,7 +3,7 @@
 use super::STRETCH;
 use std::alloc::{AllocError, Global};
 
-/// What stands round the places of marks.
+/// Texts to put round the places of marks.
 const AT_MARKS: [&str; 9] = [
     "\r\n",
     "\r\r\n\n",
@@ -16,10 +16,10 @@ const AT_MARKS: [&str; 9] = [
     "\r",
 ];
 
-/// How many bytes before the place of a mark it may begin.
+/// How many bytes before the place of a mark such a text begins, at most.
 pub(crate) const BEFORE: usize = 6;
 
-/// A text of two stretches and some, with one of these so many bytes before the place of each mark.
+/// A text of more than two stretches, with `what` beginning `before` bytes before the place of each mark.
 fn text_round(alloc: Global, what: &str, before: usize) -> Result<String, AllocError> {
     let mut text = String::new(alloc);
     for mark in 1..3 {
@@ -45,6 +45,6 @@ pub(crate) fn round_marks(alloc: Global) -> Result<Vec<String>, AllocError> {
 }
 
 /// A text of chars of each length and breaks of each kind, in which marks stand where they will.
-pub(crate) fn mixed(alloc: Global, many: usize) -> Result<String, AllocError> {
+pub(crate) fn mixed_text(alloc: Global, many: usize) -> Result<String, AllocError> {
     "Zeile – über 🐸 und せかい\r\nx\ry\u{B}\u{C}\u{85}z\u{2028}\u{2029}\n\n".repeat(alloc, many)
 }

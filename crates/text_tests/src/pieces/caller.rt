@@ -17,7 +17,7 @@ pub fn line_of(alloc: Global, first: &str, second: &str, b: usize) -> Result<usi
     Ok(text.from_byte_idx(Scheme::Crlf, b))
 }
 
-/// A text after five calls, of which one takes out what the one before it put in, and one cuts a piece somewhere.
+/// A text after five calls: one takes out the piece that the call before it put in, and one cuts a piece somewhere.
 pub fn five_calls(
     alloc: Global,
     first: &str,

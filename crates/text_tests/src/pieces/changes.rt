@@ -41,7 +41,7 @@ fn assert_answers(rt: &impl Abort, text: &PieceText, table: &[(Question, usize)]
 }
 
 /// Makes a change, which has to change nothing where it is refused.
-fn made(rt: &impl Abort, text: &mut PieceText, change: Change) -> Result<(), Refusal> {
+fn make_or_keep(rt: &impl Abort, text: &mut PieceText, change: Change) -> Result<(), Refusal> {
     let before = answers(text);
     let result = make(text, change);
     if result.is_err() {
@@ -52,7 +52,7 @@ fn made(rt: &impl Abort, text: &mut PieceText, change: Change) -> Result<(), Ref
 
 fn assert_step(rt: &impl Abort, text: &mut PieceText, step: &Step) {
     let (change, result, pieces, table) = *step;
-    let found = made(rt, text, change);
+    let found = make_or_keep(rt, text, change);
     assert_eq!(rt; (found, text.pieces()), (result, pieces), "{change:?}");
     assert_answers(rt, text, table);
 }

@@ -10,7 +10,7 @@ const LINE: &str = "Zeile – über 🐸 und せかい, und so weiter\r\n";
 /// How many pieces there are after the long one.
 const PIECES: usize = 4_000;
 
-/// A line so many times.
+/// A line, repeated.
 fn lines(alloc: Global, count: usize) -> Result<String, AllocError> {
     LINE.repeat(alloc, count)
 }

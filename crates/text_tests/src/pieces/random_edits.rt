@@ -12,7 +12,7 @@ const CHANGES: usize = 300;
 /// How many texts are pushed before the changes where the pieces are many, so that there are runs of them.
 const PUSHES: usize = 500;
 
-/// What is put in. Breaks stand at the edges of pieces, and inside.
+/// Texts to put in. Breaks stand at the edges of pieces, and inside.
 const TEXTS: [&str; 12] = [
     "",
     "a",
@@ -47,11 +47,11 @@ struct Model {
     alloc: Global,
 }
 
-/// What a change of the model says, where there was memory for it.
+/// The answer of a change of the model, which never lacks memory.
 type Said = Result<Result<(), Refusal>, AllocError>;
 
 impl Model {
-    fn joined(&self) -> Result<String, AllocError> {
+    fn join(&self) -> Result<String, AllocError> {
         self.pieces.concat(self.alloc)
     }
 
@@ -88,7 +88,7 @@ impl Model {
 
     /// Starts a new piece at the byte.
     fn split(&mut self, byte_idx: usize) -> Said {
-        if !self.joined()?.is_char_boundary(byte_idx) {
+        if !self.join()?.is_char_boundary(byte_idx) {
             return Ok(Err(Refusal::NotBoundary));
         }
         let mut pieces = Vec::new(self.alloc);
@@ -107,7 +107,7 @@ impl Model {
     }
 }
 
-/// Puts a piece after others, cut at a byte where that is inside, going over all characters.
+/// Puts a piece after others, cut at a byte where that is inside, going over all chars.
 fn push_halves(
     alloc: Global,
     pieces: &mut Vec<String>,
@@ -154,7 +154,7 @@ fn answers_stay_those_of_the_joined_text(rt: HostRuntime) -> Result<(), Fail> {
         let change = next_change(&mut random, text.pieces(), text.len());
         let wanted = model.make(change)?;
         assert_eq!(rt; make(&mut text, change), wanted, "{i}");
-        assert_as_model(&rt, &text, &model, &model.joined()?);
+        assert_as_model(&rt, &text, &model, &model.join()?);
     }
     Ok(())
 }
@@ -194,7 +194,7 @@ fn answers_of_many_pieces_stay_those_of_the_joined_text(rt: HostRuntime) -> Resu
         let change = next_change(&mut random, text.pieces(), text.len());
         let wanted = model.make(change)?;
         assert_eq!(rt; make(&mut text, change), wanted, "{i}");
-        assert_some(&rt, &text, &model.joined()?, &mut random);
+        assert_some(&rt, &text, &model.join()?, &mut random);
     }
     assert_eq!(rt; text.pieces(), model.pieces.len());
     Ok(())

@@ -14,12 +14,12 @@ use text_rope::{Refusal, Rope};
 /// How many changes there are.
 const CHANGES: usize = 2_000;
 
-/// From so many bytes on most of the text is taken out.
+/// From this length in bytes on, most of the text is taken out.
 const LONG: usize = 4_000;
 
 const ENCODINGS: [Encoding; 3] = [Encoding::Utf8, Encoding::Utf16, Encoding::Utf32];
 
-/// What is put in. A CR of one change meets an LF of another.
+/// Texts to put in. A CR of one change meets an LF of another.
 const TEXTS: [&str; 9] = [
     "",
     "ab",
@@ -65,7 +65,7 @@ fn assert_text(rt: &impl Abort, found: &str, wanted: &str) {
 }
 
 /// A plain text after a change.
-fn changed(
+fn change_text(
     alloc: Global,
     text: &str,
     encoding: Encoding,
@@ -118,7 +118,7 @@ fn next_change(random: &mut Random, text: &str) -> Change<'static> {
     }
 }
 
-/// What is answered at a byte and at a position.
+/// The answers at a byte and at a position.
 type Answers = (Position, usize, Option<usize>);
 
 fn answers_of_rope(rope: &Rope, encoding: Encoding, byte: usize, position: Position) -> Answers {
@@ -173,7 +173,7 @@ fn change_both(
 ) -> Result<(), Fail> {
     let encoding = ENCODINGS[random.next() % ENCODINGS.len()];
     let change = next_change(random, text);
-    *text = changed(alloc, text, encoding, change)?;
+    *text = change_text(alloc, text, encoding, change)?;
     apply(rope, encoding, change)?;
     let byte = random.below(text.len().saturating_add(3));
     let position = some_position(random, rope.count(text_rope::Scheme::Crlf));
@@ -195,7 +195,7 @@ fn answers_stay_those_of_the_text(rt: HostRuntime) -> Result<(), Fail> {
     Ok(())
 }
 
-/// Two texts of two pieces or more each. The first ends in CR, and the second begins with LF.
+/// Two texts of two chunks or more each. The first ends in CR, and the second begins with LF.
 fn two_pieces(alloc: Global) -> Result<(String, String), AllocError> {
     let mut front = String::new(alloc);
     let mut back = String::from_str(alloc, "\n")?;

@@ -156,7 +156,7 @@ fn each_kind_of_line_to_the_end(rt: HostRuntime) -> Result<(), Fail> {
     Ok(())
 }
 
-/// A line that goes on over several pieces, with letters of several bytes or without.
+/// A line that goes on over several chunks, with letters of several bytes or without.
 fn long_line(alloc: Global, what: &str) -> Result<String, AllocError> {
     let many = what.repeat(alloc, 700)?;
     [many.as_str(), "\r\nb"].concat(alloc)

@@ -5,12 +5,12 @@ use std::process::Abort;
 use std::test::Fail;
 use text_rope::Refusal::{NotBoundary, NotOrdered, TooLong};
 use text_rope::Scheme::{self, Chars, Crlf, Lf, Lines, Utf16};
-use text_rope::{Chunk, Chunks, Refusal, Rope, count_in, from_in, is_boundary_in, to_in};
+use text_rope::{ChunkAt, Chunks, Refusal, Rope, count_in, from_in, is_boundary_in, to_in};
 
 /// A scheme with its count, a byte index with its answer, and an index with its byte.
 type Answers = (Scheme, usize, (usize, usize), (usize, usize));
 
-/// A text with characters of one, three and four bytes.
+/// A text with chars of one, three and four bytes.
 const FROGS: &str = "Hel🐸lo world! こん🐸にち🐸🐸は!";
 
 const OF_FROGS: [Answers; 5] = [
@@ -124,7 +124,7 @@ fn boundaries(rt: HostRuntime) -> Result<(), Fail> {
     Ok(())
 }
 
-/// Two bytes and a text that are put in between, what the call says, and the text then.
+/// Two bytes and a text to put between them, the call's answer, and the text then.
 type Step = (
     usize,
     usize,
@@ -166,8 +166,8 @@ fn changes(rt: HostRuntime) {
     }
 }
 
-/// Whether the piece that a byte is in is that part of the text.
-fn is_part(text: &str, byte_idx: usize, chunk: Chunk<'_>) -> bool {
+/// Whether the chunk that a byte is in is that part of the text.
+fn is_part(text: &str, byte_idx: usize, chunk: ChunkAt<'_>) -> bool {
     let end = chunk.start.saturating_add(chunk.text.len());
     chunk.start <= byte_idx && byte_idx < end && text.get(chunk.start..end) == Some(chunk.text)
 }
@@ -180,7 +180,7 @@ fn assert_chunk_at(rt: &impl Abort, rope: &Rope, text: &str, byte_idx: usize) {
     assert!(rt; is_right, "{byte_idx}");
 }
 
-/// Pieces in one text.
+/// Chunks in one text.
 fn in_one(alloc: Global, pieces: Chunks<'_>) -> Result<String, AllocError> {
     let mut whole = String::new(alloc);
     for piece in pieces {
@@ -189,7 +189,7 @@ fn in_one(alloc: Global, pieces: Chunks<'_>) -> Result<String, AllocError> {
     Ok(whole)
 }
 
-/// What is between two bytes of a rope, from its pieces.
+/// The text between two bytes of a rope, from its chunks.
 fn part(alloc: Global, rope: &Rope, from: usize, to: usize) -> Result<String, Fail> {
     let pieces = rope.chunks_in(from..to)?;
     Ok(in_one(alloc, pieces)?)

@@ -1,5 +1,5 @@
-//! The lines of a text, with worked answers, and with breaks that lie across two pieces.
-use super::{assert_same, joined};
+//! The lines of a text, with worked answers, and with breaks that lie across two chunks.
+use super::{assert_same, concat};
 use std::alloc::{AllocError, Global};
 use std::process::Abort;
 use std::test::Fail;
@@ -9,7 +9,7 @@ use text_rope::{Line, Refusal, Rope, line_in};
 /// A line by a scheme: where it begins, where its content ends, and where its break does.
 type Row = (Scheme, usize, [usize; 3]);
 
-/// Those of a text of ten bytes, with CR LF, form feed and U+2028.
+/// The lines of a text of ten bytes, with CR LF, form feed and U+2028.
 const ROWS: [Row; 19] = [
     (Chars, 0, [0, 1, 1]),
     (Chars, 6, [6, 9, 9]),
@@ -32,7 +32,7 @@ const ROWS: [Row; 19] = [
     (Lines, usize::MAX, [10, 10, 10]),
 ];
 
-/// Those of a text with a surrogate pair, U+0085 and U+2029.
+/// The lines of a text with a surrogate pair, U+0085 and U+2029.
 const WIDE_ROWS: [Row; 8] = [
     (Utf16, 1, [1, 1, 1]),
     (Utf16, 2, [1, 5, 5]),
@@ -72,10 +72,10 @@ fn lines_of_each_scheme(rt: HostRuntime) -> Result<(), Fail> {
     Ok(())
 }
 
-/// A text, and as many breaks after it as fill more than a piece.
+/// A text, and as many breaks after it as fill more than a chunk.
 fn with_breaks(alloc: Global, first: &str) -> Result<String, AllocError> {
     let breaks = "\r\n".repeat(alloc, 800)?;
-    joined(alloc, [first, &breaks, ""])
+    concat(alloc, [first, &breaks, ""])
 }
 
 /// Compares every answer of a rope of a text.

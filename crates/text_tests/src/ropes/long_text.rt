@@ -1,4 +1,4 @@
-//! A text of several megabytes, in thousands of pieces.
+//! A text of several megabytes, in thousands of chunks.
 use super::{Both, Change, LINE, lines};
 use std::process::Abort;
 use std::test::Fail;

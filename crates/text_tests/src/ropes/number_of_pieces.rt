@@ -1,4 +1,4 @@
-//! How many pieces a text has: memory is taken by the piece.
+//! How many chunks a text has: memory is taken by the chunk.
 use super::{Change, fewest_pieces, lines, make};
 use crate::random::Random;
 use std::process::Abort;
@@ -16,7 +16,7 @@ fn pieces_of(rope: &Rope) -> usize {
     pieces
 }
 
-/// There are at most so many tenths of the fewest pieces, and one.
+/// Asserts that there are at most `tenths` tenths of the fewest chunks, and one.
 fn assert_few(rt: &impl Abort, rope: &Rope, tenths: usize) {
     let pieces = pieces_of(rope);
     let most = fewest_pieces(rope.len()).saturating_mul(tenths);

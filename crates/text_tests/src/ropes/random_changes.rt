@@ -1,5 +1,5 @@
 //! A long list of changes, chosen from a seed, of a rope and of a plain text.
-use super::{Both, Change, joined};
+use super::{Both, Change, concat};
 use crate::random::Random;
 use std::alloc::{AllocError, Global};
 use std::process::Abort;
@@ -9,10 +9,10 @@ use text_rope::{Refusal, Rope};
 /// How many changes there are.
 const CHANGES: usize = 10_000;
 
-/// From so many bytes on only a little is put in at a time.
+/// From this length in bytes on, only a little is put in at a time.
 const LONG: usize = 100_000;
 
-/// What is put in. A CR of one change meets an LF of another, and pieces begin and end between the two.
+/// Texts to put in. A CR of one change meets an LF of another, and chunks begin and end between the two.
 const TEXTS: [&str; 12] = [
     "",
     "a",
@@ -28,12 +28,12 @@ const TEXTS: [&str; 12] = [
     "\u{B}d\r\ne",
 ];
 
-/// All of them so many times: a text longer than a piece, of which many cuts are between CR and LF.
+/// All of them, repeated: a text longer than a chunk, in which many cuts are between CR and LF.
 pub(super) fn long(alloc: Global) -> Result<String, AllocError> {
     TEXTS.concat(alloc)?.repeat(alloc, 64)
 }
 
-/// A byte between characters: anywhere, or where a piece begins.
+/// A byte between chars: anywhere, or where a chunk begins.
 fn place(random: &mut Random, both: &Both) -> usize {
     let byte_idx = random.below(both.text.len().saturating_add(1));
     if random.below(3) == 0 {
@@ -43,7 +43,7 @@ fn place(random: &mut Random, both: &Both) -> usize {
     }
 }
 
-/// Where the piece that a byte is in begins.
+/// Where the chunk that a byte is in begins.
 fn start_of_piece(rope: &Rope, byte_idx: usize) -> usize {
     match rope.chunk_at(byte_idx) {
         Some(chunk) => chunk.start,
@@ -51,7 +51,7 @@ fn start_of_piece(rope: &Rope, byte_idx: usize) -> usize {
     }
 }
 
-/// How many bytes are taken out: mostly none or a few, and at times so many that one piece or two are cut.
+/// How many bytes are taken out: mostly none or a few, and at times enough to cut one chunk or two.
 fn len_taken(random: &mut Random) -> usize {
     match random.below(20) {
         0 => random.below(2_000),
@@ -60,8 +60,8 @@ fn len_taken(random: &mut Random) -> usize {
     }
 }
 
-/// What is put in: a little, or at times a text longer than a piece.
-fn text_put<'a>(random: &mut Random, len: usize, long: &'a str) -> &'a str {
+/// A text to put in: a little, or at times one longer than a chunk.
+fn choose_text<'a>(random: &mut Random, len: usize, long: &'a str) -> &'a str {
     if len < LONG && random.below(12) == 0 {
         long
     } else {
@@ -75,24 +75,24 @@ fn next_change<'a>(random: &mut Random, both: &Both, long: &'a str) -> Change<'a
     Change {
         from,
         to: both.text.floor_char_boundary(end).max(from),
-        put: text_put(random, both.text.len(), long),
+        put: choose_text(random, both.text.len(), long),
     }
 }
 
-/// Puts what is before a byte after the rest, in both.
+/// Moves the text before a byte to the end, in both.
 fn turn(both: &mut Both, at: usize) -> Result<(), Fail> {
-    both.text = turned(both.alloc, &both.text, at)?;
+    both.text = turn_text(both.alloc, &both.text, at)?;
     turn_rope(&mut both.rope, at)?;
     Ok(())
 }
 
-/// The same of a plain text.
-fn turned(alloc: Global, text: &str, at: usize) -> Result<String, Fail> {
+/// Moves the text before a byte to the end, in a plain text.
+fn turn_text(alloc: Global, text: &str, at: usize) -> Result<String, Fail> {
     let (front, back) = text.split_at_checked(at).ok_or("no boundary")?;
-    Ok(joined(alloc, [back, front, ""])?)
+    Ok(concat(alloc, [back, front, ""])?)
 }
 
-/// The same of a rope.
+/// Moves the text before a byte to the end, in a rope.
 fn turn_rope(rope: &mut Rope, at: usize) -> Result<(), Refusal> {
     let mut rest = rope.split_off(at)?;
     rest.append(rope)?;
@@ -122,7 +122,7 @@ pub(super) fn change_at_random(
     Ok(())
 }
 
-/// How many line breaks of two characters have one in a piece and one in the next.
+/// How many line breaks of two chars have one in a chunk and one in the next.
 fn shared_breaks(rope: &Rope) -> usize {
     let mut shared: usize = 0;
     let mut after_return = false;

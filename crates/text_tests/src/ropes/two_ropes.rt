@@ -1,5 +1,5 @@
 //! Ropes that are cut in two and put together.
-use super::{LINE, assert_same, assert_same_counts, joined, lines};
+use super::{LINE, assert_same, assert_same_counts, concat, lines};
 use std::alloc::Global;
 use std::process::Abort;
 use std::test::Fail;
@@ -17,7 +17,7 @@ fn append(rt: &impl Abort, alloc: Global, rope: &mut Rope, text: &str) -> Result
 fn assert_append(rt: &impl Abort, alloc: Global, first: &str, second: &str) -> Result<(), Fail> {
     let mut rope = Rope::from_str(alloc, first)?;
     append(rt, alloc, &mut rope, second)?;
-    let text = joined(alloc, [first, second, ""])?;
+    let text = concat(alloc, [first, second, ""])?;
     assert_same(rt, &rope, &text);
     Ok(())
 }
@@ -48,7 +48,7 @@ fn assert_cut(rt: &impl Abort, alloc: Global, text: &str, at: usize) -> Result<(
 
 #[test]
 fn a_rope_after_another(rt: HostRuntime) -> Result<(), Fail> {
-    let text = joined(rt.alloc(), [&lines(rt.alloc(), 30)?, "\r", ""])?;
+    let text = concat(rt.alloc(), [&lines(rt.alloc(), 30)?, "\r", ""])?;
     for second in ["", "\nend", "🐸", LINE, &text] {
         assert_append(&rt, rt.alloc(), &text, second)?;
         assert_append(&rt, rt.alloc(), second, &text)?;

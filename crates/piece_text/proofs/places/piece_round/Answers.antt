@@ -8,9 +8,9 @@ placed : (c : After-summary-own) → IsPlaced c.args.s c.args.p.now.texts
     (record { piece = c.loop-i.i; before = c.loop-i.front; own = c.summary-own.result })
 placed c =
     let texts = c.args.p.now.texts in
-    let kept : c.loop-i.p.texts ≡ texts = ap (λ p. p.texts) c.loop-i.invariant.state ∙ c.stretch_round-stretch.ensures.texts in
+    let kept : c.loop-i.p.texts ≡ texts = ap (λ p. p.texts) c.loop-i.invariant.state ∙ c.range_round-range.ensures.texts in
     record {
-      inside = omega (arith, c.loop-i-test.true, c.stretch_round-stretch.ensures.stretch.within);
+      inside = omega (arith, c.loop-i-test.true, c.range_round-range.ensures.range.within);
       before_is = c.loop-i.invariant.front;
       own_is = rw kept at c.summary-own.ensures.summary;
       some = rw kept at c.summary-own.ensures.some;
@@ -20,7 +20,7 @@ pub look-requires : goal.look-requires
 look-requires c =
     let is = placed c in
     next_piece c.args.s c.args.p.now.texts c.loop-i.i c.loop-i.front c.summary-own.result is.inside is.before_is is.own_is is.some
-    c.stretch_round-stretch.ensures.short
+    c.range_round-range.ensures.short
 
 pub returns-then-b-behind-clause-place : goal.returns-then-b-behind-clause-place
 returns-then-b-behind-clause-place c =
@@ -56,14 +56,14 @@ loop-i-preserved c =
 pub returns-clause-place : goal.returns-clause-place
 returns-clause-place c =
     let texts = c.args.p.now.texts in
-    let stretch = c.stretch_round-stretch.ensures in
-    let end = c.stretch_round-stretch.result.end in
-    let some : c.stretch_round-stretch.result.first < end = stretch.some c.requires in
+    let range = c.range_round-range.ensures in
+    let end = c.range_round-range.result.end in
+    let some : c.range_round-range.result.first < end = range.some c.requires in
     let same : c.loop-i.i ≡ end - 1 = omega (arith, some, c.loop-i-test.false, c.loop-i.auto.i-end (omega (arith, some))) in
-    let kept : c.loop-i.p.texts ≡ texts = ap (λ p. p.texts) c.loop-i.invariant.state ∙ stretch.texts in
+    let kept : c.loop-i.p.texts ≡ texts = ap (λ p. p.texts) c.loop-i.invariant.state ∙ range.texts in
     let one_more : end - 1 + 1 ≡ end = omega (arith, some) in
     let is : IsPlaced c.args.s texts (record { piece = end - 1; before = c.loop-i.front; own = c.summary.result }) = record {
-      inside = omega (arith, some, stretch.stretch.within);
+      inside = omega (arith, some, range.range.within);
       before_is = rw same at c.loop-i.invariant.front;
       own_is = rw kept at c.summary.ensures.summary;
       some = rw kept at c.summary.ensures.some;
@@ -74,10 +74,10 @@ returns-clause-place c =
       before = elim (cases_lt end (length texts)) [
         | inl inside ↦ inl (omega (
           arith,
-          stretch.end inside,
+          range.end inside,
           ap (λ n. joined_size (take n texts)) one_more,
           place_end c.args.s texts _ is,
         ))
-        | inr last ↦ inr (omega (arith, last, one_more, stretch.stretch.within))
+        | inr last ↦ inr (omega (arith, last, one_more, range.range.within))
       ];
     }

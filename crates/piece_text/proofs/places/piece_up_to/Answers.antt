@@ -8,9 +8,9 @@ placed : (c : After-summary-own) → IsPlaced c.args.s c.args.p.now.texts
     (record { piece = c.loop-i.i; before = c.loop-i.front; own = c.summary-own.result })
 placed c =
     let texts = c.args.p.now.texts in
-    let kept : c.loop-i.p.texts ≡ texts = ap (λ p. p.texts) c.loop-i.invariant.state ∙ c.stretch_for-stretch.ensures.texts in
+    let kept : c.loop-i.p.texts ≡ texts = ap (λ p. p.texts) c.loop-i.invariant.state ∙ c.range_for-range.ensures.texts in
     record {
-      inside = omega (arith, c.loop-i-test.true, c.stretch_for-stretch.ensures.stretch.within);
+      inside = omega (arith, c.loop-i-test.true, c.range_for-range.ensures.range.within);
       before_is = c.loop-i.invariant.front;
       own_is = rw kept at c.summary-own.ensures.summary;
       some = rw kept at c.summary-own.ensures.some;
@@ -20,7 +20,7 @@ pub look-look-requires : goal.look-look-requires
 look-look-requires c =
     let is = placed c in
     let texts = c.args.p.now.texts in
-    let kept : c.loop-i.p.texts ≡ texts = ap (λ p. p.texts) c.loop-i.invariant.state ∙ c.stretch_for-stretch.ensures.texts in
+    let kept : c.loop-i.p.texts ≡ texts = ap (λ p. p.texts) c.loop-i.invariant.state ∙ c.range_for-range.ensures.texts in
     next_piece c.args.s texts c.loop-i.i c.loop-i.front c.summary-own.result is.inside is.before_is is.own_is is.some
     (rw kept at c.summary-own.ensures.short)
 
@@ -30,7 +30,7 @@ returns-then-k-look-clause-comes c =
     let s = c.args.s in
     let texts = c.args.p.now.texts in
     let i = c.loop-i.i in
-    let first = c.stretch_for-stretch.result.first in
+    let first = c.range_for-range.result.first in
     let last = c.loop-i.last in
     let here = placed c.before.before.before in
     let told = c.look-look.ensures (joined (take i texts)) (piece_at texts i) here.before_is here.own_is here.some in
@@ -59,17 +59,17 @@ loop-i-preserved c =
       past = λ _. omega (arith, told.reached, here.before_is.total, c.if-k-look.false);
     }
 
--- the stretch goes to the end of the text, or so far that the text comes to the count before its last piece
+-- the range goes to the end of the text, or so far that the text comes to the count before its last piece
 pub returns-clause-comes : goal.returns-clause-comes
 returns-clause-comes c =
     let texts = c.args.p.now.texts in
-    let stretch = c.stretch_for-stretch.ensures in
-    let end = c.stretch_for-stretch.result.end in
+    let range = c.range_for-range.ensures in
+    let end = c.range_for-range.result.end in
     let last = c.loop-i.last in
-    let some = stretch.some c.requires.pieces in
+    let some = range.some c.requires.pieces in
     let same : c.loop-i.i ≡ end = omega (arith, c.loop-i-test.false, c.loop-i.auto.i-end (omega (arith, some))) in
-    let later : c.stretch_for-stretch.result.first < c.loop-i.i = omega (arith, same, some) in
+    let later : c.range_for-range.result.first < c.loop-i.i = omega (arith, same, some) in
     let is = c.loop-i.invariant.placed later in
     let one_more : end ≡ last.piece + 1 = omega (arith, same, c.loop-i.invariant.next later) in
     comes_at c.args.s texts last is c.args.k (c.loop-i.invariant.past later)
-    (come_to_end c.args.s texts end c.args.k last.piece one_more is.some stretch.end)
+    (come_to_end c.args.s texts end c.args.k last.piece one_more is.some range.end)

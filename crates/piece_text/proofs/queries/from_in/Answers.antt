@@ -17,8 +17,8 @@ overflow_add-result c =
       here,
       from_byte_idx-le-count s (joined texts) c.args.b,
       count-le-size s (joined texts),
-      c.stretch_round-stretch.ensures.short,
-      ap joined_size c.stretch_round-stretch.ensures.texts,
+      c.range_round-range.ensures.short,
+      ap joined_size c.range_round-range.ensures.texts,
       same,
     )
 
@@ -27,13 +27,13 @@ pub returns-clause-answer : goal.returns-clause-answer
 returns-clause-answer c =
     let s = c.args.s in
     let texts = c.args.p.now.texts in
-    let stretch = c.stretch_round-stretch.ensures in
+    let range = c.range_round-range.ensures in
     let front = c.loop-i.invariant.front in
-    let same : c.loop-i.i ≡ c.stretch_round-stretch.result.end =
-    omega (arith, c.loop-i-test.false, c.loop-i.auto.i-end stretch.stretch.order) in
+    let same : c.loop-i.i ≡ c.range_round-range.result.end =
+    omega (arith, c.loop-i-test.false, c.loop-i.auto.i-end range.range.order) in
     elim (cases_lt c.loop-i.i (length texts)) [
       | inl before ↦
-          let round = rw (← same) at (stretch.end (omega (arith, before, same))) in
+          let round = rw (← same) at (range.end (omega (arith, before, same))) in
           absurd (omega (arith, round, front.len, c.loop-i.invariant.past))
       | inr end ↦
           let all : take c.loop-i.i texts ≡ texts = take_all c.loop-i.i texts end in

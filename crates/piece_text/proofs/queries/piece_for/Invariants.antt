@@ -1,7 +1,7 @@
 use Rattle.piece_text.proofs.lemmas.{◌≡◌, ◌≢◌, ◌+◌, ◌-◌, ◌<◌, [], length, take, to_byte_idx, joined, piece_at, IsFront}
 use Rattle.piece_text.proofs.queries.piece_for.Given as goal
 
--- what is before piece i is known, for one look a piece, and which of the pieces of the stretch answers for it
+-- what is before piece i is known, for one look a piece, and which of the pieces of the range answers for it
 abbrev pub invariant-loop-i : goal.invariant-loop-i
 invariant-loop-i l = record {
   front : IsFront l.s (joined (take l.i l.fn.p.texts)) l.front;

@@ -6,8 +6,8 @@ pub loop-run-init : goal.loop-run-init
 loop-run-init c = record { pieces = refl; whole = c.none-whole.ensures; state = search rules; looks = omega arith }
 
 -- the run has its place there
-pub joined-whole-requires : goal.joined-whole-requires
-joined-whole-requires c =
+pub join_summaries-whole-requires : goal.join_summaries-whole-requires
+join_summaries-whole-requires c =
     let texts = c.args.p.now.texts in
     let here = passing c.runs-run-items.result.now texts c.loop-run.pieces c.loop-run.run-index no_run c.runs-run-items.ensures
     c.loop-run-test.true c.loop-run.invariant.pieces in
@@ -29,7 +29,7 @@ loop-run-preserved c =
     let front = c.loop-run.invariant.whole ∙ ap (λ t. summary_of (joined t)) (run_before texts c.loop-run.pieces _ here.at) in
     record {
       pieces = here.next;
-      whole = c.joined-whole.ensures (joined here.at.before) (joined here.at.own) front (c.whole.ensures.whole ∙ here.at.is.whole)
+      whole = c.join_summaries-whole.ensures (joined here.at.before) (joined here.at.own) front (c.whole.ensures.whole ∙ here.at.is.whole)
           ∙ ap summary_of (sym (run_joined texts c.loop-run.pieces _ here.at));
       state = rw (← add_assoc) (c.whole.ensures.state ∙ ap {A = PiecesState} (λ p. record p { looks = p.looks + 1 }) c.loop-run.invariant.state);
       looks = omega (arith, here.some, c.loop-run.invariant.looks);

@@ -1,8 +1,8 @@
 use Rattle.piece_text.proofs.lemmas.{◌≡◌, ◌<◌, ap, sym, arith, ◌∙◌, take, take_all, length, joined, piece_at, joined-take, summary_of, piece_summed}
 use Rattle.piece_text.proofs.sums.summary_in.Goals as goal
 
-pub joined-whole-requires : goal.joined-whole-requires
-joined-whole-requires c =
+pub join_summaries-whole-requires : goal.join_summaries-whole-requires
+join_summaries-whole-requires c =
     let texts = c.args.p.now.texts in
     let kept = ap (λ p. p.texts) c.loop-i.invariant.state ∙ c.sum_of_runs-sum.ensures.texts in
     let own = rw kept at c.summary.ensures.summary in
@@ -17,7 +17,7 @@ loop-i-preserved c =
     let kept = ap (λ p. p.texts) c.loop-i.invariant.state ∙ c.sum_of_runs-sum.ensures.texts in
     let own = rw kept at c.summary.ensures.summary in
     record {
-      whole = c.joined-whole.ensures (joined (take i texts)) (piece_at texts i) c.loop-i.invariant.whole own
+      whole = c.join_summaries-whole.ensures (joined (take i texts)) (piece_at texts i) c.loop-i.invariant.whole own
           ∙ ap summary_of (sym (joined-take texts i inside));
       state = grind (arith, c.summary.ensures.state, c.loop-i.invariant.state);
     }

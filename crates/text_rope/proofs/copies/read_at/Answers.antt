@@ -9,7 +9,7 @@ returns-then-len-at c = record {
 
 pub returns : goal.returns
 returns c =
-    let chunks = c.from_row-chunks.result.0 in
-    let is = c.from_row-chunks.ensures in
+    let chunks = c.from_chunk-chunks.result.0 in
+    let is = c.from_chunk-chunks.ensures in
     let text = is.text in
     rw (← is.text, ← is.place) (read_of_part c.read_chunks.ensures.read (is.end ∙ ap size (sym is.text)) c.read_chunks.ensures.full)

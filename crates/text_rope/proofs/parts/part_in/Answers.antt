@@ -6,19 +6,19 @@ of_piece-requires-clause-own c = rw c.text.ensures.text c.summary-own.ensures.su
 
 pub of_piece-requires-clause-followed : goal.of_piece-requires-clause-followed
 of_piece-requires-clause-followed c =
-    let row = c.args.place.now.row.now in
+    let chunk = c.args.place.now.chunk.now in
     record {
       a = joined c.requires.front;
-      b = row;
+      b = chunk;
       front_is = c.requires.before_is;
       piece_is = c.summary-own.ensures.summary;
       some = c.summary-own.ensures.some;
-      short = short_of c.args.v.now.texts c.requires.front row c.requires.back c.requires.parts c.len-len.ensures.short;
+      short = short_of c.args.v.now.texts c.requires.front chunk c.requires.back c.requires.parts c.len-len.ensures.short;
     }
 
 pub returns-clause-part : goal.returns-clause-part
 returns-clause-part c =
     let is = c.requires in
-    let row = c.args.place.now.row.now in
-    rw (text_of_place c.args.v.now.texts is.front row is.back is.parts)
+    let chunk = c.args.place.now.chunk.now in
+    rw (text_of_place c.args.v.now.texts is.front chunk is.back is.parts)
     (rw c.text.ensures.text at (c.of_piece.ensures.part (joined is.front) (joined is.back) is.before_is))

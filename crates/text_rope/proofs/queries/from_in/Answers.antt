@@ -6,7 +6,7 @@ returns-in_default-clause-answer c = rw (← c.in_default.ensures) (sym (from_ni
 
 pub returns-then-whole-b-clause-answer : goal.returns-then-whole-b-clause-answer
 returns-then-whole-b-clause-answer c =
-    let cs = joined c.in-Some.side.now.texts in
+    let cs = joined c.in-Some.subtree.now.texts in
     let whole = c.summary-whole.ensures.summary in
     let past = from_byte_idx-all c.args.s cs c.args.b (omega (arith, c.if-whole-b.true, ap (λ w. w.len) whole)) in
     rw (← c.in-Some.ensures) (c.count.ensures ∙ ap (λ w. count_of w c.args.s) whole ∙ count_of-summary c.args.s cs ∙ sym past)
@@ -14,24 +14,24 @@ returns-then-whole-b-clause-answer c =
 pub look-look-requires : goal.look-look-requires
 look-look-requires c =
     let place = c.place_at-place.ensures.place in
-    let row = c.place_at-place.result.row.now in
+    let chunk = c.place_at-place.result.chunk.now in
     record {
       a = joined place.front;
-      b = row;
+      b = chunk;
       front_is = place.before_is;
       piece_is = c.summary-own.ensures.summary;
       some = c.summary-own.ensures.some;
-      short = short_of c.in-Some.side.now.texts place.front row place.back place.parts c.summary-whole.ensures.short;
+      short = short_of c.in-Some.subtree.now.texts place.front chunk place.back place.parts c.summary-whole.ensures.short;
     }
 
 pub overflow_add-result : goal.overflow_add-result
 overflow_add-result c =
     let s = c.args.s in
     let place = c.place_at-place.ensures.place in
-    let row = c.place_at-place.result.row.now in
-    let told = c.look-look.ensures (joined place.front) row place.before_is c.summary-own.ensures.summary c.summary-own.ensures.some in
+    let chunk = c.place_at-place.result.chunk.now in
+    let told = c.look-look.ensures (joined place.front) chunk place.before_is c.summary-own.ensures.summary c.summary-own.ensures.some in
     let here = answer_at c.look-look.result place c.summary-own.ensures.some told in
-    let cs = joined c.in-Some.side.now.texts in
+    let cs = joined c.in-Some.subtree.now.texts in
     omega (
       arith,
       here,
@@ -44,7 +44,7 @@ overflow_add-result c =
 pub returns-clause-answer : goal.returns-clause-answer
 returns-clause-answer c =
     let place = c.place_at-place.ensures.place in
-    let row = c.place_at-place.result.row.now in
-    let told = c.look-look.ensures (joined place.front) row place.before_is c.summary-own.ensures.summary c.summary-own.ensures.some in
+    let chunk = c.place_at-place.result.chunk.now in
+    let told = c.look-look.ensures (joined place.front) chunk place.before_is c.summary-own.ensures.summary c.summary-own.ensures.some in
     let here = answer_at c.look-look.result place c.summary-own.ensures.some told in
     rw (← c.in-Some.ensures) (omega (arith, here, c.from_byte_idx.ensures))

@@ -27,7 +27,7 @@ returns-in_default-clause-answer c = rw (← c.in_default.ensures) (of_none c.ar
 pub returns-then-whole-at-clause-answer : goal.returns-then-whole-at-clause-answer
 returns-then-whole-at-clause-answer c =
     let len = ap (λ w. w.len) c.summary-whole.ensures.summary in
-    rw (← c.in-Some.ensures) (of_end (joined c.in-Some.side.now.texts) c.args.at c.summary-whole.result.now.len len c.if-whole-at.true)
+    rw (← c.in-Some.ensures) (of_end (joined c.in-Some.subtree.now.texts) c.args.at c.summary-whole.result.now.len len c.if-whole-at.true)
 
 pub returns-clause-answer : goal.returns-clause-answer
 returns-clause-answer c = rw (← c.in-Some.ensures) (of_both c.is_char_boundary.ensures (boundary_at c.place_at-place.ensures.place))

@@ -9,38 +9,38 @@ down-init c =
       before = record { a = []; is = none; short = omega (arith, none.len, c.summary-short.ensures.short) };
       after = omega (arith, none.len);
       inside = omega (arith, none.len, c.requires);
-      place = λ row before own. own [] none;
+      place = λ chunk before own. own [] none;
       texts = search rules;
       looks = search rules;
       looks_kept = search rules;
       reads = search rules;
     }
 
-pub returns-in-Rows-clause-low : goal.returns-in-Rows-clause-low
-returns-in-Rows-clause-low c =
-    omega (arith, c.down.invariant.looks, ap (λ v. v.looks) c.in-Rows.ensures.state, c.in-Rows.ensures.look.height)
+pub returns-in-Chunks-clause-low : goal.returns-in-Chunks-clause-low
+returns-in-Chunks-clause-low c =
+    omega (arith, c.down.invariant.looks, ap (λ v. v.looks) c.in-Chunks.ensures.state, c.in-Chunks.ensures.look.height)
 
-pub returns-in-Rows-clause-looks : goal.returns-in-Rows-clause-looks
-returns-in-Rows-clause-looks c = few_looks (c.look.new.self.looks - c.args.v.now.looks) c.args.side.now.height
-    (length c.args.side.now.texts)
-    (omega (arith, c.down.invariant.looks, ap (λ v. v.looks) c.in-Rows.ensures.state, c.in-Rows.ensures.look.height))
+pub returns-in-Chunks-clause-looks : goal.returns-in-Chunks-clause-looks
+returns-in-Chunks-clause-looks c = few_looks (c.look.new.self.looks - c.args.v.now.looks) c.args.subtree.now.height
+    (length c.args.subtree.now.texts)
+    (omega (arith, c.down.invariant.looks, ap (λ v. v.looks) c.in-Chunks.ensures.state, c.in-Chunks.ensures.look.height))
     c.height-height.ensures.many
 
 pub down-preserved-then-at-look : goal.down-preserved-then-at-look
 down-preserved-then-at-look c =
     let down = c.down.invariant in
-    let fork = c.in-Sides.ensures.look in
-    let left = joined c.in-Sides.left.now.texts in
+    let branch = c.in-Subtrees.ensures.look in
+    let left = joined c.in-Subtrees.left.now.texts in
     let before = down.before in
     let some : left ≢ [] = some_of left (λ none. omega (arith, none, c.summary.ensures.some, c.summary.ensures.few)) in
     let told = c.look-look.ensures before.a left before.is c.summary.ensures.summary some in
     record {
-      before = record { a = before.a; is = before.is; short = omega (arith, before.short, fork.size_is) };
+      before = record { a = before.a; is = before.is; short = omega (arith, before.short, branch.size_is) };
       after = down.after;
       inside = omega (arith, told.behind.len, before.is.len, size-append before.a left, c.if-at-look.true);
-      place = λ row front own. down.place row front (λ a is. rw fork.texts (place_left c.in-Sides.right.now.texts (own a is)));
+      place = λ chunk front own. down.place chunk front (λ a is. rw branch.texts (place_left c.in-Subtrees.right.now.texts (own a is)));
       texts = search rules;
-      looks = grind (arith, down.looks, ap (λ v. v.looks) c.in-Sides.ensures.state, fork.height);
+      looks = grind (arith, down.looks, ap (λ v. v.looks) c.in-Subtrees.ensures.state, branch.height);
       looks_kept = search rules;
       reads = search rules;
     }
@@ -48,8 +48,8 @@ down-preserved-then-at-look c =
 pub down-preserved : goal.down-preserved
 down-preserved c =
     let down = c.down.invariant in
-    let fork = c.in-Sides.ensures.look in
-    let left = joined c.in-Sides.left.now.texts in
+    let branch = c.in-Subtrees.ensures.look in
+    let left = joined c.in-Subtrees.left.now.texts in
     let before = down.before in
     let some : left ≢ [] = some_of left (λ none. omega (arith, none, c.summary.ensures.some, c.summary.ensures.few)) in
     let told = c.look-look.ensures before.a left before.is c.summary.ensures.summary some in
@@ -57,15 +57,15 @@ down-preserved c =
       before = record {
         a = before.a ++ left;
         is = told.behind;
-        short = omega (arith, before.short, fork.size_is, size-append before.a left);
+        short = omega (arith, before.short, branch.size_is, size-append before.a left);
       };
       after = omega (arith, c.if-at-look.false);
-      inside = omega (arith, told.behind.len, before.is.len, size-append before.a left, fork.size_is, down.inside);
-      place = λ row front own. down.place row front (λ a is.
+      inside = omega (arith, told.behind.len, before.is.len, size-append before.a left, branch.size_is, down.inside);
+      place = λ chunk front own. down.place chunk front (λ a is.
           let here = c.look-look.ensures a left is c.summary.ensures.summary some in
-          rw fork.texts (place_right c.in-Sides.left.now.texts (own (a ++ left) here.behind)));
+          rw branch.texts (place_right c.in-Subtrees.left.now.texts (own (a ++ left) here.behind)));
       texts = search rules;
-      looks = grind (arith, down.looks, ap (λ v. v.looks) c.in-Sides.ensures.state, fork.height);
+      looks = grind (arith, down.looks, ap (λ v. v.looks) c.in-Subtrees.ensures.state, branch.height);
       looks_kept = search rules;
       reads = search rules;
     }

@@ -1,4 +1,4 @@
-use Rattle.text_rope.proofs.lemmas.{◌≢◌, ◌-◌, ◌++◌, [], rules, ap, arith, length, size-append, few_looks, some_of, count-nil, seam_loss, joined, joined_size, place_of_left, place_of_right, seam_of_sides}
+use Rattle.text_rope.proofs.lemmas.{◌≢◌, ◌-◌, ◌++◌, [], rules, ap, arith, length, size-append, few_looks, some_of, count-nil, seam_loss, joined, joined_size, place_of_left, place_of_right, seam_of_subtrees}
 use Rattle.text_rope.proofs.queries.place_of_by_scheme.Goals as goal
 
 pub down-init : goal.down-init
@@ -12,42 +12,42 @@ down-init c =
         short = omega (arith, c.summary-short.ensures.short);
         past = omega (arith, count-nil s, c.requires);
       };
-      place = λ row before own. own [] none;
+      place = λ chunk before own. own [] none;
       texts = search rules;
       looks = search rules;
       looks_kept = search rules;
       reads = search rules;
     }
 
-pub row_at_count-requires : goal.row_at_count-requires
-row_at_count-requires c =
-    let block = c.in-Rows.ensures.look in
+pub chunk_at_count-requires : goal.chunk_at_count-requires
+chunk_at_count-requires c =
+    let leaf = c.in-Chunks.ensures.look in
     let reaches = c.down.invariant.reaches in
     record {
       reaches = record {
         a = reaches.a;
         is = reaches.is;
-        short = omega (arith, reaches.short, ap joined_size block.texts);
-        past = rw block.texts at reaches.past;
+        short = omega (arith, reaches.short, ap joined_size leaf.texts);
+        past = rw leaf.texts at reaches.past;
       };
-      some = block.some;
+      some = leaf.some;
     }
 
-pub returns-in-Rows-clause-place : goal.returns-in-Rows-clause-place
-returns-in-Rows-clause-place c =
-    c.down.invariant.place c.row_at_count.result.row.now c.row_at_count.result.before (λ a is.
-    rw c.in-Rows.ensures.look.texts (c.row_at_count.ensures a is))
+pub returns-in-Chunks-clause-place : goal.returns-in-Chunks-clause-place
+returns-in-Chunks-clause-place c =
+    c.down.invariant.place c.chunk_at_count.result.chunk.now c.chunk_at_count.result.before (λ a is.
+    rw c.in-Chunks.ensures.look.texts (c.chunk_at_count.ensures a is))
 
-pub returns-in-Rows-clause-looks : goal.returns-in-Rows-clause-looks
-returns-in-Rows-clause-looks c = few_looks (c.look.new.self.looks - c.args.v.now.looks) c.args.side.now.height
-    (length c.args.side.now.texts)
-    (omega (arith, c.down.invariant.looks, ap (λ v. v.looks) c.in-Rows.ensures.state, c.in-Rows.ensures.look.height))
+pub returns-in-Chunks-clause-looks : goal.returns-in-Chunks-clause-looks
+returns-in-Chunks-clause-looks c = few_looks (c.look.new.self.looks - c.args.v.now.looks) c.args.subtree.now.height
+    (length c.args.subtree.now.texts)
+    (omega (arith, c.down.invariant.looks, ap (λ v. v.looks) c.in-Chunks.ensures.state, c.in-Chunks.ensures.look.height))
     c.height-height.ensures.many
 
 pub look-first-requires : goal.look-first-requires
 look-first-requires c =
-    let fork = c.in-Sides.ensures.look in
-    let left = joined c.in-Sides.left.now.texts in
+    let branch = c.in-Subtrees.ensures.look in
+    let left = joined c.in-Subtrees.left.now.texts in
     let reaches = c.down.invariant.reaches in
     record {
       a = reaches.a;
@@ -55,14 +55,14 @@ look-first-requires c =
       front_is = reaches.is;
       piece_is = c.summary.ensures.summary;
       some = some_of left (λ none. omega (arith, none, c.summary.ensures.some, c.summary.ensures.few));
-      short = omega (arith, reaches.short, fork.size_is);
+      short = omega (arith, reaches.short, branch.size_is);
     }
 
 pub look-next-requires : goal.look-next-requires
 look-next-requires c =
-    let fork = c.in-Sides.ensures.look in
-    let left = joined c.in-Sides.left.now.texts in
-    let right = joined c.in-Sides.right.now.texts in
+    let branch = c.in-Subtrees.ensures.look in
+    let left = joined c.in-Subtrees.left.now.texts in
+    let right = joined c.in-Subtrees.right.now.texts in
     let reaches = c.down.invariant.reaches in
     let some : left ≢ [] = some_of left (λ none. omega (arith, none, c.summary.ensures.some, c.summary.ensures.few)) in
     let told = c.look-first.ensures reaches.a left reaches.is c.summary.ensures.summary some in
@@ -70,38 +70,38 @@ look-next-requires c =
       a = reaches.a ++ left;
       b = right;
       front_is = told.behind;
-      piece_is = c.summary-in-Sides.ensures.summary;
-      some = some_of right (λ none. omega (arith, none, c.summary-in-Sides.ensures.some, c.summary-in-Sides.ensures.few));
-      short = omega (arith, reaches.short, fork.size_is, size-append reaches.a left);
+      piece_is = c.summary-in-Subtrees.ensures.summary;
+      some = some_of right (λ none. omega (arith, none, c.summary-in-Subtrees.ensures.some, c.summary-in-Subtrees.ensures.few));
+      short = omega (arith, reaches.short, branch.size_is, size-append reaches.a left);
     }
 
 pub down-preserved-then-k-next : goal.down-preserved-then-k-next
 down-preserved-then-k-next c =
     let down = c.down.invariant in
-    let fork = c.in-Sides.ensures.look in
-    let left = joined c.in-Sides.left.now.texts in
-    let right = joined c.in-Sides.right.now.texts in
+    let branch = c.in-Subtrees.ensures.look in
+    let left = joined c.in-Subtrees.left.now.texts in
+    let right = joined c.in-Subtrees.right.now.texts in
     let reaches = down.reaches in
     let some : left ≢ [] = some_of left (λ none. omega (arith, none, c.summary.ensures.some, c.summary.ensures.few)) in
-    let some_right : right ≢ [] = some_of right (λ none. omega (arith, none, c.summary-in-Sides.ensures.some, c.summary-in-Sides.ensures.few)) in
+    let some_right : right ≢ [] = some_of right (λ none. omega (arith, none, c.summary-in-Subtrees.ensures.some, c.summary-in-Subtrees.ensures.few)) in
     record {
       reaches = record {
         a = reaches.a;
         is = reaches.is;
-        short = omega (arith, reaches.short, fork.size_is);
+        short = omega (arith, reaches.short, branch.size_is);
         past = omega (
           arith,
           reaches.past,
-          ap (λ r. seam_loss c.args.s reaches.a (joined r)) fork.texts,
-          seam_of_sides c.args.s reaches.a c.in-Sides.left.now.texts c.in-Sides.right.now.texts some,
+          ap (λ r. seam_loss c.args.s reaches.a (joined r)) branch.texts,
+          seam_of_subtrees c.args.s reaches.a c.in-Subtrees.left.now.texts c.in-Subtrees.right.now.texts some,
         );
       };
-      place = λ row front own. down.place row front (λ a is.
+      place = λ chunk front own. down.place chunk front (λ a is.
           let told = c.look-first.ensures a left is c.summary.ensures.summary some in
-          let next = c.look-next.ensures (a ++ left) right told.behind c.summary-in-Sides.ensures.summary some_right in
-          rw fork.texts (place_of_left c.in-Sides.right.now.texts (omega (arith, next.reached, c.if-k-next.true)) (own a is)));
+          let next = c.look-next.ensures (a ++ left) right told.behind c.summary-in-Subtrees.ensures.summary some_right in
+          rw branch.texts (place_of_left c.in-Subtrees.right.now.texts (omega (arith, next.reached, c.if-k-next.true)) (own a is)));
       texts = search rules;
-      looks = grind (arith, down.looks, ap (λ v. v.looks) c.in-Sides.ensures.state, fork.height);
+      looks = grind (arith, down.looks, ap (λ v. v.looks) c.in-Subtrees.ensures.state, branch.height);
       looks_kept = search rules;
       reads = search rules;
     }
@@ -109,26 +109,26 @@ down-preserved-then-k-next c =
 pub down-preserved : goal.down-preserved
 down-preserved c =
     let down = c.down.invariant in
-    let fork = c.in-Sides.ensures.look in
-    let left = joined c.in-Sides.left.now.texts in
-    let right = joined c.in-Sides.right.now.texts in
+    let branch = c.in-Subtrees.ensures.look in
+    let left = joined c.in-Subtrees.left.now.texts in
+    let right = joined c.in-Subtrees.right.now.texts in
     let reaches = down.reaches in
     let some : left ≢ [] = some_of left (λ none. omega (arith, none, c.summary.ensures.some, c.summary.ensures.few)) in
-    let some_right : right ≢ [] = some_of right (λ none. omega (arith, none, c.summary-in-Sides.ensures.some, c.summary-in-Sides.ensures.few)) in
+    let some_right : right ≢ [] = some_of right (λ none. omega (arith, none, c.summary-in-Subtrees.ensures.some, c.summary-in-Subtrees.ensures.few)) in
     let told = c.look-first.ensures reaches.a left reaches.is c.summary.ensures.summary some in
-    let next = c.look-next.ensures (reaches.a ++ left) right told.behind c.summary-in-Sides.ensures.summary some_right in
+    let next = c.look-next.ensures (reaches.a ++ left) right told.behind c.summary-in-Subtrees.ensures.summary some_right in
     record {
       reaches = record {
         a = reaches.a ++ left;
         is = told.behind;
-        short = omega (arith, reaches.short, fork.size_is, size-append reaches.a left);
+        short = omega (arith, reaches.short, branch.size_is, size-append reaches.a left);
         past = omega (arith, next.reached, c.if-k-next.false);
       };
-      place = λ row front own. down.place row front (λ a is.
+      place = λ chunk front own. down.place chunk front (λ a is.
           let here = c.look-first.ensures a left is c.summary.ensures.summary some in
-          rw fork.texts (place_of_right c.in-Sides.left.now.texts (own (a ++ left) here.behind)));
+          rw branch.texts (place_of_right c.in-Subtrees.left.now.texts (own (a ++ left) here.behind)));
       texts = search rules;
-      looks = grind (arith, down.looks, ap (λ v. v.looks) c.in-Sides.ensures.state, fork.height);
+      looks = grind (arith, down.looks, ap (λ v. v.looks) c.in-Subtrees.ensures.state, branch.height);
       looks_kept = search rules;
       reads = search rules;
     }

@@ -11,27 +11,27 @@ returns-then-k-eq0-clause-answer c =
 pub look-look-requires : goal.look-look-requires
 look-look-requires c =
     let place = c.place_of-place.ensures.place in
-    let row = c.place_of-place.result.row.now in
+    let chunk = c.place_of-place.result.chunk.now in
     record {
       a = joined place.front;
-      b = row;
+      b = chunk;
       front_is = place.before_is;
       piece_is = c.summary-own.ensures.summary;
       some = c.summary-own.ensures.some;
-      short = short_of c.in-Some.side.now.texts place.front row place.back place.parts c.summary-whole.ensures.short;
+      short = short_of c.in-Some.subtree.now.texts place.front chunk place.back place.parts c.summary-whole.ensures.short;
     }
 
 pub overflow_add-result : goal.overflow_add-result
 overflow_add-result c =
     let s = c.args.s in
     let place = c.place_of-place.ensures.place in
-    let row = c.place_of-place.result.row.now in
+    let chunk = c.place_of-place.result.chunk.now in
     let before = c.place_of-place.result.before in
-    let told = c.look-look.ensures (joined place.front) row place.before_is c.summary-own.ensures.summary c.summary-own.ensures.some in
-    let reached : before.total - seam_loss s (joined place.front) row ≡ c.look-look.result.reached =
+    let told = c.look-look.ensures (joined place.front) chunk place.before_is c.summary-own.ensures.summary c.summary-own.ensures.some in
+    let reached : before.total - seam_loss s (joined place.front) chunk ≡ c.look-look.result.reached =
     omega (arith, place.before_is.total, told.reached) in
-    let cs = joined c.in-Some.side.now.texts in
-    let here : to_byte_idx s cs c.args.k ≡ before.len + to_byte_idx s row (c.args.k - c.look-look.result.reached) =
+    let cs = joined c.in-Some.subtree.now.texts in
+    let here : to_byte_idx s cs c.args.k ≡ before.len + to_byte_idx s chunk (c.args.k - c.look-look.result.reached) =
     rw reached at place.answer in
     omega (arith, here, c.to_byte_idx.ensures, to_byte_idx-le-size s cs c.args.k, c.summary-whole.ensures.short)
 
@@ -39,11 +39,11 @@ pub returns-clause-answer : goal.returns-clause-answer
 returns-clause-answer c =
     let s = c.args.s in
     let place = c.place_of-place.ensures.place in
-    let row = c.place_of-place.result.row.now in
+    let chunk = c.place_of-place.result.chunk.now in
     let before = c.place_of-place.result.before in
-    let told = c.look-look.ensures (joined place.front) row place.before_is c.summary-own.ensures.summary c.summary-own.ensures.some in
-    let reached : before.total - seam_loss s (joined place.front) row ≡ c.look-look.result.reached =
+    let told = c.look-look.ensures (joined place.front) chunk place.before_is c.summary-own.ensures.summary c.summary-own.ensures.some in
+    let reached : before.total - seam_loss s (joined place.front) chunk ≡ c.look-look.result.reached =
     omega (arith, place.before_is.total, told.reached) in
-    let here : to_byte_idx s (joined c.in-Some.side.now.texts) c.args.k ≡ before.len + to_byte_idx s row (c.args.k - c.look-look.result.reached) =
+    let here : to_byte_idx s (joined c.in-Some.subtree.now.texts) c.args.k ≡ before.len + to_byte_idx s chunk (c.args.k - c.look-look.result.reached) =
     rw reached at place.answer in
     rw (← c.in-Some.ensures) (omega (arith, here, c.to_byte_idx.ensures))

@@ -11,7 +11,7 @@ invariant_of-self-2 c =
     rw own at c.in_ok-left.ensures in
     let cut = is_cut items i c.in_ok-left.left c.in_ok-left.right c.args.at inside halved in
     let put = ap (λ v. set v i c.in_ok-left.left) (rw c.reserve.ensures.items at c.in_ok-insert.ensures.items) in
-    (c.self.invariant.0 ∙ sym (ap joined_size put ∙ ap size (joined-cut items _ _ cut)), c.self.invariant.1, subst (AreRuns c.swapped.new.self) c.as_slice-2.ensures.value c.swapped.ensures)
+    (c.self.invariant.0 ∙ sym (ap joined_size put ∙ ap size (joined-cut items _ _ cut)), c.self.invariant.1, subst (AreRuns c.swap.new.self) c.as_slice-2.ensures.value c.swap.ensures)
 
 pub returns-clause-ok : goal.returns-clause-ok
 returns-clause-ok c =
@@ -25,8 +25,8 @@ returns-clause-ok c =
     (is_cut items i c.in_ok-left.left c.in_ok-left.right c.args.at inside halved)
 
 -- there are two pieces for one
-pub swapped-requires-clause-swapped : goal.swapped-requires-clause-swapped
-swapped-requires-clause-swapped c =
+pub swap-requires-clause-swapped : goal.swap-requires-clause-swapped
+swap-requires-clause-swapped c =
     let items = c.self.inside.pieces.items in
     let i = c.args.i in
     let inside : i < length items = rw (← c.self.view_is) at c.requires.inside in
@@ -46,8 +46,8 @@ swapped-requires-clause-swapped c =
       short = omega (arith, c.self.invariant.0, c.self.invariant.1);
     }
 
-pub swapped-requires-clause-short : goal.swapped-requires-clause-short
-swapped-requires-clause-short c =
+pub swap-requires-clause-short : goal.swap-requires-clause-short
+swap-requires-clause-short c =
     let items = c.self.inside.pieces.items in
     let i = c.args.i in
     let inside : i < length items = rw (← c.self.view_is) at c.requires.inside in

@@ -11,10 +11,10 @@ pub put-requires-clause-some : goal.put-requires-clause-some
 put-requires-clause-some c = chars-some c.args.text.now c.utf8.text (grind (arith, nat_tests))
 
 -- a text that is not empty is one piece
-pub returns-in-Ok-clause-ok : goal.returns-in-Ok-clause-ok
-returns-in-Ok-clause-ok c =
+pub returns-clause-ok : goal.returns-clause-ok
+returns-clause-ok c =
     let some = chars-some c.args.text.now c.utf8.text (grind (arith, nat_tests)) in
-    rw (as_pieces-some (chars c.args.text.now) some) c.in-Ok.ensures.ok
+    rw (as_pieces-some (chars c.args.text.now) some) c.in_ok-put.ensures.ok
 
-pub returns-in-Err-clause-no_memory : goal.returns-in-Err-clause-no_memory
-returns-in-Err-clause-no_memory c = λ _. chars-some c.args.text.now c.utf8.text (grind (arith, nat_tests))
+pub returns-in_err-put-clause-no_memory : goal.returns-in_err-put-clause-no_memory
+returns-in_err-put-clause-no_memory c = λ _. chars-some c.args.text.now c.utf8.text (grind (arith, nat_tests))

@@ -6,7 +6,7 @@ pub loop-i-preserved : goal.loop-i-preserved
 loop-i-preserved c =
     let items = c.self.inside.pieces.items in
     let i = c.loop-i.i in
-    let inside : i < length items = omega (arith, ap length c.self.view_is, c.part_round-part.ensures.within, c.loop-i-test.true, ap length c.as_slice-2.ensures.value) in
+    let inside : i < length items = omega (arith, ap length c.self.view_is, c.span_round-part.ensures.within, c.loop-i-test.true, ap length c.as_slice-2.ensures.value) in
     let own = ap size (c.index-piece.ensures ∙ get_or_default items i c.index-piece.result.now [] inside) in
     let more = ap size (joined-take items i inside) ∙ size-append (joined (take i items)) (piece_at items i) in
     record {

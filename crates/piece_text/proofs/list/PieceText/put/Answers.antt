@@ -2,8 +2,8 @@ use Rattle.piece_text.proofs.lemmas.{length, refl, ap, subst, ◌∙◌, arith, 
 use Rattle.piece_text.proofs.list.PieceText.put.Goals as goal
 
 -- the list has one piece more
-pub swapped-requires-clause-swapped : goal.swapped-requires-clause-swapped
-swapped-requires-clause-swapped c =
+pub swap-requires-clause-swapped : goal.swap-requires-clause-swapped
+swap-requires-clause-swapped c =
     let old = c.self.inside.pieces.items in
     let kept = c.reserve.ensures.items in
     let put = rw c.reserve.ensures.items at c.in_ok-insert.ensures.items in
@@ -16,8 +16,8 @@ swapped-requires-clause-swapped c =
       short = omega (arith, c.self.invariant.0, c.self.invariant.1);
     }
 
-pub swapped-requires-clause-short : goal.swapped-requires-clause-short
-swapped-requires-clause-short c =
+pub swap-requires-clause-short : goal.swap-requires-clause-short
+swap-requires-clause-short c =
     let old = c.self.inside.pieces.items in
     let put = rw c.reserve.ensures.items at c.in_ok-insert.ensures.items in
     let new = c.as_slice-2.ensures.value ∙ put in
@@ -38,4 +38,4 @@ invariant_of-self-2 c =
     let new = rw c.reserve.ensures.items at c.in_ok-insert.ensures.items in
     let grown = joined_size-insert old c.args.at c.in_ok-piece.piece in
     let own = ap size c.in_ok-piece.ensures ∙ size-chars c.args.text.now c.utf8.text in
-    (omega (arith, ap joined_size new, grown, own, c.self.invariant.0), omega (arith, c.requires.short, ap joined_size c.self.view_is, c.self.invariant.0), subst (AreRuns c.swapped.new.self) c.as_slice-2.ensures.value c.swapped.ensures)
+    (omega (arith, ap joined_size new, grown, own, c.self.invariant.0), omega (arith, c.requires.short, ap joined_size c.self.view_is, c.self.invariant.0), subst (AreRuns c.swap.new.self) c.as_slice-2.ensures.value c.swap.ensures)

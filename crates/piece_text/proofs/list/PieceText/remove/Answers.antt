@@ -18,10 +18,10 @@ invariant_of-self c =
     let out = ap size (c.remove-piece.ensures.value ∙ get_or_default items c.args.at c.remove-piece.result [] inside) in
     let others = joined_size-remove items c.args.at inside in
     rw c.remove-piece.ensures.items
-    (omega (arith, out, others, c.len-2.ensures, c.self.invariant.0), omega (arith, c.self.invariant.1), subst (AreRuns c.swapped.new.self) (c.as_slice.ensures.value ∙ c.remove-piece.ensures.items) c.swapped.ensures)
+    (omega (arith, out, others, c.len-2.ensures, c.self.invariant.0), omega (arith, c.self.invariant.1), subst (AreRuns c.swap.new.self) (c.as_slice.ensures.value ∙ c.remove-piece.ensures.items) c.swap.ensures)
 
-pub swapped-requires-clause-swapped : goal.swapped-requires-clause-swapped
-swapped-requires-clause-swapped c =
+pub swap-requires-clause-swapped : goal.swap-requires-clause-swapped
+swap-requires-clause-swapped c =
     let items = c.self.inside.pieces.items in
     let inside : c.args.at < length items = omega (arith, c.self.inside.pieces.ok.0, c.len.ensures, c.if-len-at.false) in
     let out = c.remove-piece.ensures.value ∙ get_or_default items c.args.at c.remove-piece.result [] inside in
@@ -34,8 +34,8 @@ swapped-requires-clause-swapped c =
       short = omega (arith, c.self.invariant.0, c.self.invariant.1);
     }
 
-pub swapped-requires-clause-short : goal.swapped-requires-clause-short
-swapped-requires-clause-short c =
+pub swap-requires-clause-short : goal.swap-requires-clause-short
+swap-requires-clause-short c =
     let items = c.self.inside.pieces.items in
     let inside : c.args.at < length items = omega (arith, c.self.inside.pieces.ok.0, c.len.ensures, c.if-len-at.false) in
     let new = ap joined_size (c.as_slice.ensures.value ∙ c.remove-piece.ensures.items) in

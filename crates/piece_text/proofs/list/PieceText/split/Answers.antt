@@ -15,7 +15,7 @@ returns-then-start-byte_idx-clause-not_boundary c =
     let edge = edge_of c.args.self.now c.piece_round-at.result.0 c.args.byte_idx place in
     (λ is. absurd cc, λ no. absurd (no (edge_boundary c.args.self.now c.args.byte_idx edge)))
 
--- past the end, and inside a character of the piece, is no boundary
+-- past the end, and inside a char of the piece, is no boundary
 pub returns-then-at-len-clause-not_boundary : goal.returns-then-at-len-clause-not_boundary
 returns-then-at-len-clause-not_boundary c =
     let texts = c.args.self.now in
@@ -41,12 +41,12 @@ returns-then-at-len-clause-not_boundary c =
       λ no. refl,
     )
 
-pub returns-in-Ok-clause-text : goal.returns-in-Ok-clause-text
-returns-in-Ok-clause-text c = joined-cut c.args.self.now c.cut.new.self _ c.in-Ok.ensures.ok
+pub returns-clause-text : goal.returns-clause-text
+returns-clause-text c = joined-cut c.args.self.now c.cut.new.self _ c.in_ok-cut.ensures.ok
 
 -- a boundary of the piece is one of the joined text
-pub returns-in-Ok-clause-not_boundary : goal.returns-in-Ok-clause-not_boundary
-returns-in-Ok-clause-not_boundary c =
+pub returns-clause-not_boundary : goal.returns-clause-not_boundary
+returns-clause-not_boundary c =
     let texts = c.args.self.now in
     let count = ap length c.self.view_is in
     let round = c.piece_round-at.ensures in
@@ -59,8 +59,8 @@ returns-in-Ok-clause-not_boundary c =
     let own = c.is_boundary_in.ensures.0 c.if-not-is_boundary_in.false in
     (λ is. absurd cc, λ no. absurd (no (boundary_of_joined texts i (c.args.byte_idx - start) c.args.byte_idx inner own)))
 
-pub returns-in-Err-clause-not_boundary : goal.returns-in-Err-clause-not_boundary
-returns-in-Err-clause-not_boundary c =
+pub returns-in_err-cut-clause-not_boundary : goal.returns-in_err-cut-clause-not_boundary
+returns-in_err-cut-clause-not_boundary c =
     let texts = c.args.self.now in
     let count = ap length c.self.view_is in
     let round = c.piece_round-at.ensures in
@@ -71,11 +71,11 @@ returns-in-Err-clause-not_boundary c =
     let inner = inside_of texts i start c.args.byte_idx round.start round.past round.within inside
     (λ same. absurd (omega (arith, c.if-start-byte_idx.false))) in
     let own = c.is_boundary_in.ensures.0 c.if-not-is_boundary_in.false in
-    (λ is. absurd cc, λ no. absurd (no (boundary_of_joined texts i (c.args.byte_idx - start) c.args.byte_idx inner own)))
+    (λ is. absurd (let clash = rw is at c.from_residual.ensures.1 in cc), λ no. absurd (no (boundary_of_joined texts i (c.args.byte_idx - start) c.args.byte_idx inner own)))
 
 -- and no edge, so that an edge takes no memory
-pub returns-in-Err-clause-no_memory : goal.returns-in-Err-clause-no_memory
-returns-in-Err-clause-no_memory c =
+pub returns-in_err-cut-clause-no_memory : goal.returns-in_err-cut-clause-no_memory
+returns-in_err-cut-clause-no_memory c =
     let texts = c.args.self.now in
     let count = ap length c.self.view_is in
     let round = c.piece_round-at.ensures in

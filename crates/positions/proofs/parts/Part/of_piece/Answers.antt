@@ -14,5 +14,5 @@ returns-clause-part c = λ front back is.
     let some : piece ≢ [] = some_of piece (λ none. omega (arith, same, none, size-some followed.b followed.some)) in
     let told = rw c.scheme.ensures at (c.look.ensures front piece (rw c.scheme.ensures is) own some) in
     piece_is_part c.args.lines _ front piece back c.args.before.now refl is some c.args.encoding _ c.args.own.now refl refl
-    c.look.result told refl c.units_in.ensures.bytes c.units_in.ensures.some c.is_between.ensures own c.own_in.result refl
+    c.look.result told refl c.units_in.ensures.bytes c.units_in.ensures.some.0 c.is_between.ensures own c.own_in.result refl
     (c.own_in.ensures piece own)

@@ -2,15 +2,15 @@ use Rattle.text_rope.proofs.lemmas.{◌+◌, ◌-◌, ◌∷◌, ◌∙◌, ap, 
 use Rattle.text_rope.specs.Chunks.{IsPartAt}
 use Rattle.text_rope.proofs.iter.Chunks.next_chunk.Goals as goal
 
-pub between-part-requires-clause-start : goal.between-part-requires-clause-start
-between-part-requires-clause-start c =
+pub text_between-part-requires-clause-start : goal.text_between-part-requires-clause-start
+text_between-part-requires-clause-start c =
     let at = c.self.inside.at in
     let chunk = chunk_of_rest c.rest_of-rest.ensures c.in-Some.ensures.cases.0 c.text-text.ensures.text in
     boundary_in_chunk at (at - c.rest_of-rest.result.start) chunk c.self.invariant.within.start (omega (arith, chunk.after))
     (omega (arith, chunk.after, chunk.inside))
 
-pub between-part-requires-clause-end : goal.between-part-requires-clause-end
-between-part-requires-clause-end c =
+pub text_between-part-requires-clause-end : goal.text_between-part-requires-clause-end
+text_between-part-requires-clause-end c =
     let start = c.rest_of-rest.result.start in
     let end = c.self.inside.end in
     let text = chars c.text-text.result.now in
@@ -36,11 +36,11 @@ invariant_of-self c =
     record {
       within = record {
         order = omega (arith, chunk.after, within.order, c.min-to.ensures);
-        start = boundary_of_part (part_of_chunk at to chunk c.between-part.ensures (omega (arith, chunk.after)) refl);
+        start = boundary_of_part (part_of_chunk at to chunk c.text_between-part.ensures (omega (arith, chunk.after)) refl);
         stop = within.stop;
       };
-      rows_are = λ before some. rest_after c.rest_of-rest.ensures
-          (c.in-Some.ensures.cases.0 ∙ ap (λ rows. c.in-Some.row.now ∷ rows) (sym c.looked_ahead-self-inside.ensures))
+      chunks_are = λ before some. rest_after c.rest_of-rest.ensures
+          (c.in-Some.ensures.cases.0 ∙ ap (λ chunks. c.in-Some.chunk.now ∷ chunks) (sym c.prefetch_first-self-inside.ensures))
           (omega (arith, chunk.after, within.order, is.len, c.min-to.ensures));
     }
 
@@ -49,6 +49,6 @@ returns-clause-part c =
     let at = c.self.inside.at in
     let to = c.rest_of-rest.result.start + c.min-to.result in
     let chunk = chunk_of_rest c.rest_of-rest.ensures c.in-Some.ensures.cases.0 c.text-text.ensures.text in
-    let part : IsPartAt (joined c.self.inside.tree.now) (chars c.between-part.result.now) at to =
-    part_of_chunk at to chunk c.between-part.ensures (omega (arith, chunk.after)) refl in
+    let part : IsPartAt (joined c.self.inside.tree.now) (chars c.text_between-part.result.now) at to =
+    part_of_chunk at to chunk c.text_between-part.ensures (omega (arith, chunk.after)) refl in
     rw (ap (λ s. s.text) c.self.view_is, ap (λ s. s.at) c.self.view_is) at part

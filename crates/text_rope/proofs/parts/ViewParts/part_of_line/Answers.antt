@@ -1,4 +1,4 @@
-use Rattle.text_rope.proofs.lemmas.{◌≡◌, ◌+◌, ◌-◌, ◌*◌, ◌^◌, ◌≤◌, ◌∙◌, length, ap, arith, row_has_line, took_count}
+use Rattle.text_rope.proofs.lemmas.{◌≡◌, ◌+◌, ◌-◌, ◌*◌, ◌^◌, ◌≤◌, ◌∙◌, length, ap, arith, chunk_has_line, took_count}
 use Rattle.text_rope.proofs.parts.ViewParts.part_of_line.Goals as goal
 
 pub returns-clause-round : goal.returns-clause-round
@@ -10,7 +10,7 @@ returns-clause-round c =
     let same : c.read.new.self.texts ≡ texts = ap (λ v. v.texts) c.read.ensures ∙ place.ensures.texts in
     let is = rw same at part.part in
     let found = rw (c.scheme.ensures, c.in-Some.ensures) at place.ensures.place in
-    row_has_line l c.args.encoding texts place.result.row.now place.result.before c.args.line c.part_in.result is found part.some
+    chunk_has_line l c.args.encoding texts place.result.chunk.now place.result.before c.args.line c.part_in.result is found part.some
     part.text part.start
 
 pub returns-clause-cost : goal.returns-clause-cost

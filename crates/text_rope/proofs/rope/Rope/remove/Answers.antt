@@ -2,7 +2,7 @@ use Rattle.text_rope.proofs.lemmas.{rules, chars-nil}
 use Rattle.text_rope.proofs.rope.Rope.remove.Goals as goal
 
 pub returns-clause-ok : goal.returns-clause-ok
-returns-clause-ok c = rw chars-nil at c.in_ok-exchange.ensures.ok
+returns-clause-ok c = rw chars-nil at c.in_ok-replace_range.ensures.ok
 
-pub returns-in_err-exchange-clause-no_memory : goal.returns-in_err-exchange-clause-no_memory
-returns-in_err-exchange-clause-no_memory c = search (chars-nil, rules)
+pub returns-in_err-replace_range-clause-no_memory : goal.returns-in_err-replace_range-clause-no_memory
+returns-in_err-replace_range-clause-no_memory c = search (chars-nil, rules)

@@ -1,7 +1,0 @@
-use Rattle.positions.proofs.lemmas.{zero-add, taken_after}
-use Rattle.positions.proofs.questions.byte_of.Goals as goal
-
-pub returns-clause-cost : goal.returns-clause-cost
-returns-clause-cost g c =
-    let first = c.line_in-start.ensures.cost in
-    rw (first.apart, zero-add) at (taken_after first c.byte_on.ensures.cost)
