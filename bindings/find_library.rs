@@ -7,10 +7,12 @@ use std::process::{exit, Command};
 /// The environment variable that names the folder of the libraries.
 const LIBRARY_FOLDER: &str = "STR_INDICES_LIB_DIR";
 
-/// A static library: its name, and the script of the repository that builds it.
+/// The script of the repository that builds a library.
+const SCRIPT: &str = "bindings/c/build_library";
+
+/// A static library, by its name.
 pub struct Library {
     pub name: &'static str,
-    pub script: &'static str,
 }
 
 impl Library {
@@ -59,7 +61,7 @@ impl Library {
         if self.is_in(&built) {
             Ok(built)
         } else {
-            Err(format!("{} left no {}", self.script, self.file()))
+            Err(format!("{SCRIPT} left no {}", self.file()))
         }
     }
 
@@ -73,25 +75,26 @@ impl Library {
             .args(["--variable=libdir", self.name])
             .output()
             .ok()?;
-        let folder = String::from_utf8(output.stdout).ok()?;
+        // pkg-config writes a backslash before a blank
+        let folder = String::from_utf8(output.stdout).ok()?.replace("\\ ", " ");
         output.status.success().then(|| PathBuf::from(folder.trim_end()))
     }
 
     /// Proves and builds the library in the repository that the crate is part of. The first time takes minutes.
     fn build(&self, repository: &Path) -> Result<(), String> {
-        let (file, name, script) = (self.file(), self.name, self.script);
+        let (file, name) = (self.file(), self.name);
         let has_rattle = Command::new("rt").arg("version").output().is_ok();
-        if !has_rattle || !repository.join(script).is_file() {
+        if !has_rattle || !repository.join(SCRIPT).is_file() {
             return Err(format!(
-                "the static library {file} is missing. Either build it with Rattle's command rt on the path ({script} in \
-                 the repository of this crate), or let {LIBRARY_FOLDER} name a folder that has it, or install it \
-                 (bindings/c/install) where pkg-config finds {name}"
+                "the static library {file} is missing. Either build it with Rattle's command rt on the path ({SCRIPT} {name} \
+                 in the repository of this crate), or let {LIBRARY_FOLDER} name a folder that has it, or install it where \
+                 pkg-config finds {name}"
             ));
         }
-        match Command::new(repository.join(script)).status() {
+        match Command::new(repository.join(SCRIPT)).arg(name).status() {
             Ok(status) if status.success() => Ok(()),
-            Ok(status) => Err(format!("{script} failed: {status}")),
-            Err(error) => Err(format!("{script} cannot be run: {error}")),
+            Ok(status) => Err(format!("{SCRIPT} failed: {status}")),
+            Err(error) => Err(format!("{SCRIPT} cannot be run: {error}")),
         }
     }
 }

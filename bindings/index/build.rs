@@ -5,9 +5,5 @@ mod find_library;
 use find_library::Library;
 
 fn main() {
-    let library = Library {
-        name: "str_index",
-        script: "bindings/c/build_index",
-    };
-    library.link();
+    Library { name: "str_index" }.link();
 }

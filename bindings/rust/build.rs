@@ -5,9 +5,5 @@ mod find_library;
 use find_library::Library;
 
 fn main() {
-    let library = Library {
-        name: "str_indices",
-        script: "bindings/c/build_library",
-    };
-    library.link();
+    Library { name: "str_indices" }.link();
 }

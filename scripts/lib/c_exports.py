@@ -38,39 +38,33 @@ class Function(NamedTuple):
 
 
 class Library(NamedTuple):
-    """A library for C: its name, with which its headers and functions begin, the crate of its exports, the script that
-    builds it, and the functions that it has besides.
+    """A library for C: its name, with which its headers and functions begin, the crate of its exports, and the functions
+    that it has besides.
     """
 
     name: str
     crate: str
-    script: str
     added: tuple
 
     def headers(self):
         return sorted((ROOT / "bindings/c/include").glob(f"{self.name}*.h"))
 
-    def is_here(self):
-        return (ROOT / "bindings/c" / self.script).is_file()
 
-
-def build(tally, script, *words):
-    """What a script of bindings/c builds, by the last line that it prints; None where it fails."""
-    done = subprocess.run([ROOT / "bindings/c" / script, *words], stdout=subprocess.PIPE, text=True)
-    right = tally.result(done.returncode == 0, " ".join([script, *words]))
+def build(tally, *words):
+    """The archive that build_library builds, by the last line that it prints; None where it fails."""
+    done = subprocess.run([ROOT / "bindings/c/build_library", *words], stdout=subprocess.PIPE, text=True)
+    right = tally.result(done.returncode == 0, " ".join(["build_library", *words]))
     return pathlib.Path(done.stdout.splitlines()[-1]) if right else None
 
 
-STR_INDICES = Library(
-    "str_indices", "str_indices_c", "build_library", (Function("str_indices_is_wide", "bool", "size_t"),))
-STR_ROPE = Library("str_rope", "text_rope_c", "build_rope", ())
-STR_INDEX = Library("str_index", "text_index_c", "build_index", (
+STR_INDICES = Library("str_indices", "str_indices_c", (Function("str_indices_is_wide", "bool", "size_t"),))
+STR_ROPE = Library("str_rope", "text_rope_c", ())
+STR_INDEX = Library("str_index", "text_index_c", (
     Function("str_index_make", "str_index_status", "str_index **, const char *, size_t"),
     Function("str_index_make_in", "str_index_status", "str_index **, void *, size_t, const char *, size_t"),
     Function("str_index_free", "void", "str_index *")))
 
-# those that are built here
-LIBRARIES = [library for library in [STR_INDICES, STR_ROPE, STR_INDEX] if library.is_here()]
+LIBRARIES = [STR_INDICES, STR_ROPE, STR_INDEX]
 HEADERS = STR_INDICES.headers()
 PREFIX = "str_indices_"
 

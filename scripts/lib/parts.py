@@ -4,7 +4,6 @@ Each runs in a copy of the repository that holds only what is said here of it: a
 so the part fails. What passed with nothing left out is kept, as kept.py says, by a name that is the sum of those files, of
 the crates with the toolchain, of the tools, and of the environment, which has no other variables than those named here.
 """
-import ast
 import functools
 import os
 import pathlib
@@ -18,6 +17,7 @@ from kept import crate_sum, files_of_crate, sum_of, sum_of_file, sums_of_files
 from proved import hand_on
 
 SHARED = "scripts/lib"
+HERE = pathlib.Path(__file__).resolve().parent
 # what no part reads: what is made, and pages, but for those that it names
 IGNORED = {".git", "out", "target", "__pycache__", "Cargo.lock"}
 PAGES = ".md"
@@ -26,19 +26,19 @@ VARIABLES = ["PATH", "HOME", "USER", "LANG", "LC_ALL", "TMPDIR", "RUSTUP_HOME", 
 ORIGINAL = "STR_INDICES_ORIGINAL"
 # which packages there are, and which version of each
 PACKAGES = pathlib.Path("/var/lib/dpkg/status")
-# what says of a tool what it is, where the file on the path only hands on to it
-VERSIONS = {"cargo": ["cargo", "-vV"], "rustc": ["rustc", "-vV"]}
+# those of cargo say what they are, since the files on the path only hand on to them; the others are those of packages
+SAY_VERSIONS = ("cargo", "rustc")
+TOOLS = ("bash", "sh", "install", "cmp", "git", "tar", *SAY_VERSIONS)
 
 
 class Part(NamedTuple):
-    """A script by its path, after how many minutes it is taken to hang, and what it reads beside the scripts that it takes
-    in: the crates with all below them, files by patterns from the top, and the tools."""
+    """A script by its path, after how many minutes it is taken to hang, and what it reads beside the scripts of its folder and
+    the shared ones: the crates with all below them, and files by patterns from the top."""
 
     script: str
     minutes: int
     crates: Tuple[str, ...]
     files: Tuple[str, ...] = ()
-    tools: Tuple[str, ...] = ()
 
     @property
     def name(self) -> str:
@@ -48,23 +48,19 @@ class Part(NamedTuple):
 
 FOR_C = ("str_indices_c", "str_indices_c_wide", "text_rope_c")
 ALL_FOR_C = (*FOR_C, "text_index_c")
-BINUTILS = ("ar", "ld", "nm", "objcopy", "readelf")
-SHELL = ("bash", "sh", "install", "cmp")
-RUST = ("cargo", "rustc", "cc", "pkg-config")
-# what builds the libraries for C
+# what builds the libraries for C, and what installs them
 FUNCTIONS = tuple(f"bindings/c/{name}" for name in ("build_library", "choose_half.c", "include/*"))
-ROPE = tuple(f"bindings/c/{name}" for name in ("build_rope", "build_object", "heap.c", "include/*"))
-INDEX = tuple(f"bindings/c/{name}" for name in ("build_index", "build_object", "index.c", "include/*"))
+ROPE = tuple(f"bindings/c/{name}" for name in ("build_library", "heap.c", "include/*"))
+INDEX = tuple(f"bindings/c/{name}" for name in ("build_library", "index.c", "include/*"))
+INSTALL = ("bindings/c/CMakeLists.txt", "bindings/c/*.in", "bindings/c/examples/*")
 # the workspace of cargo, of which a part needs all members
 CARGO_CRATES = ("Cargo.toml", "bench/Cargo.toml", "bench/build.rs", "bench/src/**/*", "bench/plain/**/*",
                 "bindings/find_library.rs",
                 *(f"bindings/{name}/**/*" for name in ("rust", "positions", "rope", "index", "original")))
 # what scripts/release packs and runs beside these
 RELEASED = (
-    "bindings/c/install", "bindings/c/examples/*", "bindings/web/*", "release/cmake/*", "release/examples/**/*",
-    "examples/rust/**/*", "examples/language_server/*", "examples/language_server/src/*", "docs/man/*",
-    "VERSION", "LICENSE-*", "NOTICE", "scripts/release",
-    *(f"{SHARED}/{name}.py" for name in ("man_pages", "debian_crates", "crate_copies")),
+    "bindings/web/*", "release/examples/**/*", "examples/rust/**/*", "examples/language_server/*",
+    "examples/language_server/src/*", "docs/man/*", "VERSION", "LICENSE-*", "NOTICE", "scripts/release",
     *(f"bindings/{name}/README.md" for name in ("web", "rust", "positions", "rope", "index")),
     *(f"docs/{name}.md" for name in ("DEFINITIONS", "PROVED")),
     "release/README.md", "CHANGELOG.md", "SECURITY.md",
@@ -73,49 +69,25 @@ RELEASED = (
 PARTS = (
     Part("crates/text_rope/tests/refused_growths.py", 60, ("piece_text", "text_rope", "text_index"),
          ("crates/text_rope/tests/*.rt.txt", "crates/text_tests/src/random.rt")),
-    Part("crates/idx/tests/test_program.py", 60, ("idx",), (), SHELL),
-    Part("crates/idx/tests/failing_calls.py", 60, ("idx",), ("crates/idx/tests/failing_calls.c",), ("cc",)),
-    Part("bindings/c/tests/test_c.py", 60, ALL_FOR_C, ("bindings/c/**/*", "VERSION"),
-         (*SHELL, *BINUTILS, "cc", "c++", "pkg-config", "cmake", "make", "valgrind", "qemu-x86_64")),
+    Part("crates/idx/tests/test_program.py", 60, ("idx",)),
+    Part("crates/idx/tests/failing_calls.py", 60, ("idx",), ("crates/idx/tests/failing_calls.c",)),
+    Part("bindings/c/tests/test_c.py", 60, ALL_FOR_C, ("bindings/c/**/*", "VERSION")),
     Part("docs/tests/test_pages.py", 60, (*ALL_FOR_C, "idx"),
-         (*FUNCTIONS, *ROPE, *INDEX, *CARGO_CRATES, "bindings/c/install", "bindings/c/examples/*", "examples/rust/**/*",
-          "VERSION", "scripts/test", "README.md",
-          *(f"bindings/{name}/README.md" for name in ("c", "rust", "positions", "rope", "index", "web"))),
-         (*SHELL, *BINUTILS, *RUST, "c++", "cmake", "make")),
+         (*FUNCTIONS, *ROPE, *INDEX, *INSTALL, *CARGO_CRATES, "examples/rust/**/*", "VERSION", "scripts/test", "README.md",
+          *(f"bindings/{name}/README.md" for name in ("c", "rust", "positions", "rope", "index", "web")))),
     Part("release/tests/test_release.py", 90, (*ALL_FOR_C, "positions", "idx"),
-         (*FUNCTIONS, *ROPE, *INDEX, *CARGO_CRATES, *RELEASED),
-         (*SHELL, *BINUTILS, *RUST, "c++", "cmake", "make", "node", "groff", "git", "tar", "sha256sum")),
+         (*FUNCTIONS, *ROPE, *INDEX, *INSTALL, *CARGO_CRATES, *RELEASED)),
     Part("bindings/rust/tests/test_rust.py", 60, ALL_FOR_C,
          (*FUNCTIONS, *ROPE, *INDEX, *CARGO_CRATES, "VERSION", "examples/rust/**/*", "bench/run", "bench/picture.py",
-          "bench/rope", "bench/peers/*", f"{SHARED}/crate_copies.py"),
-         (*SHELL, *BINUTILS, *RUST, "c++")),
+          "bench/rope", "bench/peers/*")),
     Part("bindings/web/tests/test_browser.py", 60, ("str_indices_c", "positions"),
-         ("bindings/web/**/*", "bindings/web/README.md", "VERSION", f"{SHARED}/crate_copies.py"),
-         ("node", "chromium", "chromium-browser", "google-chrome", "bash", "tsc", "esbuild", "rollup")),
-    Part("bindings/c/tests/test_positions.py", 30, ("str_indices_c", "str_indices_c_wide"), FUNCTIONS,
-         (*SHELL, *BINUTILS, "cc")),
+         ("bindings/web/**/*", "bindings/web/README.md", "VERSION")),
+    Part("bindings/c/tests/test_positions.py", 30, ("str_indices_c", "str_indices_c_wide"), FUNCTIONS),
     Part("crates/rope_positions/tests/position_changes.py", 30, ("rope_positions",),
          ("crates/rope_positions/tests/rope_positions.rt.txt",)),
     Part("examples/language_server/tests/test_editor.py", 60, FOR_C,
-         (*FUNCTIONS, *ROPE, *CARGO_CRATES, "examples/language_server/**/*", "examples/language_server/README.md"),
-         (*SHELL, *BINUTILS, *RUST, "pytest", "nvim", "emacs", "vim")),
+         (*FUNCTIONS, *ROPE, *CARGO_CRATES, "examples/language_server/**/*", "examples/language_server/README.md")),
 )
-
-
-def scripts_of(root: pathlib.Path, script: str) -> List[pathlib.Path]:
-    """The script, and those of its folder and of the shared one that it takes in, directly or by another."""
-    folders = [(root / script).parent, root / SHARED]
-    found, left = [], [root / script]
-    while left:
-        path = left.pop()
-        found.append(path)
-        names = []
-        for node in ast.walk(ast.parse(path.read_text(encoding="utf-8"))):
-            names += [name.name for name in node.names] if isinstance(node, ast.Import) else []
-            names += [node.module] if isinstance(node, ast.ImportFrom) and node.module else []
-        paths = [folder / f"{name}.py" for name in dict.fromkeys(names) for folder in folders]
-        left += [other for other in paths if other.is_file() and other not in [*found, *left]]
-    return found
 
 
 def below(part: Part) -> List[str]:
@@ -132,8 +104,9 @@ def is_read(path: pathlib.PurePath, part: Part) -> bool:
 def files(root: pathlib.Path, part: Part) -> List[pathlib.Path]:
     """All files that the part reads but those of crates."""
     named = [path for pattern in part.files for path in root.glob(pattern) if is_read(path.relative_to(root), part)]
-    scripts = [*scripts_of(root, part.script), root / "scripts/least.txt", root / "HANDLES"]
-    return sorted({path for path in [*named, *scripts] if path.is_file() or path.is_symlink()})
+    scripts = [*(root / part.script).parent.glob("*.py"), *(root / SHARED).glob("*.py")]
+    found = {*named, *scripts, root / "scripts/least.txt", root / "HANDLES"}
+    return sorted(path for path in found if path.is_file() or path.is_symlink())
 
 
 def environment() -> Dict[str, str]:
@@ -144,23 +117,29 @@ def environment() -> Dict[str, str]:
     }
 
 
+def packages() -> Dict[str, List[str]]:
+    """Debian's packages that the gate uses, each with the commands that it has, as scripts/packages lists them."""
+    listed = (HERE.parent / "packages").read_text(encoding="utf-8").split("packages='\n")[1].partition("'")[0]
+    return {package: commands for package, *commands in map(str.split, listed.splitlines())}
+
+
 @functools.lru_cache(maxsize=None)
 def tool(name: str) -> Tuple[str, ...]:
     """What a tool is: where it lies, a sum of it, and what it says of itself; nothing where it is not on the path."""
-    found = shutil.which(name)
-    if not found:
+    if not shutil.which(name):
         return ()
-    says = [name, *VERSIONS[name][1:]] if name in VERSIONS else []
-    said = subprocess.run(says, capture_output=True, text=True).stdout if says else ""
-    return os.path.realpath(found), sum_of_file(pathlib.Path(os.path.realpath(found))), said
+    found = os.path.realpath(shutil.which(name))
+    said = subprocess.run([name, "-vV"], capture_output=True, text=True).stdout if name in SAY_VERSIONS else ""
+    return found, sum_of_file(pathlib.Path(found)), said
 
 
 @functools.lru_cache(maxsize=None)
 def machine() -> str:
-    """A sum of what is installed, of the interpreter of the scripts, and of what the processor has."""
-    packages = sum_of_file(PACKAGES) if PACKAGES.is_file() else ""
+    """A sum of the tools, of what is installed, of the interpreter of the scripts, and of what the processor has."""
+    tools = [tool(name) for name in [*TOOLS, *(command for commands in packages().values() for command in commands)]]
+    installed = sum_of_file(PACKAGES) if PACKAGES.is_file() else ""
     told = pathlib.Path("/proc/cpuinfo").read_text(encoding="utf-8").splitlines()
-    return sum_of(packages, sys.version, next((line for line in told if line.startswith("flags")), ""))
+    return sum_of(tools, installed, sys.version, next((line for line in told if line.startswith("flags")), ""))
 
 
 @functools.lru_cache(maxsize=None)
@@ -173,9 +152,8 @@ def original() -> list:
 def name_of(root: pathlib.Path, part: Part) -> str:
     """The name under which the part is kept, as it stands below that root."""
     crates = [crate_sum(root, crate) for crate in part.crates]
-    tools = [(name, tool(name)) for name in sorted(set(part.tools))]
     variables = sorted((name, value) for name, value in environment().items() if name != "TMPDIR")
-    return sum_of(part.script, sums_of_files(root, files(root, part)), crates, tools, machine(), variables, original())
+    return sum_of(part.script, sums_of_files(root, files(root, part)), crates, machine(), variables, original())
 
 
 def copy(root: pathlib.Path, part: Part, folder: pathlib.Path) -> None:

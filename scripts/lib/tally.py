@@ -34,16 +34,16 @@ class Tally:
         self.failed = 0
         self.skipped = 0
 
-    def result(self, right: bool, line: str) -> bool:
-        """Tells and counts one result, and answers whether it is right."""
+    def result(self, right: bool, line: str, output: str = "") -> bool:
+        """Tells and counts one result, with the output where it is wrong, and answers whether it is right."""
         self.passed += right
         self.failed += not right
-        print(f"{'ok' if right else 'FAILED'}: {line}", flush=True)
+        print(f"{'ok' if right else 'FAILED'}: {line}" + (f"\n{output}" if output and not right else ""), flush=True)
         return right
 
-    def enough(self, name: str, number: int, line: str) -> bool:
+    def enough(self, name: str, number: int, line: str, output: str = "") -> bool:
         """One result: whether as many were right as the table wants under that name."""
-        return self.result(number >= least(name), f"{line}: {number} of at least {least(name)}")
+        return self.result(number >= least(name), f"{line}: {number} of at least {least(name)}", output)
 
     def leave_out(self, number: int, line: str) -> None:
         """Tells and counts results that are left out, with the reason."""

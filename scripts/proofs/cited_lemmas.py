@@ -15,21 +15,19 @@ sys.path.insert(0, str(ROOT / "scripts/lib"))
 from crate_copies import stands_on  # noqa: E402
 from tally import Tally  # noqa: E402
 
-CITED = re.compile(r"\bRattle\.(\w+)\.(proofs[\w.]*)|\b(\w+)::(proofs[\w:]*)")
-CALLERS = re.compile(r"proofs\.lemmas\.Callers\b")
+CITED = re.compile(r"\bRattle\.\w+\.proofs[\w.]*|\b\w+::proofs[\w:]*")
+CALLERS = re.compile(r"\w+\.proofs\.lemmas\.Callers\b.*")
 
 
 def cited(text, own, others):
-    """What the text cites of the proofs of others, as (crate, path)."""
-    for match in CITED.finditer(text):
-        crate = match.group(1) or match.group(3)
-        if crate != own and crate in others:
-            yield crate, (match.group(2) or match.group(4)).replace("::", ".")
+    """What the text cites of the proofs of others, with the crate first."""
+    found = [match[0].replace("::", ".").removeprefix("Rattle.") for match in CITED.finditer(text)]
+    return [path for path in found if path.partition(".")[0] in others and path.partition(".")[0] != own]
 
 
 def faults(text, own, others):
     """What the text cites of others that their callers may not."""
-    return [f"{crate}.{path}" for crate, path in cited(text, own, others) if not CALLERS.match(path)]
+    return [path for path in cited(text, own, others) if not CALLERS.fullmatch(path)]
 
 
 def try_crate(tally, own, others):
@@ -37,7 +35,7 @@ def try_crate(tally, own, others):
     texts = {path: path.read_text(encoding="utf-8") for path in files if "out" not in path.relative_to(ROOT).parts}
     found = [f"{path.relative_to(ROOT)}: {fault}" for path, text in texts.items() for fault in faults(text, own, others)]
     tally.result(not found, f"{own} cites of other crates what they pass on" + "".join(f"\n  {line}" for line in found))
-    citing = [text for text in texts.values() if any(cited(text, own, others))]
+    citing = [text for text in texts.values() if cited(text, own, others)]
     edited = [re.sub(r"lemmas(\.|::)Callers\b", r"lemmas\1Common", text) for text in citing]
     if citing:
         tally.result(all(faults(text, own, others) for text in edited), f"{own} with lemmas of other files is refused")

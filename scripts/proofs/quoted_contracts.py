@@ -28,8 +28,11 @@ OTHERS = {"sh", "c", "js", "toml", "text"}
 
 BLOCK = re.compile(r"^```(\w*)\n(.*?)^```$", re.MULTILINE | re.DOTALL)
 FENCE = re.compile(r"^\s*(?:```|~~~)", re.MULTILINE)
-FILE = re.compile(r"(?://|--) (crates/[\w/+.-]+)")
-LEFT_OUT = re.compile(r"(?://|--) \.\.(?: .*)?")
+FILE = re.compile(r"^ *(?://|--) (crates/[\w/+.-]+) *$", re.MULTILINE)
+LEFT_OUT = re.compile(r" *(?://|--) \.\.(?: .*)?")
+# lines that part what is quoted, and a line of a source: how far in it is, and its first word
+GAP = re.compile(rf"^((?:(?:{LEFT_OUT.pattern}| *)\n)+)", re.MULTILINE)
+LINE = re.compile(r"^( *)(\S+)", re.MULTILINE)
 ITEM = re.compile(r"^\s*(?:pub(?:\([\w ]+\))? )?(?:fn|impl|struct|enum|trait|const|mod|use|ghost)\b", re.MULTILINE)
 CLAUSE = re.compile(r"\b(?:ensures|requires)\b")
 # the crate of the caller's own
@@ -53,115 +56,65 @@ ROWS = [
 ]
 
 
-class Source:
-    """The words of a file, and of each the indentation of its line, where it is the first one there."""
-
-    def __init__(self, path):
-        self.words = []
-        self.begins = []
-        for line in path.read_text(encoding="utf-8").splitlines():
-            for number, word in enumerate(line.split()):
-                self.words.append(word)
-                self.begins.append(len(line) - len(line.lstrip()) if number == 0 else None)
-
-    def find(self, words, first):
-        """Where these words stand as whole lines, at or after that word; None where they do not."""
-        for at in range(first, len(self.words) - len(words) + 1):
-            end = at + len(words)
-            if self.words[at:end] == words and self.begins[at] is not None and self.is_line_end(end):
-                return at
-        return None
-
-    def is_line_end(self, end):
-        return end == len(self.words) or self.begins[end] is not None
-
-    def goes_on(self, indentation, end):
-        """Whether what stands from a word on belongs to lines of that indentation: it is further in, or closes them."""
-        if end == len(self.words) or self.begins[end] < indentation:
-            return False
-        return self.begins[end] > indentation or self.words[end][0] in "})]"
-
-    def least(self, at, end):
-        """The least indentation of the lines between two words."""
-        return min(begin for begin in self.begins[at:end] if begin is not None)
-
-    def is_inside(self, at):
-        """Whether the line of a word is a part of what begins before it: the line before is not as far in."""
-        before = next((begin for begin in reversed(self.begins[:at]) if begin is not None), None)
-        return before is not None and before < self.begins[at]
+@functools.cache
+def read(path):
+    return path.read_text(encoding="utf-8")
 
 
-source_of = functools.cache(Source)
+@functools.cache
+def contracts():
+    """All sources of crates, in words."""
+    return [" ".join(read(path).split()) for path in ROOT.glob("crates/*/src/**/*.rt")]
 
 
-class Quote:
-    """What a block quotes of one file: its paragraphs, each with whether the page says that something is left out there."""
-
-    def __init__(self, name):
-        self.name = name
-        self.paragraphs = []
-
-    def add(self, lines, leaves_out):
-        words = " ".join(lines).split()
-        if words:
-            self.paragraphs.append((words, leaves_out))
-        elif leaves_out and self.paragraphs:
-            self.paragraphs[-1] = (self.paragraphs[-1][0], True)
-
-    def fault(self):
-        """What is wrong with the quote; None where it stands in the source."""
-        path = ROOT / self.name
-        if not self.paragraphs:
-            return f"nothing is quoted of {self.name}"
-        if not path.is_file():
-            return f"there is no {self.name}"
-        return fault_in(source_of(path), self.paragraphs)
+def indentation(line):
+    return len(line[1])
 
 
-def fault_in(source, paragraphs):
-    """What is wrong with paragraphs that are quoted of one file."""
-    end = 0
-    # the least indentation of what is quoted and not over; None where all is
-    open_from = None
-    for number, (words, leaves_out) in enumerate(paragraphs):
-        is_after_gap = number > 0 and paragraphs[number - 1][1]
-        at = source.find(words, end)
-        if at is None:
-            return f"it has no such lines: {' '.join(words[:8])} .."
-        if at != end and not is_after_gap:
-            if open_from is not None and source.goes_on(open_from, end):
-                return f"it goes on with {source.words[end]} before {' '.join(words[:8])} .."
-            if source.is_inside(at):
-                return f"what {' '.join(words[:8])} .. belongs to is left out"
+def goes_on(text, least, end):
+    """The word after a place of a source that belongs to lines of that indentation: it is further in, or closes them."""
+    line = LINE.search(text, end)
+    is_closing = line and indentation(line) == least and line[2][0] in "})]"
+    return line[2] if line and (indentation(line) > least or is_closing) else None
+
+
+def is_inside(text, at):
+    """Whether a line is a part of what begins before it: the line before is not as far in."""
+    before = [*LINE.finditer(text, 0, at)]
+    return bool(before) and indentation(before[-1]) < indentation(LINE.search(text, at))
+
+
+def fault_in(text, paragraphs):
+    """What is wrong with paragraphs that are quoted of one source."""
+    # where the last one ends, and the least indentation of what is quoted and not over, or None where all is
+    end, open_from = 0, None
+    is_after_gap = False
+    for words, leaves_out in paragraphs:
+        told = f"{' '.join(words[:8])} .."
+        found = re.compile(r"^ *" + r"\s+".join(map(re.escape, words)) + " *$", re.MULTILINE).search(text, end)
+        if not found:
+            return f"it has no such lines: {told}"
+        if text[end:found.start()].strip() and not is_after_gap:
+            more = open_from is not None and goes_on(text, open_from, end)
+            if more:
+                return f"it goes on with {more} before {told}"
+            if is_inside(text, found.start()):
+                return f"what {told} belongs to is left out"
             open_from = None
-        end = at + len(words)
-        least = source.least(at, end)
-        open_from = least if open_from is None else min(open_from, least)
-    if not leaves_out and source.goes_on(open_from, end):
-        return f"it goes on with {source.words[end]} after {' '.join(words[-6:])}"
-    return None
+        is_after_gap, end = leaves_out, found.end()
+        indented = map(indentation, LINE.finditer(text, found.start(), end))
+        open_from = min([*indented, *([] if open_from is None else [open_from])])
+    more = not is_after_gap and goes_on(text, open_from, end)
+    return f"it goes on with {more} after {' '.join(words[-6:])}" if more else None
 
 
-def quotes_of(block):
-    """The quotes of a block by its lines that name a file; None where its first line names none."""
-    lines = block.splitlines()
-    if not lines or not FILE.fullmatch(lines[0].strip()):
-        return None
-    quotes = []
-    paragraph = []
-    for line in [*lines, ""]:
-        text = line.strip()
-        named = FILE.fullmatch(text)
-        leaves_out = bool(LEFT_OUT.fullmatch(text))
-        if text and not named and not leaves_out:
-            paragraph.append(line)
-            continue
-        if quotes:
-            quotes[-1].add(paragraph, leaves_out)
-        paragraph = []
-        if named:
-            quotes.append(Quote(named[1]))
-    return quotes
+def fault_of_quote(name, body):
+    """What is wrong with what a block quotes of a file: of its paragraphs, each with whether something is left out after it."""
+    texts = [*GAP.split(f"{body}\n"), ""]
+    paragraphs = [(text.split(), ".." in gap) for text, gap in zip(texts[::2], texts[1::2]) if text.split()]
+    if not paragraphs:
+        return f"nothing is quoted of {name}"
+    return fault_in(read(ROOT / name), paragraphs) if (ROOT / name).is_file() else f"there is no {name}"
 
 
 def fault_of_statements(block):
@@ -177,7 +130,7 @@ def fault_of_statements(block):
 def is_clause(formula):
     """Whether some clause of the source is this formula."""
     wanted = f"{{ {' '.join(formula.split())} }}"
-    return any(wanted in " ".join(source_of(path).words) for path in ROOT.glob("crates/*/src/**/*.rt"))
+    return any(wanted in words for words in contracts())
 
 
 def fault_of(language, block):
@@ -187,10 +140,11 @@ def fault_of(language, block):
         return "it has a contract, and is no block of Rattle" if is_contract else None
     if language not in RATTLE:
         return f"nothing is known of the language {language!r}"
-    quotes = quotes_of(block)
-    if quotes is None:
+    head, *parts = FILE.split(block)
+    if head or not parts:
         return "its first line names no file" if language == "antt" else fault_of_statements(block)
-    return next(filter(None, (quote.fault() for quote in quotes if not quote.name.startswith(OWN))), None)
+    quotes = [quote for quote in zip(parts[::2], parts[1::2]) if not quote[0].startswith(OWN)]
+    return next(filter(None, (fault_of_quote(*quote) for quote in quotes)), None)
 
 
 def edits_of(block):
@@ -198,22 +152,21 @@ def edits_of(block):
     lines = block.splitlines()
     yield "no file named", "\n".join(lines[1:])
     for number in quoted_lines(lines):
-        line = lines[number]
+        before, line, after = lines[:number], lines[number], lines[number + 1:]
         exchanged = re.sub(r"\w+", "another", line, count=1)
         if exchanged != line:
-            yield f"a word exchanged in {line.strip()}", "\n".join([*lines[:number], exchanged, *lines[number + 1:]])
+            yield f"a word exchanged in {line.strip()}", "\n".join([*before, exchanged, *after])
         if is_needed(lines, number):
-            yield f"{line.strip()} left out", "\n".join([*lines[:number], *lines[number + 1:]])
+            yield f"{line.strip()} left out", "\n".join([*before, *after])
 
 
 def quoted_lines(lines):
     """The numbers of the lines that are quoted of the source."""
     own = True
     for number, line in enumerate(lines):
-        named = FILE.fullmatch(line.strip())
-        if named:
-            own = named[1].startswith(OWN)
-        elif line.strip() and not own and not LEFT_OUT.fullmatch(line.strip()):
+        named = FILE.fullmatch(line)
+        own = named[1].startswith(OWN) if named else own
+        if line.strip() and not (own or named or LEFT_OUT.fullmatch(line)):
             yield number
 
 
@@ -221,14 +174,13 @@ def is_needed(lines, number):
     """Whether a line is a part of something that a block shows, or its head, where nothing else is left out beside it."""
     before = next(line for line in reversed(lines[:number]) if line.strip())
     after = next((line for line in lines[number + 1:] if line.strip()), "")
-    if LEFT_OUT.fullmatch(before.strip()) or LEFT_OUT.fullmatch(after.strip()):
-        return False
-    return lines[number].startswith((" ", "}")) or [*lines, ""][number + 1].startswith(" ")
+    is_in_gap = LEFT_OUT.fullmatch(before) or LEFT_OUT.fullmatch(after)
+    return not is_in_gap and (lines[number].startswith((" ", "}")) or [*lines, ""][number + 1].startswith(" "))
 
 
 def try_page(tally, path):
     name = path.relative_to(ROOT)
-    text = path.read_text(encoding="utf-8")
+    text = read(path)
     blocks = BLOCK.findall(text)
     tally.result(len(FENCE.findall(text)) == 2 * len(blocks), f"{name} has no fences but those of {len(blocks)} blocks")
     for number, (language, block) in enumerate(blocks, start=1):

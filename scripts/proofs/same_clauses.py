@@ -39,15 +39,21 @@ LIBRARY_AT_START = ROOT / "bench/start.rt.txt"
 
 IMPL = re.compile(r"^impl ByteChunk for .*?^\}", re.MULTILINE | re.DOTALL)
 CLAUSE = re.compile(r"^\s+(requires|ensures)\b", re.MULTILINE)
-START = re.compile(r"after (\w{40}), the start\.$", re.MULTILINE)
 NAMED = re.compile(r"^pub\(crate\) use (\w+)::([^;]+);", re.MULTILINE)
 PUBLIC = re.compile(r"^ *pub (?:use|fn|mod|enum|struct|type|const|trait) ([^;({]+(?:\{[\w, \n]*\};)?)", re.MULTILINE)
-FUNCTION = re.compile(r"\bfn (\w+)")
-PUBLIC_FUNCTION = re.compile(r"\bpub fn (\w+)")
-CALLED = re.compile(r"(?:\.|::)(\w+)\(")
 # public functions with the name of one of `std` that the workloads call
 NAMES_OF_STD = {"get"}
 EXPORT = re.compile(r'^pub extern "C" fn str_indices_(?:narrow_|wide_)?(\w+)(\(.*?)^\{', re.MULTILINE | re.DOTALL)
+
+
+def read(*paths):
+    """The texts of files, one after another."""
+    return "".join(path.read_text(encoding="utf-8") for path in paths)
+
+
+def sources(folder="*"):
+    """The source files of a crate, or of all."""
+    return sorted(ROOT.glob(f"crates/{folder}/src/**/*.rt"))
 
 
 def own_clauses(text):
@@ -61,26 +67,22 @@ def exports(text):
 
 
 def try_chunks(tally):
-    files = [path for path in sorted(ROOT.glob("crates/*/src/**/*.rt")) if IMPL.search(path.read_text(encoding="utf-8"))]
-    tally.result(len(files) > 5, f"{len(files)} files implement ByteChunk")
-    for path in files:
-        text = path.read_text(encoding="utf-8")
-        name = path.relative_to(ROOT)
+    texts = {path.relative_to(ROOT): read(path) for path in sources() if IMPL.search(read(path))}
+    tally.result(len(texts) > 5, f"{len(texts)} files implement ByteChunk")
+    for name, text in texts.items():
         tally.result(own_clauses(text) == 0, f"{name} states no clause of a call")
         edited = text.replace("    fn zero() -> Self {\n", "    fn zero() -> Self\n        ensures { result ≡ result }\n    {\n")
         tally.result(own_clauses(edited) > 0, f"{name} with a clause is refused")
 
 
 def try_exports(tally, name, number, exchange):
-    narrow = exports((NARROW / name).read_text(encoding="utf-8"))
+    narrow, text, path = exports(read(NARROW / name)), read(WIDE / name), (WIDE / name).relative_to(ROOT)
     tally.result(len(narrow) == number, f"the narrow half has {len(narrow)} exports in {name}")
-    path = WIDE / name
-    text = path.read_text(encoding="utf-8")
     wanted = {export: clauses for export, clauses in narrow.items() if export not in WITHOUT_CHUNKS}
-    tally.result(exports(text) == wanted, f"{path.relative_to(ROOT)} has the clauses of the narrow half")
+    tally.result(exports(text) == wanted, f"{path} has the clauses of the narrow half")
     for old, new in [exchange, ("    ensures boundary", "    ensures limits")]:
         edited = text.replace(old, new, 1)
-        tally.result(edited != text and exports(edited) != wanted, f"{path.relative_to(ROOT)} with {new.strip()} is refused")
+        tally.result(edited != text and exports(edited) != wanted, f"{path} with {new.strip()} is refused")
 
 
 def sources_of(start, crates):
@@ -100,30 +102,28 @@ def not_public(library, start):
 
 def called_later(texts, then, now):
     """What the texts call, do not define, and what is a public function now, and was none then."""
-    own, called = FUNCTION.findall(texts), CALLED.findall(texts)
-    later = {*PUBLIC_FUNCTION.findall(now)} - {*PUBLIC_FUNCTION.findall(then)}
+    own, called = re.findall(r"\bfn (\w+)", texts), re.findall(r"(?:\.|::)(\w+)\(", texts)
+    later = {*re.findall(r"\bpub fn (\w+)", now)} - {*re.findall(r"\bpub fn (\w+)", then)}
     return sorted((later & {*called}) - {*own} - NAMES_OF_STD)
 
 
 def try_start(tally):
-    start = START.search(PERF.read_text(encoding="utf-8"))[1]
+    start = re.search(r"after (\w{40}), the start\.$", read(PERF), re.MULTILINE)[1]
     then = sources_of(start, "*")
     if then is None:
         tally.leave_out(4, f"what the workloads call at the start, as git has no {start}")
         return
-    paths = [path for path in sorted(ROOT.glob("crates/*/src/**/*.rt")) if WORKLOADS not in path.parents]
-    now = "".join(path.read_text(encoding="utf-8") for path in paths)
-    crates = "|".join(sorted({path.relative_to(ROOT).parts[1] for path in paths}))
-    others = [path for path in sorted(WORKLOADS.glob("**/*.rt")) if path != LIBRARY]
-    workloads = "".join(path.read_text(encoding="utf-8") for path in others)
+    paths = [path for path in sources() if WORKLOADS not in path.parents]
+    now, crates = read(*paths), "|".join(sorted({path.relative_to(ROOT).parts[1] for path in paths}))
+    workloads = read(*(path for path in sources("workloads") if path != LIBRARY))
     tally.result(not re.search(rf"\b({crates})::", workloads), f"{LIBRARY.relative_to(ROOT)} alone names a library")
     names = LIBRARY_AT_START.relative_to(ROOT)
-    library = LIBRARY_AT_START.read_text(encoding="utf-8")
+    library = read(LIBRARY_AT_START)
     astray = list(not_public(library, start))
     tally.result(not astray, f"the start has all that {names} names {' '.join(astray)}")
     later = called_later(workloads + library, then, now)
     tally.result(not later, f"the start has all that the workloads call {' '.join(later)}")
-    library = LIBRARY.read_text(encoding="utf-8")
+    library = read(LIBRARY)
     found = [*not_public(library, start)], called_later(workloads + library, then, now)
     tally.result(all(found), f"what the start has not is found: {' '.join([*found[0], *found[1]])}")
 

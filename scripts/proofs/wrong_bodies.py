@@ -83,6 +83,9 @@ def main(names):
     tally = Tally()
     for name in of_no_crate():
         tally.result(False, f"{name} has the name of a crate")
+    known = {edit.name for crate in stands_on() for edit in edits_of(crate)}
+    for name in sorted(set(names) - known):
+        tally.result(False, f"no wrong body has the name {name}")
     for good, told in trial(names).run():
         tally.result(good, told)
     return tally.end()

@@ -9,6 +9,7 @@ import importlib.machinery
 import importlib.util
 import os
 import pathlib
+import re
 import shutil
 import sys
 
@@ -254,24 +255,19 @@ def others_once_changed(root, path, before, names):
     ("docs/GATE.md", None), ("bindings/c/heap.c", None), ("crates/text_rope/out/x", None),
     ("crates/text_rope/src/rope.rt", "text_rope"),
     ("crates/text_rope/proofs/new.antt", "text_rope"), ("crates/str_indices/specs/new.antt", "str_indices"),
-    ("crates/byte_chunk/src/lib.rt", "byte_chunk"), ("crates/idx/src/main.rt", "idx"),
+    ("crates/byte_chunk/src/lib.rt", "byte_chunk"), ("crates/idx/src/main.rt", "idx"), ("HANDLES", "byte_chunk"),
 ])
 def test_crates_that_are_tried_again(path, lowest, copy, sums):
     above = {crate for crate in sums if lowest in with_all_below(crate, stands_on())}
     assert others_once_changed(copy, path, sums, sums_of_crates) == above
 
 
-def test_with_other_handles_all_are_tried_again(copy, sums):
-    assert others_once_changed(copy, "HANDLES", sums, sums_of_crates) == set(sums)
-
-
-def test_another_word_for_the_toolchain_is_another_sum(sums, monkeypatch):
-    monkeypatch.setenv("RT_SOMETHING", "1")
-    assert kept.crate_sum(ROOT, "byte_chunk") != sums["byte_chunk"]
-
-
-def test_entries_of_another_toolchain_are_not_taken(sums, monkeypatch):
-    monkeypatch.setattr(kept, "toolchain", lambda: "another")
+@pytest.mark.parametrize("changed", [
+    pytest.param(lambda patch: patch.setenv("RT_SOMETHING", "1"), id="word for it"),
+    pytest.param(lambda patch: patch.setattr(kept, "toolchain", lambda: "another"), id="kit"),
+])
+def test_with_another_toolchain_the_sum_is_another(changed, sums, monkeypatch):
+    changed(monkeypatch)
     assert kept.crate_sum(ROOT, "byte_chunk") != sums["byte_chunk"]
 
 
@@ -293,24 +289,15 @@ def kit_sum(kit, monkeypatch):
         return kept.toolchain.__wrapped__()
 
 
-def test_the_same_kit_in_another_folder_has_the_same_sum(kit, tmp_path, monkeypatch):
-    shutil.copytree(kit, tmp_path / "same")
-    assert kit_sum(tmp_path / "same", monkeypatch) == kit_sum(kit, monkeypatch)
-
-
-@pytest.mark.parametrize("name", ["bin/rattle", "KIT-ID", "rlibs/std.rlib"])
-def test_another_file_makes_another_toolchain(name, kit, monkeypatch):
+@pytest.mark.parametrize("changed", [None, "bin/rattle", "KIT-ID", "rlibs/std.rlib", "logic_built/a"])
+def test_a_kit_elsewhere_has_the_same_sum_unless_a_file_is_another(changed, kit, tmp_path, monkeypatch):
     first = kit_sum(kit, monkeypatch)
-    (kit / name).write_text("another")
-    assert kit_sum(kit, monkeypatch) != first
-
-
-def test_a_kit_with_what_it_had_has_its_sum_again(kit, tmp_path, monkeypatch):
-    first = kit_sum(kit, monkeypatch)
-    shutil.copytree(kit, tmp_path / "same")
-    (kit / "rlibs/std.rlib").write_text("another")
-    shutil.copy2(tmp_path / "same/rlibs/std.rlib", kit / "rlibs/std.rlib")
-    assert kit_sum(kit, monkeypatch) == first
+    other = shutil.copytree(kit, tmp_path / "other")
+    if changed:
+        (other / changed).write_text("another")
+        assert kit_sum(other, monkeypatch) != first
+        shutil.copy2(kit / changed, other / changed)
+    assert kit_sum(other, monkeypatch) == first
 
 
 # Which entries are taken.
@@ -324,13 +311,17 @@ def entry():
     return store, name
 
 
-def test_what_was_never_kept_is_not_taken():
-    assert kept.Kept().told(refusals.Trial({}).name("a sum", ONE)) is None
-
-
-def test_what_was_kept_is_taken(entry):
+@pytest.mark.parametrize("change, taken", [
+    pytest.param(lambda at, patch: None, "told", id="as it was"),
+    pytest.param(lambda at, patch: [path.unlink() for path in at.iterdir()], None, id="never kept"),
+    pytest.param(lambda at, patch: patch.setenv("GATE_ANEW", "1"), None, id="GATE_ANEW"),
+    pytest.param(lambda at, patch: at.chmod(0o750), None, id="in a folder that is open to others"),
+    pytest.param(lambda at, patch: (at.chmod(0o750), at.chmod(0o700)), "told", id="in one that is closed again"),
+])
+def test_what_is_taken(change, taken, entry, monkeypatch):
     store, name = entry
-    assert store.told(name) == "told"
+    change(store.at, monkeypatch)
+    assert kept.Kept().told(name) == taken
 
 
 @pytest.mark.parametrize("damage", [
@@ -347,12 +338,6 @@ def test_a_damaged_entry_is_not_taken(damage, entry):
     assert store.told(name) is None
 
 
-def test_with_gate_anew_nothing_is_taken(entry, monkeypatch):
-    store, name = entry
-    monkeypatch.setenv("GATE_ANEW", "1")
-    assert store.told(name) is None
-
-
 @pytest.mark.parametrize("other", [
     pytest.param(refusals.Trial({}).name("a sum", edit_of(HEAD, *CHANGE[:-1], "new: other", name="one")), id="text of the edit"),
     pytest.param(refusals.Trial({}, nothing_else=True).name("a sum", ONE), id="rule"),
@@ -361,19 +346,6 @@ def test_with_gate_anew_nothing_is_taken(entry, monkeypatch):
 def test_another_one_is_tried_again(other, entry):
     store, _ = entry
     assert store.told(other) is None
-
-
-def test_a_folder_that_is_open_to_others_is_not_used(entry):
-    store, name = entry
-    store.at.chmod(0o750)
-    assert kept.folder() is None and kept.Kept().told(name) is None
-
-
-def test_a_folder_is_used_once_it_is_closed_again(entry):
-    store, name = entry
-    store.at.chmod(0o750)
-    store.at.chmod(0o700)
-    assert kept.Kept().told(name) == "told"
 
 
 def test_what_was_not_refused_is_not_kept():
@@ -391,6 +363,9 @@ def test_what_was_in_a_copy_that_was_not_proved_after_that_is_not_kept():
 
 
 # What changes the name of a part, and what its copy has.
+
+ALL = " ".join(part.name for part in parts.PARTS)
+
 
 def names_of_parts(root):
     return {part.name: parts.name_of(root, part) for part in parts.PARTS}
@@ -411,10 +386,9 @@ def test_a_copy_elsewhere_has_the_same_names(copy, names):
     ("bindings/c/heap.c", "test_c.py test_pages.py test_release.py test_rust.py test_editor.py"),
     ("bindings/web/page.css", "test_browser.py test_release.py"), ("docs/DEFINITIONS.md", "test_release.py"),
     ("examples/language_server/tests/changes.lua", "test_editor.py"), ("bindings/rust/tests/test_rust.py", "test_rust.py"),
-    ("bindings/c/tests/c_ropes.py", "test_c.py"), ("scripts/lib/exchanges.py", "test_c.py test_rust.py"),
+    ("bindings/c/tests/c_install.py", "test_c.py test_positions.py"), ("scripts/lib/exchanges.py", ALL),
     ("bindings/c/index.c", "test_c.py test_pages.py test_release.py test_rust.py"),
-    ("scripts/lib/report_span.py", "test_c.py test_pages.py"), ("bench/peers/twin.cpp", "test_rust.py"),
-    ("scripts/lib/position_model.py", "test_positions.py position_changes.py test_editor.py"),
+    ("scripts/least.txt", ALL), ("bench/peers/twin.cpp", "test_rust.py"), ("scripts/tests/unit_tests.py", ""),
 ])
 def test_parts_that_run_again(path, changed, copy, names):
     assert others_once_changed(copy, path, names, names_of_parts) == set(changed.split())
@@ -439,20 +413,35 @@ def test_the_copy_for_a_part_has_its_name(part, copy, names, tmp_path):
 
 def test_without_a_tool_the_name_of_a_part_is_another(part, copy, names, monkeypatch):
     monkeypatch.setattr(parts, "tool", lambda name: ())
+    monkeypatch.setattr(parts, "machine", parts.machine.__wrapped__)
     assert parts.name_of(copy, part) != names[part.name]
+
+
+# Which packages of Debian have the tools.
+
+# these each Debian has, or they come with Rust or with Rattle
+ALWAYS_HERE = {"cargo", "rustfmt", "setpriv", "rt"}
+
+
+def test_each_tool_and_package_that_a_script_names_is_listed(copy):
+    lint = (ROOT / "scripts/lint").read_text(encoding="utf-8")
+    texts = "".join([lint, *(path.read_text(encoding="utf-8") for path in copy.rglob("*.py"))])
+    tools = {*re.findall(r'(?:which|needs)\("([\w+-]+)"', texts), *re.findall(r'": \["([a-z][\w-]*)"', lint)}
+    commands = {command for commands in parts.packages().values() for command in commands}
+    assert len(tools) > 10 and tools - commands <= ALWAYS_HERE
+    named = re.findall(r"Debian's packages? ([\w-]+)(?: and ([\w-]+))?[)\x22]", texts)
+    assert len(named) > 5 and {name for names in named for name in names if name} <= {*parts.packages()}
 
 
 # What the gate makes of what a part says.
 
 @pytest.fixture(scope="module")
-def ended():
-    """A part of scripts/test that has ended, as far as its verdict needs it."""
+def gate():
+    """What scripts/test has."""
     loader = importlib.machinery.SourceFileLoader("gate", str(ROOT / "scripts/test"))
     module = importlib.util.module_from_spec(importlib.util.spec_from_loader("gate", loader))
     loader.exec_module(module)
-    part = module.Ended.__new__(module.Ended)
-    part.name = "word_chunks.py"
-    return part
+    return module
 
 
 MOST = tally.least("word_chunks.py")
@@ -464,11 +453,16 @@ MOST = tally.least("word_chunks.py")
     (f"{MOST} passed, 1 failed\n", 1, True, False), (f"{MOST} passed, 0 failed\n", 1, False, False),
     (f"2 passed, 1 failed\n{MOST} passed, 0 failed\n", 0, False, False), ("killed\n", -9, False, False), ("", 0, False, False),
 ])
-def test_verdicts(output, status, is_right, is_whole, ended):
-    ended.said, ended.status = output, status
+def test_verdicts(output, status, is_right, is_whole, gate):
+    ended = gate.Ended("word_chunks.py", status, output)
     assert (ended.wrong() is None, ended.is_whole()) == (is_right, is_whole)
 
 
-def test_what_was_kept_is_added_up(ended):
-    ended.said = "kept 12: x\nok\nkept 3: y\n9 passed, 0 failed\n"
-    assert ended.kept() == 15
+def test_what_was_kept_is_added_up(gate):
+    assert gate.Ended("", 0, "kept 12: x\nok\nkept 3: y\n9 passed, 0 failed\n").kept() == 15
+
+
+def test_a_part_that_is_kept_or_cannot_be_run(gate):
+    whole = gate.not_run("word_chunks.py", 0, f"kept {MOST}: x", f"{MOST} passed, 0 failed")
+    assert whole.kept() == MOST and whole.is_whole()
+    assert gate.not_run("word_chunks.py", 1, "FAILED: x", "0 passed, 1 failed").sums() == (0, 1, 0)

@@ -1,6 +1,6 @@
 /*
  * A UTF-8 text that changes: a rope, which keeps a long text in a balanced
- * tree of pieces. It counts the chars, UTF-16 code units and line breaks of
+ * tree of chunks. It counts the chars, UTF-16 code units and line breaks of
  * the text, converts between those indices, byte indices and the positions of
  * the Language Server Protocol 3.17, and puts text in and takes text out.
  *
@@ -49,15 +49,15 @@
  * built for Linux on x86-64 processors from the level x86-64-v2 on (with
  * SSE4.2), and does not ask whether it runs on one.
  *
- * The cost of a call, where the text has n pieces, each of at most
- * STR_ROPE_MAX_PIECE bytes, and of 509 or more where there are several: a
+ * The cost of a call, where the text has n chunks, each of at most
+ * STR_ROPE_MAX_CHUNK bytes, and of 509 or more where there are several: a
  * question looks at no more nodes of the tree than twice the logarithm to base
- * 2 of n + 1, and reads the text of one piece at most; one about positions asks
+ * 2 of n + 1, and reads the text of one chunk at most; one about positions asks
  * up to 8 such questions. A read goes down the tree once for each block of up
- * to 32 pieces. A change takes a number of steps of that order too, and more
+ * to 32 chunks. A change takes a number of steps of that order too, and more
  * with the length of what is put in. It copies the text that is put in, and
- * three pieces at most that stand round it, a cut as many for each part. Where
- * one piece has no room for it, or the text shares its pieces with a snapshot,
+ * three chunks at most that stand round it, a cut as many for each part. Where
+ * one chunk has no room for it, or the text shares its chunks with a snapshot,
  * it makes the way to them anew as well. To take out all of a text takes no
  * memory.
  */
@@ -87,8 +87,8 @@ typedef struct str_rope {
 #define STR_ROPE_EMPTY {NULL}
 /* clang-format on */
 
-/* How many bytes a piece has at most. */
-#define STR_ROPE_MAX_PIECE 1024
+/* How many bytes a chunk has at most. */
+#define STR_ROPE_MAX_CHUNK 1024
 
 /* A scheme: what to count. The breaks of the last three are those of lines_lf,
  * lines_crlf and lines in str_indices.h. A greater number counts as
@@ -136,7 +136,7 @@ typedef enum str_rope_status {
  */
 
 /* Frees the text, which is then the empty one. The handle may be used again.
- * Takes a step for each piece. */
+ * Takes a step for each chunk. */
 void str_rope_free(str_rope *rope);
 
 /* Makes the text another one. The old text is freed after the new one is made,
@@ -145,7 +145,7 @@ void str_rope_free(str_rope *rope);
 str_rope_status str_rope_assign(str_rope *rope, const char *text, size_t len);
 
 /* Makes the text of `copy` the same as that of `rope`, in one step, whatever its
- * length. They share their pieces from then on, and a change of either leaves
+ * length. They share their chunks from then on, and a change of either leaves
  * the other. The former text of `copy` is freed. May answer STR_ROPE_NO_MEMORY
  * where the text is not empty, and then `copy` is as before. */
 str_rope_status str_rope_snapshot(str_rope *rope, str_rope *copy);
@@ -190,7 +190,7 @@ str_rope_status str_rope_insert(str_rope *rope, size_t at, const char *text,
  * something stays, STR_ROPE_NO_MEMORY. */
 str_rope_status str_rope_remove(str_rope *rope, size_t from, size_t to);
 
-/* Exchanges what is between two boundaries, from `from` up to `to`, for a
+/* Replaces what is between two boundaries, from `from` up to `to`, by a
  * text. May answer STR_ROPE_NOT_ORDERED, STR_ROPE_NOT_BOUNDARY,
  * STR_ROPE_TOO_LONG, STR_ROPE_NOT_UTF8 and, where something comes, or where
  * something goes and something stays, STR_ROPE_NO_MEMORY. */
@@ -269,9 +269,9 @@ str_indices_bytes str_rope_byte_range(str_rope *rope,
                                       str_rope_encoding encoding,
                                       str_indices_range range);
 
-/* Exchanges the bytes of a range, as str_rope_byte_range answers them, for a
+/* Replaces the bytes of a range, as str_rope_byte_range answers them, by a
  * text: one change as a client sends it. For a change that has no range, which
- * exchanges the whole text, call str_rope_assign. May answer
+ * replaces the whole text, call str_rope_assign. May answer
  * STR_ROPE_NOT_ORDERED, STR_ROPE_TOO_LONG, STR_ROPE_NOT_UTF8 and, where
  * something goes or comes, STR_ROPE_NO_MEMORY. */
 str_rope_status str_rope_change(str_rope *rope, str_rope_encoding encoding,

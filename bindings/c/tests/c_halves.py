@@ -195,7 +195,7 @@ def try_build(tally, folder, commands, compiler, right, said, what):
     """Whether build_library ends so, and whether there is a library then."""
     shutil.rmtree(folder / "out", ignore_errors=True)
     path = dict(os.environ, PATH=f"{commands}:{os.environ['PATH']}", CC=compiler)
-    done = subprocess.run([folder / "bindings/c/build_library"], env=path, capture_output=True, text=True)
+    done = subprocess.run([folder / "bindings/c/build_library", "str_indices"], env=path, capture_output=True, text=True)
     built = (folder / "out/libstr_indices.a").is_file()
     if not tally.result((done.returncode == 0) == right == built and said in done.stderr, f"build_library, {what}"):
         print(done.returncode, done.stdout + done.stderr)

@@ -1,231 +1,172 @@
-"""Tries what `install` says of itself: its words, where it puts files, and how it takes them away.
+"""Installs the libraries by CMake, and builds programs over them as their users do, by find_package and by pkg-config.
 
-That runs in a copy whose builders and compiler are stand-ins, since nothing of it has to be proved again. What a fault
-leaves there, `install_faults.py` tries; what is installed is used by `test_c.py`.
+Each library is a component that stands alone, below a prefix with a blank. All are installed there twice and below DESTDIR,
+and without the wide half into lib64. The programs are in C and C++, over the shared and the static library.
 """
 import os
+import re
 import shutil
-import string
 import subprocess
-from pathlib import Path
 
-ROOT = Path(__file__).resolve().parents[3]
+from c_exports import LIBRARIES, ROOT, STR_INDEX, STR_INDICES, STR_ROPE, declared
+from c_programs import COMPILER, TESTS, build, is_enough, run
+from halves import has_wide_half, missing
+from line_and_column import ROWS, check_example
+from page_lines import links_statically
+from report_span import check_reports
+
 VERSION = (ROOT / "VERSION").read_text(encoding="utf-8").strip()
-STORE = "lib/pauskern"
-# the folders in which a compiler, a linker and pkg-config look
-SEEN = ["include", "lib", "lib/pkgconfig"]
-BUILDERS = {"build_library": "libstr_indices.a", "build_rope": "libstr_rope.a", "build_index": "libstr_index.a"}
-
-# a builder that makes a file which says what it was told; and a compiler that hands the archive on
-BUILDER = """#!/bin/sh
-top=$(cd "$(dirname "$0")/../.." && pwd)
-echo "$0" >> "$top/built"
-for at in 1 2 3 4 5 6 7 8; do printf '%1000s\\n' "${SAYS:-nothing} $*"; done > "$top/NAME"
-echo "$top/NAME"
-"""
-COMPILER = """#!/bin/sh
-while [ $# -gt 0 ]; do
-    case $1 in
-        -o) made=$2 ;;
-        *.a) archive=$1 ;;
-    esac
-    shift
-done
-cp "$archive" "$made"
+EXAMPLES = ROOT / "bindings/c/examples"
+# the programs over what is installed, and the library of each
+PROGRAMS = {
+    TESTS / "worked_answers.c": STR_INDICES, TESTS / "positions.c": STR_INDICES, EXAMPLES / "line_and_column.c": STR_INDICES,
+    TESTS / "ropes.c": STR_ROPE, TESTS / "indexes.c": STR_INDEX, EXAMPLES / "report_span.c": STR_INDEX,
+}
+# how a program is linked with the library of each kind: the words for pkg-config, and those for the compiler
+LINKED = {"shared": ("", ""), "static": ("--static", "-static")}
+# versions that a project asks for, and whether it is served
+ASKED_FOR = {"0.4": True, VERSION: True, "0.4.99": False, "0.3": False, "0.5": False, "1": False}
+PROJECT = """cmake_minimum_required(VERSION 3.16)
+project(project NONE)
+find_package(pauskern {} REQUIRED COMPONENTS {})
 """
 
 
-def write_command(path, text):
-    path.write_text(text, encoding="utf-8")
-    path.chmod(0o755)
+def files(folder):
+    """The files and links below a folder, by their paths from there, each with what it says."""
+    return {str(path.relative_to(folder)): path.read_bytes() for path in folder.rglob("*") if not path.is_dir()}
 
 
-class Copy:
-    """A copy of `install` with its stand-ins, of that version or of the repository's."""
-
-    def __init__(self, folder, version=None):
-        self.folder = folder
-        self.install_path = folder / "bindings/c/install"
-        self.install_path.parent.mkdir(parents=True)
-        shutil.copy(ROOT / "bindings/c/install", self.install_path)
-        (folder / "VERSION").write_text(f"{version or VERSION}\n", encoding="utf-8")
-        shutil.copytree(ROOT / "bindings/c/include", self.install_path.parent / "include")
-        for builder, archive in BUILDERS.items():
-            write_command(self.install_path.parent / builder, BUILDER.replace("NAME", archive))
-        write_command(folder / "cc", COMPILER)
-        (folder / "temporary").mkdir()
-
-    def environment(self, **variables):
-        """What a run that is killed leaves of its own work stays in the copy."""
-        return dict(os.environ, CC=str(self.folder / "cc"), TMPDIR=str(self.folder / "temporary"), **variables)
-
-    def install(self, *words, before=(), **variables):
-        """The run, with words before it where it is to be run by something else."""
-        environment = {**self.environment(), **variables}
-        return subprocess.run([*before, self.install_path, *words], env=environment, capture_output=True, text=True)
-
-    def built(self):
-        """How many libraries were built."""
-        told = self.folder / "built"
-        return len(told.read_text(encoding="utf-8").splitlines()) if told.exists() else 0
+def files_of(library):
+    """The paths of the files of a library below a prefix."""
+    name = library.name
+    shared = [f"lib/lib{name}.so{end}" for end in ["", ".0", f".{VERSION}"]]
+    found_by = [f"lib/pkgconfig/{name}.pc", *(f"lib/cmake/pauskern/pauskern-config{end}.cmake" for end in ["", "-version"])]
+    return {f"include/{name}.h", "include/str_indices_positions.h", f"lib/lib{name}.a", *shared, *found_by}
 
 
-def files(root):
-    """The files, folders and links below a folder, by their paths from there."""
-    return {str(path.relative_to(root)) for path in root.rglob("*")}
+def install(tally, built, prefix, *words, **options):
+    """What stands below the prefix when CMake has installed there."""
+    told = " ".join([f"cmake --install --prefix '{prefix.name}'", *words])
+    run(tally, ["cmake", "--install", built, "--prefix", prefix, *words], told, **options)
+    return files(prefix)
 
 
-def stands(prefix):
-    """What a compiler finds below the prefix: each file in the folders in which it looks, with what it says."""
-    paths = [path for folder in SEEN for path in (prefix / folder).glob("*") if path.is_file()]
-    return {str(path.relative_to(prefix)): path.read_bytes() for path in paths}
+def finds(prefix, version, component, folder):
+    """Whether find_package finds that version of a component below the prefix."""
+    folder.mkdir()
+    (folder / "CMakeLists.txt").write_text(PROJECT.format(version, component), encoding="utf-8")
+    command = ["cmake", "-S", folder, "-B", folder / "build", f"-DCMAKE_PREFIX_PATH={prefix}"]
+    return subprocess.run(command, capture_output=True).returncode == 0
 
 
-def ends(tally, done, status, said, what):
-    """Whether it ended with that status, and said so."""
-    if not tally.result(done.returncode == status and said in done.stdout + done.stderr, f"install, {what}"):
-        print(done.returncode, done.stdout + done.stderr)
+def try_components(tally, built, folder):
+    """Each library alone: its files, the headers that its own header wants, and what find_package finds."""
+    for library in LIBRARIES:
+        prefix = folder / f"{library.name} alone"
+        others = set(install(tally, built, prefix, "--component", library.name)) ^ files_of(library)
+        tally.result(not others, f"{library.name} has its files and no other {others or ''}")
+        done = subprocess.run([*COMPILER, f"-I{prefix}/include", "-fsyntax-only", "-x", "c", "-"],
+                              input=f"#include <{library.name}.h>\ntypedef int not_empty;\n", capture_output=True, text=True)
+        tally.result(done.returncode == 0, f"{library.name} has the headers that it wants {done.stderr}")
+        found = [other for other in LIBRARIES if finds(prefix, "0.4", other.name, prefix / f"finds {other.name}")]
+        tally.result(found == [library], f"find_package finds {library.name} and no other component")
 
 
-def try_words(tally, copy, folder):
-    """Its words, and places where nothing can be put: all of them before anything is built."""
-    (folder / "file").touch()
-    (folder / "taken/include/str_rope.h").mkdir(parents=True)
-    (folder / "own/lib").mkdir(parents=True)
-    (folder / "own/lib/libstr_rope.a").touch()
-    (folder / "other" / STORE / "1").mkdir(parents=True)
-    before = files(folder)
-    p, below = folder / "p", folder / "file/prefix"
-    for words, status, said, what in [
-        (["--help"], 0, "usage: install PREFIX", "--help"),
-        ([], 2, "usage: install PREFIX", "no prefix"),
-        ([p, "--wide"], 2, "no such word: --wide", "a word that it has not"),
-        ([p, folder / "q"], 2, "two prefixes", "two prefixes"),
-        ([p, "--only"], 2, "--only has no library", "--only and no library"),
-        ([p, "--only", "str"], 2, "no such library: str.", "--only and a library that it has not"),
-        ([p, "--only", "str_rope", "--narrow"], 2, "--narrow is for str_indices", "--narrow for the rope alone"),
-        ([p, "--narrow", "--only", "str_index"], 2, "--narrow is for str_indices", "--narrow for the index alone"),
-        (["--uninstall", p, "--narrow"], 2, "no other word goes with it", "--uninstall with another word"),
-        ([below], 1, "file cannot be written", "a prefix that is no folder"),
-        ([folder / "taken"], 1, "str_rope.h already", "a folder where a file is to stand"),
-        ([folder / "own"], 1, "libstr_rope.a already", "a file where one is to stand"),
-        ([folder / "other"], 1, "no install by this script has made it", "a folder of another's in the place of its own"),
-        (["--uninstall", folder / "other"], 1, "no install by this script", "--uninstall where that is another's"),
-        (["--uninstall", p], 1, "nothing is installed", "--uninstall with nothing there"),
-    ]:
-        ends(tally, copy.install(*words), status, said, what)
-    tally.result(files(folder) == before, "install builds and makes nothing where it cannot install")
+def try_again(tally, built, prefix, folder):
+    """All of them, the same once more over these, and the same below DESTDIR; and the versions that find_package takes."""
+    once = install(tally, built, prefix)
+    right = set(once) == set().union(*map(files_of, LIBRARIES)) and install(tally, built, prefix) == once
+    tally.result(right, f"{len(once)} files are installed, and the same a second time")
+    install(tally, built, folder / "opt", env=dict(os.environ, DESTDIR=str(folder / "stage")))
+    tally.result(files(folder / f"stage/{folder}/opt") == once, "the same files stand below DESTDIR")
+    for version, right in ASKED_FOR.items():
+        found = finds(prefix, version, "str_index", folder / f"finds {version}")
+        tally.result(found == right, f"find_package {'finds' if found else 'does not find'} {version}")
 
 
-def words_of_pkg_config(prefix):
-    """What a shell makes of what pkg-config says, as a list."""
-    command = 'eval "set -- $(pkg-config --cflags --libs str_rope)"; printf "%s\\n" "$@"'
-    # pkg-config divides its path by colons, so it is asked in the folder itself
-    done = subprocess.run(
-        ["sh", "-c", command], cwd=prefix / "lib/pkgconfig", env=dict(os.environ, PKG_CONFIG_PATH="."),
-        capture_output=True, text=True)
-    return done.stdout.splitlines()
+def check_shared_object(tally, lib, library):
+    """The name that programs ask for, and the functions that the shared object has for them."""
+    shared = lib / f"lib{library.name}.so"
+    told = subprocess.run(["readelf", "-d", shared], capture_output=True, text=True, check=True).stdout
+    named = re.findall(r"\(SONAME\).*\[(.*)\]", told)
+    tally.result(named == [f"lib{library.name}.so.0"], f"the shared object is named {' '.join(named)}")
+    told = subprocess.run(["nm", "-D", "--defined-only", shared], capture_output=True, text=True, check=True).stdout
+    names = {line.split()[-1] for line in told.splitlines()}
+    tally.result(names == set(declared(library)), f"it has the {len(names)} functions of the headers and no other")
 
 
-def try_prefixes(tally, copy, folder):
-    """A prefix with any mark: pkg-config says it right, or it is refused."""
-    refused = "\"#$'\\`()\n\x01\x7f"
-    before = files(folder)
-    statuses = {copy.install(folder / f"a{mark}b").returncode for mark in refused}
-    right = statuses == {2} and files(folder) == before
-    tally.result(right, f"install refuses a prefix with any of the {len(refused)} marks that no file for pkg-config can say")
-    taken = "".join(mark for mark in string.punctuation if mark not in f"{refused}/") + " é"
-    prefix = folder / f"a{taken}b"
-    ends(tally, copy.install(prefix, "--only", "str_rope"), 0, str(prefix), "a prefix with the others")
-    if not shutil.which("pkg-config"):
-        tally.leave_out(1, "what pkg-config says of a prefix, as it is not on the path")
+def check_program(tally, program, source, how, environment, why):
+    """What a program prints that is built of a source."""
+    if source.stem == "line_and_column":
+        check_example(tally, program, how, environment)
+    elif source.stem == "report_span":
+        check_reports(tally, [program], how, env=environment)
+    else:
+        half = "wide" if source.stem == "worked_answers" else ""
+        done = subprocess.run([program], env=dict(environment, STR_INDICES_HALF=half), capture_output=True, text=True)
+        right = done.returncode == 0 and is_enough(source.stem, half, done.stdout, why)
+        if not tally.result(right, f"{source.stem} {how}"):
+            print(done.returncode, done.stdout + done.stderr)
+
+
+def try_pkg_config(tally, lib, source, kind, folder):
+    """A program that finds its library by pkg-config alone, outside the repository."""
+    name, (for_pkg_config, for_compiler) = PROGRAMS[source].name, LINKED[kind]
+    program = folder / f"{kind}_{source.stem}"
+    environment = dict(os.environ, PKG_CONFIG_PATH=str(lib / "pkgconfig"), LD_LIBRARY_PATH=str(lib))
+    found = f"$(pkg-config {for_pkg_config} --cflags --libs {name})"
+    command = f'eval "{" ".join(COMPILER)} {source} {for_compiler} {found} -o {program}"'
+    how = f"by pkg-config over the {kind} library in '{lib.parent.name}'"
+    if run(tally, ["sh", "-c", command], f"{source.stem} compiles {how}", env=environment, cwd=folder):
+        told = subprocess.run(["readelf", "-d", program], capture_output=True, text=True, check=True).stdout
+        needed = re.findall(r"\(NEEDED\).*\[(libstr_.*)\]", told)
+        right = needed == ([f"lib{name}.so.0"] if kind == "shared" else [])
+        tally.result(right, f"{source.stem} wants {' '.join(needed) or 'no library of ours'} when it starts")
+        check_program(tally, program, source, how, environment, missing(lib / "libstr_indices.a"))
+
+
+def use(tally, lib, folder):
+    """What is installed in a folder, as programs use it that find it by pkg-config."""
+    folder.mkdir()
+    for library in LIBRARIES:
+        check_shared_object(tally, lib, library)
+    reasons = {
+        "pkg-config is not on the path": [] if shutil.which("pkg-config") else LINKED,
+        "there is no static C library": [] if links_statically(folder) else ["static"],
+    }
+    for kind in LINKED:
+        why = [reason for reason, kinds in reasons.items() if kind in kinds]
+        if why:
+            tally.leave_out(3 * len(PROGRAMS) + len(ROWS), f"programs over the {kind} library by pkg-config, as {why[0]}")
+            continue
+        for source in PROGRAMS:
+            try_pkg_config(tally, lib, source, kind, folder)
+
+
+def try_find_package(tally, prefix, folder):
+    """The project of examples, which finds the libraries by find_package."""
+    configure = ["cmake", "-S", EXAMPLES, "-B", folder, f"-DCMAKE_PREFIX_PATH={prefix}"]
+    if not run(tally, configure, "the examples find the libraries by find_package"):
         return
-    said = words_of_pkg_config(prefix)
-    wanted = [f"-I{prefix}/include", f"-L{prefix}/lib", "-lstr_rope"]
-    if not tally.result(said == wanted, "pkg-config says a prefix with each of the other marks"):
-        print(said, wanted)
+    run(tally, ["cmake", "--build", folder], "CMake builds the examples")
+    check_reports(tally, [folder / "report_span"], "by find_package")
+    for end in ["", "_static"]:
+        check_example(tally, folder / f"line_and_column{end}", f"by find_package {end}")
+        done = subprocess.run([folder / f"long_text{end}", "1000"], capture_output=True, text=True)
+        tally.result(done.stdout.startswith("20000 bytes"), f"long_text{end} by find_package: {done.stdout.splitlines()[:1]}")
 
 
-def try_again(tally, copy, folder):
-    """What another install and --uninstall do with what stands there."""
+def try_install(tally, built, narrow, folder):
+    """All of it: what is built in a folder, and in another without the wide half."""
+    folder.mkdir()
     prefix = folder / "a prefix"
-    (prefix / "lib").mkdir(parents=True)
-    ends(tally, copy.install(prefix, SAYS="one"), 0, str(prefix), "a prefix with a blank")
-    one = stands(prefix)
-    tally.result(len(one) == 19 and all(one.values()), f"install puts {len(one)} files, and none is empty")
-    (prefix / "include/mine.h").touch()
-    before = files(prefix)
-    ends(tally, copy.install(prefix, CC="no_such_compiler"), 1, "no_such_compiler", "a compiler that is not there")
-    tally.result(files(prefix) == before, "where a build fails, all stays as it was")
-    built = copy.built()
-    ends(tally, copy.install(prefix, "--only", "str_indices", "--narrow", SAYS="two"), 0, str(prefix), "--only")
-    two = stands(prefix)
-    changed = {path for path in one if two.get(path) != one[path]}
-    right = changed == {"lib/libstr_indices.a", *(f"lib/libstr_indices.so{end}" for end in ["", ".0", f".{VERSION}"])}
-    tally.result(right and copy.built() == built + 1, "--only builds one library, and the others stay as they were")
-    tally.result(b"two --narrow" in two["lib/libstr_indices.a"], "--narrow is handed to what builds the library")
-    ends(tally, copy.install(prefix, "--uninstall"), 0, str(prefix), "--uninstall")
-    left = {"include", "include/mine.h", "lib"}
-    tally.result(files(prefix) == left, "--uninstall takes what was put, and its empty folders")
-
-
-def try_alone(tally, copy, folder):
-    """Each library alone: a program that includes its header finds all that it wants."""
-    prefix = folder / "alone"
-    for library in ["str_indices", "str_rope", "str_index"]:
-        copy.install(prefix, "--only", library)
-        command = ["cc", "-fsyntax-only", "-Wall", "-Werror", f"-I{prefix}/include", "-x", "c", "-"]
-        done = subprocess.run(command, input=f"#include <{library}.h>\n", capture_output=True, text=True)
-        others = {path for path in stands(prefix) if path.startswith("lib/lib") and f"lib{library}." not in path}
-        if not tally.result(done.returncode == 0 and not others, f"{library} alone has the headers that it wants"):
-            print(done.stderr, others)
-        copy.install("--uninstall", prefix)
-
-
-def try_versions(tally, copy, older, folder):
-    """A version that follows another: what only the earlier one had goes."""
-    prefix = folder / "versions"
-    done = [older.install(prefix), copy.install(prefix)]
-    links = [path.name for path in (prefix / "lib").glob("libstr_rope.so*")]
-    wanted = [f"libstr_rope.so{end}" for end in ["", ".0", f".{VERSION}"]]
-    right = all(run.returncode == 0 for run in done) and sorted(links) == wanted
-    tally.result(right, "what an earlier install had besides is taken away")
-    copy.install("--uninstall", prefix)
-    tally.result(not prefix.exists(), "--uninstall takes the prefix where that was made for it")
-
-
-def try_staged(tally, copy, folder):
-    """DESTDIR stands before the prefix, no file and no link says it, and what stands there can be moved."""
-    stage, moved = folder / "stage", folder / "moved"
-    ends(tally, copy.install("/opt/proved", DESTDIR=str(stage)), 0, f"{stage}/opt/proved", "DESTDIR")
-    told = (stage / "opt/proved/lib/pkgconfig/str_indices.pc").read_text(encoding="utf-8")
-    tally.result("prefix=/opt/proved\n" in told and "stage" not in told, "DESTDIR stands before the prefix alone")
-    found = stands(stage / "opt/proved")
-    stage.rename(moved)
-    tally.result(stands(moved / "opt/proved") == found, "what is below DESTDIR can be moved")
-    ends(tally, copy.install("--uninstall", "/opt/proved", DESTDIR=str(moved)), 0, str(moved), "--uninstall with DESTDIR")
-    tally.result(not moved.exists(), "--uninstall takes all from DESTDIR")
-
-
-def try_links(tally, copy, folder):
-    """Folders below the prefix that are links to folders elsewhere."""
-    prefix, other = folder / "linked", folder / "elsewhere/deeper"
-    prefix.mkdir()
-    for name in ["include", "lib"]:
-        (other / name).mkdir(parents=True)
-        (prefix / name).symlink_to(other / name)
-    ends(tally, copy.install(prefix), 0, str(prefix), "folders that are links to others")
-    tally.result(len(stands(prefix)) == 19, "what is put through such links is found")
-    copy.install("--uninstall", prefix)
-    tally.result(not files(other) - {"include", "lib"}, "--uninstall takes all through such links")
-
-
-def try_install(tally, folder):
-    """All of it, below the folder."""
-    copy, older = Copy(folder / "copy"), Copy(folder / "older", "0.0.9")
-    places = folder / "places"
-    places.mkdir()
-    try_words(tally, copy, places)
-    for part in [try_prefixes, try_again, try_alone, try_staged, try_links]:
-        part(tally, copy, places)
-    try_versions(tally, copy, older, places)
+    try_components(tally, built, folder)
+    try_again(tally, built, prefix, folder)
+    use(tally, prefix / "lib", folder / "users")
+    try_find_package(tally, prefix, folder / "by find_package")
+    if build(tally, narrow, "-DPAUSKERN_NARROW=ON", "-DCMAKE_INSTALL_LIBDIR=lib64"):
+        install(tally, narrow, folder / "narrow")
+        lib = folder / "narrow/lib64"
+        tally.result(not has_wide_half(lib / "libstr_indices.a"), "the wide half is left out")
+        use(tally, lib, folder / "narrow_users")

@@ -392,7 +392,7 @@ static void read_all(str_rope *rope, const char *text, size_t len)
     same(str_rope_copy_to(rope, 0, len, copy, len) == STR_ROPE_OK && memcmp(copy, text, len) == 0, "copy_to", len);
     memset(copy, 0, len);
     for (size_t at = 0, read; at < len; at += read) {
-        size_t room = 1 + pick(4 * STR_ROPE_MAX_PIECE);
+        size_t room = 1 + pick(4 * STR_ROPE_MAX_CHUNK);
         if (room > len - at)
             room = len - at;
         read = str_rope_read(rope, at, copy + at, room);

@@ -11,7 +11,7 @@
 
 #include "worked_rows.h"
 
-enum { ROOM = 8 * STR_ROPE_MAX_PIECE };
+enum { ROOM = 8 * STR_ROPE_MAX_CHUNK };
 
 static int passed, failed;
 
@@ -247,7 +247,7 @@ static void reading(void)
 /* Two texts that do not fit into one piece, the first ends in CR and the second begins with LF. */
 static void a_break_over_two_pieces(void)
 {
-    enum { HALF = STR_ROPE_MAX_PIECE };
+    enum { HALF = STR_ROPE_MAX_CHUNK };
     static char front[HALF], back[HALF], whole[2 * HALF];
     str_rope rope, rest;
     memset(front, 'a', HALF);

@@ -3,7 +3,7 @@
  * made by small inserts and taken out again until nothing is left, at random
  * places. Then a rope is appended to itself by its snapshots, until its tree
  * has some fifty levels, and cut, joined and changed. small_stack BYTES says
- * how long the first text becomes; c_ropes.py runs it with a stack of 96 KiB.
+ * how long the first text becomes; CTest runs it with a stack of 96 KiB.
  * The last line printed is 'N passed, M failed'.
  */
 #include <stdint.h>

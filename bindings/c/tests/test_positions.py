@@ -144,7 +144,7 @@ def compare(library):
 
 
 def main():
-    archive = build(tally, "build_library")
+    archive = build(tally, "str_indices")
     if archive:
         with tempfile.TemporaryDirectory() as folder:
             library = link(archive, pathlib.Path(folder))

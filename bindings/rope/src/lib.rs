@@ -1,10 +1,10 @@
-//! A text that changes, kept as a rope: a balanced tree of pieces of at most 1,024 bytes.
+//! A text that changes, kept as a rope: a balanced tree of chunks of at most 1,024 bytes.
 //!
-//! Names are those of the crate `ropey` where it has them. What differs from ropey:
+//! Names are those of the crate `ropey` where it has them. These things differ:
 //!
 //! - **Changes take byte indices.** So do [`Rope::insert`], [`Rope::remove`], [`Rope::split_off`] and [`Rope::chunk_at`];
 //!   [`Rope::char_to_byte`] makes one of a char index.
-//! - **Nothing panics.** What cannot be done is refused by an [`Error`], and the text is then as it was.
+//! - **Nothing panics.** A change that cannot be made is refused by an [`Error`], and the text is then as it was.
 //! - **A question takes any index.** Past the end it answers as at the end: a line past the last one begins at the
 //!   length of the text.
 //! - **Memory may be refused.** So a rope is made of a text by `parse` or `try_from`, which answer a `Result`, and

@@ -94,7 +94,7 @@ impl Rope {
         unsafe { str_rope_line_end(self.handle(), line_idx) }
     }
 
-    /// Exchanges what stands in a range for a text: one entry of the protocol's `contentChanges`. Each entry is meant in
+    /// Replaces what stands in a range by a text: one entry of the protocol's `contentChanges`. Each entry is meant in
     /// the text that the one before it left. Where the entry has no range, its text is the whole one: [`Rope::assign`].
     ///
     /// Positions are cut as by [`Rope::byte_of`], so it is never [`Error::NotBoundary`].
@@ -104,7 +104,7 @@ impl Rope {
         result_of(unsafe { str_rope_change(self.handle(), number, range, text.as_ptr(), text.len()) })
     }
 
-    /// Exchanges what stands in a range for a text, as [`Rope::change`], where each of its positions names a place.
+    /// Replaces what stands in a range by a text, as [`Rope::change`], where each of its positions names a place.
     ///
     /// Where one names none, as [`Rope::exact_byte_of`] has it, it is [`Error::NotBoundary`], and the text is as it was.
     /// So a server notices a client that is out of step, and asks it for the whole text.
@@ -131,7 +131,7 @@ impl Rope {
     }
 }
 
-/// The same by what ends a line: a [`LineType`] for the compilers and editors that have other lines than the protocol.
+/// Lines and positions by a [`LineType`], for compilers and editors that have other lines than the protocol.
 ///
 /// ```
 /// use str_rope::{Encoding, LineType, Position, Rope};

@@ -6,8 +6,8 @@ use core::cell::UnsafeCell;
 use core::ops::{self, Bound, RangeBounds};
 use str_indices_positions::Scheme;
 
-/// A text in a balanced tree of pieces. A question looks at a number of places that is logarithmic in the number of pieces.
-/// A change goes down the tree too, and copies what it puts in. A clone shares the pieces, and takes one step.
+/// A text in a balanced tree of chunks. A question looks at a number of places that is logarithmic in the number of chunks.
+/// A change goes down the tree too, and copies what it puts in. A clone shares the chunks, and takes one step.
 ///
 /// It may go to another thread, but two threads cannot ask one rope at once:
 ///
@@ -54,7 +54,7 @@ impl Rope {
         self.handle.get()
     }
 
-    /// Exchanges the whole text for another. Both take memory until it is done.
+    /// Replaces the whole text by another. Both take memory until it is done.
     ///
     /// ```
     /// # fn main() -> Result<(), str_rope::Error> {
@@ -69,7 +69,7 @@ impl Rope {
         result_of(unsafe { str_rope_assign(self.handle(), text.as_ptr(), text.len()) })
     }
 
-    /// A rope with the same text, in one step, whatever its length, or [`Error::NoMemory`]. Both share their pieces from then
+    /// A rope with the same text, in one step, whatever its length, or [`Error::NoMemory`]. Both share their chunks from then
     /// on, and a change of either leaves the other.
     ///
     /// ```
@@ -195,7 +195,7 @@ impl Rope {
         result_of(unsafe { str_rope_remove(self.handle(), bytes.start, bytes.end) })
     }
 
-    /// Exchanges what stands between two byte indices for a text, in one change.
+    /// Replaces what stands between two byte indices by a text, in one change.
     ///
     /// ```
     /// # fn main() -> Result<(), str_rope::Error> {

@@ -80,7 +80,7 @@ impl Rope {
     }
 }
 
-/// Two ropes are equal where their texts are, in whatever pieces.
+/// Two ropes are equal where their texts are, in whatever chunks.
 impl PartialEq for Rope {
     fn eq(&self, other: &Rope) -> bool {
         self.len_bytes() == other.len_bytes() && self.chunks().all(|chunk| other.has_at(chunk.start(), &chunk))

@@ -1,4 +1,4 @@
-//! Random changes of a rope beside the same of a `String`: every question answers as `std` or a plain walk does.
+//! Random changes of a rope and of a `String`: every question answers as `std` or a plain walk does.
 mod model;
 use model::*;
 use str_rope::{Encoding, Error, Position, Range, Rope, Scheme};

@@ -173,7 +173,7 @@ fn a_rope_goes_to_other_threads() {
         .unwrap();
 }
 
-/// Each thread changes and clones its own clone, while all of them share pieces.
+/// Each thread changes and clones its own clone, while all of them share chunks.
 #[test]
 fn clones_of_a_rope_are_changed_by_other_threads() {
     let text = TEXT.repeat(2000);

@@ -3,8 +3,8 @@
 //! This is the surface of the crate `str_indices` 0.4.4, over functions that are proved to answer by their definitions:
 //! each call here is one call into a static library of them. A module is one indexing scheme.
 //!
-//! Every text and every index has an answer: nothing panics, and nothing allocates. All indices begin at 0. What a
-//! conversion to a byte index answers is a boundary of a char, so the text may be sliced there.
+//! Every text and every index has an answer: nothing panics, and nothing allocates. All indices begin at 0. A conversion
+//! to a byte index answers a boundary of a char, so the text may be sliced there.
 #![no_std]
 
 pub mod chars;

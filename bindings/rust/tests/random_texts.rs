@@ -73,7 +73,7 @@ fn alike(name: &str, text: &str, index: Option<usize>, ours: usize, originals: u
 }
 
 extern "C" {
-    /// Whether the wide half of the library answers for a text of so many bytes.
+    /// Whether the wide half of the library answers for a text of this length.
     fn str_indices_is_wide(len: usize) -> bool;
 }
 

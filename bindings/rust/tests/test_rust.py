@@ -36,7 +36,7 @@ ROPE = ROOT / "bindings/rope"
 INDEX = ROOT / "bindings/index"
 
 # each folder with tests of its own, beside that of the library's functions, which has them by each half
-OTHERS = [POSITIONS, ROPE, INDEX, ROOT / "bindings/original", ROOT / "bench"]
+OTHERS = ["bindings/positions", "bindings/rope", "bindings/index", "bindings/original", "bench"]
 
 TEST_RESULT = re.compile(r"^test result: \w+\. (\d+) passed; (\d+) failed", re.MULTILINE)
 COMPARED = re.compile(r"^random texts: .* (\d+) answers, none differs.*", re.MULTILINE)
@@ -50,17 +50,10 @@ def cargo(folder, *words, **options):
     return subprocess.run(["cargo", *words, "--offline"], cwd=folder, capture_output=True, text=True, **options)
 
 
-def right_tests(output):
-    """How many tests and doc examples passed."""
-    return sum(int(right) for right, wrong in TEST_RESULT.findall(output))
-
-
-def enough_tests(folder, done, how):
-    """Whether as many tests and doc examples passed as the folder should have, and none failed."""
-    name = str(folder.relative_to(ROOT))
-    right = right_tests(done.stdout) if done.returncode == 0 else 0
-    if not tally.enough(f"tests of {name}", right, f"{name}{how}, tests and doc examples"):
-        print(done.stdout + done.stderr)
+def enough_tests(name, done, how=""):
+    """Whether as many tests and doc examples passed as the folder of that name should have, and none failed."""
+    passed = sum(int(right) for right, wrong in TEST_RESULT.findall(done.stdout)) if done.returncode == 0 else 0
+    tally.enough(f"tests of {name}", passed, f"{name}{how}, tests and doc examples", done.stdout + done.stderr)
 
 
 def compare_with_original(output):
@@ -75,29 +68,29 @@ def compare_with_original(output):
 def test_bindings(environment, texts):
     """The tests, where the wide half is to answer for those texts."""
     done = cargo(BINDINGS, "test", env=environment)
-    enough_tests(BINDINGS, done, f" where the wide half answers for {texts}")
+    enough_tests("bindings/rust", done, f" where the wide half answers for {texts}")
     told = f"random texts: the wide half answers for {texts}" in done.stdout
     tally.result(told, f"the wide half answers for {texts}")
     compare_with_original(done.stdout)
 
 
 def test_without_the_wide_half():
-    library = build(tally, "build_library", "--narrow")
+    library = build(tally, "str_indices", "--narrow")
     if library:
         test_bindings(dict(os.environ, STR_INDICES_LIB_DIR=str(library.parent)), "no text")
 
 
 def test_others():
-    for folder in OTHERS:
-        enough_tests(folder, cargo(folder, "test"), "")
+    for name in OTHERS:
+        enough_tests(name, cargo(ROOT / name, "test"))
 
 
 def install(library, prefix):
-    """A library below the prefix, with a file for pkg-config, as install has them."""
+    """A library below the prefix, with a file for pkg-config, as CMake installs them."""
     name = library.stem.removeprefix("lib")
     (prefix / "lib/pkgconfig").mkdir(parents=True, exist_ok=True)
     shutil.copy(library, prefix / "lib")
-    told = f"libdir={prefix}/lib\nName: {name}\nDescription: proved\nVersion: 0.4.4\nLibs: -l{name}\n"
+    told = f"libdir=${{pcfiledir}}/..\nName: {name}\nDescription: proved\nVersion: 0.4.4\nLibs: -l{name}\n"
     (prefix / f"lib/pkgconfig/{name}.pc").write_text(told, encoding="utf-8")
 
 
@@ -111,13 +104,9 @@ def test_outside(libraries, folder):
     shutil.copy(ROOT / "Cargo.toml", folder)
     for library in libraries:
         install(library, folder / "a prefix")
-    search = str(folder / "a prefix/lib/pkgconfig")
-    named = dict(os.environ, PKG_CONFIG_PATH=search)
-    for name in ["positions", "rope", "index"]:
-        done = cargo(folder / "bindings" / name, "test", env=named)
-        right = right_tests(done.stdout) if done.returncode == 0 else 0
-        if not tally.enough(f"tests of bindings/{name}", right, f"bindings/{name} outside the repository, by pkg-config"):
-            print(done.stdout + done.stderr)
+    named = dict(os.environ, PKG_CONFIG_PATH=str(folder / "a prefix/lib/pkgconfig"))
+    for name in OTHERS[:3]:
+        enough_tests(name, cargo(folder / name, "test", env=named), " outside the repository, by pkg-config")
 
 
 def test_program(folder, name, environment):
@@ -125,8 +114,7 @@ def test_program(folder, name, environment):
     done = cargo(folder, "test", "--no-run", "--test", name, "--message-format", "json", env=environment)
     made = [json.loads(line).get("executable") for line in done.stdout.splitlines() if line.startswith("{")]
     programs = [program for program in made if program and pathlib.Path(program).name.startswith(f"{name}-")]
-    if not tally.result(bool(programs), f"the program of tests {name}, over a library that exchanges"):
-        print(done.stdout + done.stderr)
+    tally.result(bool(programs), f"the program of tests {name}, over a library that exchanges", done.stdout + done.stderr)
     return programs[-1] if programs else None
 
 
@@ -166,8 +154,7 @@ def test_no_std(target):
         done = cargo(NO_STD, "build", *words)
         built = done.returncode == 0
         status = subprocess.run([target / profile / "no_std"]).returncode if built else None
-        if not tally.result(status == 0, f"a program without std, {profile}: status {status}"):
-            print(done.stderr)
+        tally.result(status == 0, f"a program without std, {profile}: status {status}", done.stderr)
 
 
 def test_benchmark():
@@ -212,7 +199,7 @@ def main():
     if not shutil.which("cargo"):
         tally.leave_out(least("test_rust.py"), "cargo is not on the path")
     else:
-        libraries = [build(tally, script) for script in ["build_library", "build_rope", "build_index"]]
+        libraries = [build(tally, name) for name in ["str_indices", "str_rope", "str_index"]]
         if all(libraries):
             with tempfile.TemporaryDirectory() as folder:
                 test_all(*libraries, pathlib.Path(folder))

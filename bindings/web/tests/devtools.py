@@ -3,6 +3,7 @@ import base64
 import json
 import os
 import select
+import signal
 import subprocess
 import tempfile
 import time
@@ -15,7 +16,7 @@ KEYS = {"ArrowRight": 39, "ArrowLeft": 37, "ArrowUp": 38, "ArrowDown": 40, "Home
 class Browser:
     """A browser without a window; use it in a `with`, so that it ends."""
 
-    def __init__(self, program, *more):
+    def __init__(self, program):
         self.profile = tempfile.TemporaryDirectory(ignore_cleanup_errors=True)
         told, self.asks = os.pipe()
         self.hears, tells = os.pipe()
@@ -24,8 +25,8 @@ class Browser:
         self.process = subprocess.Popen(
             ["bash", "-c", command, program, "--headless", "--no-sandbox", "--disable-gpu", "--no-first-run",
              "--disable-dev-shm-usage", "--hide-scrollbars", "--remote-debugging-pipe",
-             f"--user-data-dir={self.profile.name}", *more, "about:blank"],
-            pass_fds=[told, tells], stderr=subprocess.DEVNULL,
+             f"--user-data-dir={self.profile.name}", "about:blank"],
+            pass_fds=[told, tells], stderr=subprocess.DEVNULL, start_new_session=True,
         )
         os.close(told)
         os.close(tells)
@@ -37,15 +38,8 @@ class Browser:
         return self
 
     def __exit__(self, *_):
-        try:
-            self.ask("Browser.close")
-        except (OSError, RuntimeError, TimeoutError):
-            self.process.kill()
-        try:
-            self.process.wait(10)
-        except subprocess.TimeoutExpired:
-            self.process.kill()
-            self.process.wait()
+        os.killpg(self.process.pid, signal.SIGKILL)
+        self.process.wait()
         os.close(self.asks)
         os.close(self.hears)
         self.profile.cleanup()
@@ -53,10 +47,10 @@ class Browser:
     def ask(self, method, session=None, **parameters):
         """What the browser answers to a call of the protocol."""
         self.number += 1
-        message = {"id": self.number, "method": method, "params": parameters}
-        if session is not None:
-            message["sessionId"] = session
-        self.send(json.dumps(message).encode() + b"\0")
+        message = {"id": self.number, "method": method, "params": parameters, **({"sessionId": session} if session else {})}
+        data = json.dumps(message).encode() + b"\0"
+        while data:
+            data = data[os.write(self.asks, data):]
         deadline = time.monotonic() + SECONDS
         while self.number not in self.answers:
             self.hear(deadline)
@@ -64,10 +58,6 @@ class Browser:
         if "error" in answer:
             raise RuntimeError(f"{method}: {answer['error']['message']}")
         return answer["result"]
-
-    def send(self, data):
-        while data:
-            data = data[os.write(self.asks, data):]
 
     def hear(self, deadline):
         """Reads what the browser says, up to the end of one message at least."""
@@ -80,15 +70,12 @@ class Browser:
                 raise RuntimeError("the browser has ended")
             self.rest += read
         *messages, self.rest = self.rest.split(b"\0")
-        for message in map(json.loads, messages):
-            if "id" in message:
-                self.answers[message["id"]] = message
+        self.answers.update((message.get("id"), message) for message in map(json.loads, messages))
 
     def open(self, address, width=1280, height=900):
         """A new page at the address, once it is loaded."""
         target = self.ask("Target.createTarget", url="about:blank")["targetId"]
-        session = self.ask("Target.attachToTarget", targetId=target, flatten=True)["sessionId"]
-        page = Page(self, target, session)
+        page = Page(self, self.ask("Target.attachToTarget", targetId=target, flatten=True)["sessionId"])
         for domain in ["Page", "Runtime"]:
             page.ask(f"{domain}.enable")
         page.resize(width, height)
@@ -97,9 +84,8 @@ class Browser:
 
 
 class Page:
-    def __init__(self, browser, target, session):
+    def __init__(self, browser, session):
         self.browser = browser
-        self.target = target
         self.session = session
 
     def ask(self, method, **parameters):

@@ -90,8 +90,7 @@ class Trial:
         self.folder = folder
 
     def same(self, found, expected, what):
-        if not self.tally.result(found == expected, what):
-            print(f"  found {found!r}\n  not {expected!r}")
+        self.tally.result(found == expected, what, f"  found {found!r}\n  not {expected!r}")
 
     def becomes(self, page, expression, expected, what):
         """Waits until the expression has the value; how long is not judged, but for the browser's hanging."""
@@ -238,10 +237,9 @@ class Trial:
         for role in ["button", "textbox", "combobox", "listbox", "option", "table", "row", "rowheader", "columnheader",
                      "heading", "region"]:
             names = named.get(role, [])
-            found = names if role != "row" else [""] if not names else ["rows"]
-            right = bool(found) and all(name.strip() for name in found)
+            right = bool(names) and (role == "row" or all(name.strip() for name in names))
             self.tally.result(right, f"every {role} has a name: {len(names)} of them")
-        boxes = [name for name in named["textbox"]]
+        boxes = named["textbox"]
         self.same(boxes[0], "Text", "the field's name")
         self.same("UTF-16 units: unit index, to byte index" in boxes, True, "a field's name tells what it converts")
         self.same(named["table"], ["At the cursor", "Conversions"], "the tables' names")

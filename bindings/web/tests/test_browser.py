@@ -9,8 +9,6 @@ is 'N passed, M failed', with what is left out.
 """
 import functools
 import http.server
-import importlib.machinery
-import importlib.util
 import json
 import pathlib
 import re
@@ -68,22 +66,12 @@ def serve(folder):
     return server, f"http://127.0.0.1:{server.server_address[1]}"
 
 
-def build_web():
-    """The script that builds the page, as a module."""
-    loader = importlib.machinery.SourceFileLoader("build_web", str(ROOT / "bindings/web/build"))
-    module = importlib.util.module_from_spec(importlib.util.spec_from_loader("build_web", loader))
-    loader.exec_module(module)
-    return module
-
-
-def fill(folder, built, modules):
-    """What a site has, with the comparison beside it."""
-    for name in ["str_indices_web.wasm", "package.json"]:
-        shutil.copy(built / name, folder)
-    for name in modules:
-        shutil.copy(ROOT / "bindings/web" / name, folder)
-    for name in ["compare.mjs", "exchanges.mjs"]:
-        shutil.copy(ROOT / "bindings/web/tests" / name, folder)
+def fill(folder, built):
+    """What a site has, with the page's modules and the comparison beside it."""
+    sources = ROOT / "bindings/web"
+    built_files = [built / name for name in ("str_indices_web.wasm", "package.json")]
+    for path in [*built_files, *sources.glob("*.mjs"), *sources.glob("tests/*.mjs")]:
+        shutil.copy(path, folder)
     (folder / "site.html").write_text("<!doctype html><title>A site</title>")
 
 
@@ -126,10 +114,7 @@ def try_program(built, flags):
 
 def compare_in_node(folder, built):
     """The module as a package of Node's, and what it says where 64-bit memory is behind a flag."""
-    package = folder / "project/node_modules/str_indices"
-    package.mkdir(parents=True)
-    for path in folder.glob("*.*"):
-        shutil.copy(path, package)
+    shutil.copytree(folder, folder / "project/node_modules/str_indices", ignore=shutil.ignore_patterns("project"))
     use = (
         'import { load, isSupported } from "str_indices";'
         "try { const { positions } = await load();"
@@ -163,6 +148,7 @@ def check_types():
 
 
 def take_picture(browser, page_file, file):
+    """A picture of the page, in the file."""
     page = page_tests.opened(browser, page_file.as_uri(), PICTURE_WIDTH)
     page.value("document.activeElement.blur()")
     page.settle()
@@ -173,10 +159,9 @@ def take_picture(browser, page_file, file):
 
 
 def try_in_browser(program, built, anew):
-    modules = build_web().MODULES
     with tempfile.TemporaryDirectory() as folder, Browser(program) as browser:
         folder = pathlib.Path(folder)
-        fill(folder, built, modules)
+        fill(folder, built)
         server, address = serve(folder)
         compare_in_browser(browser, address)
         server.shutdown()
@@ -184,32 +169,29 @@ def try_in_browser(program, built, anew):
         take_picture(browser, built / "index.html", (ROOT / "docs" if anew else folder) / "page.png")
 
 
-def try_package(built):
-    with tempfile.TemporaryDirectory() as folder:
-        try_types(tally, built, pathlib.Path(folder))
-
-
 def try_in_node(built):
-    if shutil.which("node") is None:
-        tally.leave_out(IN_NODE, "no node is on the path (Debian's package nodejs)")
+    # what the tests of the page's modules ask of a string is there from version 20 on
+    if not shutil.which("node") or subprocess.run(["node", "-e", "process.exit(''.toWellFormed ? 0 : 1)"]).returncode != 0:
+        tally.leave_out(IN_NODE, "no node from version 20 on is on the path (package nodejs, from Debian 13 on)")
         return
     with tempfile.TemporaryDirectory() as folder:
-        fill(pathlib.Path(folder), built, build_web().MODULES)
+        fill(pathlib.Path(folder), built)
         compare_in_node(pathlib.Path(folder), built)
 
 
 def main():
     browser = next(filter(None, map(shutil.which, NAMES)), None)
-    built = subprocess.run([ROOT / "bindings/web/build"], stdout=subprocess.PIPE, text=True)
-    right = tally.result(built.returncode == 0, "bindings/web/build, which proves the exports")
+    done = subprocess.run([ROOT / "bindings/web/build"], stdout=subprocess.PIPE, text=True)
+    right = tally.result(done.returncode == 0, "bindings/web/build, which proves the exports")
     check_types()
-    if right:
-        try_package(pathlib.Path(built.stdout.splitlines()[-1]))
-        try_in_node(pathlib.Path(built.stdout.splitlines()[-1]))
     if browser is None:
         tally.leave_out(IN_BROWSER, "no Chromium is on the path (Debian's package chromium)")
-    elif right:
-        try_in_browser(browser, pathlib.Path(built.stdout.splitlines()[-1]), "--picture" in sys.argv)
+    if right:
+        built = pathlib.Path(done.stdout.splitlines()[-1])
+        try_types(tally, built)
+        try_in_node(built)
+        if browser:
+            try_in_browser(browser, built, "--picture" in sys.argv)
     return tally.end()
 
 

@@ -6,6 +6,7 @@ functions inside needs nothing, and the other one wants the WebAssembly beside t
 import pathlib
 import shutil
 import subprocess
+import tempfile
 
 ROOT = pathlib.Path(__file__).resolve().parents[3]
 TYPES = ROOT / "bindings/web/tests/types.mts"
@@ -40,11 +41,17 @@ def by_name(text):
     return text.replace('"./str_indices.mjs"', '"str_indices"').replace('"./str_indices_inline.mjs"', '"str_indices/inline"')
 
 
-def try_types(tally, built, folder):
-    """The types, beside the program and as those of an installed package."""
+def try_types(tally, built):
+    """The types, where their compiler is."""
     if not shutil.which("tsc"):
         tally.leave_out(OF_TYPES, "the types, as tsc is not on the path (Debian's package node-typescript)")
         return
+    with tempfile.TemporaryDirectory() as folder:
+        compile_types(tally, built, pathlib.Path(folder))
+
+
+def compile_types(tally, built, folder):
+    """The types, beside the program and as those of an installed package."""
     beside, project = folder / "beside", folder / "project"
     shutil.copytree(built, beside)
     shutil.copytree(built, project / "node_modules/str_indices")

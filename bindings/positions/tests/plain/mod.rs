@@ -70,7 +70,7 @@ fn units(encoding: Encoding, text: &str) -> usize {
     }
 }
 
-/// The greatest boundary with at most so many units before it.
+/// The greatest boundary with at most `most` units before it.
 fn boundary_within(encoding: Encoding, text: &str, most: usize) -> usize {
     let mut taken = 0;
     let fits = |char: &char| {

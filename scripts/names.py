@@ -1,0 +1,70 @@
+#!/usr/bin/env python3
+"""Searches names and words: a thing has one, and a function that is no test is named by no bare participle.
+
+The words of docs/DEFINITIONS.md are the ones to use. A name that was given up for one of them is searched in the sources,
+the definitions, the headers and the pages. The last line printed is 'N passed, M failed'.
+"""
+import pathlib
+import re
+import subprocess
+import sys
+
+ROOT = pathlib.Path(__file__).resolve().parent.parent
+sys.path.insert(0, str(ROOT / "scripts/lib"))
+sys.dont_write_bytecode = True
+
+from tally import Tally  # noqa: E402
+
+ROPE = r"^(crates/(text_rope|text_rope_c|rope_positions)/(src|specs|[A-Z])|bindings/rope/|bindings/c/include/str_rope)"
+SOURCES = r"^(crates|bindings|examples)/.*(/src/|/specs/|/include/|\.md$)|^README\.md$|^docs/[A-CE-Z].*\.md$"
+# where a word is searched, the word, what finds it, and the one that is used
+GIVEN_UP = [
+    (ROPE, "row", r"(?<!\.)[Rr]ows?", "chunk"), (ROPE, "block", r"[Bb]locks (?=of)", "leaf"),
+    (ROPE, "fork", r"[Ff]orks?", "branch"),
+    (SOURCES, "MAX_PIECE", r"(MAX|MIN)_PIECE", "MAX_CHUNK"),
+    (SOURCES, "exchange", r"[Ee]xchange[sd]?(_\w+)?", "replace, splice or update"),
+    (r"^crates/.*/src/.*\.rt$", "character", r"(?<=// ).*characters(?! of the Unicode)", "char"),
+]
+# what ends like a participle, and is none
+NOUNS = {"encoding", "feed", "heading", "seed", "string"}
+IRREGULAR = {"begun", "built", "found", "given", "held", "kept", "known", "left", "lent", "lost", "made", "shown", "taken",
+             "written"}
+FUNCTION = re.compile(r"^ *(?:pub(?:\(crate\))? )?fn ([a-z]+)\b", re.MULTILINE)
+
+tally = Tally()
+
+
+def files():
+    """The text of each file that git knows, or would, by its name."""
+    listed = ["git", "ls-files", "--cached", "--others", "--exclude-standard", "*.rt", "*.antt", "*.rs", "*.h", "*.hpp", "*.md"]
+    names = subprocess.run(listed, cwd=ROOT, capture_output=True, text=True, check=True).stdout.splitlines()
+    return {name: (ROOT / name).read_text(encoding="utf-8") for name in names if (ROOT / name).is_file()}
+
+
+def is_participle(name):
+    """Whether a name is one word that says what was done, or is being done."""
+    return name not in NOUNS and (name in IRREGULAR or name.endswith(("ed", "ing")))
+
+
+def lines_with(found, where, pattern):
+    """Each line of the files of a place in which a pattern is."""
+    for name, text in found.items():
+        if re.search(where, name):
+            for number, line in enumerate(text.splitlines(), 1):
+                if re.search(pattern, line):
+                    yield f"{name}:{number}: {line.strip()}"
+
+
+def main():
+    found = files()
+    for where, word, pattern, used in GIVEN_UP:
+        lines = list(lines_with(found, where, rf"\b({pattern})\b"))
+        tally.result(not lines, "\n".join([f"no {word} where it is {used}", *lines]))
+    named = [f"{name}: {function}" for name, text in found.items() if re.match(r"(crates|bindings|examples)/.*/src/", name)
+             for function in FUNCTION.findall(text) if is_participle(function)]
+    tally.result(not named, "\n".join(["no function is named by a bare participle", *named]))
+    return tally.end()
+
+
+if __name__ == "__main__":
+    sys.exit(main())
