@@ -18,7 +18,7 @@ sys.path.insert(0, str(ROOT / "scripts/lib"))
 from page_lines import blocks, environment, try_lines  # noqa: E402
 from proved import hand_on  # noqa: E402
 from report_span import check_reports  # noqa: E402
-from tally import Tally  # noqa: E402
+from tally import Tally, least  # noqa: E402
 
 LEFT_OUT = shutil.ignore_patterns(".git", "out", "target", "__pycache__", "Cargo.lock", "refusals")
 # each page, and the folder in which its lines run
@@ -31,7 +31,6 @@ LANGUAGES = {"sh", "c", "toml", "rust", "js", "text"}
 WEB_PAGE = "bindings/web/README.md"
 # the project that an entry goes into; one that replaces the original is for a project that has that
 PROJECT = '[package]\nname = "project"\nversion = "0.1.0"\nedition = "2021"\n\n'
-TAKES_ORIGINAL = '[dependencies]\nstr_indices = "0.4"\n\n'
 EMPTY = "fn main() {}\n"
 # what the program of a page prints, where it asks for nothing; that of the index has rows of its own
 PRINTED = {"bindings/rope/README.md": "one\nand 🐸 two\n"}
@@ -65,7 +64,7 @@ def try_entry(page, found, folder):
     program = program_of(found)
     project = folder / page.replace("/", "_")
     (project / "src").mkdir(parents=True)
-    (project / "Cargo.toml").write_text(PROJECT + TAKES_ORIGINAL * ("[patch" in entry) + entry, encoding="utf-8")
+    (project / "Cargo.toml").write_text(PROJECT + entry, encoding="utf-8")
     (project / "src/main.rs").write_text(program, encoding="utf-8")
     command, run = ["cargo", "run", "--quiet", "--offline"], environment(folder, os.environ["PATH"])
     line = f"{page}: its entry in a project{', with its program' if program != EMPTY else ''}"
@@ -93,6 +92,9 @@ def try_page(page, top, folder, place):
 
 
 def main():
+    if not shutil.which("cmake"):
+        tally.leave_out(least("test_pages.py"), "cmake is not on the path")
+        return tally.end()
     with tempfile.TemporaryDirectory() as folder:
         folder = pathlib.Path(folder)
         top = clone(folder / "pauskern")
