@@ -11,6 +11,9 @@ ROOT = pathlib.Path(__file__).resolve().parents[2]
 
 COMMENT = re.compile(r"/\*.*?\*/|^#.*?$", re.MULTILINE | re.DOTALL)
 PARAMETER = re.compile(r"(\w+): ([^,]+)")
+DOT_ALL = re.MULTILINE | re.DOTALL
+# the clause of a question
+SAME = "ensures same { rope.new ≡ rope.old }"
 
 # how C says a type of Rattle's; a struct has its name in C after the library's, and the allocator takes no bytes
 C_TYPES = {
@@ -38,13 +41,11 @@ class Function(NamedTuple):
 
 
 class Library(NamedTuple):
-    """A library for C: its name, with which its headers and functions begin, the crate of its exports, and the functions
-    that it has besides.
-    """
+    """A library for C: its name, with which its headers and functions begin, the crate of its exports, and its file in C."""
 
     name: str
     crate: str
-    added: tuple
+    source: str
 
     def headers(self):
         return sorted((ROOT / "bindings/c/include").glob(f"{self.name}*.h"))
@@ -57,12 +58,9 @@ def build(tally, *words):
     return pathlib.Path(done.stdout.splitlines()[-1]) if right else None
 
 
-STR_INDICES = Library("str_indices", "str_indices_c", (Function("str_indices_is_wide", "bool", "size_t"),))
-STR_ROPE = Library("str_rope", "text_rope_c", ())
-STR_INDEX = Library("str_index", "text_index_c", (
-    Function("str_index_make", "str_index_status", "str_index **, const char *, size_t"),
-    Function("str_index_make_in", "str_index_status", "str_index **, void *, size_t, const char *, size_t"),
-    Function("str_index_free", "void", "str_index *")))
+STR_INDICES = Library("str_indices", "str_indices_c", "choose_half.c")
+STR_ROPE = Library("str_rope", "text_rope_c", "rope.c")
+STR_INDEX = Library("str_index", "text_index_c", "index.c")
 
 LIBRARIES = [STR_INDICES, STR_ROPE, STR_INDEX]
 HEADERS = STR_INDICES.headers()
@@ -75,12 +73,17 @@ def types_of(parameters):
     return ", ".join(re.sub(r"(?<=[ *])\w+$", "", word).rstrip() for word in words)
 
 
+def functions_in(library, text, end):
+    """The functions of the library that a text in C has, by name; after the parameters it has `end`."""
+    function = re.compile(rf"^([a-z][\w ]*?[ *\n]+)({library.name}_\w+)\(([^)]*)\){end}", re.MULTILINE)
+    found = function.findall(COMMENT.sub("", text))
+    return {name: Function(name, result.strip(), types_of(parameters)) for result, name, parameters in found}
+
+
 def declared(library=STR_INDICES):
     """The functions of the library's headers, by name."""
-    texts = [COMMENT.sub("", header.read_text(encoding="utf-8")) for header in library.headers()]
-    function = re.compile(rf"^([a-z][\w ]*?[ *]+)({library.name}_\w+)\(([^)]*)\);", re.MULTILINE)
-    found = [match for text in texts for match in function.findall(text)]
-    return {name: Function(name, result.strip(), types_of(parameters)) for result, name, parameters in found}
+    texts = "\n".join(header.read_text(encoding="utf-8") for header in library.headers())
+    return functions_in(library, texts.replace(f"{library.name.upper()}_CHECKED ", ""), ";")
 
 
 def c_type(library, name, rattle):
@@ -97,15 +100,18 @@ def c_types(library, parameters):
 
 
 def exported(library=STR_INDICES):
-    """The functions that the exports in Rattle give to C, by name, and what is added to them in C."""
-    functions = {function.name: function for function in library.added}
-    export = re.compile(
-        rf'^pub extern "C" fn {library.name}_(?:narrow_)?(\w+)\(([^)]*)\)(?: -> (.*?))?$', re.MULTILINE)
+    """The functions that the exports in Rattle give to C, by name, and what is added to them in C. A question, which leaves its
+    rope as it is, takes it as const.
+    """
+    functions = functions_in(library, (ROOT / "bindings/c" / library.source).read_text(encoding="utf-8"), "\n{")
+    export = re.compile(rf'^pub extern "C" fn {library.name}_(?:narrow_)?(\w+)\(([^)]*)\)(?: -> (.*?))?$(.*?)^{{', DOT_ALL)
     for path in sorted((ROOT / "crates" / library.crate / "src").glob("**/*.rt")):
-        for word, parameters, result in export.findall(path.read_text(encoding="utf-8")):
+        for word, parameters, result, clauses in export.findall(path.read_text(encoding="utf-8")):
             name = f"{library.name}_{word}"
-            functions[name] = Function(
-                name, c_type(library, "result", result.strip() or "()"), c_types(library, parameters))
+            types = c_types(library, parameters)
+            if SAME in clauses:
+                types = f"const {types}"
+            functions[name] = Function(name, c_type(library, "result", result.strip() or "()"), types)
     return functions
 
 

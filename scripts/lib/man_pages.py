@@ -24,7 +24,8 @@ def as_it_stands(text):
 
 def functions(text):
     """The functions of a header, each with what is said of it."""
-    return [(declared.strip(), bare(comment)) for comment, declared in DECLARED.findall(text)]
+    plain = re.sub(r"^\w+_CHECKED ", "", text, flags=re.MULTILINE)
+    return [(declared.strip(), bare(comment)) for comment, declared in DECLARED.findall(plain)]
 
 
 def man_page(name, title, headers, version):

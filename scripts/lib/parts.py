@@ -50,7 +50,7 @@ FOR_C = ("str_indices_c", "str_indices_c_wide", "text_rope_c")
 ALL_FOR_C = (*FOR_C, "text_index_c")
 # what builds the libraries for C, and what installs them
 FUNCTIONS = tuple(f"bindings/c/{name}" for name in ("build_library", "choose_half.c", "include/*"))
-ROPE = tuple(f"bindings/c/{name}" for name in ("build_library", "heap.c", "include/*"))
+ROPE = tuple(f"bindings/c/{name}" for name in ("build_library", "rope.c", "include/*"))
 INDEX = tuple(f"bindings/c/{name}" for name in ("build_library", "index.c", "include/*"))
 INSTALL = ("bindings/c/CMakeLists.txt", "bindings/c/*.in", "bindings/c/examples/*")
 # the workspace of cargo, of which a part needs all members

@@ -252,7 +252,7 @@ def others_once_changed(root, path, before, names):
 
 
 @pytest.mark.parametrize("path, lowest", [
-    ("docs/GATE.md", None), ("bindings/c/heap.c", None), ("crates/text_rope/out/x", None),
+    ("docs/GATE.md", None), ("bindings/c/rope.c", None), ("crates/text_rope/out/x", None),
     ("crates/text_rope/src/rope.rt", "text_rope"),
     ("crates/text_rope/proofs/new.antt", "text_rope"), ("crates/str_indices/specs/new.antt", "str_indices"),
     ("crates/byte_chunk/src/lib.rt", "byte_chunk"), ("crates/idx/src/main.rt", "idx"), ("HANDLES", "byte_chunk"),
@@ -383,7 +383,7 @@ def test_a_copy_elsewhere_has_the_same_names(copy, names):
 @pytest.mark.parametrize("path, changed", [
     ("docs/GATE.md", ""), ("README.md", "test_pages.py"),
     ("crates/idx/src/main.rt", "test_program.py failing_calls.py test_pages.py test_release.py"),
-    ("bindings/c/heap.c", "test_c.py test_pages.py test_release.py test_rust.py test_editor.py"),
+    ("bindings/c/rope.c", "test_c.py test_pages.py test_release.py test_rust.py test_editor.py"),
     ("bindings/web/page.css", "test_browser.py test_release.py"), ("docs/DEFINITIONS.md", "test_release.py"),
     ("examples/language_server/tests/changes.lua", "test_editor.py"), ("bindings/rust/tests/test_rust.py", "test_rust.py"),
     ("bindings/c/tests/c_install.py", "test_c.py test_positions.py"), ("scripts/lib/exchanges.py", ALL),

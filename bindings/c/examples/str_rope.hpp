@@ -1,8 +1,8 @@
 // A rope that frees its text by itself: a small class over str_rope.h, for C++11 and later.
 //
 // Where a call is refused it throws: std::bad_alloc where memory was, and else std::invalid_argument. The text is then as it
-// was. A rope moves and does not copy; snapshot() makes a second one. It stays on one thread, and no call may be made beside
-// another, also to ask.
+// was. A rope moves and does not copy; snapshot() makes a second one. Threads may ask one rope at once; a change runs beside no
+// other call.
 #ifndef STR_ROPE_HPP
 #define STR_ROPE_HPP
 
@@ -26,17 +26,23 @@ public:
     ~Rope() { str_rope_free(&handle); }
 
     // A second rope with this text, in one step: a change of either leaves the other.
-    Rope snapshot()
+    Rope snapshot() const
     {
         Rope copy;
         check(str_rope_snapshot(&handle, &copy.handle));
         return copy;
     }
 
-    size_t len() { return str_rope_len(&handle); }
-    size_t count(str_rope_scheme scheme) { return str_rope_count(&handle, scheme); }
-    size_t from_byte_idx(str_rope_scheme scheme, size_t byte) { return str_rope_from_byte_idx(&handle, scheme, byte); }
-    size_t to_byte_idx(str_rope_scheme scheme, size_t index) { return str_rope_to_byte_idx(&handle, scheme, index); }
+    size_t len() const { return str_rope_len(&handle); }
+    size_t count(str_rope_scheme scheme) const { return str_rope_count(&handle, scheme); }
+    size_t from_byte_idx(str_rope_scheme scheme, size_t byte) const
+    {
+        return str_rope_from_byte_idx(&handle, scheme, byte);
+    }
+    size_t to_byte_idx(str_rope_scheme scheme, size_t index) const
+    {
+        return str_rope_to_byte_idx(&handle, scheme, index);
+    }
 
     void insert(size_t at, const std::string &text) { check(str_rope_insert(&handle, at, text.data(), text.size())); }
     void remove(size_t from, size_t to) { check(str_rope_remove(&handle, from, to)); }
@@ -45,7 +51,7 @@ public:
         check(str_rope_replace(&handle, from, to, text.data(), text.size()));
     }
 
-    std::string part(size_t from, size_t to)
+    std::string part(size_t from, size_t to) const
     {
         std::string text(from < to ? to - from : 0, '\0');
         check(str_rope_copy_to(&handle, from, to, &text[0], text.size()));

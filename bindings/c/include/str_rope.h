@@ -30,16 +30,18 @@
  *   - A handle that is no longer used is freed by str_rope_free, also where
  *     its text is empty by then: it may still have memory, which would be lost.
  *     To free one that is zeroed, or that was freed, does nothing.
- *   - A handle is in one call at a time. That goes for a question too, which
- *     takes the text out of the handle and puts it back. Two handles may be in
- *     two calls. A handle stays on the thread that uses it first.
- *   - Where a function takes two handles, they differ.
- *   - No pointer is null, even where the length after it is 0. The `len` bytes
- *     from `text` on may be read, and no thread writes to them during the
- *     call; the `room` bytes from `out` on may be written, and no thread reads
- *     them during the call. They do not overlap with each other or with a
- *     handle. `len` and `room` are at most PTRDIFF_MAX. That the bytes are
- *     UTF-8 is checked.
+ *   - A handle may be used by every thread, one call after the other: a lock, a
+ *     join or the like stands between the calls. Calls that take one handle as
+ *     `const` may run at once, in many threads; a call that takes it without
+ *     `const` runs beside no other. Two handles may be in two calls at once,
+ *     also where their texts share chunks: so one thread saves a snapshot while
+ *     another one types.
+ *   - No pointer is null, but `text` and `out` where the length after them is 0,
+ *     and what str_rope_free takes. The `len` bytes from `text` on may be read,
+ *     and no thread writes to them during the call; the `room` bytes from `out`
+ *     on may be written, and no thread reads them during the call. They do not
+ *     overlap with each other or with a handle. `len` and `room` are at most
+ *     PTRDIFF_MAX. That the bytes are UTF-8 is checked.
  *   - malloc, realloc and free are those of one allocator, and align each
  *     block to every power of two up to 16 that divides its size.
  *   - No function is called from a signal handler, or in the forked child of a
@@ -70,8 +72,18 @@
 
 #include <str_indices_positions.h> /* the types of positions */
 
-/* The version of the header; that of the library is at the end of its file. */
+/* The version of the header. str_rope_version tells that of the library. */
 #define STR_ROPE_VERSION "0.4.4"
+#define STR_ROPE_VERSION_MAJOR 0
+#define STR_ROPE_VERSION_MINOR 4
+#define STR_ROPE_VERSION_PATCH 4
+
+/* A status that nobody looks at is a change that may not have been made. */
+#if defined(__GNUC__)
+#define STR_ROPE_CHECKED __attribute__((warn_unused_result))
+#else
+#define STR_ROPE_CHECKED
+#endif
 
 #ifdef __cplusplus
 extern "C" {
@@ -82,10 +94,20 @@ typedef struct str_rope {
     void *hidden;
 } str_rope;
 
-/* The empty text: str_rope rope = STR_ROPE_EMPTY; */
-/* clang-format off */
-#define STR_ROPE_EMPTY {NULL}
-/* clang-format on */
+/* The empty text: str_rope rope = STR_ROPE_EMPTY; A handle with static storage
+ * has it without. */
+#ifdef __cplusplus
+#define STR_ROPE_EMPTY (str_rope{NULL})
+#else
+#define STR_ROPE_EMPTY ((str_rope){NULL})
+#endif
+
+/* A chunk of a text, lent: `len` bytes from `text` on, which are UTF-8. */
+typedef struct str_rope_chunk {
+    const char *text;
+    size_t len;
+    size_t start; /* the byte index where it starts */
+} str_rope_chunk;
 
 /* How many bytes a chunk has at most. */
 #define STR_ROPE_MAX_CHUNK 1024
@@ -128,52 +150,63 @@ typedef enum str_rope_status {
     STR_ROPE_TOO_LONG,     /* the text would have more than PTRDIFF_MAX bytes,
                               or a part has more than the room for it */
     STR_ROPE_NO_MEMORY,    /* memory was refused */
-    STR_ROPE_NOT_UTF8      /* the bytes handed over are not UTF-8 */
+    STR_ROPE_NOT_UTF8,     /* the bytes handed over are not UTF-8 */
+    STR_ROPE_SAME_HANDLE   /* two handles that should differ are one */
 } str_rope_status;
+
+/* What a status says, in English: a text that stays as long as the program. */
+const char *str_rope_status_text(str_rope_status status);
+
+/* The version of the library that runs, as STR_ROPE_VERSION has the header's. */
+const char *str_rope_version(void);
 
 /*
  * The whole text.
  */
 
 /* Frees the text, which is then the empty one. The handle may be used again.
- * Takes a step for each chunk. */
+ * Takes a step for each chunk. For NULL it does nothing. */
 void str_rope_free(str_rope *rope);
 
 /* Makes the text another one. The old text is freed after the new one is made,
  * so there has to be room for both. Takes time in the length of both. May
  * answer STR_ROPE_NOT_UTF8 and, where `len` is not 0, STR_ROPE_NO_MEMORY. */
-str_rope_status str_rope_assign(str_rope *rope, const char *text, size_t len);
+STR_ROPE_CHECKED str_rope_status str_rope_assign(str_rope *rope,
+                                                 const char *text, size_t len);
 
 /* Makes the text of `copy` the same as that of `rope`, in one step, whatever its
  * length. They share their chunks from then on, and a change of either leaves
- * the other. The former text of `copy` is freed. May answer STR_ROPE_NO_MEMORY
- * where the text is not empty, and then `copy` is as before. */
-str_rope_status str_rope_snapshot(str_rope *rope, str_rope *copy);
+ * the other. The former text of `copy` is freed; where both handles are one,
+ * nothing happens. May answer STR_ROPE_NO_MEMORY where the text is not empty,
+ * and then `copy` is as before. */
+STR_ROPE_CHECKED str_rope_status str_rope_snapshot(const str_rope *rope,
+                                                   str_rope *copy);
 
 /*
  * Questions. Each leaves the text as it is.
  */
 
 /* How many bytes the text has. Takes no longer for a longer text. */
-size_t str_rope_len(str_rope *rope);
+size_t str_rope_len(const str_rope *rope);
 
 /* How many chars, UTF-16 code units or line breaks the text has. Takes no
  * longer for a longer text. */
-size_t str_rope_count(str_rope *rope, str_rope_scheme scheme);
+size_t str_rope_count(const str_rope *rope, str_rope_scheme scheme);
 
 /* From a byte index to a char, code unit or line index: how many of them end
  * at or before the byte. A byte inside a char or a break belongs to that char,
  * or to the line that the break ends. Any byte index past the end gives all. */
-size_t str_rope_from_byte_idx(str_rope *rope, str_rope_scheme scheme,
+size_t str_rope_from_byte_idx(const str_rope *rope, str_rope_scheme scheme,
                               size_t byte_idx);
 
 /* From a char, code unit or line index to the byte index where that char, the
  * char of that unit, or that line begins. An index past the last gives the
  * length of the text in bytes. */
-size_t str_rope_to_byte_idx(str_rope *rope, str_rope_scheme scheme, size_t idx);
+size_t str_rope_to_byte_idx(const str_rope *rope, str_rope_scheme scheme,
+                            size_t idx);
 
 /* Whether a byte index is a boundary. One past the end is none. */
-bool str_rope_is_char_boundary(str_rope *rope, size_t byte_idx);
+bool str_rope_is_char_boundary(const str_rope *rope, size_t byte_idx);
 
 /*
  * Changes.
@@ -182,34 +215,51 @@ bool str_rope_is_char_boundary(str_rope *rope, size_t byte_idx);
 /* Puts a text in at a boundary. May answer STR_ROPE_NOT_BOUNDARY,
  * STR_ROPE_TOO_LONG, STR_ROPE_NOT_UTF8 and, where `len` is not 0,
  * STR_ROPE_NO_MEMORY. */
-str_rope_status str_rope_insert(str_rope *rope, size_t at, const char *text,
-                                size_t len);
+STR_ROPE_CHECKED str_rope_status str_rope_insert(str_rope *rope, size_t at,
+                                                 const char *text, size_t len);
 
 /* Takes out what is between two boundaries, from `from` up to `to`. May answer
  * STR_ROPE_NOT_ORDERED, STR_ROPE_NOT_BOUNDARY and, where something goes and
  * something stays, STR_ROPE_NO_MEMORY. */
-str_rope_status str_rope_remove(str_rope *rope, size_t from, size_t to);
+STR_ROPE_CHECKED str_rope_status str_rope_remove(str_rope *rope, size_t from,
+                                                 size_t to);
 
 /* Replaces what is between two boundaries, from `from` up to `to`, by a
  * text. May answer STR_ROPE_NOT_ORDERED, STR_ROPE_NOT_BOUNDARY,
  * STR_ROPE_TOO_LONG, STR_ROPE_NOT_UTF8 and, where something comes, or where
  * something goes and something stays, STR_ROPE_NO_MEMORY. */
-str_rope_status str_rope_replace(str_rope *rope, size_t from, size_t to,
-                                 const char *text, size_t len);
+STR_ROPE_CHECKED str_rope_status str_rope_replace(str_rope *rope, size_t from,
+                                                  size_t to, const char *text,
+                                                  size_t len);
 
 /* Moves all of `other` to the end of the text; `other` is then the empty text.
  * May answer STR_ROPE_TOO_LONG and, where neither is empty, STR_ROPE_NO_MEMORY;
- * then `other` is as before too. */
-str_rope_status str_rope_append(str_rope *rope, str_rope *other);
+ * then `other` is as before too. Where both handles are one, the answer is
+ * STR_ROPE_SAME_HANDLE. */
+STR_ROPE_CHECKED str_rope_status str_rope_append(str_rope *rope,
+                                                 str_rope *other);
 
 /* Cuts the text in two at a boundary. The second part is then the text of
  * `rest`, whose former text is freed. May answer STR_ROPE_NOT_BOUNDARY and
- * STR_ROPE_NO_MEMORY, and then `rest` is as before too. */
-str_rope_status str_rope_split_off(str_rope *rope, size_t at, str_rope *rest);
+ * STR_ROPE_NO_MEMORY, and then `rest` is as before too. Where both handles are
+ * one, the answer is STR_ROPE_SAME_HANDLE. */
+STR_ROPE_CHECKED str_rope_status str_rope_split_off(str_rope *rope, size_t at,
+                                                    str_rope *rest);
 
 /*
  * The text's bytes.
  */
+
+/* Lends the chunk that a byte is in, without a copy: its bytes stay until the
+ * handle is in a call that takes it without `const`. False, with a chunk of no
+ * bytes, where the text has no such byte. This reads a text in order:
+ *
+ *     str_rope_chunk chunk;
+ *     size_t at = 0;
+ *     for (; str_rope_chunk_at(&rope, at, &chunk); at += chunk.len)
+ *         fwrite(chunk.text, 1, chunk.len, stdout); */
+bool str_rope_chunk_at(const str_rope *rope, size_t byte_idx,
+                       str_rope_chunk *chunk);
 
 /* Writes to `out` the bytes from `at` on, as far as there is room for them, and
  * answers how many: fewer than `room` only where the text ends, and none from
@@ -222,14 +272,15 @@ str_rope_status str_rope_split_off(str_rope *rope, size_t at, str_rope *rest);
  *         fwrite(out, 1, n, stdout);
  *         at += n;
  *     } */
-size_t str_rope_read(str_rope *rope, size_t at, char *out, size_t room);
+size_t str_rope_read(const str_rope *rope, size_t at, char *out, size_t room);
 
 /* Writes to `out` the bytes between two boundaries, from `from` up to `to`:
  * all of them, or none. Takes time in their number too. May answer
  * STR_ROPE_NOT_ORDERED, STR_ROPE_NOT_BOUNDARY, and STR_ROPE_TOO_LONG where
  * `room` is less than `to - from`. */
-str_rope_status str_rope_copy_to(str_rope *rope, size_t from, size_t to,
-                                 char *out, size_t room);
+STR_ROPE_CHECKED str_rope_status str_rope_copy_to(const str_rope *rope,
+                                                  size_t from, size_t to,
+                                                  char *out, size_t room);
 
 /*
  * Positions of a language server, as in str_indices_positions.h: a line ends
@@ -239,13 +290,13 @@ str_rope_status str_rope_copy_to(str_rope *rope, size_t from, size_t to,
 
 /* The byte index where the content of a line ends: before its break, or the
  * length of the text in bytes where it is the last line or past it. */
-size_t str_rope_line_end(str_rope *rope, size_t line_idx);
+size_t str_rope_line_end(const str_rope *rope, size_t line_idx);
 
 /* From a byte index to its position: the byte's line, and the units from that
  * line's beginning to the byte. A byte inside a char has the position where
  * the char begins, the byte between CR and LF that of the line's end, and a
  * byte past the end that of the text's end. */
-str_indices_position str_rope_position_of(str_rope *rope,
+str_indices_position str_rope_position_of(const str_rope *rope,
                                           str_rope_encoding encoding,
                                           size_t byte_idx);
 
@@ -253,19 +304,19 @@ str_indices_position str_rope_position_of(str_rope *rope,
  * inside a char belongs to it. An offset past the end of the line gives the
  * line's end, before its break, and a line past the last one the length of the
  * text in bytes. */
-size_t str_rope_byte_of(str_rope *rope, str_rope_encoding encoding,
+size_t str_rope_byte_of(const str_rope *rope, str_rope_encoding encoding,
                         str_indices_position position);
 
 /* The byte index of a position that names a place: as str_rope_byte_of, but
  * SIZE_MAX where the text has no such line, or the offset is past the end of
  * the line or inside a char. So a server notices a client that is out of step.
  */
-size_t str_rope_exact_byte_of(str_rope *rope, str_rope_encoding encoding,
+size_t str_rope_exact_byte_of(const str_rope *rope, str_rope_encoding encoding,
                               str_indices_position position);
 
 /* The byte indices of a range, each as str_rope_byte_of answers it; SIZE_MAX
  * twice where the range's end is before its start. */
-str_indices_bytes str_rope_byte_range(str_rope *rope,
+str_indices_bytes str_rope_byte_range(const str_rope *rope,
                                       str_rope_encoding encoding,
                                       str_indices_range range);
 
@@ -274,9 +325,10 @@ str_indices_bytes str_rope_byte_range(str_rope *rope,
  * replaces the whole text, call str_rope_assign. May answer
  * STR_ROPE_NOT_ORDERED, STR_ROPE_TOO_LONG, STR_ROPE_NOT_UTF8 and, where
  * something goes or comes, STR_ROPE_NO_MEMORY. */
-str_rope_status str_rope_change(str_rope *rope, str_rope_encoding encoding,
-                                str_indices_range range, const char *text,
-                                size_t len);
+STR_ROPE_CHECKED str_rope_status str_rope_change(str_rope *rope,
+                                                 str_rope_encoding encoding,
+                                                 str_indices_range range,
+                                                 const char *text, size_t len);
 
 /* As str_rope_change, for a range whose positions each name a place, as
  * str_rope_exact_byte_of has it: where one names none, the answer is
@@ -284,10 +336,9 @@ str_rope_status str_rope_change(str_rope *rope, str_rope_encoding encoding,
  * client that is out of step. May answer STR_ROPE_NOT_ORDERED,
  * STR_ROPE_NOT_BOUNDARY, STR_ROPE_TOO_LONG, STR_ROPE_NOT_UTF8 and, where
  * something goes or comes, STR_ROPE_NO_MEMORY. */
-str_rope_status str_rope_change_exact(str_rope *rope,
-                                      str_rope_encoding encoding,
-                                      str_indices_range range, const char *text,
-                                      size_t len);
+STR_ROPE_CHECKED str_rope_status
+str_rope_change_exact(str_rope *rope, str_rope_encoding encoding,
+                      str_indices_range range, const char *text, size_t len);
 
 /*
  * Lines and positions by what ends a line. With STR_ROPE_LINE_TYPE_CRLF the end
@@ -297,14 +348,14 @@ str_rope_status str_rope_change_exact(str_rope *rope,
 
 /* The bytes of the content of a line, without its break. Past the last line
  * they are none, at the end of the text. */
-str_indices_bytes str_rope_line_by(str_rope *rope, str_rope_line_type lines,
-                                   size_t line_idx);
+str_indices_bytes str_rope_line_by(const str_rope *rope,
+                                   str_rope_line_type lines, size_t line_idx);
 
 /* The position of a byte: its line, and the units from that line's beginning
  * to the byte. A byte inside a char has the position where the char begins,
  * the byte between the CR and the LF of one break that of the line's end, and a
  * byte past the end that of the text's end. */
-str_indices_position str_rope_position_by(str_rope *rope,
+str_indices_position str_rope_position_by(const str_rope *rope,
                                           str_rope_line_type lines,
                                           str_rope_encoding encoding,
                                           size_t byte_idx);
@@ -313,21 +364,22 @@ str_indices_position str_rope_position_by(str_rope *rope,
  * belongs to it. An offset past the end of the line gives the line's end,
  * before its break, and a line past the last one the length of the text in
  * bytes. */
-size_t str_rope_byte_by(str_rope *rope, str_rope_line_type lines,
+size_t str_rope_byte_by(const str_rope *rope, str_rope_line_type lines,
                         str_rope_encoding encoding,
                         str_indices_position position);
 
 /* The position of a byte that is a place on a line: SIZE_MAX twice where it is
  * inside a char, between the CR and the LF of one break, or past the end. So a
  * compiler notices a span that is wrong. */
-str_indices_position str_rope_exact_position_by(str_rope *rope,
+str_indices_position str_rope_exact_position_by(const str_rope *rope,
                                                 str_rope_line_type lines,
                                                 str_rope_encoding encoding,
                                                 size_t byte_idx);
 
 /* The positions of both ends of a span of bytes, each as str_rope_position_by
  * answers it, also where the end is before the start. */
-str_indices_range str_rope_range_by(str_rope *rope, str_rope_line_type lines,
+str_indices_range str_rope_range_by(const str_rope *rope,
+                                    str_rope_line_type lines,
                                     str_rope_encoding encoding,
                                     str_indices_bytes span);
 

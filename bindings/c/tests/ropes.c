@@ -133,8 +133,10 @@ static void change_the_empty_text(str_rope *rope)
 
 static void the_empty_text(void)
 {
+    static str_rope in_no_call;
     str_rope rope = STR_ROPE_EMPTY, other = STR_ROPE_EMPTY, zeroed;
     memset(&zeroed, 0, sizeof zeroed);
+    ask_the_empty_text(&in_no_call);
     ask_the_empty_text(&rope);
     ask_the_empty_text(&zeroed);
     change_the_empty_text(&rope);
@@ -244,8 +246,8 @@ static void reading(void)
     str_rope_free(&rope);
 }
 
-/* Two texts that do not fit into one piece, the first ends in CR and the second begins with LF. */
-static void a_break_over_two_pieces(void)
+/* Two texts that do not fit into one chunk, the first ends in CR and the second begins with LF. */
+static void a_break_over_two_chunks(void)
 {
     enum { HALF = STR_ROPE_MAX_CHUNK };
     static char front[HALF], back[HALF], whole[2 * HALF];
@@ -427,6 +429,69 @@ static void refusals_by_positions(void)
     str_rope_free(&rope);
 }
 
+/* The chunks of a text in order, each lent with where it starts. */
+static void lent_chunks(void)
+{
+    static char text[4 * STR_ROPE_MAX_CHUNK];
+    str_rope_chunk chunk = {NULL, 9, 9};
+    str_rope rope = STR_ROPE_EMPTY;
+    size_t at = 0;
+    same(!str_rope_chunk_at(&rope, 0, &chunk) && chunk.len == 0 && chunk.start == 0, "no text, chunk_at", 0, 0);
+    memset(text, 'a', sizeof text);
+    rope = with(text, sizeof text);
+    for (; str_rope_chunk_at(&rope, at, &chunk); at += chunk.len)
+        same(chunk.start == at && 0 < chunk.len && chunk.len <= STR_ROPE_MAX_CHUNK &&
+                 memcmp(chunk.text, text, chunk.len) == 0,
+             "chunk_at", at, chunk.len);
+    same(at == sizeof text && chunk.len == 0 && !str_rope_chunk_at(&rope, MOST, &chunk), "chunk_at", at, MOST);
+    same(str_rope_chunk_at(&rope, sizeof text - 1, &chunk) && chunk.start + chunk.len == sizeof text, "chunk_at",
+         sizeof text - 1, 0);
+    str_rope_free(&rope);
+}
+
+/* A null pointer with no byte behind it is the empty text, or a room for none. */
+static void null_texts(void)
+{
+    static const char text[] = "ab";
+    str_indices_range range = {{0, 1}, {0, 2}};
+    str_rope rope = WITH(text);
+    same(str_rope_insert(&rope, 1, NULL, 0) == STR_ROPE_OK, "insert null", 1, 0);
+    same(str_rope_read(&rope, 0, NULL, 0) == 0, "read into null", 0, 0);
+    same(str_rope_copy_to(&rope, 1, 1, NULL, 0) == STR_ROPE_OK, "copy_to null", 1, 1);
+    same(str_rope_copy_to(&rope, 0, 1, NULL, 0) == STR_ROPE_TOO_LONG, "copy_to null", 0, 1);
+    HAS(&rope, "ab", "null texts");
+    same(str_rope_change(&rope, STR_ROPE_ENCODING_UTF16, range, NULL, 0) == STR_ROPE_OK, "change to null", 1, 2);
+    HAS(&rope, "a", "change to null");
+    same(str_rope_change_exact(&rope, STR_ROPE_ENCODING_UTF8, range, NULL, 0) == STR_ROPE_NOT_BOUNDARY,
+         "change_exact to null", 1, 2);
+    same(str_rope_replace(&rope, 0, 1, NULL, 0) == STR_ROPE_OK, "replace by null", 0, 1);
+    same(str_rope_assign(&rope, NULL, 0) == STR_ROPE_OK, "assign null", 0, 0);
+    HAS(&rope, "", "assign null");
+    str_rope_free(&rope);
+    str_rope_free(NULL);
+}
+
+/* Two handles that are one. */
+static void one_handle(void)
+{
+    str_rope rope = WITH(lines);
+    same(str_rope_snapshot(&rope, &rope) == STR_ROPE_OK, "snapshot of one handle", 0, 0);
+    same(str_rope_append(&rope, &rope) == STR_ROPE_SAME_HANDLE, "append one handle", 0, 0);
+    same(str_rope_split_off(&rope, 1, &rope) == STR_ROPE_SAME_HANDLE, "split_off one handle", 1, 0);
+    HAS(&rope, lines, "one handle");
+    str_rope_free(&rope);
+}
+
+static void words_of_statuses(void)
+{
+    for (int status = STR_ROPE_OK; status <= STR_ROPE_SAME_HANDLE + 1; status++)
+        for (int other = STR_ROPE_OK; other < status; other++)
+            same(strcmp(str_rope_status_text((str_rope_status)status), str_rope_status_text((str_rope_status)other)) !=
+                     0,
+                 "status_text", (size_t)status, (size_t)other);
+    same(strcmp(str_rope_version(), STR_ROPE_VERSION) == 0, "version", 0, 0);
+}
+
 int main(void)
 {
     counts();
@@ -438,7 +503,7 @@ int main(void)
     snapshots();
     refusals_of_changes();
     reading();
-    a_break_over_two_pieces();
+    a_break_over_two_chunks();
     positions_of_bytes();
     bytes_of_positions();
     ranges_and_lines();
@@ -446,6 +511,10 @@ int main(void)
     changes_by_positions();
     exact_changes();
     refusals_by_positions();
+    lent_chunks();
+    null_texts();
+    one_handle();
+    words_of_statuses();
     printf("%d passed, %d failed\n", passed, failed);
     return failed != 0;
 }

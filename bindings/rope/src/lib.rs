@@ -12,7 +12,7 @@
 //!   may be refused so, a removal too, but not one that takes out all.
 //! - **Chunks are copies.** Each item of [`Rope::chunks`] owns its bytes, and holds no memory of the heap. There is no
 //!   slice of a rope; [`Rope::text_in`] copies a part.
-//! - **A rope is `Send`, and not `Sync`.** [`Rope::append`] takes the other rope by `&mut`, and leaves it empty.
+//! - [`Rope::append`] takes the other rope by `&mut`, and leaves it empty.
 //!
 //! The rope is proved: each question answers by a definition of what is counted, for every text and index, and each change
 //! makes of the text what it says, or leaves it as it was. Each call here is one call into a static library of proved

@@ -1,7 +1,8 @@
 //! The exports of the static library.
 //!
-//! You pass a handle that was zeroed once, and that no other call uses until this one returns. Bytes that you pass must
-//! stay where and as they are until then. Those of a `&str` do, and are UTF-8.
+//! You pass a handle that was zeroed once. Calls that take it as `*const` may run at once, in many threads; one that takes it as
+//! `*mut` runs beside no other. Bytes that you pass must stay where and as they are until the call returns. Those of a `&str`
+//! do, and are UTF-8.
 use crate::Bytes;
 use core::ffi::c_void;
 use core::ptr;
@@ -23,12 +24,12 @@ impl Handle {
 extern "C" {
     pub fn str_rope_free(rope: *mut Handle);
     pub fn str_rope_assign(rope: *mut Handle, text: *const u8, len: usize) -> u32;
-    pub fn str_rope_snapshot(rope: *mut Handle, copy: *mut Handle) -> u32;
-    pub fn str_rope_len(rope: *mut Handle) -> usize;
-    pub fn str_rope_count(rope: *mut Handle, scheme: u32) -> usize;
-    pub fn str_rope_from_byte_idx(rope: *mut Handle, scheme: u32, byte_idx: usize) -> usize;
-    pub fn str_rope_to_byte_idx(rope: *mut Handle, scheme: u32, idx: usize) -> usize;
-    pub fn str_rope_is_char_boundary(rope: *mut Handle, byte_idx: usize) -> bool;
+    pub fn str_rope_snapshot(rope: *const Handle, copy: *mut Handle) -> u32;
+    pub fn str_rope_len(rope: *const Handle) -> usize;
+    pub fn str_rope_count(rope: *const Handle, scheme: u32) -> usize;
+    pub fn str_rope_from_byte_idx(rope: *const Handle, scheme: u32, byte_idx: usize) -> usize;
+    pub fn str_rope_to_byte_idx(rope: *const Handle, scheme: u32, idx: usize) -> usize;
+    pub fn str_rope_is_char_boundary(rope: *const Handle, byte_idx: usize) -> bool;
 
     pub fn str_rope_insert(rope: *mut Handle, at: usize, text: *const u8, len: usize) -> u32;
     pub fn str_rope_remove(rope: *mut Handle, from: usize, to: usize) -> u32;
@@ -36,19 +37,19 @@ extern "C" {
     pub fn str_rope_append(rope: *mut Handle, other: *mut Handle) -> u32;
     pub fn str_rope_split_off(rope: *mut Handle, at: usize, rest: *mut Handle) -> u32;
 
-    pub fn str_rope_read(rope: *mut Handle, at: usize, out: *mut u8, room: usize) -> usize;
-    pub fn str_rope_copy_to(rope: *mut Handle, from: usize, to: usize, out: *mut u8, room: usize) -> u32;
+    pub fn str_rope_read(rope: *const Handle, at: usize, out: *mut u8, room: usize) -> usize;
+    pub fn str_rope_copy_to(rope: *const Handle, from: usize, to: usize, out: *mut u8, room: usize) -> u32;
 
-    pub fn str_rope_line_end(rope: *mut Handle, line_idx: usize) -> usize;
-    pub fn str_rope_position_of(rope: *mut Handle, encoding: u32, byte_idx: usize) -> Position;
-    pub fn str_rope_byte_of(rope: *mut Handle, encoding: u32, position: Position) -> usize;
-    pub fn str_rope_exact_byte_of(rope: *mut Handle, encoding: u32, position: Position) -> usize;
-    pub fn str_rope_byte_range(rope: *mut Handle, encoding: u32, range: Range) -> Bytes;
-    pub fn str_rope_line_by(rope: *mut Handle, lines: u32, line_idx: usize) -> Bytes;
-    pub fn str_rope_position_by(rope: *mut Handle, lines: u32, encoding: u32, byte_idx: usize) -> Position;
-    pub fn str_rope_exact_position_by(rope: *mut Handle, lines: u32, encoding: u32, byte_idx: usize) -> Position;
-    pub fn str_rope_byte_by(rope: *mut Handle, lines: u32, encoding: u32, position: Position) -> usize;
-    pub fn str_rope_range_by(rope: *mut Handle, lines: u32, encoding: u32, span: Bytes) -> Range;
+    pub fn str_rope_line_end(rope: *const Handle, line_idx: usize) -> usize;
+    pub fn str_rope_position_of(rope: *const Handle, encoding: u32, byte_idx: usize) -> Position;
+    pub fn str_rope_byte_of(rope: *const Handle, encoding: u32, position: Position) -> usize;
+    pub fn str_rope_exact_byte_of(rope: *const Handle, encoding: u32, position: Position) -> usize;
+    pub fn str_rope_byte_range(rope: *const Handle, encoding: u32, range: Range) -> Bytes;
+    pub fn str_rope_line_by(rope: *const Handle, lines: u32, line_idx: usize) -> Bytes;
+    pub fn str_rope_position_by(rope: *const Handle, lines: u32, encoding: u32, byte_idx: usize) -> Position;
+    pub fn str_rope_exact_position_by(rope: *const Handle, lines: u32, encoding: u32, byte_idx: usize) -> Position;
+    pub fn str_rope_byte_by(rope: *const Handle, lines: u32, encoding: u32, position: Position) -> usize;
+    pub fn str_rope_range_by(rope: *const Handle, lines: u32, encoding: u32, span: Bytes) -> Range;
     pub fn str_rope_change(rope: *mut Handle, encoding: u32, range: Range, text: *const u8, len: usize) -> u32;
     pub fn str_rope_change_exact(rope: *mut Handle, encoding: u32, range: Range, text: *const u8, len: usize) -> u32;
 }

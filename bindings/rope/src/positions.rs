@@ -101,7 +101,7 @@ impl Rope {
     pub fn change(&mut self, encoding: Encoding, range: Range, text: &str) -> Result<(), Error> {
         let number = encoding as u32;
         // SAFETY: as `library` says.
-        result_of(unsafe { str_rope_change(self.handle(), number, range, text.as_ptr(), text.len()) })
+        result_of(unsafe { str_rope_change(self.handle_mut(), number, range, text.as_ptr(), text.len()) })
     }
 
     /// Replaces what stands in a range by a text, as [`Rope::change`], where each of its positions names a place.
@@ -127,7 +127,7 @@ impl Rope {
     pub fn change_exact(&mut self, encoding: Encoding, range: Range, text: &str) -> Result<(), Error> {
         let number = encoding as u32;
         // SAFETY: as `library` says.
-        result_of(unsafe { str_rope_change_exact(self.handle(), number, range, text.as_ptr(), text.len()) })
+        result_of(unsafe { str_rope_change_exact(self.handle_mut(), number, range, text.as_ptr(), text.len()) })
     }
 }
 

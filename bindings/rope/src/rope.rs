@@ -2,37 +2,34 @@
 use crate::errors::result_of;
 use crate::library::*;
 use crate::Error;
-use core::cell::UnsafeCell;
 use core::ops::{self, Bound, RangeBounds};
 use str_indices_positions::Scheme;
 
 /// A text in a balanced tree of chunks. A question looks at a number of places that is logarithmic in the number of chunks.
 /// A change goes down the tree too, and copies what it puts in. A clone shares the chunks, and takes one step.
 ///
-/// It may go to another thread, but two threads cannot ask one rope at once:
+/// It may go to another thread, and many threads may ask one rope at once:
 ///
 /// ```
-/// fn sent<T: Send>(_: T) {}
-/// sent(str_rope::Rope::new());
-/// ```
-///
-/// ```compile_fail,E0277
-/// fn shared<T: Sync>(_: T) {}
+/// fn shared<T: Send + Sync>(_: T) {}
 /// shared(str_rope::Rope::new());
 /// ```
 pub struct Rope {
-    handle: UnsafeCell<Handle>,
+    handle: Handle,
 }
 
 // SAFETY: a rope has memory of the C library's heap alone, which threads share. The library writes to no memory that a
 // rope shares with its clones, except the number of its owners, which it counts atomically. It keeps nothing of a rope
-// elsewhere. The header for C does not promise that much: it is read, as README.md says, and not proved.
+// elsewhere. str_rope.h promises it, and README.md says what of it is proved.
 unsafe impl Send for Rope {}
+
+// SAFETY: a call with `&self` takes the handle as `*const`, and such calls may run at once, as str_rope.h says.
+unsafe impl Sync for Rope {}
 
 impl Drop for Rope {
     fn drop(&mut self) {
         // SAFETY: the handle is this rope's own, and nobody has it afterwards.
-        unsafe { str_rope_free(self.handle()) }
+        unsafe { str_rope_free(&mut self.handle) }
     }
 }
 
@@ -43,15 +40,17 @@ impl Rope {
     /// assert!(str_rope::Rope::new().is_empty());
     /// ```
     pub const fn new() -> Rope {
-        Rope {
-            handle: UnsafeCell::new(Handle::EMPTY),
-        }
+        Rope { handle: Handle::EMPTY }
     }
 
-    /// The handle for one call. A question too takes it for itself until it returns, so there is no `Sync`; and since
-    /// the library calls nothing of Rust, no two calls have it at once.
-    pub(crate) fn handle(&self) -> *mut Handle {
-        self.handle.get()
+    /// The handle for a question.
+    pub(crate) fn handle(&self) -> *const Handle {
+        &self.handle
+    }
+
+    /// The handle for a change.
+    pub(crate) fn handle_mut(&mut self) -> *mut Handle {
+        &mut self.handle
     }
 
     /// Replaces the whole text by another. Both take memory until it is done.
@@ -66,7 +65,7 @@ impl Rope {
     /// ```
     pub fn assign(&mut self, text: &str) -> Result<(), Error> {
         // SAFETY: as `library` says.
-        result_of(unsafe { str_rope_assign(self.handle(), text.as_ptr(), text.len()) })
+        result_of(unsafe { str_rope_assign(self.handle_mut(), text.as_ptr(), text.len()) })
     }
 
     /// A rope with the same text, in one step, whatever its length, or [`Error::NoMemory`]. Both share their chunks from then
@@ -82,9 +81,9 @@ impl Rope {
     /// # }
     /// ```
     pub fn try_clone(&self) -> Result<Rope, Error> {
-        let copy = Rope::new();
+        let mut copy = Rope::new();
         // SAFETY: as `library` says; the new rope is another one.
-        result_of(unsafe { str_rope_snapshot(self.handle(), copy.handle()) })?;
+        result_of(unsafe { str_rope_snapshot(self.handle(), copy.handle_mut()) })?;
         Ok(copy)
     }
 
@@ -176,7 +175,7 @@ impl Rope {
     /// ```
     pub fn insert(&mut self, at: usize, text: &str) -> Result<(), Error> {
         // SAFETY: as `library` says.
-        result_of(unsafe { str_rope_insert(self.handle(), at, text.as_ptr(), text.len()) })
+        result_of(unsafe { str_rope_insert(self.handle_mut(), at, text.as_ptr(), text.len()) })
     }
 
     /// Takes out what stands between two byte indices.
@@ -192,7 +191,7 @@ impl Rope {
     pub fn remove(&mut self, range: impl RangeBounds<usize>) -> Result<(), Error> {
         let bytes = self.bytes_of(range);
         // SAFETY: as `library` says.
-        result_of(unsafe { str_rope_remove(self.handle(), bytes.start, bytes.end) })
+        result_of(unsafe { str_rope_remove(self.handle_mut(), bytes.start, bytes.end) })
     }
 
     /// Replaces what stands between two byte indices by a text, in one change.
@@ -208,7 +207,7 @@ impl Rope {
     pub fn replace(&mut self, range: impl RangeBounds<usize>, text: &str) -> Result<(), Error> {
         let bytes = self.bytes_of(range);
         // SAFETY: as `library` says.
-        result_of(unsafe { str_rope_replace(self.handle(), bytes.start, bytes.end, text.as_ptr(), text.len()) })
+        result_of(unsafe { str_rope_replace(self.handle_mut(), bytes.start, bytes.end, text.as_ptr(), text.len()) })
     }
 
     /// Puts the text of another rope at the end of this one, and leaves the other empty. Where it is refused, both are as
@@ -226,7 +225,7 @@ impl Rope {
     /// ```
     pub fn append(&mut self, other: &mut Rope) -> Result<(), Error> {
         // SAFETY: as `library` says; two `&mut` are of two ropes.
-        result_of(unsafe { str_rope_append(self.handle(), other.handle()) })
+        result_of(unsafe { str_rope_append(self.handle_mut(), other.handle_mut()) })
     }
 
     /// Takes off what stands from a byte index on, and answers it as a rope.
@@ -240,9 +239,9 @@ impl Rope {
     /// # }
     /// ```
     pub fn split_off(&mut self, at: usize) -> Result<Rope, Error> {
-        let rest = Rope::new();
+        let mut rest = Rope::new();
         // SAFETY: as `library` says; the new rope is another one.
-        result_of(unsafe { str_rope_split_off(self.handle(), at, rest.handle()) })?;
+        result_of(unsafe { str_rope_split_off(self.handle_mut(), at, rest.handle_mut()) })?;
         Ok(rest)
     }
 

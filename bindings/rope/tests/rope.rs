@@ -5,7 +5,7 @@ use std::error::Error as _;
 use std::fs;
 use std::ops;
 use std::thread;
-use str_rope::{Chunk, Encoding, Error, LineType, Position, Range, Rope, MAX_CHUNK};
+use str_rope::{Chunk, Encoding, Error, LineType, Position, Range, Rope, Scheme, MAX_CHUNK};
 
 /// Nine bytes: a break of two, and a char of four.
 const TEXT: &str = "a\r\n🐸bc";
@@ -171,6 +171,34 @@ fn a_rope_goes_to_other_threads() {
     thread::spawn(move || assert_eq!(rope.text_in(..21).as_deref(), Ok("abbbbbbbbbbbbbbbbbbbb")))
         .join()
         .unwrap();
+}
+
+/// Threads ask one rope at once, each all questions about each byte of a part.
+#[test]
+fn threads_ask_one_rope() {
+    let text = TEXT.repeat(2000);
+    let rope: Rope = text.parse().unwrap();
+    let ask = |byte: usize| {
+        let position = rope.position_of(Encoding::Utf16, byte);
+        let chars = rope.from_byte_idx(Scheme::Chars, byte);
+        let chunk = rope.chunk_at(byte).map(|chunk| chunk.start());
+        (
+            position,
+            rope.byte_of(Encoding::Utf16, position),
+            chars,
+            chunk,
+            rope.is_char_boundary(byte),
+        )
+    };
+    let wanted: Vec<_> = (0..text.len()).step_by(7).map(ask).collect();
+    thread::scope(|scope| {
+        for _ in 0..4 {
+            scope.spawn(|| {
+                let found: Vec<_> = (0..text.len()).step_by(7).map(ask).collect();
+                assert!(found == wanted);
+            });
+        }
+    });
 }
 
 /// Each thread changes and clones its own clone, while all of them share chunks.

@@ -8,7 +8,7 @@ ghost use Rattle.text_rope.specs.declared.refusals.Refusal.TheVariants.{NotOrder
 ghost use Rattle.text_rope_c.specs.Numbers.{done, encoding_of, no_memory, not_boundary, not_ordered, not_utf8, too_long};
 ghost use Rattle.positions.specs.declared.line_type.LineType.TheVariants.{Crlf};
 
-use crate::handles::{put_rope, store, take_rope};
+use crate::handles::store;
 use crate::numbers::{NOT_UTF8, encoding_at, status_at};
 use crate::slot::Slot;
 use positions::{Encoding, Range};
@@ -22,7 +22,7 @@ use text_rope::{Refusal, Rope};
 /// start, or else `not_boundary` where a position names no place, or else `too_long` where the text would have more than
 /// `isize::MAX` bytes, and else `no_memory` where memory was refused.
 #[unsafe(no_mangle)]
-pub extern "C" fn str_rope_change_exact(
+pub extern "C" fn rope_change_exact(
     alloc: Global,
     rope: &mut Slot,
     encoding: u32,
@@ -73,16 +73,10 @@ fn apply_change(
         range: Some(range),
         text,
     };
-    match take_rope(alloc, rope) {
-        None => {
-            let mut whole = Rope::new(alloc);
-            apply_exact(&mut whole, encoding, change)?;
-            store(alloc, rope, whole)
-        }
-        Some(mut inner) => {
-            let answer = apply_exact(&mut inner, encoding, change);
-            put_rope(alloc, rope, inner);
-            answer
-        }
+    if rope.is_null() {
+        let mut whole = Rope::new(alloc);
+        apply_exact(&mut whole, encoding, change)?;
+        return store(alloc, rope, whole);
     }
+    apply_exact(rope.as_mut(), encoding, change)
 }

@@ -1,4 +1,4 @@
-// The rope of a handle, taken out for one call and put back.
+// The rope of a handle: lent to a question, taken out, and put in.
 ghost use Rattle.std.specs.Prelude.{◌≡◌, ◌≢◌, [], IfSome, IfNone, IsErr, IsOkUnless, OnOk, OnErr};
 ghost use Rattle.std.specs.Fn.{FnOnceReturnsAt};
 ghost use Rattle.text_rope.specs.declared.refusals.Refusal.TheVariants.{NoMemory};
@@ -65,18 +65,14 @@ pub(crate) fn store(alloc: Global, rope: &mut Slot, whole: Rope) -> Result<(), R
     Ok(())
 }
 
-/// Answers a question about the text, which stays as it is.
+/// Answers a question about the text. The handle stays as it is, and so does its pointer.
 pub(crate) fn ask<A, F: FnOnce(&Rope) -> A>(alloc: Global, rope: &mut Slot, question: F) -> A
     requires { F.IsAlwaysCallable question }
     ensures answer { FnOnceReturnsAt F.FnOnce question rope.old.text result }
-    ensures same { rope.new.text ≡ rope.old.text }
+    ensures same { rope.new ≡ rope.old }
 {
-    match take_rope(alloc, rope) {
-        None => question(&Rope::new(alloc)),
-        Some(inner) => {
-            let answer = question(&inner);
-            put_rope(alloc, rope, inner);
-            answer
-        }
+    if rope.is_null() {
+        return question(&Rope::new(alloc));
     }
+    question(rope.as_mut())
 }

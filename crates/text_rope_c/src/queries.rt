@@ -14,7 +14,7 @@ use std::alloc::Global;
 #[unsafe(no_mangle)]
 pub extern "C" fn str_rope_len(alloc: Global, rope: &mut Slot) -> usize
     ensures answer { result ≡ size rope.old.text }
-    ensures same { rope.new.text ≡ rope.old.text }
+    ensures same { rope.new ≡ rope.old }
 {
     ask(alloc, rope, |text| text.len())
 }
@@ -23,7 +23,7 @@ pub extern "C" fn str_rope_len(alloc: Global, rope: &mut Slot) -> usize
 #[unsafe(no_mangle)]
 pub extern "C" fn str_rope_count(alloc: Global, rope: &mut Slot, scheme: u32) -> usize
     ensures answer { result ≡ count (scheme_of scheme) rope.old.text }
-    ensures same { rope.new.text ≡ rope.old.text }
+    ensures same { rope.new ≡ rope.old }
 {
     ask(alloc, rope, |text| text.count(scheme_at(scheme)))
 }
@@ -37,7 +37,7 @@ pub extern "C" fn str_rope_from_byte_idx(
     byte_idx: usize,
 ) -> usize
     ensures answer { result ≡ from_byte_idx (scheme_of scheme) rope.old.text byte_idx }
-    ensures same { rope.new.text ≡ rope.old.text }
+    ensures same { rope.new ≡ rope.old }
 {
     ask(
         alloc,
@@ -55,7 +55,7 @@ pub extern "C" fn str_rope_to_byte_idx(
     idx: usize,
 ) -> usize
     ensures answer { result ≡ to_byte_idx (scheme_of scheme) rope.old.text idx }
-    ensures same { rope.new.text ≡ rope.old.text }
+    ensures same { rope.new ≡ rope.old }
 {
     ask(alloc, rope, |text| text.to_byte_idx(scheme_at(scheme), idx))
 }
@@ -64,7 +64,7 @@ pub extern "C" fn str_rope_to_byte_idx(
 #[unsafe(no_mangle)]
 pub extern "C" fn str_rope_is_char_boundary(alloc: Global, rope: &mut Slot, byte_idx: usize) -> bool
     ensures answer { IsTrue result ↔ IsBoundary rope.old.text byte_idx }
-    ensures same { rope.new.text ≡ rope.old.text }
+    ensures same { rope.new ≡ rope.old }
 {
     ask(alloc, rope, |text| text.is_char_boundary(byte_idx))
 }

@@ -31,7 +31,7 @@ pub extern "C" fn str_rope_line_by(
 ) -> Bytes
     ensures start { result.start ≡ to_byte_idx (scheme_of (kind_of lines)) rope.old.text line_idx }
     ensures end { result.end ≡ line_end (kind_of lines) rope.old.text line_idx }
-    ensures same { rope.new.text ≡ rope.old.text }
+    ensures same { rope.new ≡ rope.old }
 {
     ask(alloc, rope, |text| line_of(text, kind_at(lines), line_idx))
 }
@@ -56,7 +56,7 @@ pub extern "C" fn str_rope_position_by(
     byte_idx: usize,
 ) -> Position
     ensures answer { result ≡ position_at (kind_of lines) (encoding_of encoding) rope.old.text byte_idx }
-    ensures same { rope.new.text ≡ rope.old.text }
+    ensures same { rope.new ≡ rope.old }
 {
     ask(
         alloc,
@@ -78,7 +78,7 @@ pub extern "C" fn str_rope_exact_position_by(
         → result ≡ position_at (kind_of lines) (encoding_of encoding) rope.old.text byte_idx }
     ensures none { ¬ (IsPlace (kind_of lines) rope.old.text byte_idx)
         → result ≡ record { line = 2 ^ 64 - 1; character = 2 ^ 64 - 1 } }
-    ensures same { rope.new.text ≡ rope.old.text }
+    ensures same { rope.new ≡ rope.old }
 {
     let place = ask(
         alloc,
@@ -102,7 +102,7 @@ pub extern "C" fn str_rope_byte_by(
 ) -> usize
     ensures answer { result ≡ byte_at (kind_of lines) (encoding_of encoding) rope.old.text position }
     ensures boundary { IsBoundary rope.old.text result }
-    ensures same { rope.new.text ≡ rope.old.text }
+    ensures same { rope.new ≡ rope.old }
 {
     ask(
         alloc,
@@ -122,7 +122,7 @@ pub extern "C" fn str_rope_range_by(
 ) -> Range
     ensures start { result.start ≡ position_at (kind_of lines) (encoding_of encoding) rope.old.text span.start }
     ensures end { result.end ≡ position_at (kind_of lines) (encoding_of encoding) rope.old.text span.end }
-    ensures same { rope.new.text ≡ rope.old.text }
+    ensures same { rope.new ≡ rope.old }
 {
     ask(
         alloc,

@@ -3,7 +3,7 @@ use Rattle.std.specs.Prelude.{is_err}
 use Rattle.text_rope_c.proofs.Emptied.{replaced_nil}
 use Rattle.text_rope_c.proofs.changes.insert_text.Goals as goal
 
-pub returns-in_ok-insert-in-None-clause-no_memory : goal.returns-in_ok-insert-in-None-clause-no_memory
-returns-in_ok-insert-in-None-clause-no_memory c = λ refused none.
+pub returns-then-is_null-clause-no_memory : goal.returns-then-is_null-clause-no_memory
+returns-then-is_null-clause-no_memory c = λ refused none.
     c.store.ensures.some (ap is_err refused)
-    (replaced_nil _ c.insert.new.self c.args.at c.args.at (chars c.args.text.now) c.new-whole.ensures c.in_ok-insert-in-None.ensures.ok none)
+    (replaced_nil _ c.insert.new.self c.args.at c.args.at (chars c.args.text.now) c.new-whole.ensures c.in_ok-insert.ensures.ok none)

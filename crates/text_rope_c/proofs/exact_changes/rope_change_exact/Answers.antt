@@ -8,7 +8,7 @@ use Rattle.text_summary.specs.Changes.{IsReplaced}
 use Rattle.text_rope.specs.declared.refusals.Refusal.TheVariants.{NoMemory, NotBoundary, TooLong}
 use Rattle.text_rope_c.specs.Numbers.{status_of}
 use Rattle.text_rope_c.proofs.Refused.{is_no_memory, is_no_place, is_too_long, on_done}
-use Rattle.text_rope_c.proofs.exact_changes.str_rope_change_exact.Goals as goal
+use Rattle.text_rope_c.proofs.exact_changes.rope_change_exact.Goals as goal
 use Rattle.positions.specs.declared.line_type.LineType.TheVariants.{Crlf}
 
 pub returns-in-Ok-clause-done : goal.returns-in-Ok-clause-done

@@ -1,0 +1,7 @@
+-- What is lent is read alone: the handle ends with the text that it had, in the same block.
+use Rattle.std.proofs.Common.{ap, ◌∙◌}
+use Rattle.text_rope_c.specs.Lends.{with_text}
+use Rattle.text_rope_c.proofs.handles.ask.Goals as goal
+
+pub returns-clause-same : goal.returns-clause-same
+returns-clause-same g c = ap (with_text c.is_null.new.self) c.as_mut.ensures.value ∙ c.is_null.ensures.told.1
