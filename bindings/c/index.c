@@ -4,7 +4,7 @@
  *
  * The proved functions read and write these structs, so each is as Rattle declares it:
  * struct counts as Counts in `crates/str_indices`, struct mark as Mark in
- * `crates/text_index`, struct str_index as Handle in `crates/text_index_c`, where a slice
+ * `crates/text_index`, struct str_index as IndexHandle in `crates/text_index_c`, where a slice
  * is an address and a number. Each question has one condition, that index_fill has made
  * the index and that its text and marks are as they were then. So no other function makes
  * one, and none changes one. This file is read and not proved.

@@ -29,7 +29,7 @@ WITHOUT_CHUNKS = {"is_utf8"}
 # each file of exports, how many the narrow half has there, and what one of its clauses is exchanged for
 FILES = [
     ("lib.rt", 17, ("count Lf ", "count Crlf ")),
-    ("text_positions.rt", 13, ("LineType.Crlf Utf8 ", "LineType.Crlf Utf16 ")),
+    ("text_positions.rt", 13, ("LineType.LfCr Utf8 ", "LineType.LfCr Utf16 ")),
 ]
 
 PERF = ROOT / "docs/PERF.md"

@@ -29,8 +29,8 @@ static void print(size_t from, size_t to, char mark)
 static str_index_line_type line_type(const char *word)
 {
     return strcmp(word, "lf") == 0      ? STR_INDEX_LINE_TYPE_LF
-           : strcmp(word, "lines") == 0 ? STR_INDEX_LINE_TYPE_LINES
-                                        : STR_INDEX_LINE_TYPE_CRLF;
+           : strcmp(word, "lines") == 0 ? STR_INDEX_LINE_TYPE_ALL
+                                        : STR_INDEX_LINE_TYPE_LF_CR;
 }
 
 static void report(const str_index *index, str_index_line_type lines, size_t from, size_t to)

@@ -90,11 +90,11 @@ typedef enum str_index_encoding {
 } str_index_encoding;
 
 /* Line break kinds. The first is the protocol's. A greater number counts as
- * STR_INDEX_LINE_TYPE_LINES. */
+ * STR_INDEX_LINE_TYPE_ALL. */
 typedef enum str_index_line_type {
-    STR_INDEX_LINE_TYPE_CRLF, /* LF, CR, and CR LF, which is one break */
+    STR_INDEX_LINE_TYPE_LF_CR, /* LF, CR, and CR LF, which is one break */
     STR_INDEX_LINE_TYPE_LF,   /* LF alone: a CR before it is of the line */
-    STR_INDEX_LINE_TYPE_LINES /* all line breaks of Unicode */
+    STR_INDEX_LINE_TYPE_ALL /* all line breaks of Unicode */
 } str_index_line_type;
 
 /* Whether an index was made. */
@@ -201,7 +201,7 @@ str_indices_bytes str_index_byte_range(const str_index *index,
                                        str_indices_range range);
 
 /*
- * Lines and positions by what ends a line. With STR_INDEX_LINE_TYPE_CRLF a
+ * Lines and positions by what ends a line. With STR_INDEX_LINE_TYPE_LF_CR a
  * line, a position and its byte are those of str_index_line,
  * str_index_position_of and str_index_byte_of.
  */

@@ -132,11 +132,11 @@ typedef enum str_rope_encoding {
 } str_rope_encoding;
 
 /* Line break kinds. The first is the protocol's. A greater number counts as
- * STR_ROPE_LINE_TYPE_LINES. */
+ * STR_ROPE_LINE_TYPE_ALL. */
 typedef enum str_rope_line_type {
-    STR_ROPE_LINE_TYPE_CRLF, /* LF, CR, and CR LF, which is one break */
+    STR_ROPE_LINE_TYPE_LF_CR, /* LF, CR, and CR LF, which is one break */
     STR_ROPE_LINE_TYPE_LF,   /* LF alone: a CR before it is of the line */
-    STR_ROPE_LINE_TYPE_LINES /* all line breaks of Unicode */
+    STR_ROPE_LINE_TYPE_ALL /* all line breaks of Unicode */
 } str_rope_line_type;
 
 /* Whether a call did what it was asked. Where two reasons hold, the status is
@@ -341,7 +341,7 @@ str_rope_change_exact(str_rope *rope, str_rope_encoding encoding,
                       str_indices_range range, const char *text, size_t len);
 
 /*
- * Lines and positions by what ends a line. With STR_ROPE_LINE_TYPE_CRLF the end
+ * Lines and positions by what ends a line. With STR_ROPE_LINE_TYPE_LF_CR the end
  * of a line, a position and its byte are those of str_rope_line_end,
  * str_rope_position_of and str_rope_byte_of.
  */

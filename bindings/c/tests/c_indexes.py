@@ -13,11 +13,11 @@ GLUE = ROOT / "bindings/c/index.c"
 PROVED = [ROOT / "crates" / path
           for path in ["str_indices/src/by_scheme.rt", "text_index/src/mark.rt", "text_index_c/src/handle.rt",
                        "text_index_c/src/making.rt"]]
-STRUCTS = {"counts": "Counts", "mark": "Mark", "str_index": "Handle"}
+STRUCTS = {"counts": "Counts", "mark": "Mark", "str_index": "IndexHandle"}
 FUNCTIONS = ["index_marks", "index_fill"]
 C_TYPES = {
     "usize": ["size_t"], "u32": ["uint32_t"], "[usize; 5]": ["size_t[5]"], "Counts": ["struct counts"],
-    "Mark": ["struct mark"], "&mut Handle": ["struct str_index *"],
+    "Mark": ["struct mark"], "&mut IndexHandle": ["struct str_index *"],
     "&[u8]": ["const char *", "size_t"], "&[Mark]": ["const struct mark *", "size_t"],
     "&mut [Mark]": ["struct mark *", "size_t"],
 }

@@ -335,7 +335,7 @@ static void ask_positions(str_rope *rope, const walk *on)
     size_t less = ends_with(on, "\r") && is_followed_by(on, '\n'), begin = on->starts[STR_ROPE_CHARS] - less;
     for (int number = 0; number < ENCODINGS; number++) {
         str_rope_encoding encoding = (str_rope_encoding)number;
-        str_indices_position right = position(on, STR_ROPE_LINE_TYPE_CRLF, number);
+        str_indices_position right = position(on, STR_ROPE_LINE_TYPE_LF_CR, number);
         str_indices_position answer = str_rope_position_of(rope, encoding, on->at);
         str_indices_range range = {right, right};
         str_indices_bytes bytes = str_rope_byte_range(rope, encoding, range);
@@ -344,7 +344,7 @@ static void ask_positions(str_rope *rope, const walk *on)
         same(str_rope_exact_byte_of(rope, encoding, right) == begin, "exact_byte_of", on->at);
         same(bytes.start == begin && bytes.end == begin, "byte_range", on->at);
     }
-    same(str_rope_line_end(rope, on->counts[STR_ROPE_CRLF]) == content_end(on, STR_ROPE_LINE_TYPE_CRLF), "line_end",
+    same(str_rope_line_end(rope, on->counts[STR_ROPE_CRLF]) == content_end(on, STR_ROPE_LINE_TYPE_LF_CR), "line_end",
          on->at);
     ask_lines_by(rope, on);
 }

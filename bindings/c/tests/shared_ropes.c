@@ -89,7 +89,7 @@ static void ask(struct found *found, const str_rope *rope, size_t at)
     size_t start = at * LINE;
     str_rope_chunk chunk;
     str_indices_position frog = {at, FROG}, after = {at, FROG + 2}, there;
-    str_indices_bytes bytes = str_rope_line_by(rope, STR_ROPE_LINE_TYPE_CRLF, at);
+    str_indices_bytes bytes = str_rope_line_by(rope, STR_ROPE_LINE_TYPE_LF_CR, at);
     same(found, bytes.start == start && bytes.end == start + CONTENT);
     same(found, str_rope_line_end(rope, at) == start + CONTENT);
     same(found, str_rope_to_byte_idx(rope, STR_ROPE_CRLF, at) == start);

@@ -98,10 +98,10 @@ impl<'a> TextIndex<'a> {
 ///
 /// # fn main() -> Result<(), str_indices_index::NoMemory> {
 /// let index = TextIndex::of("a\u{2028}b\r\nc")?;
-/// let lines = [LineType::Lf, LineType::Crlf, LineType::Lines].map(|lines| index.line_by(lines, 0));
+/// let lines = [LineType::Lf, LineType::LfCr, LineType::All].map(|lines| index.line_by(lines, 0));
 /// assert_eq!(lines, ["a\u{2028}b\r", "a\u{2028}b", "a"]);
 /// let here = Position { line: 1, character: 0 };
-/// assert_eq!(index.position_by(LineType::Lines, Encoding::Utf16, 4), here);
+/// assert_eq!(index.position_by(LineType::All, Encoding::Utf16, 4), here);
 /// # Ok(())
 /// # }
 /// ```
@@ -131,7 +131,7 @@ impl<'a> TextIndex<'a> {
     ///
     /// # fn main() -> Result<(), str_indices_index::NoMemory> {
     /// let index = TextIndex::of("a\r\n🐸")?;
-    /// let places = [1, 2, 3, 4].map(|byte| index.exact_position_by(LineType::Crlf, Encoding::Utf8, byte));
+    /// let places = [1, 2, 3, 4].map(|byte| index.exact_position_by(LineType::LfCr, Encoding::Utf8, byte));
     /// let at = |line, character| Some(Position { line, character });
     /// assert_eq!(places, [at(0, 1), None, at(1, 0), None]);
     /// # Ok(())

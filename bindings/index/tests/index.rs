@@ -136,7 +136,7 @@ fn worked_kinds_of_lines() {
     let at = |line, character| Position { line, character };
     for (lines, contents, positions, middle) in [
         (
-            LineType::Crlf,
+            LineType::LfCr,
             ["a\u{2028}b\u{C}c", "d", "e"],
             [at(0, 1), at(0, 3), at(1, 0), at(2, 0)],
             None,
@@ -148,7 +148,7 @@ fn worked_kinds_of_lines() {
             Some(at(0, 8)),
         ),
         (
-            LineType::Lines,
+            LineType::All,
             ["a", "b", "c"],
             [at(0, 1), at(1, 1), at(3, 0), at(4, 0)],
             None,

@@ -119,11 +119,11 @@ pub enum Scheme {
 pub enum LineType {
     /// LF, CR and CR LF, which is one break, as the protocol has it.
     #[default]
-    Crlf = 0,
+    LfCr = 0,
     /// LF alone: a CR before it is of the line.
     Lf = 1,
     /// The line breaks of Unicode: LF, VT, FF, CR, CR LF, U+0085, U+2028 and U+2029.
-    Lines = 2,
+    All = 2,
 }
 
 /// How an offset on a line is counted, on which a server and its client agree: the protocol's `PositionEncodingKind`. The
@@ -131,11 +131,11 @@ pub enum LineType {
 #[derive(Clone, Copy, Debug, Default, PartialEq, Eq, Hash)]
 #[repr(u32)]
 pub enum Encoding {
-    /// In bytes.
-    Utf8 = 1,
     /// In UTF-16 code units, the protocol's default.
     #[default]
     Utf16 = 0,
+    /// In bytes.
+    Utf8 = 1,
     /// In scalar values: each char is one.
     Utf32 = 2,
 }

@@ -138,10 +138,10 @@ impl Rope {
 ///
 /// # fn main() -> Result<(), str_rope::Error> {
 /// let rope: Rope = "a\u{2028}b\r\nc".parse()?;
-/// let lines = [LineType::Lf, LineType::Crlf, LineType::Lines].map(|lines| rope.line_by(lines, 0));
+/// let lines = [LineType::Lf, LineType::LfCr, LineType::All].map(|lines| rope.line_by(lines, 0));
 /// assert_eq!(lines, [0..6, 0..5, 0..1]);
 /// let here = Position { line: 1, character: 0 };
-/// assert_eq!(rope.position_by(LineType::Lines, Encoding::Utf16, 4), here);
+/// assert_eq!(rope.position_by(LineType::All, Encoding::Utf16, 4), here);
 /// # Ok(())
 /// # }
 /// ```
@@ -170,7 +170,7 @@ impl Rope {
     ///
     /// # fn main() -> Result<(), str_rope::Error> {
     /// let rope: Rope = "a\r\n🐸".parse()?;
-    /// let places = [1, 2, 3, 4].map(|byte| rope.exact_position_by(LineType::Crlf, Encoding::Utf8, byte));
+    /// let places = [1, 2, 3, 4].map(|byte| rope.exact_position_by(LineType::LfCr, Encoding::Utf8, byte));
     /// let at = |line, character| Some(Position { line, character });
     /// assert_eq!(places, [at(0, 1), None, at(1, 0), None]);
     /// # Ok(())

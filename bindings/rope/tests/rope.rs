@@ -297,7 +297,7 @@ fn worked_kinds_of_lines() {
             Some(at(0, 8)),
         ),
         (
-            LineType::Lines,
+            LineType::All,
             [0..1, 4..5, 6..7],
             [at(0, 1), at(1, 1), at(3, 0), at(4, 0)],
             None,

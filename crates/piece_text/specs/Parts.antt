@@ -22,7 +22,7 @@ pub record IsPlaced (s : Scheme) (texts : List Text) (placed : Placed) : Type 0 
   pub own_is : placed.own ≡ summary_of (piece_at texts placed.piece)
   pub some : piece_at texts placed.piece ≢ []
 
--- the byte is not before the piece, and not behind it unless it is the last
+-- the byte is not before the piece, and not after it unless it is the last
 pub record HasPlace (s : Scheme) (texts : List Text) (placed : Placed) (byte : ℕ) : Type 0 where
   pub is : IsPlaced s texts placed
   pub after : placed.before.len ≤ byte
@@ -50,10 +50,10 @@ abbrev pub parts_of : PiecesState → PartsState
 parts_of state = record {
   text = joined state.texts;
   pieces = state.texts;
-  begins = λ byte. byte;
-  by_byte = 2 ^ length state.texts;
-  by_count = 2 ^ length state.texts;
-  apart = 1;
+  latest_start = λ byte. byte;
+  byte_choices = 2 ^ length state.texts;
+  count_choices = 2 ^ length state.texts;
+  unit_searches = 1;
   looks = state.looks;
   reads = state.reads;
 }

@@ -18,8 +18,8 @@ use Rattle.piece_text.specs.declared.ranges.PieceRange.{PieceRange}
 pub record IsRunAt (texts : List Text) (first : ℕ) (run : Run) : Type 0 where
   pub before : List Text
   pub own : List Text
-  pub behind : List Text
-  pub split : texts ≡ before ++ (own ++ behind)
+  pub after : List Text
+  pub split : texts ≡ before ++ (own ++ after)
   pub place : length before ≡ first
   pub is : IsRun run own
 

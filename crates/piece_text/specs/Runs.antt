@@ -34,9 +34,9 @@ pub record IsSwap (old new : List Text) (at : ℕ) (swap : Swap) : Type 0 where
   pub before : List Text
   pub gone : List Text
   pub come : List Text
-  pub behind : List Text
-  pub was : old ≡ before ++ (gone ++ behind)
-  pub is : new ≡ before ++ (come ++ behind)
+  pub after : List Text
+  pub was : old ≡ before ++ (gone ++ after)
+  pub is : new ≡ before ++ (come ++ after)
   pub place : length before ≡ at
   pub gone_count : length gone ≡ swap.gone
   pub come_count : length come ≡ swap.come

@@ -10,8 +10,8 @@ use Rattle.piece_text.specs.Pieces.{joined_size}
 -- some first pieces end at the byte index
 pub record IsEdge (texts : List Text) (byte : ℕ) : Type 0 where
   pub before : List Text
-  pub behind : List Text
-  pub split : texts ≡ before ++ behind
+  pub after : List Text
+  pub split : texts ≡ before ++ after
   pub place : joined_size before ≡ byte
 
 -- the text is a and then b, neither is empty, and a takes `at` bytes
@@ -27,9 +27,9 @@ pub record IsCut (old new : List Text) (byte : ℕ) : Type 0 where
   pub text : Text
   pub left : Text
   pub right : Text
-  pub behind : List Text
-  pub was : old ≡ before ++ text ∷ behind
-  pub is : new ≡ before ++ left ∷ right ∷ behind
+  pub after : List Text
+  pub was : old ≡ before ++ text ∷ after
+  pub is : new ≡ before ++ left ∷ right ∷ after
   pub at : ℕ
   pub halved : IsHalved text left right at
   pub place : joined_size before + at ≡ byte

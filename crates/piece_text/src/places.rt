@@ -31,15 +31,15 @@ pub(crate) fn piece_round(p: &mut Pieces, s: Scheme, b: usize) -> Placed
     let mut front = range.front;
     for i in range.first..last {
         let own = p.summary(i);
-        let behind = front.look(s, own).behind;
-        if b < behind.len {
+        let after = front.step(s, own).after;
+        if b < after.len {
             return Placed {
                 piece: i,
                 before: front,
                 own,
             };
         }
-        front = behind;
+        front = after;
     }
     Placed {
         piece: last,
@@ -68,8 +68,8 @@ pub(crate) fn piece_up_to(p: &mut Pieces, s: Scheme, k: usize) -> Placed
     };
     for i in range.first..range.end {
         let own = p.summary(i);
-        let look = front.look(s, own);
-        if k <= look.reached {
+        let step = front.step(s, own);
+        if k <= step.reached {
             return last;
         }
         last = Placed {
@@ -77,7 +77,7 @@ pub(crate) fn piece_up_to(p: &mut Pieces, s: Scheme, k: usize) -> Placed
             before: front,
             own,
         };
-        front = look.behind;
+        front = step.after;
     }
     last
 }

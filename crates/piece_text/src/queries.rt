@@ -6,7 +6,7 @@ ghost use Rattle.text_summary.specs.Fronts.{IsFront};
 
 use crate::ranges::{past_runs, range_for, range_round};
 use crate::{Pieces, Scheme};
-use text_summary::{Front, Look};
+use text_summary::{Front, Step};
 
 /// A piece, where it starts in the joined text, and the index to ask for in it.
 #[derive(Clone, Copy)]
@@ -27,7 +27,7 @@ pub fn count_in(p: &mut Pieces, s: Scheme) -> usize
     let rest = past_runs(p, s);
     let mut front = rest.front;
     for i in rest.first..rest.end {
-        front = look_at(p, s, i, front).behind;
+        front = step_over(p, s, i, front).after;
     }
     front.total
 }
@@ -45,11 +45,11 @@ pub fn from_in(p: &mut Pieces, s: Scheme, b: usize) -> usize
     let range = range_round(p, s, b);
     let mut front = range.front;
     for i in range.first..range.end {
-        let look = look_at(p, s, i, front);
-        if b < look.behind.len {
-            return look.reached + s.from_byte_idx(p.text(i), b - front.len);
+        let step = step_over(p, s, i, front);
+        if b < step.after.len {
+            return step.reached + s.from_byte_idx(p.text(i), b - front.len);
         }
-        front = look.behind;
+        front = step.after;
     }
     front.total
 }
@@ -92,29 +92,29 @@ fn piece_for(p: &mut Pieces, s: Scheme, k: usize) -> Asked
         index: 0,
     };
     for i in range.first..range.end {
-        let look = look_at(p, s, i, front);
-        if k <= look.reached {
+        let step = step_over(p, s, i, front);
+        if k <= step.reached {
             return asked;
         }
         asked = Asked {
             piece: i,
             start: front.len,
-            index: k - look.reached,
+            index: k - step.reached,
         };
-        front = look.behind;
+        front = step.after;
     }
     asked
 }
 
-/// Looks at piece `i`.
-fn look_at(p: &mut Pieces, s: Scheme, i: usize, front: Front) -> Look
+/// Steps over piece `i`, for one look.
+fn step_over(p: &mut Pieces, s: Scheme, i: usize, front: Front) -> Step
     requires inside { i < length p.old.texts }
     requires front { IsFront s (joined (take i p.old.texts)) front }
     ensures state { p.new ≡ record p.old { looks = p.old.looks + 1 } }
     ensures some { piece_at p.old.texts i ≢ [] }
     ensures reached { result.reached ≤ front.total }
-    ensures behind { IsFront s (joined (take (i + 1) p.old.texts)) result.behind }
-    ensures from_here { (b : ℕ) → front.len ≤ b → b < result.behind.len →
+    ensures after { IsFront s (joined (take (i + 1) p.old.texts)) result.after }
+    ensures from_here { (b : ℕ) → front.len ≤ b → b < result.after.len →
         from_byte_idx s (joined p.old.texts) b
         ≡ result.reached + from_byte_idx s (piece_at p.old.texts i) (b - front.len) }
     ensures to_reached { (k : ℕ) → k ≤ result.reached →
@@ -125,5 +125,5 @@ fn look_at(p: &mut Pieces, s: Scheme, i: usize, front: Front) -> Look
         ≡ front.len + to_byte_idx s (piece_at p.old.texts i) (k - result.reached) }
 {
     let piece = p.summary(i);
-    front.look(s, piece)
+    front.step(s, piece)
 }

@@ -85,12 +85,12 @@ pub(crate) fn range_round(p: &mut Pieces, s: Scheme, b: usize) -> PieceRange
         if end == all {
             return PieceRange { first, end, front };
         }
-        let behind = pass(p, s, first, front, run);
-        if b < behind.len {
+        let after = pass(p, s, first, front, run);
+        if b < after.len {
             return PieceRange { first, end, front };
         }
         first = end;
-        front = behind;
+        front = after;
     }
     PieceRange {
         first,
@@ -126,8 +126,8 @@ pub(crate) fn range_for(p: &mut Pieces, s: Scheme, k: usize) -> PieceRange
                 front,
             };
         }
-        let behind = pass(p, s, first, front, run);
-        if k <= behind.total {
+        let after = pass(p, s, first, front, run);
+        if k <= after.total {
             return PieceRange {
                 first,
                 end: end + 1,
@@ -135,7 +135,7 @@ pub(crate) fn range_for(p: &mut Pieces, s: Scheme, k: usize) -> PieceRange
             };
         }
         first = end;
-        front = behind;
+        front = after;
     }
     PieceRange {
         first,
@@ -149,8 +149,8 @@ fn pass(p: &mut Pieces, s: Scheme, first: usize, front: Front, run: &Run) -> Fro
     requires run { IsRunAt p.old.texts first run.now }
     requires front { IsFront s (joined (take first p.old.texts)) front }
     ensures state { p.new ≡ record p.old { looks = p.old.looks + 1 } }
-    ensures behind { IsFront s (joined (take (first + run.now.pieces) p.old.texts)) result }
+    ensures after { IsFront s (joined (take (first + run.now.pieces) p.old.texts)) result }
 {
     let whole = p.whole(run);
-    front.look(s, whole).behind
+    front.step(s, whole).after
 }

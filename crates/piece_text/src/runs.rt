@@ -155,8 +155,8 @@ impl Runs {
     {
         let all = self.runs.len();
         let mut end = self.pieces;
-        for behind in 0..all {
-            let r = all - 1 - behind;
+        for after in 0..all {
+            let r = all - 1 - after;
             let first = end - self.runs[r].pieces;
             if first <= at {
                 return (r, first);

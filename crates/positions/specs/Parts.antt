@@ -2,7 +2,7 @@
 --     PartsState                  a text in parts, as contracts see it
 --     IsSearched state            the bounds of both searches are at least 1, which is 2 to the power of no look
 --     Searched bytes counts old new   at most `bytes` searches by a byte, and `counts` by a count
---     HasOwn l e text own         the counts of a part of a text
+--     HasPartCounts l e text counts   the counts of a part of a text
 --     IsPart text l e part        a part of the text, and what is counted before it
 --     HasByte text byte part      a byte is in the part
 --     HasLine text l line part    a line begins in the part
@@ -15,48 +15,48 @@ use Rattle.positions.specs.Encodings.{units_of}
 use Rattle.positions.specs.declared.encodings.Encoding.{Encoding}
 use Rattle.positions.specs.Lines.{scheme_of}
 use Rattle.positions.specs.declared.line_type.LineType.{LineType}
-use Rattle.positions.specs.declared.parts.Own.{Own}
+use Rattle.positions.specs.declared.parts.PartCounts.{PartCounts}
 use Rattle.positions.specs.declared.parts.Part.{Part}
 
--- a text in parts, as contracts see it: the text, and the pieces that it is kept in; `begins` is the latest place where the
--- part of a byte begins; 2 to the power of the looks of a search is at most `by_byte` where it goes by a byte, and `by_count`
--- where by a count; `apart` is how many searches by a byte find the units before a part, 0 where the part has them; and how
--- many looks and reads there were
+-- a text in parts, as contracts see it: the text, and the pieces that it is kept in; the part of `byte` starts at or before
+-- `latest_start byte`; a search by a byte chooses among at most `byte_choices`, one by a count among at most `count_choices`,
+-- and each look halves them; the units before a part are found by `unit_searches` searches by a byte, 0 where the part has
+-- them; and how many looks and reads there were
 pub record PartsState : Type 0 where
   pub text : Text
   pub pieces : List Text
-  pub begins : ℕ → ℕ
-  pub by_byte : ℕ
-  pub by_count : ℕ
-  pub apart : ℕ
+  pub latest_start : ℕ → ℕ
+  pub byte_choices : ℕ
+  pub count_choices : ℕ
+  pub unit_searches : ℕ
   pub looks : ℕ
   pub reads : ℕ
 
 -- the bounds of both searches are at least 1, which is 2 to the power of no look
 pub record IsSearched (state : PartsState) : Type 0 where
-  pub by_byte : 0 < state.by_byte
-  pub by_count : 0 < state.by_count
+  pub byte_choices : 0 < state.byte_choices
+  pub count_choices : 0 < state.count_choices
 
 -- at most `bytes` searches by a byte and `counts` by a count, each of which reads one part; the text and its pieces
 -- stay
 pub record Searched (bytes counts : ℕ) (old new : PartsState) : Type 0 where
   pub text : new.text ≡ old.text
   pub pieces : new.pieces ≡ old.pieces
-  pub begins : new.begins ≡ old.begins
-  pub by_byte : new.by_byte ≡ old.by_byte
-  pub by_count : new.by_count ≡ old.by_count
-  pub apart : new.apart ≡ old.apart
-  pub looks : 2 ^ (new.looks - old.looks) ≤ (old.by_byte ^ bytes) * (old.by_count ^ counts)
+  pub latest_start : new.latest_start ≡ old.latest_start
+  pub byte_choices : new.byte_choices ≡ old.byte_choices
+  pub count_choices : new.count_choices ≡ old.count_choices
+  pub unit_searches : new.unit_searches ≡ old.unit_searches
+  pub looks : 2 ^ (new.looks - old.looks) ≤ (old.byte_choices ^ bytes) * (old.count_choices ^ counts)
   pub looks_kept : old.looks ≤ new.looks
   pub reads : new.reads ≤ old.reads + bytes + counts
   pub reads_kept : old.reads ≤ new.reads
 
 -- the counts of a part of a text: its chars, units, LFs and line breaks
-pub record HasOwn (l : LineType) (e : Encoding) (text : Text) (own : Own) : Type 0 where
-  pub chars : own.chars ≡ count Chars text
-  pub units : own.units ≡ sum_by (units_of e) text
-  pub lf : own.lf ≡ count Lf text
-  pub breaks : own.breaks ≡ count (scheme_of l) text
+pub record HasPartCounts (l : LineType) (e : Encoding) (text : Text) (counts : PartCounts) : Type 0 where
+  pub chars : counts.chars ≡ count Chars text
+  pub units : counts.units ≡ sum_by (units_of e) text
+  pub lf : counts.lf ≡ count Lf text
+  pub breaks : counts.breaks ≡ count (scheme_of l) text
 
 -- the text before the part, the part, and the text after it; and the counts of the text before the part and in it
 pub record IsPart (text : Text) (l : LineType) (e : Encoding) (part : Part) : Type 0 where
@@ -67,7 +67,7 @@ pub record IsPart (text : Text) (l : LineType) (e : Encoding) (part : Part) : Ty
   pub lines : part.lines ≡ from_byte_idx (scheme_of l) text part.start
   pub units : IfSome part.units (λ n. n ≡ weighed (units_of e) text part.start)
   pub in_crlf : IsTrue part.in_crlf ↔ IsCrlfMiddle text part.start
-  pub own : IfSome part.own (HasOwn l e (chars part.text.now))
+  pub counts : IfSome part.counts (HasPartCounts l e (chars part.text.now))
 
 -- the byte is not before the part, and not after it unless the text ends with the part
 pub record HasByte (text : Text) (byte : ℕ) (part : Part) : Type 0 where

@@ -10,10 +10,10 @@ use std::ops;
 /// agree on one.
 #[derive(Clone, Copy, PartialEq, Eq, Debug)]
 pub enum Encoding {
-    /// In bytes.
-    Utf8,
     /// In UTF-16 code units, the protocol's default.
     Utf16,
+    /// In bytes.
+    Utf8,
     /// In scalar values.
     Utf32,
 }
@@ -24,7 +24,7 @@ impl Encoding {
     /// A byte inside a char has the position where the char begins, the byte between CR and LF that of the line's end,
     /// and a byte past the end that of the text's end.
     pub fn position_of(self, text: &str, byte: usize) -> Position
-        ensures { result ≡ position_at LineType.Crlf self (chars text.now) byte }
+        ensures { result ≡ position_at LineType.LfCr self (chars text.now) byte }
     {
         self.position_of_impl::<Chunk>(text, byte)
     }
@@ -36,7 +36,7 @@ impl Encoding {
     ///
     /// The text may be sliced at the answer.
     pub fn byte_of(self, text: &str, position: Position) -> usize
-        ensures answer { result ≡ byte_at LineType.Crlf self (chars text.now) position }
+        ensures answer { result ≡ byte_at LineType.LfCr self (chars text.now) position }
         ensures boundary { IsCharBoundary text.now result }
     {
         self.byte_of_impl::<Chunk>(text, position)
@@ -48,7 +48,7 @@ impl Encoding {
     ///
     /// The text may be sliced at the answer.
     pub fn exact_byte_of(self, text: &str, position: Position) -> Option<usize>
-        ensures answer { result ≡ exact_byte_at LineType.Crlf self (chars text.now) position }
+        ensures answer { result ≡ exact_byte_at LineType.LfCr self (chars text.now) position }
         ensures boundary { IfSome result (λ byte. IsCharBoundary text.now byte) }
     {
         self.exact_byte_of_impl::<Chunk>(text, position)
@@ -59,7 +59,7 @@ impl Encoding {
     ///
     /// The text may be sliced at the answer.
     pub fn byte_range(self, text: &str, range: Range) -> Option<ops::Range<usize>>
-        ensures answer { result ≡ byte_range_at LineType.Crlf self (chars text.now) range }
+        ensures answer { result ≡ byte_range_at LineType.LfCr self (chars text.now) range }
         ensures ordered { IfSome result (λ bytes. bytes.start ≤ bytes.end) }
         ensures boundaries { IfSome result (λ bytes.
             IsCharBoundary text.now bytes.start × IsCharBoundary text.now bytes.end) }
@@ -69,25 +69,25 @@ impl Encoding {
 
     /// Converts a byte index to a position, as [`Encoding::position_of`], over chunks of any type.
     pub fn position_of_impl<T: ByteChunk>(self, text: &str, byte: usize) -> Position
-        ensures { result ≡ position_at LineType.Crlf self (chars text.now) byte }
+        ensures { result ≡ position_at LineType.LfCr self (chars text.now) byte }
     {
-        queries::position_of(&mut Whole::<T>::of(text), LineType::Crlf, self, byte)
+        queries::position_of(&mut Whole::<T>::of(text), LineType::LfCr, self, byte)
     }
 
     /// Converts a position to a byte index, as [`Encoding::byte_of`], over chunks of any type.
     pub fn byte_of_impl<T: ByteChunk>(self, text: &str, position: Position) -> usize
-        ensures answer { result ≡ byte_at LineType.Crlf self (chars text.now) position }
+        ensures answer { result ≡ byte_at LineType.LfCr self (chars text.now) position }
         ensures boundary { IsCharBoundary text.now result }
     {
-        queries::byte_of(&mut Whole::<T>::of(text), LineType::Crlf, self, position)
+        queries::byte_of(&mut Whole::<T>::of(text), LineType::LfCr, self, position)
     }
 
     /// Converts a position that names a place to a byte index, as [`Encoding::exact_byte_of`], over chunks of any type.
     pub fn exact_byte_of_impl<T: ByteChunk>(self, text: &str, position: Position) -> Option<usize>
-        ensures answer { result ≡ exact_byte_at LineType.Crlf self (chars text.now) position }
+        ensures answer { result ≡ exact_byte_at LineType.LfCr self (chars text.now) position }
         ensures boundary { IfSome result (λ byte. IsCharBoundary text.now byte) }
     {
-        queries::exact_byte_of(&mut Whole::<T>::of(text), LineType::Crlf, self, position)
+        queries::exact_byte_of(&mut Whole::<T>::of(text), LineType::LfCr, self, position)
     }
 
     /// Converts a range to byte indices, as [`Encoding::byte_range`], over chunks of any type.
@@ -96,11 +96,11 @@ impl Encoding {
         text: &str,
         range: Range,
     ) -> Option<ops::Range<usize>>
-        ensures answer { result ≡ byte_range_at LineType.Crlf self (chars text.now) range }
+        ensures answer { result ≡ byte_range_at LineType.LfCr self (chars text.now) range }
         ensures ordered { IfSome result (λ bytes. bytes.start ≤ bytes.end) }
         ensures boundaries { IfSome result (λ bytes.
             IsCharBoundary text.now bytes.start × IsCharBoundary text.now bytes.end) }
     {
-        queries::byte_range(&mut Whole::<T>::of(text), LineType::Crlf, self, range)
+        queries::byte_range(&mut Whole::<T>::of(text), LineType::LfCr, self, range)
     }
 }

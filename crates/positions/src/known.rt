@@ -25,8 +25,8 @@ impl Part<'_> {
         ensures { (cs : Text) (l : LineType) (e : Encoding) → IsPart cs l e self.now → IsTrue result
             → count (scheme_of l) (chars self.now.text.now) ≤ line - self.now.lines }
     {
-        match &self.own {
-            Some(own) => own.breaks <= line.saturating_sub(self.lines),
+        match &self.counts {
+            Some(counts) => counts.breaks <= line.saturating_sub(self.lines),
             None => false,
         }
     }
@@ -36,8 +36,8 @@ impl Part<'_> {
         ensures { (cs : Text) (l : LineType) (e : Encoding) → IsPart cs l e self.now → IsTrue result
             → sum_by (units_of e) (chars self.now.text.now) ≤ units }
     {
-        match &self.own {
-            Some(own) => own.units <= units,
+        match &self.counts {
+            Some(counts) => counts.units <= units,
             None => false,
         }
     }
@@ -48,12 +48,12 @@ impl Part<'_> {
         ensures { (cs : Text) (l : LineType) → IsPart cs l encoding self.now
             → HasSameUnits encoding result (chars self.now.text.now) }
     {
-        let Some(own) = &self.own else {
+        let Some(counts) = &self.counts else {
             return encoding;
         };
-        if own.units == len_of(self.text) {
+        if counts.units == len_of(self.text) {
             Encoding::Utf8
-        } else if own.units == own.chars {
+        } else if counts.units == counts.chars {
             Encoding::Utf32
         } else {
             encoding
@@ -62,8 +62,8 @@ impl Part<'_> {
 
     /// Whether the part may be ASCII, as far as is known.
     fn may_be_ascii(&self) -> bool {
-        match &self.own {
-            Some(own) => own.chars == len_of(self.text),
+        match &self.counts {
+            Some(counts) => counts.chars == len_of(self.text),
             None => true,
         }
     }
@@ -73,8 +73,8 @@ impl Part<'_> {
         ensures { (cs : Text) (e : Encoding) → IsPart cs lines e self.now
             → HasSameBreaks lines result (chars self.now.text.now) }
     {
-        match &self.own {
-            Some(own) if own.lf == own.breaks => LineType::Lf,
+        match &self.counts {
+            Some(counts) if counts.lf == counts.breaks => LineType::Lf,
             _ => lines,
         }
     }

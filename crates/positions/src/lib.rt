@@ -33,7 +33,7 @@ mod whole;
 
 pub use encodings::Encoding;
 pub use line_type::LineType;
-pub use parts::{Own, Part, Parts};
+pub use parts::{Part, PartCounts, Parts};
 pub use queries::{byte_of, byte_range, exact_byte_of, position_of};
 pub use spans::{exact_position_of, range_of};
 pub use starts::{line, line_end};

@@ -10,12 +10,12 @@ use str_indices::Scheme;
 /// A kind of line break.
 #[derive(Clone, Copy, PartialEq, Eq, Debug)]
 pub enum LineType {
+    /// LF, CR or CRLF, as the Language Server Protocol has it.
+    LfCr,
     /// LF alone: a CR before it belongs to the line's content.
     Lf,
-    /// LF, CR or CRLF, as the Language Server Protocol has it.
-    Crlf,
     /// LF, VT, FF, CR, CRLF, U+0085, U+2028 or U+2029.
-    Lines,
+    All,
 }
 
 impl LineType {
@@ -25,8 +25,8 @@ impl LineType {
     {
         match self {
             LineType::Lf => Scheme::Lf,
-            LineType::Crlf => Scheme::Crlf,
-            LineType::Lines => Scheme::Lines,
+            LineType::LfCr => Scheme::Crlf,
+            LineType::All => Scheme::Lines,
         }
     }
 
@@ -55,7 +55,7 @@ impl LineType {
     {
         match self {
             LineType::Lf => false,
-            LineType::Crlf | LineType::Lines => true,
+            LineType::LfCr | LineType::All => true,
         }
     }
 }

@@ -35,10 +35,10 @@ pub(crate) fn line_start<T: ByteChunk>(
     let mut window = FIRST_WINDOW;
     'windows: loop {
         let from = char_start(text, byte.saturating_sub(window));
-        let behind = from_byte(text, from);
-        let breaks = from_byte_idx::<T>(scheme, behind, byte - from);
+        let rest = from_byte(text, from);
+        let breaks = from_byte_idx::<T>(scheme, rest, byte - from);
         if from == 0 || breaks > 0 {
-            return from + to_byte_idx::<T>(scheme, behind, breaks);
+            return from + to_byte_idx::<T>(scheme, rest, breaks);
         }
         window = window.saturating_mul(8);
     }

@@ -4,7 +4,7 @@ ghost use Rattle.str_indices.specs.Relations.{IsCrlfMiddle};
 ghost use Rattle.str_indices.specs.Text.{Text, size};
 ghost use Rattle.positions.specs.declared.encodings.Encoding.{Encoding};
 ghost use Rattle.positions.specs.Parts.{IsPart};
-ghost use Rattle.positions.specs.Lines.{IsReturnBehind};
+ghost use Rattle.positions.specs.Lines.{IsCrlfOffset};
 ghost use Rattle.positions.specs.declared.line_type.LineType.{LineType};
 
 use crate::{LineType, Part};
@@ -33,10 +33,10 @@ pub(crate) fn is_middle_in(part: &Part<'_>, at: usize) -> bool
 }
 
 /// Returns 1 if the place `at` in a part is between a CR that begins a line break and LF, otherwise 0.
-pub(crate) fn return_behind(lines: LineType, part: &Part<'_>, at: usize) -> usize
+pub(crate) fn crlf_offset(lines: LineType, part: &Part<'_>, at: usize) -> usize
     ensures { (cs : Text) (l : LineType) (e : Encoding) → IsPart cs l e part.now
         → (at < size (chars part.now.text.now)) ⊎ (part.now.start + size (chars part.now.text.now) ≡ size cs)
-        → IsReturnBehind lines cs (part.now.start + at) result }
+        → IsCrlfOffset lines cs (part.now.start + at) result }
 {
     if lines.ends_at_return() && is_middle_in(part, at) {
         1

@@ -23,12 +23,12 @@ pub struct Part<'a> {
     /// Whether it starts between CR and LF.
     pub in_crlf: bool,
     /// The counts of the part itself, where the text knows them without reading the part.
-    pub own: Option<Own>,
+    pub counts: Option<PartCounts>,
 }
 
 /// The counts of a part.
 #[derive(Clone, Copy)]
-pub struct Own {
+pub struct PartCounts {
     /// How many chars.
     pub chars: usize,
     /// How many units of the encoding asked for.
@@ -61,8 +61,8 @@ pub trait Parts<'a> {
     fn part_of_byte(&mut self, lines: LineType, encoding: Encoding, byte: usize) -> Part<'a>
         ensures part { IsPart (state self.old).text lines encoding result }
         ensures round { HasByte (state self.old).text byte result }
-        ensures start { result.start ≤ (state self.old).begins byte }
-        ensures units { (state self.old).apart ≡ 0 → IsSome result.units }
+        ensures start { result.start ≤ (state self.old).latest_start byte }
+        ensures units { (state self.old).unit_searches ≡ 0 → IsSome result.units }
         ensures cost { Searched 1 0 (state self.old) (state self.new) };
 
     /// The part in which a line begins: after its start, or at the text's start. A line past the last one is in the last
@@ -70,7 +70,7 @@ pub trait Parts<'a> {
     fn part_of_line(&mut self, lines: LineType, encoding: Encoding, line: usize) -> Part<'a>
         ensures part { IsPart (state self.old).text lines encoding result }
         ensures round { HasLine (state self.old).text lines line result }
-        ensures units { (state self.old).apart ≡ 0 → IsSome result.units }
+        ensures units { (state self.old).unit_searches ≡ 0 → IsSome result.units }
         ensures cost { Searched 0 1 (state self.old) (state self.new) };
 
     /// The units of the chars before a byte index.

@@ -5,12 +5,12 @@ ghost use Rattle.text_summary.specs.Fronts.{IsFollowed, IsFront};
 ghost use Rattle.text_summary.specs.Summaries.{summary_of};
 ghost use Rattle.positions.specs.Encodings.{units_of};
 ghost use Rattle.positions.specs.Lines.{scheme_of};
-ghost use Rattle.positions.specs.Parts.{HasOwn, IsPart};
+ghost use Rattle.positions.specs.Parts.{HasPartCounts, IsPart};
 ghost use Rattle.positions.specs.Units.{unit_scheme};
 ghost use Rattle.positions.specs.declared.encodings.Encoding.{Encoding};
 ghost use Rattle.positions.specs.declared.line_type.LineType.{LineType};
 
-use crate::{Encoding, LineType, Own, Part, unit_scheme};
+use crate::{Encoding, LineType, Part, PartCounts, unit_scheme};
 use text_summary::{Front, Summary};
 
 impl<'a> Part<'a> {
@@ -26,11 +26,11 @@ impl<'a> Part<'a> {
             lines: 0,
             units: Some(0),
             in_crlf: false,
-            own: None,
+            counts: None,
         }
     }
 
-    /// The part that a piece is, by its summary `own` and what is known of the text before it. It comes with the units before
+    /// The part that a piece is, by its summary and what is known of the text before it. It comes with the units before
     /// it only if these are bytes, or nothing is before it.
     #[inline(always)]
     pub fn of_piece(
@@ -38,47 +38,47 @@ impl<'a> Part<'a> {
         encoding: Encoding,
         text: &'a str,
         before: &Front,
-        own: &Summary,
+        summary: &Summary,
     ) -> Part<'a>
-        requires own { own.now ≡ summary_of (chars text.now) }
-        requires followed { IsFollowed (scheme_of lines) before.now own.now }
+        requires summary { summary.now ≡ summary_of (chars text.now) }
+        requires followed { IsFollowed (scheme_of lines) before.now summary.now }
         ensures part { (front back : Text) → IsFront (scheme_of lines) front before.now →
             IsPart (front ++ (chars text.now ++ back)) lines encoding result }
         ensures start { result.start ≡ before.now.len }
         ensures text { chars result.text.now ≡ chars text.now }
-        ensures counts { IsSome result.own }
+        ensures counts { IsSome result.counts }
         ensures units { IsSome result.units ↔ ((unit_scheme encoding ≡ None) ⊎ (before.now.len ≡ 0)) }
     {
         Part {
             text,
             start: before.len,
-            lines: before.look(lines.scheme(), *own).reached,
+            lines: before.step(lines.scheme(), *summary).reached,
             units: units_in(encoding, before.len),
-            in_crlf: is_between(before, own),
-            own: Some(own_in(lines, encoding, own)),
+            in_crlf: is_between(before, summary),
+            counts: Some(part_counts(lines, encoding, summary)),
         }
     }
 }
 
 /// The counts of a piece, taken from its summary.
-fn own_in(lines: LineType, encoding: Encoding, own: &Summary) -> Own
-    ensures { (cs : Text) → own.now ≡ summary_of cs → HasOwn lines encoding cs result }
+fn part_counts(lines: LineType, encoding: Encoding, summary: &Summary) -> PartCounts
+    ensures { (cs : Text) → summary.now ≡ summary_of cs → HasPartCounts lines encoding cs result }
 {
-    Own {
-        chars: own.chars,
-        units: own_units(encoding, own),
-        lf: own.lf,
-        breaks: own.count(lines.scheme()),
+    PartCounts {
+        chars: summary.chars,
+        units: count_units(encoding, summary),
+        lf: summary.lf,
+        breaks: summary.count(lines.scheme()),
     }
 }
 
-/// How many units of an encoding it has.
-fn own_units(encoding: Encoding, own: &Summary) -> usize
-    ensures { (cs : Text) → own.now ≡ summary_of cs → result ≡ sum_by (units_of encoding) cs }
+/// Counts the units of a piece, by its summary.
+fn count_units(encoding: Encoding, summary: &Summary) -> usize
+    ensures { (cs : Text) → summary.now ≡ summary_of cs → result ≡ sum_by (units_of encoding) cs }
 {
     match unit_scheme(encoding) {
-        None => own.len,
-        Some(s) => own.count(s),
+        None => summary.len,
+        Some(s) => summary.count(s),
     }
 }
 
@@ -94,8 +94,8 @@ fn units_in(encoding: Encoding, bytes: usize) -> Option<usize>
 }
 
 /// Whether a text ends in CR, and LF comes after it.
-fn is_between(before: &Front, own: &Summary) -> bool
-    ensures { IsTrue result ↔ ((before.now.ends_cr ≡ true) × (own.now.starts_lf ≡ true)) }
+fn is_between(before: &Front, summary: &Summary) -> bool
+    ensures { IsTrue result ↔ ((before.now.ends_cr ≡ true) × (summary.now.starts_lf ≡ true)) }
 {
-    before.ends_cr && own.starts_lf
+    before.ends_cr && summary.starts_lf
 }

@@ -9,7 +9,7 @@ ghost use Rattle.positions.specs.Parts.{HasByte, IsPart, Searched};
 ghost use Rattle.positions.specs.Positions.{LineBeginsAfter, byte_at, byte_range_at, exact_byte_at, position_at};
 
 use crate::look_back::line_start;
-use crate::middles::return_behind;
+use crate::middles::crlf_offset;
 use crate::starts::{Place, has_line, later_line, line_end, line_in, tells, units_up_to};
 use crate::texts::{from_byte, len_of};
 use crate::units::units_before;
@@ -29,8 +29,8 @@ pub fn position_of<'a, P: Parts<'a>>(
     byte: usize,
 ) -> Position
     ensures answer { result ≡ position_at lines encoding (P.state parts.old).text byte }
-    ensures cost { Searched (1 + 2 * (P.state parts.old).apart) 1 (P.state parts.old) (P.state parts.new) }
-    ensures near { LineBeginsAfter lines (P.state parts.old).text byte ((P.state parts.old).begins byte)
+    ensures cost { Searched (1 + 2 * (P.state parts.old).unit_searches) 1 (P.state parts.old) (P.state parts.new) }
+    ensures near { LineBeginsAfter lines (P.state parts.old).text byte ((P.state parts.old).latest_start byte)
         → Searched 1 0 (P.state parts.old) (P.state parts.new) }
 {
     let part = parts.part_of_byte(lines, encoding, byte);
@@ -47,28 +47,28 @@ pub(crate) fn position_from<'a, P: Parts<'a>>(
 ) -> Position
     requires part { IsPart (P.state parts.old).text lines encoding part.now }
     requires round { HasByte (P.state parts.old).text byte part.now }
-    requires units { (P.state parts.old).apart ≡ 0 → IsSome part.now.units }
+    requires units { (P.state parts.old).unit_searches ≡ 0 → IsSome part.now.units }
     ensures answer { result ≡ position_at lines encoding (P.state parts.old).text byte }
-    ensures cost { Searched (2 * (P.state parts.old).apart) 1 (P.state parts.old) (P.state parts.new) }
+    ensures cost { Searched (2 * (P.state parts.old).unit_searches) 1 (P.state parts.old) (P.state parts.new) }
     ensures near { LineBeginsAfter lines (P.state parts.old).text byte part.now.start
         → Searched 0 0 (P.state parts.old) (P.state parts.new) }
 {
     let first = part.start == 0;
     let at = (byte - part.start).min(len_of(part.text));
-    let own = part.breaks_up_to::<P::Chunk>(lines, at);
+    let breaks = part.breaks_up_to::<P::Chunk>(lines, at);
     let _len = parts.len();
-    let line = part.lines + own;
-    let behind = return_behind(lines, part, at);
-    if own > 0 || first {
-        let start = line_start::<P::Chunk>(part.kind(lines), part.text, at, own);
+    let line = part.lines + breaks;
+    let offset = crlf_offset(lines, part, at);
+    if breaks > 0 || first {
+        let start = line_start::<P::Chunk>(part.kind(lines), part.text, at, breaks);
         let rest = from_byte(part.text, start);
         let units = units_before::<P::Chunk>(part.encoding(encoding), rest, at - start);
         return Position {
             line,
-            character: units - behind,
+            character: units - offset,
         };
     }
-    let units = units_up_to(parts, lines, encoding, part, at) - behind;
+    let units = units_up_to(parts, lines, encoding, part, at) - offset;
     let before_line = units_before_line(parts, lines, encoding, line);
     Position {
         line,
@@ -85,14 +85,14 @@ fn units_before_line<'a, P: Parts<'a>>(
 ) -> usize
     ensures answer { let cs = (P.state parts.old).text in
         result ≡ weighed (units_of encoding) cs (to_byte_idx (scheme_of lines) cs line) }
-    ensures cost { Searched (P.state parts.old).apart 1 (P.state parts.old) (P.state parts.new) }
+    ensures cost { Searched (P.state parts.old).unit_searches 1 (P.state parts.old) (P.state parts.new) }
 {
     let _len = parts.len();
     if line == 0 {
         return 0;
     }
     let start = line_in(parts, lines, encoding, line);
-    units_up_to(parts, lines, encoding, &start.part, start.own)
+    units_up_to(parts, lines, encoding, &start.part, start.offset)
 }
 
 /// Converts a position to the byte index where its char begins.
@@ -108,7 +108,7 @@ pub fn byte_of<'a, P: Parts<'a>>(
 ) -> usize
     ensures answer { result ≡ byte_at lines encoding (P.state parts.old).text position }
     ensures boundary { IsBoundary (P.state parts.old).text result }
-    ensures cost { Searched (P.state parts.old).apart 3 (P.state parts.old) (P.state parts.new) }
+    ensures cost { Searched (P.state parts.old).unit_searches 3 (P.state parts.old) (P.state parts.new) }
 {
     let start = line_in(parts, lines, encoding, position.line);
     byte_on(parts, lines, encoding, &start, position)
@@ -125,24 +125,24 @@ pub fn exact_byte_of<'a, P: Parts<'a>>(
 ) -> Option<usize>
     ensures answer { result ≡ exact_byte_at lines encoding (P.state parts.old).text position }
     ensures boundary { IfSome result (λ byte. IsBoundary (P.state parts.old).text byte) }
-    ensures cost { Searched ((P.state parts.old).apart + 1) 3 (P.state parts.old) (P.state parts.new) }
+    ensures cost { Searched ((P.state parts.old).unit_searches + 1) 3 (P.state parts.old) (P.state parts.new) }
 {
     let _len = parts.len();
     let start = line_in(parts, lines, encoding, position.line);
     if !has_line(parts, lines, &start, position.line) {
         return None;
     }
-    let rest = from_byte(start.part.text, start.own);
-    let own = start
+    let rest = from_byte(start.part.text, start.offset);
+    let offset = start
         .part
         .place_on_line::<P::Chunk>(lines, encoding, position.line, rest, position.character);
-    if tells(parts, &start.part, rest, own) {
-        if units_before::<P::Chunk>(start.part.encoding(encoding), rest, own)
+    if tells(parts, &start.part, rest, offset) {
+        if units_before::<P::Chunk>(start.part.encoding(encoding), rest, offset)
             != position.character
         {
             return None;
         }
-        return Some(start.part.start + start.own + own);
+        return Some(start.part.start + start.offset + offset);
     }
     exact_byte_after(parts, lines, encoding, &start, position)
 }
@@ -159,9 +159,9 @@ pub fn byte_range<'a, P: Parts<'a>>(
     ensures ordered { IfSome result (λ bytes. bytes.start ≤ bytes.end) }
     ensures boundaries { let cs = (P.state parts.old).text in
         IfSome result (λ bytes. IsBoundary cs bytes.start × IsBoundary cs bytes.end) }
-    ensures cost { Searched (2 * (P.state parts.old).apart) 6 (P.state parts.old) (P.state parts.new) }
+    ensures cost { Searched (2 * (P.state parts.old).unit_searches) 6 (P.state parts.old) (P.state parts.new) }
     ensures on_line { range.start.line ≡ range.end.line
-        → Searched (2 * (P.state parts.old).apart) 5 (P.state parts.old) (P.state parts.new) }
+        → Searched (2 * (P.state parts.old).unit_searches) 5 (P.state parts.old) (P.state parts.new) }
 {
     let _len = parts.len();
     let Range { start, end } = range;
@@ -185,24 +185,24 @@ fn byte_on<'a, P: Parts<'a>>(
     position: Position,
 ) -> usize
     requires part { IsPart (P.state parts.old).text lines encoding start.now.part }
-    requires place { start.now.part.start + start.now.own ≡ to_byte_idx (scheme_of lines) (P.state parts.old).text position.line }
-    requires own { let part = start.now.part in
-        start.now.own ≡ to_byte_idx (scheme_of lines) (chars part.text.now) (position.line - part.lines) }
-    requires boundary { IsBoundary (chars start.now.part.text.now) start.now.own }
-    requires units { (P.state parts.old).apart ≡ 0 → IsSome start.now.part.units }
+    requires place { start.now.part.start + start.now.offset ≡ to_byte_idx (scheme_of lines) (P.state parts.old).text position.line }
+    requires offset { let part = start.now.part in
+        start.now.offset ≡ to_byte_idx (scheme_of lines) (chars part.text.now) (position.line - part.lines) }
+    requires boundary { IsBoundary (chars start.now.part.text.now) start.now.offset }
+    requires units { (P.state parts.old).unit_searches ≡ 0 → IsSome start.now.part.units }
     ensures answer { result ≡ byte_at lines encoding (P.state parts.old).text position }
     ensures boundary { IsBoundary (P.state parts.old).text result }
-    ensures cost { Searched (P.state parts.old).apart 2 (P.state parts.old) (P.state parts.new) }
+    ensures cost { Searched (P.state parts.old).unit_searches 2 (P.state parts.old) (P.state parts.new) }
 {
     let _len = parts.len();
-    let rest = from_byte(start.part.text, start.own);
-    let own = start
+    let rest = from_byte(start.part.text, start.offset);
+    let offset = start
         .part
         .place_on_line::<P::Chunk>(lines, encoding, position.line, rest, position.character);
-    if tells(parts, &start.part, rest, own) {
-        return start.part.start + start.own + own;
+    if tells(parts, &start.part, rest, offset) {
+        return start.part.start + start.offset + offset;
     }
-    let before_line = units_up_to(parts, lines, encoding, &start.part, start.own);
+    let before_line = units_up_to(parts, lines, encoding, &start.part, start.offset);
     byte_after(parts, lines, encoding, position, before_line)
 }
 
@@ -236,15 +236,15 @@ fn exact_byte_after<'a, P: Parts<'a>>(
     position: Position,
 ) -> Option<usize>
     requires part { IsPart (P.state parts.old).text lines encoding start.now.part }
-    requires place { start.now.part.start + start.now.own ≡ to_byte_idx (scheme_of lines) (P.state parts.old).text position.line }
-    requires boundary { IsBoundary (chars start.now.part.text.now) start.now.own }
-    requires units { (P.state parts.old).apart ≡ 0 → IsSome start.now.part.units }
+    requires place { start.now.part.start + start.now.offset ≡ to_byte_idx (scheme_of lines) (P.state parts.old).text position.line }
+    requires boundary { IsBoundary (chars start.now.part.text.now) start.now.offset }
+    requires units { (P.state parts.old).unit_searches ≡ 0 → IsSome start.now.part.units }
     requires has { position.line ≤ count (scheme_of lines) (P.state parts.old).text }
     ensures answer { result ≡ exact_byte_at lines encoding (P.state parts.old).text position }
     ensures boundary { IfSome result (λ byte. IsBoundary (P.state parts.old).text byte) }
-    ensures cost { Searched ((P.state parts.old).apart + 1) 2 (P.state parts.old) (P.state parts.new) }
+    ensures cost { Searched ((P.state parts.old).unit_searches + 1) 2 (P.state parts.old) (P.state parts.new) }
 {
-    let before_line = units_up_to(parts, lines, encoding, &start.part, start.own);
+    let before_line = units_up_to(parts, lines, encoding, &start.part, start.offset);
     let byte = byte_after(parts, lines, encoding, position, before_line);
     let units = parts.units_of_byte(encoding, byte);
     if units - before_line != position.character {

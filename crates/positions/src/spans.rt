@@ -7,7 +7,7 @@ ghost use Rattle.positions.specs.Lines.{IsPlace, scheme_of};
 ghost use Rattle.positions.specs.Parts.{HasByte, IsPart, Searched};
 ghost use Rattle.positions.specs.Positions.{LineBeginsAfter, position_at};
 
-use crate::middles::return_behind;
+use crate::middles::crlf_offset;
 use crate::queries::{position_from, position_of};
 use crate::texts::{is_boundary, len_of};
 use crate::{Encoding, LineType, Part, Parts, Position, Range};
@@ -22,7 +22,7 @@ pub fn range_of<'a, P: Parts<'a>>(
 ) -> Range
     ensures start { result.start ≡ position_at lines encoding (P.state parts.old).text span.start }
     ensures end { result.end ≡ position_at lines encoding (P.state parts.old).text span.end }
-    ensures cost { Searched (2 + 4 * (P.state parts.old).apart) 2 (P.state parts.old) (P.state parts.new) }
+    ensures cost { Searched (2 + 4 * (P.state parts.old).unit_searches) 2 (P.state parts.old) (P.state parts.new) }
 {
     let part = parts.part_of_byte(lines, encoding, span.start);
     let _len = parts.len();
@@ -53,8 +53,8 @@ pub fn exact_position_of<'a, P: Parts<'a>>(
 ) -> Option<Position>
     ensures answer { IfSome result (λ position. position ≡ position_at lines encoding (P.state parts.old).text byte) }
     ensures some { IsSome result ↔ IsPlace lines (P.state parts.old).text byte }
-    ensures cost { Searched (1 + 2 * (P.state parts.old).apart) 1 (P.state parts.old) (P.state parts.new) }
-    ensures near { LineBeginsAfter lines (P.state parts.old).text byte ((P.state parts.old).begins byte)
+    ensures cost { Searched (1 + 2 * (P.state parts.old).unit_searches) 1 (P.state parts.old) (P.state parts.new) }
+    ensures near { LineBeginsAfter lines (P.state parts.old).text byte ((P.state parts.old).latest_start byte)
         → Searched 1 0 (P.state parts.old) (P.state parts.new) }
 {
     let part = parts.part_of_byte(lines, encoding, byte);
@@ -70,5 +70,5 @@ fn is_place(lines: LineType, part: &Part<'_>, at: usize) -> bool
     ensures { (cs : Text) (e : Encoding) → IsPart cs lines e part.now → HasByte cs (part.now.start + at) part.now
         → IsTrue result ↔ IsPlace lines cs (part.now.start + at) }
 {
-    is_boundary(part.text, at) && return_behind(lines, part, at) == 0
+    is_boundary(part.text, at) && crlf_offset(lines, part, at) == 0
 }

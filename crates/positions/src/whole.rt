@@ -36,10 +36,10 @@ impl<'a, T: ByteChunk> Parts<'a> for Whole<'a, T> {
     ghost state = { λ t. record {
       text = chars t.text.now;
       pieces = chars t.text.now ∷ [];
-      begins = λ _. 0;
-      by_byte = 1;
-      by_count = 1;
-      apart = 0;
+      latest_start = λ _. 0;
+      byte_choices = 1;
+      count_choices = 1;
+      unit_searches = 0;
       looks = 0;
       reads = 0;
     } };
@@ -82,6 +82,6 @@ fn whole_part(text: &str) -> Part<'_>
         lines: 0,
         units: Some(0),
         in_crlf: false,
-        own: None,
+        counts: None,
     }
 }

@@ -38,14 +38,14 @@ pub fn apply(rope: &mut Rope, encoding: Encoding, change: Change<'_>) -> Result<
         ⊎ ((part.start < part.end) × (part.end - part.start < size rope.old))) }
     ensures not_boundary { result ≢ Err NotBoundary }
 {
-    let Some(part) = part_of(rope, encoding, change.range) else {
+    let Some(part) = byte_range_of(rope, encoding, change.range) else {
         return Err(Refusal::NotOrdered);
     };
     rope.replace(part, change.text)
 }
 
 /// Finds the bytes that a change replaces, or `None` if the range's end is before its start.
-fn part_of(rope: &Rope, encoding: Encoding, range: Option<Range>) -> Option<ops::Range<usize>>
+fn byte_range_of(rope: &Rope, encoding: Encoding, range: Option<Range>) -> Option<ops::Range<usize>>
     ensures part { result ≡ part_at encoding rope.now range }
     ensures ordered { IfSome result (λ part. part.start ≤ part.end) }
     ensures boundaries { IfSome result (λ part. IsBoundary rope.now part.start × IsBoundary rope.now part.end) }

@@ -1,7 +1,7 @@
 -- How much code reads of a text, by the counters of its probe, and how much a pass of a kernel may read.
 --     Reads old new first turns loads spare    what was read between two states of a probe
---     Counts old new size lead n spare         what a pass that counts in n bytes may read
---     Finds old new size lead n place spare    what a pass that finds a place in n bytes may read
+--     IsCountingPass old new size lead n spare         what a pass that counts in n bytes may read
+--     IsFindingPass old new size lead n place spare    what a pass that finds a place in n bytes may read
 --     pass_turns size lead n                   the most single-byte turns of one pass over n bytes
 --     pass_loads size lead n                   the most loads of one pass over n bytes
 use Rattle.std.specs.Prelude.{ℕ, ◌≡◌, ◌+◌, ◌-◌, ◌*◌, ◌/◌, ◌≤◌, min}
@@ -36,11 +36,11 @@ abbrev pub pass_loads : ℕ → ℕ → ℕ → ℕ
 pass_loads size lead n = (n - leading_bytes lead n) / size
 
 -- a pass that counts in n bytes: at most `pass_turns` turns and `pass_loads` loads, and `spare` peeks beside theirs
-abbrev pub Counts : ProbeState → ProbeState → ℕ → ℕ → ℕ → ℕ → Type 0
-Counts old new size lead n spare =
+abbrev pub IsCountingPass : ProbeState → ProbeState → ℕ → ℕ → ℕ → ℕ → Type 0
+IsCountingPass old new size lead n spare =
     Reads old new (leading_bytes lead n) (pass_turns size lead n) (pass_loads size lead n) spare
 
 -- a pass that finds a place in n bytes: at most five loads more than there are chunks before the place
-abbrev pub Finds : ProbeState → ProbeState → ℕ → ℕ → ℕ → ℕ → ℕ → Type 0
-Finds old new size lead n place spare =
+abbrev pub IsFindingPass : ProbeState → ProbeState → ℕ → ℕ → ℕ → ℕ → ℕ → Type 0
+IsFindingPass old new size lead n place spare =
     Reads old new (leading_bytes lead n) (pass_turns size lead n) (place / size + 5) spare

@@ -1,10 +1,10 @@
 //! Index by chars: the Unicode scalar values of a text (the Unicode Standard, chapter 3).
 ghost use Rattle.std.specs.Prelude.{◌≡◌, ◌+◌, ◌-◌, ◌/◌, ◌<◌, ◌≤◌, IsCharBoundary, chars, length, min};
-ghost use Rattle.str_indices.specs.Prelude.{cut, count, from_byte_idx, to_byte_idx, Chars, IsBoundary, passing_before, is_leading, Counts, Finds};
+ghost use Rattle.str_indices.specs.Prelude.{cut, count, from_byte_idx, to_byte_idx, Chars, IsBoundary, passing_before, is_leading, IsCountingPass, IsFindingPass};
 
 use crate::passes::{count_up_to, find};
 use crate::places::boundary_at_or_before;
-use crate::weights::{LeadingBytes, Weights};
+use crate::weights::{CharStarts, Weights};
 use byte_chunk::{ByteChunk, Chunk, Probe};
 
 /// Counts the chars of the text. An empty text has none.
@@ -42,10 +42,10 @@ pub fn count_impl<T: ByteChunk>(probe: &mut Probe<'_, T>, end: usize, lead: usiz
     requires boundary { IsBoundary (chars probe.old.text) end }
     ensures count { result ≡ count Chars (cut (chars probe.old.text) end) }
     ensures text { probe.new.text ≡ probe.old.text }
-    ensures pass { Counts probe.old probe.new T.SIZE lead end 0 }
+    ensures pass { IsCountingPass probe.old probe.new T.SIZE lead end 0 }
 {
     prove!(end <= probe.len());
-    count_up_to::<Weights<LeadingBytes>, T>(probe, end, lead)
+    count_up_to::<Weights<CharStarts>, T>(probe, end, lead)
 }
 
 /// Converts a byte index to a char index, as [`from_byte_idx`], over chunks of any type.
@@ -59,7 +59,7 @@ pub fn from_byte_idx_impl<T: ByteChunk>(
 ) -> usize
     ensures answer { result ≡ from_byte_idx Chars (chars probe.old.text) byte_idx }
     ensures text { probe.new.text ≡ probe.old.text }
-    ensures pass { Counts probe.old probe.new T.SIZE lead (min byte_idx (length probe.old.text)) 3 }
+    ensures pass { IsCountingPass probe.old probe.new T.SIZE lead (min byte_idx (length probe.old.text)) 3 }
 {
     let end = boundary_at_or_before(probe, byte_idx);
     count_impl(probe, end, lead)
@@ -72,8 +72,8 @@ pub fn to_byte_idx_impl<T: ByteChunk>(probe: &mut Probe<'_, T>, idx: usize, lead
     ensures answer { result ≡ to_byte_idx Chars (chars probe.old.text) idx }
     ensures boundary { IsCharBoundary probe.old.text result }
     ensures text { probe.new.text ≡ probe.old.text }
-    ensures pass { Finds probe.old probe.new T.SIZE lead (length probe.old.text) result 3 }
+    ensures pass { IsFindingPass probe.old probe.new T.SIZE lead (length probe.old.text) result 3 }
 {
     let first_chunk = lead.min(probe.len());
-    find::<Weights<LeadingBytes>, T>(probe, idx, first_chunk)
+    find::<Weights<CharStarts>, T>(probe, idx, first_chunk)
 }

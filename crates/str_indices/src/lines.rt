@@ -5,7 +5,7 @@
 ghost use Rattle.std.specs.Prelude.{◌≡◌, ◌+◌, ◌-◌, ◌*◌, ◌/◌, ◌<◌, ◌≤◌, ◌==◌, ◌&&◌, ◌⊎◌, ℕ, IsCharBoundary, chars, length, map, min, slice_index, take, drop};
 ghost use Rattle.std.proofs.Common.{lit≤, lit<};
 ghost use Rattle.std.specs.Simd.Lanes.{Each1};
-ghost use Rattle.str_indices.specs.Prelude.{is_between, is_byte, cut, size, count, from_byte_idx, to_byte_idx, Lines, IsBoundary, flag, is_carriage_return, is_middle, break_at-le, is_crlf, is_separator, narrow_break_at, next_line_at, separator_at, break_at, breaks_counted_before, ends_separator, HasLanes, IsChunk, Reads, Counts, Finds};
+ghost use Rattle.str_indices.specs.Prelude.{is_between, is_byte, cut, size, count, from_byte_idx, to_byte_idx, Lines, IsBoundary, flag, is_carriage_return, is_middle, break_at-le, is_crlf, is_separator, narrow_break_at, next_line_at, separator_at, break_at, breaks_counted_before, ends_separator, HasLanes, IsChunk, Reads, IsCountingPass, IsFindingPass};
 
 use crate::passes::{count_up_to, find_first};
 use crate::place_counts::{Counted, PlaceCounts};
@@ -50,7 +50,7 @@ pub fn count_breaks_impl<T: ByteChunk>(probe: &mut Probe<'_, T>, end: usize, lea
     requires boundary { IsBoundary (chars probe.old.text) end }
     ensures count { result ≡ count Lines (cut (chars probe.old.text) end) }
     ensures text { probe.new.text ≡ probe.old.text }
-    ensures pass { Counts probe.old probe.new T.SIZE lead end 0 }
+    ensures pass { IsCountingPass probe.old probe.new T.SIZE lead end 0 }
 {
     prove!(end <= probe.len());
     count_up_to::<LineBreaks, T>(probe, end, lead)
@@ -65,7 +65,7 @@ pub fn from_byte_idx_impl<T: ByteChunk>(
 ) -> usize
     ensures answer { result ≡ from_byte_idx Lines (chars probe.old.text) byte_idx }
     ensures text { probe.new.text ≡ probe.old.text }
-    ensures pass { Counts probe.old probe.new T.SIZE lead (min byte_idx (length probe.old.text)) 3 }
+    ensures pass { IsCountingPass probe.old probe.new T.SIZE lead (min byte_idx (length probe.old.text)) 3 }
 {
     let end = boundary_at_or_before(probe, byte_idx);
     prove!(end <= probe.len());
@@ -80,7 +80,7 @@ pub fn to_byte_idx_impl<T: ByteChunk>(probe: &mut Probe<'_, T>, idx: usize, lead
     ensures answer { result ≡ to_byte_idx Lines (chars probe.old.text) idx }
     ensures boundary { IsCharBoundary probe.old.text result }
     ensures text { probe.new.text ≡ probe.old.text }
-    ensures pass { Finds probe.old probe.new T.SIZE lead (length probe.old.text) result 3 }
+    ensures pass { IsFindingPass probe.old probe.new T.SIZE lead (length probe.old.text) result 3 }
 {
     let first_chunk = lead.min(probe.len());
     let place = find_first::<LineBreaks, T>(probe, idx, first_chunk);

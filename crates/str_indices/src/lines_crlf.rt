@@ -4,7 +4,7 @@
 //! and CR count here.
 ghost use Rattle.std.specs.Prelude.{◌≡◌, ◌+◌, ◌-◌, ◌/◌, ◌<◌, ◌≤◌, ◌⊎◌, ℕ, ◌∷◌, [], Bool, IsCharBoundary, chars, drop, length, min};
 ghost use Rattle.std.proofs.Common.{lit≤, lit<};
-ghost use Rattle.str_indices.specs.Prelude.{cut, count, from_byte_idx, to_byte_idx, Crlf, flag, mark, is_carriage_return, byte_before, starts_break, break_start, breaks_before, is_middle, break_start-le, Reads, Counts, Finds};
+ghost use Rattle.str_indices.specs.Prelude.{cut, count, from_byte_idx, to_byte_idx, Crlf, flag, mark, is_carriage_return, byte_before, starts_break, break_start, breaks_before, is_middle, break_start-le, Reads, IsCountingPass, IsFindingPass};
 
 use crate::passes::{count_up_to, find_first};
 use crate::place_counts::{Counted, PlaceCounts};
@@ -50,7 +50,7 @@ pub fn count_breaks_impl<T: ByteChunk>(probe: &mut Probe<'_, T>, end: usize, lea
     requires within { end ≤ length probe.old.text }
     ensures count { result ≡ count Crlf (cut (chars probe.old.text) end) }
     ensures text { probe.new.text ≡ probe.old.text }
-    ensures pass { Counts probe.old probe.new T.SIZE lead end 0 }
+    ensures pass { IsCountingPass probe.old probe.new T.SIZE lead end 0 }
 {
     prove!(end <= probe.len());
     count_up_to::<BreakStarts, T>(probe, end, lead)
@@ -65,7 +65,7 @@ pub fn from_byte_idx_impl<T: ByteChunk>(
 ) -> usize
     ensures answer { result ≡ from_byte_idx Crlf (chars probe.old.text) byte_idx }
     ensures text { probe.new.text ≡ probe.old.text }
-    ensures pass { Counts probe.old probe.new T.SIZE lead (min byte_idx (length probe.old.text)) 3 }
+    ensures pass { IsCountingPass probe.old probe.new T.SIZE lead (min byte_idx (length probe.old.text)) 3 }
 {
     let end = byte_idx.min(probe.len());
     let is_outside_crlf = is_not_crlf_middle(probe, end);
@@ -78,7 +78,7 @@ pub fn to_byte_idx_impl<T: ByteChunk>(probe: &mut Probe<'_, T>, idx: usize, lead
     ensures answer { result ≡ to_byte_idx Crlf (chars probe.old.text) idx }
     ensures boundary { IsCharBoundary probe.old.text result }
     ensures text { probe.new.text ≡ probe.old.text }
-    ensures pass { Finds probe.old probe.new T.SIZE lead (length probe.old.text) result 3 }
+    ensures pass { IsFindingPass probe.old probe.new T.SIZE lead (length probe.old.text) result 3 }
 {
     let first_chunk = lead.min(probe.len());
     let place = find_first::<BreakStarts, T>(probe, idx, first_chunk);

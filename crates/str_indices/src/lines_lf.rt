@@ -3,7 +3,7 @@
 //! LF is one of the breaks of the Unicode Standard's Annex 14 that the Rust crate lists; the others do not count here.
 //! CR LF counts once, because of its LF.
 ghost use Rattle.std.specs.Prelude.{◌≡◌, ◌+◌, ◌-◌, ◌/◌, ◌<◌, ◌≤◌, ◌⊎◌, ℕ, IsCharBoundary, chars, length, min};
-ghost use Rattle.str_indices.specs.Prelude.{cut, count, from_byte_idx, to_byte_idx, Lf, passing_before, is_line_feed, Counts, Finds};
+ghost use Rattle.str_indices.specs.Prelude.{cut, count, from_byte_idx, to_byte_idx, Lf, passing_before, is_line_feed, IsCountingPass, IsFindingPass};
 
 use crate::passes::{count_up_to, find_first};
 use crate::weights::{LineFeeds, Weights};
@@ -46,7 +46,7 @@ pub fn count_breaks_impl<T: ByteChunk>(probe: &mut Probe<'_, T>, end: usize, lea
     requires within { end ≤ length probe.old.text }
     ensures count { result ≡ count Lf (cut (chars probe.old.text) end) }
     ensures text { probe.new.text ≡ probe.old.text }
-    ensures pass { Counts probe.old probe.new T.SIZE lead end 0 }
+    ensures pass { IsCountingPass probe.old probe.new T.SIZE lead end 0 }
 {
     prove!(end <= probe.len());
     count_up_to::<Weights<LineFeeds>, T>(probe, end, lead)
@@ -61,7 +61,7 @@ pub fn from_byte_idx_impl<T: ByteChunk>(
 ) -> usize
     ensures answer { result ≡ from_byte_idx Lf (chars probe.old.text) byte_idx }
     ensures text { probe.new.text ≡ probe.old.text }
-    ensures pass { Counts probe.old probe.new T.SIZE lead (min byte_idx (length probe.old.text)) 3 }
+    ensures pass { IsCountingPass probe.old probe.new T.SIZE lead (min byte_idx (length probe.old.text)) 3 }
 {
     let end = byte_idx.min(probe.len());
     count_breaks_impl(probe, end, lead)
@@ -72,7 +72,7 @@ pub fn to_byte_idx_impl<T: ByteChunk>(probe: &mut Probe<'_, T>, idx: usize, lead
     ensures answer { result ≡ to_byte_idx Lf (chars probe.old.text) idx }
     ensures boundary { IsCharBoundary probe.old.text result }
     ensures text { probe.new.text ≡ probe.old.text }
-    ensures pass { Finds probe.old probe.new T.SIZE lead (length probe.old.text) result 3 }
+    ensures pass { IsFindingPass probe.old probe.new T.SIZE lead (length probe.old.text) result 3 }
 {
     let first_chunk = lead.min(probe.len());
     find_first::<Weights<LineFeeds>, T>(probe, idx, first_chunk)

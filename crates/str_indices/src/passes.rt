@@ -2,7 +2,7 @@
 //!
 //! Each walks `lead` bytes one by one, or all its bytes if they are fewer, then takes whole chunks, then the rest.
 ghost use Rattle.std.specs.Prelude.{◌≡◌, ℕ, ◌+◌, ◌-◌, ◌*◌, ◌/◌, ◌<◌, ◌≤◌, length};
-ghost use Rattle.str_indices.specs.Prelude.{sum_below, FitsIn, IsSteady, Reads, Counts, Finds, SearchesOn};
+ghost use Rattle.str_indices.specs.Prelude.{sum_below, FitsIn, IsSteady, Reads, IsCountingPass, IsFindingPass, SearchesOn};
 
 use crate::chunk_search::find_in_last;
 use crate::place_counts::{Cursor, PlaceCounts, count_chunks, skip_chunks};
@@ -22,7 +22,7 @@ pub(crate) fn count_up_to<C: PlaceCounts<T>, T: ByteChunk>(
     requires within { end ≤ length probe.old.text }
     requires fits { FitsIn (sum_below (C.counted_at end probe.old.text)) (length probe.old.text) }
     ensures counted { result ≡ sum_below (C.counted_at end probe.old.text) end }
-    ensures reads { Counts probe.old probe.new T.SIZE lead end 0 }
+    ensures reads { IsCountingPass probe.old probe.new T.SIZE lead end 0 }
 {
     prove!(end <= probe.len());
     let byte = lead.min(end);
@@ -50,7 +50,7 @@ pub(crate) fn find_first<C: PlaceCounts<T>, T: ByteChunk>(
     ensures stopped { result < length probe.old.text
         → idx ≤ sum_below (C.counted_at (length probe.old.text) probe.old.text) result }
     ensures first { (d : ℕ) → d < result → sum_below (C.counted_at (length probe.old.text) probe.old.text) d < idx }
-    ensures reads { Finds probe.old probe.new T.SIZE lead (length probe.old.text) result 0 }
+    ensures reads { IsFindingPass probe.old probe.new T.SIZE lead (length probe.old.text) result 0 }
 {
     let Walked { place: byte, count } = count_breaks_up_to::<C, T>(probe, lead, idx);
     if count == idx {
@@ -106,7 +106,7 @@ pub(crate) fn find<C: PlaceCounts<T>, T: ByteChunk>(
     ensures at_most { sum_below (C.counted_at (length probe.old.text) probe.old.text) result ≤ idx }
     ensures stopped { result < length probe.old.text
         → idx < sum_below (C.counted_at (length probe.old.text) probe.old.text) (result + 1) }
-    ensures reads { Finds probe.old probe.new T.SIZE lead (length probe.old.text) result 0 }
+    ensures reads { IsFindingPass probe.old probe.new T.SIZE lead (length probe.old.text) result 0 }
 {
     let len = probe.len();
     let Walked { place, count } = walk::<C, T>(probe, 0, 0, lead, len, idx);

@@ -3,11 +3,11 @@
 //! A char that takes four bytes in UTF-8 takes a surrogate pair in UTF-16, which is two units. Each other char takes
 //! one.
 ghost use Rattle.std.specs.Prelude.{◌≡◌, ◌+◌, ◌-◌, ◌*◌, ◌/◌, ◌<◌, ◌≤◌, ◌⊎◌, IsCharBoundary, chars, length, min};
-ghost use Rattle.str_indices.specs.Prelude.{cut, count, from_byte_idx, to_byte_idx, surrogates, Utf16, IsBoundary, mark, units_before, is_leading, begins_four_bytes, Reads, Counts, Finds, leading_bytes, pass_turns};
+ghost use Rattle.str_indices.specs.Prelude.{cut, count, from_byte_idx, to_byte_idx, surrogates, Utf16, IsBoundary, mark, units_before, is_leading, begins_four_bytes, Reads, IsCountingPass, IsFindingPass, leading_bytes, pass_turns};
 
 use crate::passes::{count_up_to, find};
 use crate::places::boundary_at_or_before;
-use crate::weights::{FourByteLeads, Units, Weights};
+use crate::weights::{FourByteStarts, Units, Weights};
 use byte_chunk::{ByteChunk, Chunk, Probe};
 
 /// Counts the UTF-16 code units that the text would take.
@@ -54,7 +54,7 @@ pub fn count_impl<T: ByteChunk>(probe: &mut Probe<'_, T>, end: usize, lead: usiz
     requires boundary { IsBoundary (chars probe.old.text) end }
     ensures count { result ≡ count Utf16 (cut (chars probe.old.text) end) }
     ensures text { probe.new.text ≡ probe.old.text }
-    ensures pass { Counts probe.old probe.new T.SIZE lead end 0 }
+    ensures pass { IsCountingPass probe.old probe.new T.SIZE lead end 0 }
 {
     prove!(end <= probe.len());
     count_up_to::<Weights<Units>, T>(probe, end, lead)
@@ -77,7 +77,7 @@ pub fn count_surrogates_impl<T: ByteChunk>(
         Reads probe.old probe.new first (pass_turns T.SIZE lead (end - 3)) ((end - first) / T.SIZE) 0 }
 {
     prove!(end <= probe.len());
-    count_up_to::<Weights<FourByteLeads>, T>(probe, end.saturating_sub(3), lead)
+    count_up_to::<Weights<FourByteStarts>, T>(probe, end.saturating_sub(3), lead)
 }
 
 /// Converts a byte index to a UTF-16 code unit index, over chunks of any type, after `lead` bytes that are walked one
@@ -90,7 +90,7 @@ pub fn from_byte_idx_impl<T: ByteChunk>(
 ) -> usize
     ensures answer { result ≡ from_byte_idx Utf16 (chars probe.old.text) byte_idx }
     ensures text { probe.new.text ≡ probe.old.text }
-    ensures pass { Counts probe.old probe.new T.SIZE lead (min byte_idx (length probe.old.text)) 3 }
+    ensures pass { IsCountingPass probe.old probe.new T.SIZE lead (min byte_idx (length probe.old.text)) 3 }
 {
     let end = boundary_at_or_before(probe, byte_idx);
     count_impl(probe, end, lead)
@@ -102,7 +102,7 @@ pub fn to_byte_idx_impl<T: ByteChunk>(probe: &mut Probe<'_, T>, idx: usize, lead
     ensures answer { result ≡ to_byte_idx Utf16 (chars probe.old.text) idx }
     ensures boundary { IsCharBoundary probe.old.text result }
     ensures text { probe.new.text ≡ probe.old.text }
-    ensures pass { Finds probe.old probe.new T.SIZE lead (length probe.old.text) result 3 }
+    ensures pass { IsFindingPass probe.old probe.new T.SIZE lead (length probe.old.text) result 3 }
 {
     let first_chunk = lead.min(probe.len());
     find::<Weights<Units>, T>(probe, idx, first_chunk)

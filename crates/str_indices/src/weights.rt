@@ -81,9 +81,9 @@ impl ByteWeight for LineFeeds {
 }
 
 /// 1 for each byte that begins a char.
-pub(crate) struct LeadingBytes;
+pub(crate) struct CharStarts;
 
-impl ByteWeight for LeadingBytes {
+impl ByteWeight for CharStarts {
     ghost weight = { mark is_leading };
 
     ghost MOST = { 1 };
@@ -115,9 +115,9 @@ impl ByteWeight for LeadingBytes {
 }
 
 /// 1 for each byte that begins a char of four bytes, which takes a surrogate pair.
-pub(crate) struct FourByteLeads;
+pub(crate) struct FourByteStarts;
 
-impl ByteWeight for FourByteLeads {
+impl ByteWeight for FourByteStarts {
     ghost weight = { mark begins_four_bytes };
 
     ghost MOST = { 1 };
@@ -168,12 +168,12 @@ impl ByteWeight for Units {
     const IS_DENSE: bool = true;
 
     fn in_byte(byte: u8) -> usize {
-        LeadingBytes::in_byte(byte) + FourByteLeads::in_byte(byte)
+        CharStarts::in_byte(byte) + FourByteStarts::in_byte(byte)
     }
 
     fn in_lanes<T: ByteChunk>(chunk: T) -> T {
-        let leading = LeadingBytes::in_lanes(chunk);
-        leading.add(FourByteLeads::in_lanes(chunk))
+        let leading = CharStarts::in_lanes(chunk);
+        leading.add(FourByteStarts::in_lanes(chunk))
     }
 
     ghost bounded = { (lit< tt, lit≤ tt, units_begun-le) };

@@ -21,7 +21,7 @@ pub struct Bytes {
 #[unsafe(no_mangle)]
 pub extern "C" fn str_indices_narrow_position_of(text: &[u8], byte_idx: usize) -> Position
     requires { IsUtf8 text.now }
-    ensures { result ≡ position_at LineType.Crlf Utf16 (chars text.now) byte_idx }
+    ensures { result ≡ position_at LineType.LfCr Utf16 (chars text.now) byte_idx }
 {
     Encoding::Utf16.position_of(text_of(text), byte_idx)
 }
@@ -30,7 +30,7 @@ pub extern "C" fn str_indices_narrow_position_of(text: &[u8], byte_idx: usize) -
 #[unsafe(no_mangle)]
 pub extern "C" fn str_indices_narrow_byte_of(text: &[u8], position: Position) -> usize
     requires { IsUtf8 text.now }
-    ensures answer { result ≡ byte_at LineType.Crlf Utf16 (chars text.now) position }
+    ensures answer { result ≡ byte_at LineType.LfCr Utf16 (chars text.now) position }
     ensures boundary { IsCharBoundary text.now result }
 {
     Encoding::Utf16.byte_of(text_of(text), position)
@@ -40,7 +40,7 @@ pub extern "C" fn str_indices_narrow_byte_of(text: &[u8], position: Position) ->
 #[unsafe(no_mangle)]
 pub extern "C" fn str_indices_narrow_exact_byte_of(text: &[u8], position: Position) -> usize
     requires { IsUtf8 text.now }
-    ensures { result ≡ unwrap_or (exact_byte_at LineType.Crlf Utf16 (chars text.now) position) (2 ^ 64 - 1) }
+    ensures { result ≡ unwrap_or (exact_byte_at LineType.LfCr Utf16 (chars text.now) position) (2 ^ 64 - 1) }
 {
     byte_or_none(Encoding::Utf16.exact_byte_of(text_of(text), position))
 }
@@ -49,9 +49,9 @@ pub extern "C" fn str_indices_narrow_exact_byte_of(text: &[u8], position: Positi
 #[unsafe(no_mangle)]
 pub extern "C" fn str_indices_narrow_byte_range(text: &[u8], range: Range) -> Bytes
     requires { IsUtf8 text.now }
-    ensures some { IfSome (byte_range_at LineType.Crlf Utf16 (chars text.now) range)
+    ensures some { IfSome (byte_range_at LineType.LfCr Utf16 (chars text.now) range)
         (λ bytes. result ≡ record { start = bytes.start; end = bytes.end }) }
-    ensures none { IfNone (byte_range_at LineType.Crlf Utf16 (chars text.now) range)
+    ensures none { IfNone (byte_range_at LineType.LfCr Utf16 (chars text.now) range)
         (result ≡ record { start = 2 ^ 64 - 1; end = 2 ^ 64 - 1 }) }
 {
     bytes_or_none(Encoding::Utf16.byte_range(text_of(text), range))
@@ -61,17 +61,17 @@ pub extern "C" fn str_indices_narrow_byte_range(text: &[u8], range: Range) -> By
 #[unsafe(no_mangle)]
 pub extern "C" fn str_indices_narrow_line_end(text: &[u8], line_idx: usize) -> usize
     requires { IsUtf8 text.now }
-    ensures answer { result ≡ line_end LineType.Crlf (chars text.now) line_idx }
+    ensures answer { result ≡ line_end LineType.LfCr (chars text.now) line_idx }
     ensures boundary { IsCharBoundary text.now result }
 {
-    LineType::Crlf.line_end(text_of(text), line_idx)
+    LineType::LfCr.line_end(text_of(text), line_idx)
 }
 
 /// The position of a byte: its line, and the bytes on that line before it, or before the char that it is in.
 #[unsafe(no_mangle)]
 pub extern "C" fn str_indices_narrow_utf8_position_of(text: &[u8], byte_idx: usize) -> Position
     requires { IsUtf8 text.now }
-    ensures { result ≡ position_at LineType.Crlf Utf8 (chars text.now) byte_idx }
+    ensures { result ≡ position_at LineType.LfCr Utf8 (chars text.now) byte_idx }
 {
     Encoding::Utf8.position_of(text_of(text), byte_idx)
 }
@@ -80,7 +80,7 @@ pub extern "C" fn str_indices_narrow_utf8_position_of(text: &[u8], byte_idx: usi
 #[unsafe(no_mangle)]
 pub extern "C" fn str_indices_narrow_utf8_byte_of(text: &[u8], position: Position) -> usize
     requires { IsUtf8 text.now }
-    ensures answer { result ≡ byte_at LineType.Crlf Utf8 (chars text.now) position }
+    ensures answer { result ≡ byte_at LineType.LfCr Utf8 (chars text.now) position }
     ensures boundary { IsCharBoundary text.now result }
 {
     Encoding::Utf8.byte_of(text_of(text), position)
@@ -90,7 +90,7 @@ pub extern "C" fn str_indices_narrow_utf8_byte_of(text: &[u8], position: Positio
 #[unsafe(no_mangle)]
 pub extern "C" fn str_indices_narrow_utf8_exact_byte_of(text: &[u8], position: Position) -> usize
     requires { IsUtf8 text.now }
-    ensures { result ≡ unwrap_or (exact_byte_at LineType.Crlf Utf8 (chars text.now) position) (2 ^ 64 - 1) }
+    ensures { result ≡ unwrap_or (exact_byte_at LineType.LfCr Utf8 (chars text.now) position) (2 ^ 64 - 1) }
 {
     byte_or_none(Encoding::Utf8.exact_byte_of(text_of(text), position))
 }
@@ -99,9 +99,9 @@ pub extern "C" fn str_indices_narrow_utf8_exact_byte_of(text: &[u8], position: P
 #[unsafe(no_mangle)]
 pub extern "C" fn str_indices_narrow_utf8_byte_range(text: &[u8], range: Range) -> Bytes
     requires { IsUtf8 text.now }
-    ensures some { IfSome (byte_range_at LineType.Crlf Utf8 (chars text.now) range)
+    ensures some { IfSome (byte_range_at LineType.LfCr Utf8 (chars text.now) range)
         (λ bytes. result ≡ record { start = bytes.start; end = bytes.end }) }
-    ensures none { IfNone (byte_range_at LineType.Crlf Utf8 (chars text.now) range)
+    ensures none { IfNone (byte_range_at LineType.LfCr Utf8 (chars text.now) range)
         (result ≡ record { start = 2 ^ 64 - 1; end = 2 ^ 64 - 1 }) }
 {
     bytes_or_none(Encoding::Utf8.byte_range(text_of(text), range))
@@ -111,7 +111,7 @@ pub extern "C" fn str_indices_narrow_utf8_byte_range(text: &[u8], range: Range) 
 #[unsafe(no_mangle)]
 pub extern "C" fn str_indices_narrow_utf32_position_of(text: &[u8], byte_idx: usize) -> Position
     requires { IsUtf8 text.now }
-    ensures { result ≡ position_at LineType.Crlf Utf32 (chars text.now) byte_idx }
+    ensures { result ≡ position_at LineType.LfCr Utf32 (chars text.now) byte_idx }
 {
     Encoding::Utf32.position_of(text_of(text), byte_idx)
 }
@@ -121,7 +121,7 @@ pub extern "C" fn str_indices_narrow_utf32_position_of(text: &[u8], byte_idx: us
 #[unsafe(no_mangle)]
 pub extern "C" fn str_indices_narrow_utf32_byte_of(text: &[u8], position: Position) -> usize
     requires { IsUtf8 text.now }
-    ensures answer { result ≡ byte_at LineType.Crlf Utf32 (chars text.now) position }
+    ensures answer { result ≡ byte_at LineType.LfCr Utf32 (chars text.now) position }
     ensures boundary { IsCharBoundary text.now result }
 {
     Encoding::Utf32.byte_of(text_of(text), position)
@@ -131,7 +131,7 @@ pub extern "C" fn str_indices_narrow_utf32_byte_of(text: &[u8], position: Positi
 #[unsafe(no_mangle)]
 pub extern "C" fn str_indices_narrow_utf32_exact_byte_of(text: &[u8], position: Position) -> usize
     requires { IsUtf8 text.now }
-    ensures { result ≡ unwrap_or (exact_byte_at LineType.Crlf Utf32 (chars text.now) position) (2 ^ 64 - 1) }
+    ensures { result ≡ unwrap_or (exact_byte_at LineType.LfCr Utf32 (chars text.now) position) (2 ^ 64 - 1) }
 {
     byte_or_none(Encoding::Utf32.exact_byte_of(text_of(text), position))
 }
@@ -140,9 +140,9 @@ pub extern "C" fn str_indices_narrow_utf32_exact_byte_of(text: &[u8], position: 
 #[unsafe(no_mangle)]
 pub extern "C" fn str_indices_narrow_utf32_byte_range(text: &[u8], range: Range) -> Bytes
     requires { IsUtf8 text.now }
-    ensures some { IfSome (byte_range_at LineType.Crlf Utf32 (chars text.now) range)
+    ensures some { IfSome (byte_range_at LineType.LfCr Utf32 (chars text.now) range)
         (λ bytes. result ≡ record { start = bytes.start; end = bytes.end }) }
-    ensures none { IfNone (byte_range_at LineType.Crlf Utf32 (chars text.now) range)
+    ensures none { IfNone (byte_range_at LineType.LfCr Utf32 (chars text.now) range)
         (result ≡ record { start = 2 ^ 64 - 1; end = 2 ^ 64 - 1 }) }
 {
     bytes_or_none(Encoding::Utf32.byte_range(text_of(text), range))

@@ -70,10 +70,10 @@ abbrev pub parts_of : MarksState → PartsState
 parts_of state = record {
   text = state.text;
   pieces = state.text ∷ [];
-  begins = begins_at;
-  by_byte = 4;
-  by_count = 2 * stretches_of state.text;
-  apart = 0;
+  latest_start = begins_at;
+  byte_choices = 4;
+  count_choices = 2 * stretches_of state.text;
+  unit_searches = 0;
   looks = state.looks;
   reads = state.reads;
 }

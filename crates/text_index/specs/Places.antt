@@ -1,11 +1,11 @@
 -- Places of a text where it may be parted.
---     IsWholeAt text at    the place is between chars, and not between CR and LF
+--     IsMarkPlace text at    the place is between chars, and not between CR and LF
 use Rattle.std.specs.Prelude.{ℕ, ◌≡◌, false, ◌++◌}
 use Rattle.str_indices.specs.Text.{Text, size}
 use Rattle.str_indices.specs.Joins.{joins_crlf}
 
 -- the counts of the text before the place and of that after it add up
-pub record IsWholeAt (text : Text) (at : ℕ) : Type 0 where
+pub record IsMarkPlace (text : Text) (at : ℕ) : Type 0 where
   pub front : Text
   pub back : Text
   pub split : text ≡ front ++ back

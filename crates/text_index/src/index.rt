@@ -58,7 +58,7 @@ impl<'a> TextIndex<'a> {
         self.whole.byte
     }
 
-    /// The same index, borrowed.
+    /// Borrows the index.
     pub fn as_borrowed(&self) -> BorrowedIndex<'_>
         ensures { result ≡ self.now }
     {

@@ -4,7 +4,7 @@ ghost use Rattle.str_indices.specs.Relations.{IsBoundary, IsCrlfMiddle};
 ghost use Rattle.positions.specs.Lines.{IsPlace, line_content, line_end};
 ghost use Rattle.positions.specs.Positions.{byte_at, byte_range_at, exact_byte_at, position_at};
 
-use crate::places::part_of;
+use crate::places::text_between;
 use crate::{
     TextIndex, byte_in, byte_range_in, exact_byte_in, exact_position_in, line_end_in, line_in,
     position_in, range_in,
@@ -16,10 +16,10 @@ impl<'a> TextIndex<'a> {
     /// Finds the byte index where the content of a line, counted from 0, ends: before its break, or at the length of
     /// the text in bytes if it is the last line or past it. Lines end in LF, CR or CRLF. It asks `line_end_in`.
     pub fn line_end(&self, line: usize) -> usize
-        ensures answer { result ≡ line_end LineType.Crlf self.now line }
+        ensures answer { result ≡ line_end LineType.LfCr self.now line }
         ensures boundary { IsBoundary self.now result }
     {
-        self.line_end_by(LineType::Crlf, line)
+        self.line_end_by(LineType::LfCr, line)
     }
 
     /// As `line_end`, where lines end in breaks of the kind `lines`.
@@ -33,9 +33,9 @@ impl<'a> TextIndex<'a> {
     /// Lends the content of a line, counted from 0: without its break, and empty past the last one. Lines end in LF, CR
     /// or CRLF. It asks `line_in`.
     pub fn line(&self, line: usize) -> &'a str
-        ensures { chars result.now ≡ line_content LineType.Crlf self.now line }
+        ensures { chars result.now ≡ line_content LineType.LfCr self.now line }
     {
-        self.line_by(LineType::Crlf, line)
+        self.line_by(LineType::LfCr, line)
     }
 
     /// As `line`, where lines end in breaks of the kind `lines`.
@@ -43,7 +43,7 @@ impl<'a> TextIndex<'a> {
         ensures { chars result.now ≡ line_content lines self.now line }
     {
         let ops::Range { start, end } = line_in(&mut self.view(), lines, line);
-        part_of(self.text(), start, end)
+        text_between(self.text(), start, end)
     }
 
     /// Converts a byte index to a position: its line, and the units from that line's beginning to the byte. Lines end
@@ -52,9 +52,9 @@ impl<'a> TextIndex<'a> {
     /// A byte inside a char has the position where the char begins, a byte in a line break that of the line's end, and a byte
     /// past the end that of the text's end.
     pub fn position_of(&self, encoding: Encoding, byte: usize) -> Position
-        ensures { result ≡ position_at LineType.Crlf encoding self.now byte }
+        ensures { result ≡ position_at LineType.LfCr encoding self.now byte }
     {
-        self.position_by(LineType::Crlf, encoding, byte)
+        self.position_by(LineType::LfCr, encoding, byte)
     }
 
     /// As `position_of`, where lines end in breaks of the kind `lines`.
@@ -69,10 +69,10 @@ impl<'a> TextIndex<'a> {
     /// A unit inside a char belongs to it. An offset past the end of the line gives the line's end, before its break,
     /// and a line past the last one the text's length in bytes.
     pub fn byte_of(&self, encoding: Encoding, position: Position) -> usize
-        ensures answer { result ≡ byte_at LineType.Crlf encoding self.now position }
+        ensures answer { result ≡ byte_at LineType.LfCr encoding self.now position }
         ensures boundary { IsBoundary self.now result }
     {
-        self.byte_by(LineType::Crlf, encoding, position)
+        self.byte_by(LineType::LfCr, encoding, position)
     }
 
     /// As `byte_of`, where lines end in breaks of the kind `lines`.
@@ -87,10 +87,10 @@ impl<'a> TextIndex<'a> {
     /// offset is past the end of the line, or if the unit is inside a char. Lines end in LF, CR or CRLF. It asks
     /// `exact_byte_in`.
     pub fn exact_byte_of(&self, encoding: Encoding, position: Position) -> Option<usize>
-        ensures answer { result ≡ exact_byte_at LineType.Crlf encoding self.now position }
+        ensures answer { result ≡ exact_byte_at LineType.LfCr encoding self.now position }
         ensures boundary { IfSome result (λ byte. IsBoundary self.now byte) }
     {
-        self.exact_byte_by(LineType::Crlf, encoding, position)
+        self.exact_byte_by(LineType::LfCr, encoding, position)
     }
 
     /// As `exact_byte_of`, where lines end in breaks of the kind `lines`.
@@ -109,12 +109,12 @@ impl<'a> TextIndex<'a> {
     /// Converts a range to byte indices, each as `byte_of` answers it, or `None` if its end is before its start. It
     /// asks `byte_range_in`.
     pub fn byte_range(&self, encoding: Encoding, range: Range) -> Option<ops::Range<usize>>
-        ensures answer { result ≡ byte_range_at LineType.Crlf encoding self.now range }
+        ensures answer { result ≡ byte_range_at LineType.LfCr encoding self.now range }
         ensures ordered { IfSome result (λ bytes. bytes.start ≤ bytes.end) }
         ensures boundaries { IfSome result (λ bytes.
             IsBoundary self.now bytes.start × IsBoundary self.now bytes.end) }
     {
-        self.byte_range_by(LineType::Crlf, encoding, range)
+        self.byte_range_by(LineType::LfCr, encoding, range)
     }
 
     /// As `byte_range`, where lines end in breaks of the kind `lines`.
@@ -135,10 +135,10 @@ impl<'a> TextIndex<'a> {
     /// Converts the two ends of a span to positions, as `position_of` does. Lines end in LF, CR or CRLF. It asks
     /// `range_in`.
     pub fn range_of(&self, encoding: Encoding, span: ops::Range<usize>) -> Range
-        ensures start { result.start ≡ position_at LineType.Crlf encoding self.now span.start }
-        ensures end { result.end ≡ position_at LineType.Crlf encoding self.now span.end }
+        ensures start { result.start ≡ position_at LineType.LfCr encoding self.now span.start }
+        ensures end { result.end ≡ position_at LineType.LfCr encoding self.now span.end }
     {
-        self.range_by(LineType::Crlf, encoding, span)
+        self.range_by(LineType::LfCr, encoding, span)
     }
 
     /// As `range_of`, where lines end in breaks of the kind `lines`.
@@ -153,10 +153,10 @@ impl<'a> TextIndex<'a> {
     /// between CR and LF, or past the text's end: so a compiler notices a span that is wrong. Lines end in LF, CR or
     /// CRLF. It asks `exact_position_in`.
     pub fn exact_position_of(&self, encoding: Encoding, byte: usize) -> Option<Position>
-        ensures answer { IfSome result (λ position. position ≡ position_at LineType.Crlf encoding self.now byte) }
+        ensures answer { IfSome result (λ position. position ≡ position_at LineType.LfCr encoding self.now byte) }
         ensures some { IsSome result ↔ (IsBoundary self.now byte × ¬ (IsCrlfMiddle self.now byte)) }
     {
-        self.exact_position_by(LineType::Crlf, encoding, byte)
+        self.exact_position_by(LineType::LfCr, encoding, byte)
     }
 
     /// As `exact_position_of`, where lines end in breaks of the kind `lines`: if CR is no break, the byte between CR

@@ -5,9 +5,9 @@ ghost use Rattle.str_indices.specs.Schemes.{weighed};
 ghost use Rattle.str_indices.specs.Text.{Text, size};
 ghost use Rattle.positions.specs.Encodings.{units_of};
 ghost use Rattle.text_index.specs.Marks.{IsMark, count_at};
-ghost use Rattle.text_index.specs.Places.{IsWholeAt};
+ghost use Rattle.text_index.specs.Places.{IsMarkPlace};
 
-use crate::places::part_of;
+use crate::places::text_between;
 use positions::{Encoding, unit_scheme};
 use str_indices::{Counts, Scheme, counts};
 
@@ -48,11 +48,11 @@ impl Mark {
     pub(crate) fn move_to(self, text: &str, to: usize) -> Mark
         requires mark { IsMark (chars text.now) self }
         requires order { self.byte ≤ to }
-        requires place { IsWholeAt (chars text.now) to }
+        requires place { IsMarkPlace (chars text.now) to }
         ensures mark { IsMark (chars text.now) result }
         ensures byte { result.byte ≡ to }
     {
-        let own = counts(part_of(text, self.byte, to));
+        let own = counts(text_between(text, self.byte, to));
         Mark {
             byte: to,
             counts: self.counts.plus(own),

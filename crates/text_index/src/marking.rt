@@ -4,7 +4,7 @@ ghost use Rattle.str_indices.specs.Text.{size};
 ghost use Rattle.text_index.specs.Marks.{AreMarks, IsMark, IsMarkAt, stretch_size};
 
 use crate::mark::{BEGINNING, Mark};
-use crate::places::whole_place;
+use crate::places::mark_place;
 use crate::queries::STRETCH;
 
 /// Returns how many marks a text of `len` bytes takes, beside the one at its end.
@@ -22,7 +22,7 @@ pub fn fill(text: &str, room: &mut [Mark]) -> Mark
 {
     let mut last = BEGINNING;
     'marks: for i in 0..room.len() {
-        last = last.move_to(text, whole_place(text, (i + 1) * STRETCH));
+        last = last.move_to(text, mark_place(text, (i + 1) * STRETCH));
         room[i] = last;
     }
     last.move_to(text, text.len())

@@ -9,7 +9,7 @@ use crate::Marks;
 use crate::queries::{char_start_in, from_in, stretch_at, stretch_up_to, to_in};
 use crate::stretch::Stretch;
 use byte_chunk::Chunk;
-use positions::{Encoding, LineType, Own, Part, Parts, unit_scheme};
+use positions::{Encoding, LineType, Part, PartCounts, Parts, unit_scheme};
 use str_indices::Scheme;
 
 impl<'a> Parts<'a> for Marks<'a> {
@@ -77,7 +77,7 @@ fn part_in<'a>(
         lines: breaks,
         units: Some(units),
         in_crlf: false,
-        own: Some(Own {
+        counts: Some(PartCounts {
             chars: end.count(Scheme::Chars) - start.count(Scheme::Chars),
             units: end.units(encoding) - units,
             lf: end.count(Scheme::Lf) - start.count(Scheme::Lf),

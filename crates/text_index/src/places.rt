@@ -1,13 +1,13 @@
 //! Places of a text, and what stands between two of them.
 ghost use Rattle.std.specs.Prelude.{◌≡◌, ◌+◌, ◌≤◌, ◌↔◌, IsTrue, chars, length};
 ghost use Rattle.str_indices.specs.Relations.{IsBoundary, IsCrlfMiddle};
-ghost use Rattle.text_index.specs.Places.{IsWholeAt};
+ghost use Rattle.text_index.specs.Places.{IsMarkPlace};
 ghost use Rattle.text_index.specs.Stretches.{IsPart};
 
 use text_summary::{ends_cr, halves, starts_lf};
 
 /// The text between two byte indices.
-pub(crate) fn part_of(text: &str, from: usize, to: usize) -> &str
+pub(crate) fn text_between(text: &str, from: usize, to: usize) -> &str
     requires order { from ≤ to }
     requires start { IsBoundary (chars text.now) from }
     requires end { IsBoundary (chars text.now) to }
@@ -19,9 +19,9 @@ pub(crate) fn part_of(text: &str, from: usize, to: usize) -> &str
 }
 
 /// Returns the place of a mark: at most four bytes before `at`, between chars and not between CR and LF.
-pub(crate) fn whole_place(text: &str, at: usize) -> usize
+pub(crate) fn mark_place(text: &str, at: usize) -> usize
     requires { at ≤ length text.now }
-    ensures whole { IsWholeAt (chars text.now) result }
+    ensures whole { IsMarkPlace (chars text.now) result }
     ensures before { result ≤ at }
     ensures near { at ≤ result + 4 }
 {

@@ -5,7 +5,7 @@ ghost use Rattle.text_index.specs.Marks.{AreMarks, IsMark, IsMarkAt, MarksState,
 ghost use Rattle.text_index.specs.Stretches.{EndsBy, IsPart, IsStretch};
 
 use crate::mark::{BEGINNING, Mark};
-use crate::places::part_of;
+use crate::places::text_between;
 use crate::stretch::Stretch;
 use byte_chunk::Counter;
 use std::marker::Model;
@@ -122,6 +122,6 @@ impl<'a> Marks<'a> {
         ensures state { self.new ≡ record self.old { reads = self.old.reads + 1 } }
     {
         self.reads.tick();
-        part_of(self.text, stretch.start.byte, stretch.end.byte)
+        text_between(self.text, stretch.start.byte, stretch.end.byte)
     }
 }

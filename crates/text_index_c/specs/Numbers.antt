@@ -23,9 +23,9 @@ encoding_of (suc zero) = encodings.Utf8
 encoding_of (suc (suc n)) = encodings.Utf32
 
 abbrev pub kind_of : ℕ → LineType
-kind_of zero = kinds.Crlf
+kind_of zero = kinds.LfCr
 kind_of (suc zero) = kinds.Lf
-kind_of (suc (suc n)) = kinds.Lines
+kind_of (suc (suc n)) = kinds.All
 
 -- the statuses of making an index; 1 is that of memory, which C takes
 abbrev pub done : ℕ

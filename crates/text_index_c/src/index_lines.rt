@@ -7,7 +7,7 @@ ghost use Rattle.positions.specs.Positions.{byte_at, position_at};
 ghost use Rattle.text_index_c.specs.Handles.{IsIndex, text_of};
 ghost use Rattle.text_index_c.specs.Numbers.{encoding_of, kind_of};
 
-use crate::handle::{Handle, view_of};
+use crate::handle::{IndexHandle, view_of};
 use crate::index_positions::Bytes;
 use crate::numbers::{encoding_at, kind_at};
 use positions::{Position, Range};
@@ -22,7 +22,7 @@ const NO_POSITION: Position = Position {
 
 /// The bytes of a line's content: without its break, and none at the text's end for a line past the last one.
 #[unsafe(no_mangle)]
-pub extern "C" fn str_index_line_by(handle: &Handle<'_>, lines: u32, line_idx: usize) -> Bytes
+pub extern "C" fn str_index_line_by(handle: &IndexHandle<'_>, lines: u32, line_idx: usize) -> Bytes
     requires { IsIndex handle.now }
     ensures start { result.start ≡ to_byte_idx (scheme_of (kind_of lines)) (text_of handle.now) line_idx }
     ensures end { result.end ≡ line_end (kind_of lines) (text_of handle.now) line_idx }
@@ -34,7 +34,7 @@ pub extern "C" fn str_index_line_by(handle: &Handle<'_>, lines: u32, line_idx: u
 /// The position of a byte: its line, and the units of the encoding on that line before it.
 #[unsafe(no_mangle)]
 pub extern "C" fn str_index_position_by(
-    handle: &Handle<'_>,
+    handle: &IndexHandle<'_>,
     lines: u32,
     encoding: u32,
     byte_idx: usize,
@@ -49,7 +49,7 @@ pub extern "C" fn str_index_position_by(
 /// The position of a byte that is a place on a line; `usize::MAX` twice where it is none.
 #[unsafe(no_mangle)]
 pub extern "C" fn str_index_exact_position_by(
-    handle: &Handle<'_>,
+    handle: &IndexHandle<'_>,
     lines: u32,
     encoding: u32,
     byte_idx: usize,
@@ -70,7 +70,7 @@ pub extern "C" fn str_index_exact_position_by(
 /// The byte index where the char at a position begins; past the end of its line, the line's end.
 #[unsafe(no_mangle)]
 pub extern "C" fn str_index_byte_by(
-    handle: &Handle<'_>,
+    handle: &IndexHandle<'_>,
     lines: u32,
     encoding: u32,
     position: Position,
@@ -86,7 +86,7 @@ pub extern "C" fn str_index_byte_by(
 /// The positions of both ends of a span of bytes.
 #[unsafe(no_mangle)]
 pub extern "C" fn str_index_range_by(
-    handle: &Handle<'_>,
+    handle: &IndexHandle<'_>,
     lines: u32,
     encoding: u32,
     span: Bytes,

@@ -4,13 +4,13 @@ ghost use Rattle.text_index.specs.Marks.{stretch_size};
 ghost use Rattle.text_index_c.specs.Handles.{IsIndex, text_of};
 ghost use Rattle.text_index_c.specs.Numbers.{done, no_room, not_utf8};
 
-use crate::handle::Handle;
+use crate::handle::IndexHandle;
 use crate::numbers::{DONE, NO_ROOM, NOT_UTF8};
 use std::mem::size_of;
 use text_index::{Mark, fill, marks_for};
 
 /// How many bytes a handle takes, and a mark.
-const HANDLE: usize = size_of::<Handle<'static>>();
+const HANDLE: usize = size_of::<IndexHandle<'static>>();
 
 const MARK: usize = size_of::<Mark>();
 
@@ -43,7 +43,7 @@ pub extern "C" fn index_marks(len: usize) -> usize
 pub extern "C" fn index_fill<'a>(
     text: &'a [u8],
     room: &'a mut [Mark],
-    handle: &mut Handle<'a>,
+    handle: &mut IndexHandle<'a>,
 ) -> u32
     ensures index { result ≡ done → IsIndex handle.new }
     ensures text { result ≡ done → text_of handle.new ≡ chars text.now }
@@ -59,7 +59,7 @@ pub extern "C" fn index_fill<'a>(
                 return NO_ROOM;
             }
             let whole = fill(text, room);
-            *handle = Handle {
+            *handle = IndexHandle {
                 text: text.as_bytes(),
                 marks: room,
                 whole,

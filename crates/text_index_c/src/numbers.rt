@@ -44,8 +44,8 @@ pub(crate) fn kind_at(number: u32) -> LineType
     ensures { result ≡ kind_of number }
 {
     match number {
-        0 => LineType::Crlf,
+        0 => LineType::LfCr,
         1 => LineType::Lf,
-        _ => LineType::Lines,
+        _ => LineType::All,
     }
 }

@@ -6,13 +6,13 @@ ghost use Rattle.str_indices.specs.Text.{size};
 ghost use Rattle.text_index_c.specs.Handles.{IsIndex, text_of};
 ghost use Rattle.text_index_c.specs.Numbers.{scheme_of};
 
-use crate::handle::{Handle, index_of};
+use crate::handle::{IndexHandle, index_of};
 use crate::numbers::scheme_at;
 use text_index::{count_in, from_in, to_in};
 
 /// How many bytes the text has.
 #[unsafe(no_mangle)]
-pub extern "C" fn str_index_len(handle: &Handle<'_>) -> usize
+pub extern "C" fn str_index_len(handle: &IndexHandle<'_>) -> usize
     requires { IsIndex handle.now }
     ensures { result ≡ size (text_of handle.now) }
 {
@@ -21,7 +21,7 @@ pub extern "C" fn str_index_len(handle: &Handle<'_>) -> usize
 
 /// Counts the chars, UTF-16 code units or line breaks of the text.
 #[unsafe(no_mangle)]
-pub extern "C" fn str_index_count(handle: &Handle<'_>, scheme: u32) -> usize
+pub extern "C" fn str_index_count(handle: &IndexHandle<'_>, scheme: u32) -> usize
     requires { IsIndex handle.now }
     ensures { result ≡ count (scheme_of scheme) (text_of handle.now) }
 {
@@ -31,7 +31,7 @@ pub extern "C" fn str_index_count(handle: &Handle<'_>, scheme: u32) -> usize
 /// Counts those of the text up to a byte index; past the end, all.
 #[unsafe(no_mangle)]
 pub extern "C" fn str_index_from_byte_idx(
-    handle: &Handle<'_>,
+    handle: &IndexHandle<'_>,
     scheme: u32,
     byte_idx: usize,
 ) -> usize
@@ -43,7 +43,7 @@ pub extern "C" fn str_index_from_byte_idx(
 
 /// Returns the byte index after the first `idx` of them; the text's length if it has fewer.
 #[unsafe(no_mangle)]
-pub extern "C" fn str_index_to_byte_idx(handle: &Handle<'_>, scheme: u32, idx: usize) -> usize
+pub extern "C" fn str_index_to_byte_idx(handle: &IndexHandle<'_>, scheme: u32, idx: usize) -> usize
     requires { IsIndex handle.now }
     ensures { result ≡ to_byte_idx (scheme_of scheme) (text_of handle.now) idx }
 {
@@ -52,7 +52,7 @@ pub extern "C" fn str_index_to_byte_idx(handle: &Handle<'_>, scheme: u32, idx: u
 
 /// Whether a byte index is between chars, or at the beginning or end of the text; past the end it is not.
 #[unsafe(no_mangle)]
-pub extern "C" fn str_index_is_char_boundary(handle: &Handle<'_>, byte_idx: usize) -> bool
+pub extern "C" fn str_index_is_char_boundary(handle: &IndexHandle<'_>, byte_idx: usize) -> bool
     requires { IsIndex handle.now }
     ensures { IsTrue result ↔ IsBoundary (text_of handle.now) byte_idx }
 {

@@ -3,8 +3,8 @@
 --     begins_break s c           whether a break of the scheme begins with a char
 --     between text from to       the chars between two byte indices
 --     line_text s text k         the chars of the k-th line, its break too
---     line_content s text k      those before its break
---     line_end s text k          the byte index where they end
+--     line_content_by s text k   those before its break
+--     line_end_by s text k       the byte index where they end
 --     IsFeedOf s text c at       the char that ends there is the LF of a CRLF which is one break
 --     IsBreakLen s text at n     the break that ends at byte index `at` has `n` bytes
 use Rattle.std.specs.Prelude.{ℕ, ◌≡◌, ◌≢◌, ◌+◌, ◌-◌, ◌⊎◌, Bool, length, drop}
@@ -29,12 +29,12 @@ abbrev pub line_text : Scheme → Text → ℕ → Text
 line_text s text k = between text (to_byte_idx s text k) (to_byte_idx s text (k + 1))
 
 -- those before its break
-abbrev pub line_content : Scheme → Text → ℕ → Text
-line_content s text k = before_first (begins_break s) (line_text s text k)
+abbrev pub line_content_by : Scheme → Text → ℕ → Text
+line_content_by s text k = before_first (begins_break s) (line_text s text k)
 
 -- the byte index where they end
-abbrev pub line_end : Scheme → Text → ℕ → ℕ
-line_end s text k = to_byte_idx s text k + size (line_content s text k)
+abbrev pub line_end_by : Scheme → Text → ℕ → ℕ
+line_end_by s text k = to_byte_idx s text k + size (line_content_by s text k)
 
 -- the char that ends at a byte index is the LF of a CRLF, which is one break of the scheme
 abbrev pub IsFeedOf : Scheme → Text → ℕ → ℕ → Type 0

@@ -10,10 +10,10 @@ abbrev pub parts_of : RopeState → PartsState
 parts_of state = record {
   text = joined state.texts;
   pieces = state.texts;
-  begins = λ byte. byte;
-  by_byte = (length state.texts + 1) * (length state.texts + 1);
-  by_count = (length state.texts + 1) * (length state.texts + 1);
-  apart = 1;
+  latest_start = λ byte. byte;
+  byte_choices = (length state.texts + 1) * (length state.texts + 1);
+  count_choices = (length state.texts + 1) * (length state.texts + 1);
+  unit_searches = 1;
   looks = state.looks;
   reads = state.reads;
 }

@@ -50,8 +50,7 @@ pub(crate) fn splice(
     Ok(join_options(work, alloc, front.as_ref(), back.as_ref())?)
 }
 
-/// The same for no more chunks than a leaf has. They go into a leaf that stays, where one does: into the first that they
-/// take chunks of.
+/// Splices at most a leaf of chunks. They go into the first leaf that loses chunks to them, if a leaf stays.
 fn splice_few(
     work: &mut Work,
     alloc: Global,
@@ -101,7 +100,7 @@ fn splice_few(
     join_options(work, alloc, front.as_ref(), back.as_ref())
 }
 
-/// The same of the chunks of one leaf.
+/// Splices the chunks of one leaf.
 #[inline(never)]
 fn splice_chunks(
     work: &mut Work,

@@ -81,7 +81,7 @@ impl Chunk {
         Ok(Chunk { text, counts })
     }
 
-    /// The same chunk once more. Copies no text.
+    /// Shares the chunk: copies no text.
     pub(crate) fn share(&self) -> Result<Chunk, AllocError>
         ensures { IfOk result (λ chunk. chunk ≡ self.now) }
     {
@@ -305,7 +305,7 @@ fn put_ascii(text: &mut String, at: usize, more: &str, byte: u8)
     };
 }
 
-/// The same of any text.
+/// Puts any text into another that has room for it.
 fn put_longer(text: &mut String, at: usize, more: &str)
     requires boundary { IsBoundary (chars (string_bytes text.old)) at }
     requires room { string_len text.old + length more.now ≤ string_capacity text.old }

@@ -124,9 +124,9 @@ pub fn chunk_at_count_in<'a>(v: &mut View<'a>, s: Scheme, k: usize) -> ChunkAtCo
     v.read();
     let chunk = place.chunk;
     let text = chunk.text();
-    let look = place.before.look(s, chunk.summary());
+    let step = place.before.step(s, chunk.summary());
     ChunkAtCount {
-        byte: place.before.len + chunk.to_byte_idx(s, k - look.reached),
+        byte: place.before.len + chunk.to_byte_idx(s, k - step.reached),
         chunk: ChunkAt {
             text,
             start: place.before.len,

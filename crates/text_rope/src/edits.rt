@@ -34,7 +34,7 @@ pub(crate) struct Patch<'a> {
     pub(crate) before: &'a str,
     pub(crate) head: &'a str,
     pub(crate) tail: &'a str,
-    pub(crate) behind: &'a str,
+    pub(crate) after: &'a str,
 }
 
 /// The tree of a text with what is between two boundaries replaced by another one; either may have no chunks.
@@ -62,7 +62,7 @@ pub(crate) fn replace_text(
     }
 }
 
-/// The same where it has chunks: those that the part is in are written anew, with one beside them where they would be short.
+/// Replaces in a tree that has chunks: writes the chunks of the part anew, with one beside them if they would be short.
 fn replace_text_in(
     work: &mut Work,
     alloc: Global,
@@ -87,10 +87,10 @@ fn replace_text_in(
         before,
         head,
         tail,
-        behind,
+        after,
         ..
     } = patch;
-    let text = text_of(alloc, before, head, more, tail, behind)?;
+    let text = text_of(alloc, before, head, more, tail, after)?;
     let chunks = chunks_in(alloc, text)?;
     let root = splice(work, alloc, subtree, patch.start, patch.end, chunks)?;
     Ok(Tree::of(root))
@@ -104,7 +104,7 @@ fn patch_of<'a>(work: &mut Work, subtree: &'a Subtree, from: usize, to: usize) -
     ensures patch { IsPatch subtree.now.texts from to result }
     ensures short { length result.head.now + length result.tail.now ≤ 2 * max_chunk }
     ensures before { length result.before.now ≡ 0 }
-    ensures behind { length result.behind.now ≡ 0 }
+    ensures after { length result.after.now ≡ 0 }
     ensures work { Costs work.old work.new (2 * subtree.now.height + 2) 0 }
 {
     let _some = subtree.summary();
@@ -116,7 +116,7 @@ fn patch_of<'a>(work: &mut Work, subtree: &'a Subtree, from: usize, to: usize) -
         before: "",
         head: text_between(first.text, 0, from - first.start),
         tail: text_between(last.text, to - last.start, last.text.len()),
-        behind: "",
+        after: "",
     }
 }
 
@@ -143,7 +143,7 @@ fn first_from<'a>(
     stretch_at(work, subtree, from)
 }
 
-/// The same with the chunk after it, or else the one before it, where `more` bytes with what stays are too few for a chunk.
+/// Adds the chunk after a patch, or else the one before it, if the patch would be too short for a chunk with `more` bytes.
 fn widen<'a>(
     work: &mut Work,
     subtree: &'a Subtree,
@@ -156,7 +156,7 @@ fn widen<'a>(
     requires patch { IsPatch subtree.now.texts from to patch }
     requires short { length patch.head.now + length patch.tail.now ≤ 2 * max_chunk }
     requires before { length patch.before.now ≡ 0 }
-    requires behind { length patch.behind.now ≡ 0 }
+    requires after { length patch.after.now ≡ 0 }
     requires more { more < 2 ^ 63 }
     ensures patch { IsPatch subtree.now.texts from to result }
     ensures short { IsSpread result (3 * max_chunk) }
@@ -173,7 +173,7 @@ fn widen<'a>(
         let next = stretch_at(work, subtree, patch.end);
         return Patch {
             end: next.end,
-            behind: next.text,
+            after: next.text,
             ..patch
         };
     }
@@ -195,21 +195,21 @@ fn text_of(
     head: &str,
     more: &str,
     tail: &str,
-    behind: &str,
+    after: &str,
 ) -> Result<String, AllocError>
-    requires { length before.now + length head.now + length tail.now + length behind.now ≤ 3 * max_chunk }
+    requires { length before.now + length head.now + length tail.now + length after.now ≤ 3 * max_chunk }
     ensures text { IfOk result (λ text. chars (string_bytes text)
-        ≡ (chars before.now ++ chars head.now) ++ (chars more.now ++ (chars tail.now ++ chars behind.now))) }
+        ≡ (chars before.now ++ chars head.now) ++ (chars more.now ++ (chars tail.now ++ chars after.now))) }
     ensures len { IfOk result (λ text. length (string_bytes text)
-        ≡ (length before.now + length head.now) + (length more.now + (length tail.now + length behind.now))) }
+        ≡ (length before.now + length head.now) + (length more.now + (length tail.now + length after.now))) }
 {
-    let around = before.len() + head.len() + tail.len() + behind.len();
+    let around = before.len() + head.len() + tail.len() + after.len();
     let mut text = String::with_capacity(alloc, memory_for(around + more.len()))?;
     text.push_str(before)?;
     text.push_str(head)?;
     text.push_str(more)?;
     text.push_str(tail)?;
-    text.push_str(behind)?;
+    text.push_str(after)?;
     Ok(text)
 }
 

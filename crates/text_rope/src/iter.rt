@@ -126,7 +126,7 @@ pub(crate) fn text_between(text: &str, from: usize, to: usize) -> &str
     part
 }
 
-/// The same chunks. It asks for the first text, which is never empty, so that its memory comes while the text before is read.
+/// Returns `chunks`. It asks for the first text, which is never empty, so that its memory comes while the text before is read.
 fn prefetch_first(chunks: &[Chunk]) -> &[Chunk]
     ensures { result.now ≡ chunks.now }
 {
@@ -186,7 +186,7 @@ pub(crate) fn rest_in<'a>(
     }
 }
 
-/// The same of the chunks of one leaf.
+/// Finds the chunks of one leaf from the one that byte `at` is in.
 fn rest_of_chunks(chunks: &[Chunk], before: usize, at: usize) -> Rest<'_>
     requires short { before + joined_size chunks.now < 2 ^ 63 }
     requires after { before ≤ at }

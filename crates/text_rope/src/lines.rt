@@ -7,7 +7,7 @@ ghost use Rattle.str_indices.specs.Text.{carriage_return};
 ghost use Rattle.str_indices.specs.declared.Scheme.TheVariants.{Lf};
 ghost use Rattle.text_summary.specs.Pieces.{joined};
 ghost use Rattle.text_rope.specs.Chunks.{IsRound};
-ghost use Rattle.text_rope.specs.Lines.{line_end, IsBreakLen};
+ghost use Rattle.text_rope.specs.Lines.{line_end_by, IsBreakLen};
 ghost use Rattle.text_rope.specs.Looks.{Asks};
 ghost use Rattle.text_rope.specs.States.{RopeState};
 
@@ -33,7 +33,7 @@ pub struct Line {
 /// `next` are the byte indices of `k` and `k + 1`. The last line ends where the text does, and past it all three are that.
 pub fn line_in(v: &mut View, s: Scheme, k: usize) -> Line
     ensures start { result.start ≡ to_byte_idx s (joined v.old.texts) k }
-    ensures end { result.end ≡ line_end s (joined v.old.texts) k }
+    ensures end { result.end ≡ line_end_by s (joined v.old.texts) k }
     ensures next { result.next ≡ to_byte_idx s (joined v.old.texts) (k + 1) }
     ensures cost { Asks 3 v.old v.new }
 {

@@ -72,7 +72,7 @@ pub(crate) fn chunks_in(alloc: Global, text: String) -> Result<Vec<Chunk>, Alloc
     Ok(only)
 }
 
-/// The first chunk of a text, and what is behind it.
+/// The first chunk of a text, and what is after it.
 fn first_chunk(text: &str) -> (&str, &str)
     requires some { 0 < length text.now }
     requires short { length text.now < 2 ^ 63 }

@@ -49,8 +49,8 @@ pub fn from_in(v: &mut View, s: Scheme, b: usize) -> usize
     let chunk = place.chunk;
     v.read();
     let own = chunk.summary();
-    let look = place.before.look(s, own);
-    look.reached + chunk.from_byte_idx(s, b - place.before.len)
+    let step = place.before.step(s, own);
+    step.reached + chunk.from_byte_idx(s, b - place.before.len)
 }
 
 /// The byte index where char `k`, the char of code unit `k` or line `k` begins, the text's length where it has fewer. As many
@@ -71,8 +71,8 @@ pub fn to_in(v: &mut View, s: Scheme, k: usize) -> usize
     let chunk = place.chunk;
     v.read();
     let own = chunk.summary();
-    let look = place.before.look(s, own);
-    place.before.len + chunk.to_byte_idx(s, k - look.reached)
+    let step = place.before.step(s, own);
+    place.before.len + chunk.to_byte_idx(s, k - step.reached)
 }
 
 /// Whether a byte index is between chars, or at the beginning or end of the text; in as many looks and reads at most
@@ -114,7 +114,7 @@ pub(crate) fn place_at<'a>(v: &mut View, subtree: &'a Subtree, s: Scheme, at: us
     }
 }
 
-/// The same of one scheme, by code of its own: so no node and no chunk asks which it is.
+/// Finds the place for one scheme, by code of its own: no node and no chunk asks which scheme it is.
 #[inline(always)]
 fn place_at_by_scheme<'a>(v: &mut View, subtree: &'a Subtree, s: Scheme, at: usize) -> Placed<'a>
     requires { at < joined_size subtree.now.texts }
@@ -133,12 +133,12 @@ fn place_at_by_scheme<'a>(v: &mut View, subtree: &'a Subtree, s: Scheme, at: usi
         match v.look(part) {
             Below::Chunks(chunks) => return chunk_at_byte(chunks, s, front, at),
             Below::Subtrees(left, right) => {
-                let look = front.look(s, *left.summary());
-                if at < look.behind.len {
+                let step = front.step(s, *left.summary());
+                if at < step.after.len {
                     part = left;
                 } else {
                     part = right;
-                    front = look.behind;
+                    front = step.after;
                 }
             }
         }
@@ -163,7 +163,7 @@ pub(crate) fn place_of<'a>(v: &mut View, subtree: &'a Subtree, s: Scheme, k: usi
     }
 }
 
-/// The same of one scheme, by code of its own.
+/// Finds the place for one scheme, by code of its own.
 #[inline(always)]
 fn place_of_by_scheme<'a>(v: &mut View, subtree: &'a Subtree, s: Scheme, k: usize) -> Placed<'a>
     requires { 0 < k }
@@ -181,13 +181,13 @@ fn place_of_by_scheme<'a>(v: &mut View, subtree: &'a Subtree, s: Scheme, k: usiz
         match v.look(part) {
             Below::Chunks(chunks) => return chunk_at_count(chunks, s, front, k),
             Below::Subtrees(left, right) => {
-                let first = front.look(s, *left.summary());
-                let next = first.behind.look(s, *right.summary());
+                let first = front.step(s, *left.summary());
+                let next = first.after.step(s, *right.summary());
                 if k <= next.reached {
                     part = left;
                 } else {
                     part = right;
-                    front = first.behind;
+                    front = first.after;
                 }
             }
         }
@@ -205,14 +205,14 @@ fn chunk_at_byte(chunks: &[Chunk], s: Scheme, before: Front, at: usize) -> Place
     let mut front = before;
     for i in 0..chunks.len() {
         let chunk = &chunks[i];
-        let look = front.look(s, chunk.summary());
-        if at < look.behind.len {
+        let step = front.step(s, chunk.summary());
+        if at < step.after.len {
             return Placed {
                 chunk,
                 before: front,
             };
         }
-        front = look.behind;
+        front = step.after;
     }
     unreachable!()
 }
@@ -229,16 +229,16 @@ fn chunk_at_count(chunks: &[Chunk], s: Scheme, before: Front, k: usize) -> Place
     let _some = last.summary();
     let mut front = before;
     for i in 1..chunks.len() {
-        let look = front.look(s, last.summary());
+        let step = front.step(s, last.summary());
         let chunk = &chunks[i];
-        if k <= look.behind.count_before(s, chunk.summary().starts_lf) {
+        if k <= step.after.count_before(s, chunk.summary().starts_lf) {
             return Placed {
                 chunk: last,
                 before: front,
             };
         }
         last = chunk;
-        front = look.behind;
+        front = step.after;
     }
     Placed {
         chunk: last,

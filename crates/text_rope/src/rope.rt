@@ -7,7 +7,7 @@ ghost use Rattle.text_summary.specs.Changes.{IsReplaced};
 ghost use Rattle.text_summary.specs.Pieces.{joined};
 ghost use Rattle.text_rope.specs.Chunks.{IsChunkAt, ChunksState, IsCopied, IsRead};
 ghost use Rattle.text_rope.specs.Edits.{IsCutAt};
-ghost use Rattle.text_rope.specs.Lines.{line_end};
+ghost use Rattle.text_rope.specs.Lines.{line_end_by};
 ghost use Rattle.text_rope.specs.ChunkSizes.{max_chunk, min_chunk, IsFilled};
 ghost use Rattle.text_rope.specs.States.{RopeState};
 ghost use Rattle.text_rope.specs.Work.{WorkState, TakesLog};
@@ -152,7 +152,7 @@ impl Rope {
     /// `Chars` and `Utf16` know no breaks: there `start`, and `end` with `next`, are the byte indices of `k` and `k + 1`.
     pub fn line(&self, s: Scheme, k: usize) -> Line
         ensures start { result.start ≡ to_byte_idx s self.now k }
-        ensures end { result.end ≡ line_end s self.now k }
+        ensures end { result.end ≡ line_end_by s self.now k }
         ensures next { result.next ≡ to_byte_idx s self.now (k + 1) }
     {
         line_in(&mut self.view(), s, k)
@@ -333,7 +333,7 @@ impl Rope {
         self.append_some(&mut Work::none(), other)
     }
 
-    /// The same where neither is empty. One chunk is put in as a text is, and two trees are joined.
+    /// Appends where neither is empty. It inserts one chunk as a text, and joins two trees.
     fn append_some(&mut self, work: &mut Work, other: &mut Rope) -> Result<(), Refusal>
         requires short { size self.old + size other.old < 2 ^ 63 }
         ensures ok { OnOk result (self.new ≡ self.old ++ other.old) }
@@ -455,7 +455,7 @@ impl Rope {
         }
     }
 
-    /// The same where it is not done in place.
+    /// Replaces a range that is not replaced in place.
     fn replace_range_beside(
         &mut self,
         work: &mut Work,

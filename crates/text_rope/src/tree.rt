@@ -68,7 +68,7 @@ impl Model for Subtree {
     ghost size_decreases = { λ a h. Prim.grind (arith, length-append) };
 }
 
-/// What a tree consists of.
+/// A tree's parts: the chunks of its leaf, or its two subtrees.
 #[derive(Clone, Copy)]
 pub(crate) enum Below<'a> {
     Chunks(&'a [Chunk]),
@@ -103,7 +103,7 @@ impl Subtree {
         }
     }
 
-    /// What it consists of.
+    /// Its parts.
     #[tactic(auto, using(crate::proofs::lemmas::Branches::branch_size))]
     pub(crate) fn look(&self) -> Below<'_>
         ensures { IsLookAt self.now result }
@@ -117,7 +117,7 @@ impl Subtree {
         }
     }
 
-    /// The same tree once more. Copies no node.
+    /// Shares the tree: copies no node.
     pub(crate) fn share(&self) -> Result<Subtree, AllocError>
         ensures { IfOk result (λ subtree. subtree ≡ self.now) }
     {
@@ -176,7 +176,7 @@ impl Subtree {
 }
 
 impl Branch {
-    /// The same in the subtree that both indices are in.
+    /// Replaces in the subtree that both indices are in.
     #[cycle(replace_in_place)]
     fn replace_in_place(
         &mut self,
@@ -360,7 +360,7 @@ impl Tree {
         self.view().len()
     }
 
-    /// The same tree once more. Copies no node.
+    /// Shares the tree: copies no node.
     pub(crate) fn share(&self) -> Result<Tree, AllocError>
         ensures ok { IfOk result (λ tree. tree ≡ self.now) }
         ensures empty { joined self.now ≡ [] → IsOk result }
@@ -455,7 +455,7 @@ impl<'a> View<'a> {
         }
     }
 
-    /// What a tree consists of, for one look.
+    /// A tree's parts, for one look.
     pub(crate) fn look<'b>(&mut self, subtree: &'b Subtree) -> Below<'b>
         ensures look { IsLookAt subtree.now result }
         ensures state { self.new ≡ record self.old { looks = self.old.looks + 1 } }

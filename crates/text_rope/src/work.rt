@@ -34,7 +34,7 @@ impl Work {
         }
     }
 
-    /// What a tree consists of, for one node.
+    /// A tree's parts, for one node.
     pub(crate) fn look<'a>(&mut self, subtree: &'a Subtree) -> Below<'a>
         ensures look { IsLookAt subtree.now result }
         ensures nodes { self.new.nodes ≡ self.old.nodes + 1 }

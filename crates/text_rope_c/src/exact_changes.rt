@@ -6,7 +6,7 @@ ghost use Rattle.rope_positions.specs.Changes.{exact_part_at};
 ghost use Rattle.text_summary.specs.Changes.{IsReplaced};
 ghost use Rattle.text_rope.specs.declared.refusals.Refusal.TheVariants.{NotOrdered, NotBoundary, TooLong, NoMemory};
 ghost use Rattle.text_rope_c.specs.Numbers.{done, encoding_of, no_memory, not_boundary, not_ordered, not_utf8, too_long};
-ghost use Rattle.positions.specs.declared.line_type.LineType.TheVariants.{Crlf};
+ghost use Rattle.positions.specs.declared.line_type.LineType.TheVariants.{LfCr};
 
 use crate::handles::store;
 use crate::numbers::{NOT_UTF8, encoding_at, status_at};
@@ -34,9 +34,9 @@ pub extern "C" fn rope_change_exact(
     ensures refused { result ≢ done → rope.new.text ≡ rope.old.text }
     ensures not_utf8 { (result ≡ not_utf8) ↔ (¬ (IsUtf8 text.now)) }
     ensures not_ordered { (result ≡ not_ordered)
-        ↔ (IsUtf8 text.now × IsNone (byte_range_at Crlf (encoding_of encoding) rope.old.text range)) }
+        ↔ (IsUtf8 text.now × IsNone (byte_range_at LfCr (encoding_of encoding) rope.old.text range)) }
     ensures not_boundary { (result ≡ not_boundary)
-        ↔ (IsUtf8 text.now × (IsSome (byte_range_at Crlf (encoding_of encoding) rope.old.text range)
+        ↔ (IsUtf8 text.now × (IsSome (byte_range_at LfCr (encoding_of encoding) rope.old.text range)
         × IsNone (exact_part_at (encoding_of encoding) rope.old.text (Some range)))) }
     ensures too_long { (result ≡ too_long) ↔ (IsUtf8 text.now
         × IsSomeAnd (exact_part_at (encoding_of encoding) rope.old.text (Some range)) (λ part.
@@ -61,8 +61,8 @@ fn apply_change(
     ensures ok { OnOk result (IfSome (exact_part_at encoding rope.old.text (Some range)) (λ part.
         IsReplaced rope.old.text rope.new.text part.start part.end (chars text.now))) }
     ensures err { OnErr result (rope.new.text ≡ rope.old.text) }
-    ensures not_ordered { IsErrOf result NotOrdered ↔ IsNone (byte_range_at Crlf encoding rope.old.text range) }
-    ensures not_boundary { IsErrOf result NotBoundary ↔ (IsSome (byte_range_at Crlf encoding rope.old.text range)
+    ensures not_ordered { IsErrOf result NotOrdered ↔ IsNone (byte_range_at LfCr encoding rope.old.text range) }
+    ensures not_boundary { IsErrOf result NotBoundary ↔ (IsSome (byte_range_at LfCr encoding rope.old.text range)
         × IsNone (exact_part_at encoding rope.old.text (Some range))) }
     ensures too_long { IsErrOf result TooLong ↔ IsSomeAnd (exact_part_at encoding rope.old.text (Some range)) (λ part.
         2 ^ 63 + (part.end - part.start) ≤ size rope.old.text + length text.now) }

@@ -1,6 +1,6 @@
 -- The text before a piece, as far as it is known.
 --     IsFront s a front        the bytes and the count of a, and whether it ends in CR
---     IsLook s a b look        the answer of a look at b after a
+--     IsStep s a b step        the answer of a step over b after a
 --     IsBefore s front lf      some text has that front, and one comes after it that starts with LF or does not
 --     IsFollowed s front p     some text has that front, one with summary p comes after it, and both are not too long
 use Rattle.std.specs.Prelude.{Bool, ◌≡◌, ◌≢◌, ◌+◌, ◌-◌, ◌^◌, ◌<◌, [], ◌++◌}
@@ -11,7 +11,7 @@ use Rattle.str_indices.specs.Joins.{starts_with_feed, ends_in_return, seam_loss}
 use Rattle.text_summary.specs.Summaries.{summary_of}
 use Rattle.text_summary.specs.declared.summaries.Summary.{Summary}
 use Rattle.text_summary.specs.declared.fronts.Front.{Front}
-use Rattle.text_summary.specs.declared.fronts.Look.{Look}
+use Rattle.text_summary.specs.declared.fronts.Step.{Step}
 
 -- the bytes and the count of a text, and whether it ends in CR
 pub record IsFront (s : Scheme) (a : Text) (front : Front) : Type 0 where
@@ -19,10 +19,10 @@ pub record IsFront (s : Scheme) (a : Text) (front : Front) : Type 0 where
   pub total : front.total ≡ count s a
   pub ends_cr : front.ends_cr ≡ ends_in_return a
 
--- the answer of a look at b after a
-pub record IsLook (s : Scheme) (a b : Text) (look : Look) : Type 0 where
-  pub reached : look.reached ≡ count s a - seam_loss s a b
-  pub behind : IsFront s (a ++ b) look.behind
+-- the answer of a step over b after a
+pub record IsStep (s : Scheme) (a b : Text) (step : Step) : Type 0 where
+  pub reached : step.reached ≡ count s a - seam_loss s a b
+  pub after : IsFront s (a ++ b) step.after
 
 -- some text has that front, and one comes after it that starts with LF or does not
 pub record IsBefore (s : Scheme) (front : Front) (starts_lf : Bool) : Type 0 where

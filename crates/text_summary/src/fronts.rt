@@ -5,7 +5,7 @@ ghost use Rattle.str_indices.specs.Schemes.{count};
 ghost use Rattle.str_indices.specs.Joins.{starts_with_feed, seam_loss};
 ghost use Rattle.str_indices.specs.declared.Scheme.{Scheme};
 ghost use Rattle.text_summary.specs.Summaries.{summary_of};
-ghost use Rattle.text_summary.specs.Fronts.{IsFront, IsLook, IsBefore, IsFollowed};
+ghost use Rattle.text_summary.specs.Fronts.{IsFront, IsStep, IsBefore, IsFollowed};
 
 use crate::{Scheme, Summary, lost_at_seam};
 
@@ -20,13 +20,13 @@ pub struct Front {
     pub ends_cr: bool,
 }
 
-/// The answer of a look at a piece.
+/// A step over a piece: what is known before it and after it.
 #[derive(Clone, Copy)]
-pub struct Look {
+pub struct Step {
     /// The count of the text before the piece, less what the seam takes off.
     pub reached: usize,
     /// The front of the next piece.
-    pub behind: Front,
+    pub after: Front,
 }
 
 impl Front {
@@ -51,17 +51,17 @@ impl Front {
         self.total - lost_at_seam(s, self.ends_cr, starts_lf)
     }
 
-    /// Looks at the next piece.
-    pub fn look(self, s: Scheme, piece: Summary) -> Look
+    /// Steps over the next piece, by its summary.
+    pub fn step(self, s: Scheme, piece: Summary) -> Step
         requires { IsFollowed s self piece }
-        ensures { (a b : Text) → IsFront s a self → piece ≡ summary_of b → b ≢ [] → IsLook s a b result }
+        ensures { (a b : Text) → IsFront s a self → piece ≡ summary_of b → b ≢ [] → IsStep s a b result }
     {
         let reached = self.count_before(s, piece.starts_lf);
         let len = self.len + piece.len;
         let total = reached + piece.count(s);
-        Look {
+        Step {
             reached,
-            behind: Front {
+            after: Front {
                 len,
                 total,
                 ends_cr: piece.ends_cr,

@@ -13,7 +13,7 @@ mod splits;
 mod summaries;
 
 pub use changes::{Update, apply_update, summary_after};
-pub use fronts::{Front, Look};
+pub use fronts::{Front, Step};
 pub use seams::{join_summaries, lost_at_seam};
 pub use splits::halves;
 pub use str_indices::Scheme;

@@ -18,9 +18,9 @@ fn at(line: usize, character: usize) -> Position {
 
 /// From a byte to its position and back, as a caller writes it, who knows by the law what comes back.
 fn there_and_back(text: &str, byte: usize) -> usize
-    ensures { IsGreatestPlace LineType.Crlf (chars text.now) byte result }
+    ensures { IsGreatestPlace LineType.LfCr (chars text.now) byte result }
 {
-    laws::round_trip(LineType::Crlf, Encoding::Utf16, text, byte);
+    laws::round_trip(LineType::LfCr, Encoding::Utf16, text, byte);
     Encoding::Utf16.byte_of(text, Encoding::Utf16.position_of(text, byte))
 }
 
@@ -28,7 +28,7 @@ fn there_and_back(text: &str, byte: usize) -> usize
 fn back_from_byte(text: &str, position: Position) -> Position
     ensures { result.line ≡ min position.line (count Crlf (chars text.now)) }
 {
-    laws::position_round_trip(LineType::Crlf, Encoding::Utf16, text, position);
+    laws::position_round_trip(LineType::LfCr, Encoding::Utf16, text, position);
     Encoding::Utf16.position_of(text, Encoding::Utf16.byte_of(text, position))
 }
 
@@ -66,7 +66,7 @@ const LINE_ENDS: [(&str, usize, usize); 16] = [
 fn a_line_ends_before_its_break(rt: HostRuntime) {
     for i in 0..LINE_ENDS.len() {
         let (text, line, end) = LINE_ENDS[i];
-        assert_byte(&rt, LineType::Crlf.line_end(text, line), end, i);
+        assert_byte(&rt, LineType::LfCr.line_end(text, line), end, i);
     }
 }
 

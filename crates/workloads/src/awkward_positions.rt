@@ -56,7 +56,7 @@ fn random_byte(rope: &Rope, random: &mut Random) -> usize {
     random.below(rope.len().saturating_add(1))
 }
 
-/// The positions of random bytes, their bytes again, and those of places behind them.
+/// The positions of random bytes, their bytes again, and those of places after them.
 fn tell_places(rope: &Rope, encoding: Encoding, random: &mut Random, digest: &mut Digest) {
     for _ in 0..ASKED {
         let start = position_of(rope, encoding, random_byte(rope, random));

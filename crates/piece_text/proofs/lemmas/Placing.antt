@@ -26,7 +26,7 @@ module _ (s : Scheme) (texts : List Text) (placed : Placed) (is : IsPlaced s tex
   abbrev b : Text
   b = piece_at texts i
 
-  -- the text before it, its own and the text behind it
+  -- the text before it, its own and the text after it
   pub split_at_place : joined texts ≡ a ++ (b ++ joined (drop (i + 1) texts))
   split_at_place = joined-split texts i ∙ ap (λ r. a ++ r) (joined-drop texts i is.inside)
 
@@ -53,12 +53,12 @@ module _ (s : Scheme) (texts : List Text) (placed : Placed) (is : IsPlaced s tex
       rw (joined-take texts i is.inside, is.before_is.total, is.before_is.len)
       (seam.to_behind k (k - reached) (omega (arith, below, seam.loss_within)) (omega (arith, below, seam.loss_within)))
 
-  -- so the text does, where what is behind the piece changes nothing
+  -- so the text does, where what is after the piece changes nothing
   pub comes_at : (k : ℕ) → placed.before.total - seam_loss s a b < k
       → to_byte_idx s (joined texts) k ≡ to_byte_idx s (joined (take (i + 1) texts)) k → Comes s texts placed k
   comes_at k past there = record { is = is; past = past; answer = there ∙ answer_at_place k past }
 
--- nothing changes where the text comes to the count before the piece behind it
+-- nothing changes where the text comes to the count before the piece after it
 pub come_before : (s : Scheme) (texts : List Text) (i k : ℕ) → i < length texts → piece_at texts i ≢ []
     → k ≤ count s (joined (take i texts)) - seam_loss s (joined (take i texts)) (piece_at texts i)
     → to_byte_idx s (joined texts) k ≡ to_byte_idx s (joined (take i texts)) k

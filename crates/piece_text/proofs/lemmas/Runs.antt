@@ -64,7 +64,7 @@ renewed (run ∷ runs) texts (suc r) (own, tail, split, is, more) mid rest other
 -- the run at a place, and those after it
 pub record RunIn (runs : List Run) (texts : List Text) (r : ℕ) (run : Run) : Type 0 where
   pub at : IsRunAt texts (pieces_in (take r runs)) run
-  pub more : AreRuns (drop (suc r) runs) at.behind
+  pub more : AreRuns (drop (suc r) runs) at.after
 
 pub run_in : (runs : List Run) (texts : List Text) (r : ℕ) (run : Run) → AreRuns runs texts
     → drop r runs ≡ run ∷ drop (suc r) runs → RunIn runs texts r run
@@ -77,7 +77,7 @@ run_in runs texts r run are here =
       at = record {
         before = take m texts;
         own = own;
-        behind = rest;
+        after = rest;
         split = sym (take-append-drop m texts) ∙ ap (λ x. take m texts ++ x) split;
         place = length-take-le m texts le;
         is = is;
@@ -90,31 +90,31 @@ pub run_end : (texts : List Text) (first : ℕ) (run : Run) (at : IsRunAt texts 
 run_end texts first run at = omega (
   arith,
   ap length at.split,
-  length-append at.before (at.own ++ at.behind),
-  length-append at.own at.behind,
+  length-append at.before (at.own ++ at.after),
+  length-append at.own at.after,
   at.place,
   at.is.count,
 )
 
 pub run_before : (texts : List Text) (first : ℕ) (run : Run) (at : IsRunAt texts first run) → take first texts ≡ at.before
-run_before texts first run at = rw (at.split, ← at.place) (take-append_seam at.before (at.own ++ at.behind))
+run_before texts first run at = rw (at.split, ← at.place) (take-append_seam at.before (at.own ++ at.after))
 
 pub run_upto : (texts : List Text) (first : ℕ) (run : Run) (at : IsRunAt texts first run)
     → take (first + run.pieces) texts ≡ at.before ++ at.own
 run_upto texts first run at =
-    take_own texts at.before (at.own ++ at.behind) first run.pieces at.split at.place
-    ∙ ap (λ x. at.before ++ x) (rw (← at.is.count) (take-append_seam at.own at.behind))
+    take_own texts at.before (at.own ++ at.after) first run.pieces at.split at.place
+    ∙ ap (λ x. at.before ++ x) (rw (← at.is.count) (take-append_seam at.own at.after))
 
 pub run_behind : (texts : List Text) (first : ℕ) (run : Run) (at : IsRunAt texts first run)
-    → drop (first + run.pieces) texts ≡ at.behind
+    → drop (first + run.pieces) texts ≡ at.after
 run_behind texts first run at =
-    drop_own texts at.before (at.own ++ at.behind) first run.pieces at.split at.place
-    ∙ rw (← at.is.count) (drop-append_seam at.own at.behind)
+    drop_own texts at.before (at.own ++ at.after) first run.pieces at.split at.place
+    ∙ rw (← at.is.count) (drop-append_seam at.own at.after)
 
 pub run_own : (texts : List Text) (first : ℕ) (run : Run) (at : IsRunAt texts first run)
     → take run.pieces (drop first texts) ≡ at.own
 run_own texts first run at =
-    rw (at.split, ← at.place, drop-append_seam at.before (at.own ++ at.behind), ← at.is.count) (take-append_seam at.own at.behind)
+    rw (at.split, ← at.place, drop-append_seam at.before (at.own ++ at.after), ← at.is.count) (take-append_seam at.own at.after)
 
 -- a run has a piece
 pub run_some : (run : Run) (own : List Text) → IsRun run own → 0 < run.pieces
@@ -277,12 +277,12 @@ pub exchanged : (runs : List Run) (old new : List Text) (r q : ℕ) (run other :
 exchanged runs old new r q run other are here same is =
     let m = pieces_in (take r runs) in
     let was = run_in runs old r run are here in
-    let behind : drop q (drop m new) ≡ was.at.behind =
+    let behind : drop q (drop m new) ≡ was.at.after =
     drop-drop q m new ∙ same.back ∙ run_behind old m run was.at in
     let own = take q (drop m new) in
-    let split : drop m new ≡ own ++ was.at.behind =
+    let split : drop m new ≡ own ++ was.at.after =
     sym (take-append-drop q (drop m new)) ∙ ap (λ x. own ++ x) behind in
-    let others : AreRuns (other ∷ drop (suc r) runs) (drop m new) = (own, was.at.behind, split, is, was.more) in
+    let others : AreRuns (other ∷ drop (suc r) runs) (drop m new) = (own, was.at.after, split, is, was.more) in
     let whole : take m old ++ drop m new ≡ new = ap (λ x. x ++ drop m new) (sym same.front) ∙ take-append-drop m new in
     subst (AreRuns (take r runs ++ other ∷ drop (suc r) runs)) whole
     (renewed runs old r are (other ∷ drop (suc r) runs) (drop m new) others)
@@ -295,7 +295,7 @@ pub left_out : (runs : List Run) (old new : List Text) (r : ℕ) (run : Run) →
 left_out runs old new r run are here same =
     let m = pieces_in (take r runs) in
     let was = run_in runs old r run are here in
-    let behind : drop m new ≡ was.at.behind = same.back ∙ run_behind old m run was.at in
+    let behind : drop m new ≡ was.at.after = same.back ∙ run_behind old m run was.at in
     let others : AreRuns (drop (suc r) runs) (drop m new) = rw behind was.more in
     let whole : take m old ++ drop m new ≡ new = ap (λ x. x ++ drop m new) (sym same.front) ∙ take-append-drop m new in
     subst (AreRuns (take r runs ++ drop (suc r) runs)) whole
@@ -312,12 +312,12 @@ halved runs texts r h q run left right are here parts is_left is_right =
     let was = run_in runs texts r run are here in
     let rest = drop h (drop m texts) in
     let same : drop (m + h) texts ≡ rest = sym (drop-drop h m texts) in
-    let behind : drop q rest ≡ was.at.behind = drop-drop q h (drop m texts) ∙ ap (λ n. drop n (drop m texts)) parts
+    let behind : drop q rest ≡ was.at.after = drop-drop q h (drop m texts) ∙ ap (λ n. drop n (drop m texts)) parts
     ∙ drop-drop run.pieces m texts ∙ run_behind texts m run was.at in
-    let split : rest ≡ take q rest ++ was.at.behind =
+    let split : rest ≡ take q rest ++ was.at.after =
     sym (take-append-drop q rest) ∙ ap (λ x. take q rest ++ x) behind in
     let second : IsRun right (take q rest) = rw same at is_right in
-    let others : AreRuns (right ∷ drop (suc r) runs) rest = (take q rest, was.at.behind, split, second, was.more) in
+    let others : AreRuns (right ∷ drop (suc r) runs) rest = (take q rest, was.at.after, split, second, was.more) in
     let both : AreRuns (left ∷ right ∷ drop (suc r) runs) (drop m texts) =
     (take h (drop m texts), rest, sym (take-append-drop h (drop m texts)), is_left, others) in
     subst (AreRuns (take r runs ++ left ∷ right ∷ drop (suc r) runs)) (take-append-drop m texts)
@@ -355,7 +355,7 @@ swapped_at runs old new at r d swap is one inside past within =
     let more = pieces_in-at runs r d inside in
     let m = pieces_in (take r runs) in
     let n = (get_or runs r d).pieces in
-    same_round old new is.before is.gone is.come is.behind m (m + n) (m + (n - swap.gone + swap.come)) is.was is.is
+    same_round old new is.before is.gone is.come is.after m (m + n) (m + (n - swap.gone + swap.come)) is.was is.is
     (omega (arith, is.place, past)) (omega (arith, is.place, is.gone_count, one, within, more))
     (omega (arith, is.gone_count, is.come_count, one, past, within, more))
 
@@ -422,24 +422,24 @@ swapped_there runs items new at r first run swap view swapped inside first_is pa
     let all = pieces_in-le runs old swapped.are in
     let round = pieces_in-round runs r d inside in
     let more = pieces_in-at runs r d inside in
-    let was_length : length old ≡ length sw.before + (length sw.gone + length sw.behind) =
-    ap length sw.was ∙ length-append sw.before (sw.gone ++ sw.behind)
-    ∙ ap (λ k. length sw.before + k) (length-append sw.gone sw.behind) in
-    let is_length : length new ≡ length sw.before + (length sw.come + length sw.behind) =
-    ap length sw.is ∙ length-append sw.before (sw.come ++ sw.behind)
-    ∙ ap (λ k. length sw.before + k) (length-append sw.come sw.behind) in
+    let was_length : length old ≡ length sw.before + (length sw.gone + length sw.after) =
+    ap length sw.was ∙ length-append sw.before (sw.gone ++ sw.after)
+    ∙ ap (λ k. length sw.before + k) (length-append sw.gone sw.after) in
+    let is_length : length new ≡ length sw.before + (length sw.come + length sw.after) =
+    ap length sw.is ∙ length-append sw.before (sw.come ++ sw.after)
+    ∙ ap (λ k. length sw.before + k) (length-append sw.come sw.after) in
     let same = swapped_at runs old new at r d swap sw swapped.one inside (omega (arith, past, first_is)) within in
     let own_run : IsRun run place.at.own = subst (λ v. IsRun v place.at.own) (sym is) place.at.is in
     let own_is : take run.pieces (drop first old) ≡ place.at.own =
     ap (λ k. take k (drop first old)) n ∙ run_own old first (get_or runs r d) place.at in
     let j = run.pieces - (at - first) - swap.gone in
     let fits : at - first + swap.gone ≤ run.pieces = omega (arith, past, within, more, first_is, swapped.one, n) in
-    let was : take run.pieces (drop first old) ≡ drop first sw.before ++ (sw.gone ++ take j sw.behind) =
-    window old sw.before sw.gone sw.behind first run.pieces j sw.was (omega (arith, sw.place, past))
+    let was : take run.pieces (drop first old) ≡ drop first sw.before ++ (sw.gone ++ take j sw.after) =
+    window old sw.before sw.gone sw.after first run.pieces j sw.was (omega (arith, sw.place, past))
     (omega (arith, sw.place, sw.gone_count, fits, past)) in
     let now : take (run.pieces - swap.gone + swap.come) (drop first new)
-    ≡ drop first sw.before ++ (sw.come ++ take j sw.behind) =
-    window new sw.before sw.come sw.behind first (run.pieces - swap.gone + swap.come) j sw.is (omega (arith, sw.place, past))
+    ≡ drop first sw.before ++ (sw.come ++ take j sw.after) =
+    window new sw.before sw.come sw.after first (run.pieces - swap.gone + swap.come) j sw.is (omega (arith, sw.place, past))
     (omega (arith, sw.place, sw.come_count, fits, past)) in
     record {
       gone_le = omega (arith, fits);
@@ -453,7 +453,7 @@ swapped_there runs items new at r first run swap view swapped inside first_is pa
           before = drop first sw.before;
           gone = sw.gone;
           come = sw.come;
-          behind = take j sw.behind;
+          after = take j sw.after;
           was = was;
           is = now;
           place = omega (arith, length-drop first sw.before, sw.place);
@@ -477,10 +477,10 @@ swapped_there runs items new at r first run swap view swapped inside first_is pa
 -- a swap in the texts of a run: what stays, and the joined texts
 pub record RunSwap (run : Run) (new : List Text) (at : ℕ) (swap : Swap) (is : IsRunSwapped run new at swap) : Type 0 where
   pub before : take at new ≡ is.swap_is.before
-  pub behind : drop (at + swap.come) new ≡ is.swap_is.behind
+  pub after : drop (at + swap.come) new ≡ is.swap_is.after
   pub old_joined : joined is.old
-      ≡ joined is.swap_is.before ++ (joined is.swap_is.gone ++ joined is.swap_is.behind)
-  pub new_joined : joined new ≡ joined is.swap_is.before ++ (joined is.swap_is.come ++ joined is.swap_is.behind)
+      ≡ joined is.swap_is.before ++ (joined is.swap_is.gone ++ joined is.swap_is.after)
+  pub new_joined : joined new ≡ joined is.swap_is.before ++ (joined is.swap_is.come ++ joined is.swap_is.after)
   pub within : at ≤ length new
 
 joined_round : (before mid behind : List Text) → joined (before ++ (mid ++ behind)) ≡ joined before ++ (joined mid ++ joined behind)
@@ -492,12 +492,12 @@ pub run_swap : (run : Run) (new : List Text) (at : ℕ) (swap : Swap) (is : IsRu
 run_swap run new at swap is =
     let sw = is.swap_is in
     record {
-      before = ap (take at) sw.is ∙ take_at sw.before (sw.come ++ sw.behind) at sw.place;
-      behind = drop_own new sw.before (sw.come ++ sw.behind) at swap.come sw.is sw.place
-          ∙ rw (← sw.come_count) (drop-append_seam sw.come sw.behind);
-      old_joined = ap joined sw.was ∙ joined_round sw.before sw.gone sw.behind;
-      new_joined = ap joined sw.is ∙ joined_round sw.before sw.come sw.behind;
-      within = omega (arith, ap length sw.is, length-append sw.before (sw.come ++ sw.behind), sw.place);
+      before = ap (take at) sw.is ∙ take_at sw.before (sw.come ++ sw.after) at sw.place;
+      after = drop_own new sw.before (sw.come ++ sw.after) at swap.come sw.is sw.place
+          ∙ rw (← sw.come_count) (drop-append_seam sw.come sw.after);
+      old_joined = ap joined sw.was ∙ joined_round sw.before sw.gone sw.after;
+      new_joined = ap joined sw.is ∙ joined_round sw.before sw.come sw.after;
+      within = omega (arith, ap length sw.is, length-append sw.before (sw.come ++ sw.after), sw.place);
     }
 
 -- without the last run the texts are in fewer
@@ -536,7 +536,7 @@ pub swapped_after : (runs : List Run) (new : List Text) (at : ℕ) (swap : Swap)
     → pieces_in runs ≤ at → AreRuns runs new
 swapped_after runs new at swap swapped past =
     let sw = swapped.swap_is in
-    let same = same_round swapped.old new sw.before sw.gone sw.come sw.behind (pieces_in runs) (at + length sw.gone)
+    let same = same_round swapped.old new sw.before sw.gone sw.come sw.after (pieces_in runs) (at + length sw.gone)
     (at + length sw.come) sw.was sw.is (omega (arith, sw.place, past)) (omega (arith, sw.place)) (omega arith) in
     after_runs runs swapped.old new swapped.are same.front
 
@@ -547,7 +547,7 @@ swap_in old new at text swap within is gone come out own = record {
   before = take at old;
   gone = [];
   come = text ∷ [];
-  behind = drop at old;
+  after = drop at old;
   was = sym (take-append-drop at old);
   is = is;
   place = length-take-le at old within;
@@ -564,7 +564,7 @@ swap_out old new at swap inside is gone come out own = record {
   before = take at old;
   gone = piece_at old at ∷ [];
   come = [];
-  behind = drop (suc at) old;
+  after = drop (suc at) old;
   was = sym (take-append-drop at old) ∙ ap (λ x. take at old ++ x) (drop-piece old at inside);
   is = is;
   place = length-take-le at old (omega (arith, inside));
@@ -581,7 +581,7 @@ swap_cut old new i left right swap inside is halves gone come out own = record {
   before = take i old;
   gone = piece_at old i ∷ [];
   come = left ∷ right ∷ [];
-  behind = drop (suc i) old;
+  after = drop (suc i) old;
   was = sym (take-append-drop i old) ∙ ap (λ x. take i old ++ x) (drop-piece old i inside);
   is = is ∙ rw add-one (cut_list old i left right inside);
   place = length-take-le i old (omega (arith, inside));

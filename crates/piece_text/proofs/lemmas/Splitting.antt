@@ -31,14 +31,14 @@ joined_size-take-le xs n m le = rw (take-take n m xs le) at (joined_size-take (t
 -- the first i pieces end at an edge
 pub edge_of : (texts : List Text) (i byte : ℕ) → joined_size (take i texts) ≡ byte → IsEdge texts byte
 edge_of texts i byte place =
-    record { before = take i texts; behind = drop i texts; split = sym (take-append-drop i texts); place = place }
+    record { before = take i texts; after = drop i texts; split = sym (take-append-drop i texts); place = place }
 
 -- an edge is a boundary
 pub edge_boundary : (texts : List Text) (byte : ℕ) → IsEdge texts byte → IsBoundary (joined texts) byte
 edge_boundary texts byte edge = record {
   front = joined edge.before;
-  back = joined edge.behind;
-  split = ap joined edge.split ∙ joined-append edge.before edge.behind;
+  back = joined edge.after;
+  split = ap joined edge.split ∙ joined-append edge.before edge.after;
   place = edge.place;
 }
 
@@ -88,7 +88,7 @@ module _ (texts : List Text) (i at byte : ℕ) (inner : IsInside texts i at byte
   pub no_edge : ¬ (IsEdge texts byte)
   no_edge edge =
       let n = length edge.before in
-      let front : take n texts ≡ edge.before = ap (take n) edge.split ∙ take_at edge.before edge.behind n refl in
+      let front : take n texts ≡ edge.before = ap (take n) edge.split ∙ take_at edge.before edge.after n refl in
       let place : joined_size (take n texts) ≡ byte = ap joined_size front ∙ edge.place in
       let more = ap size (joined-take texts i inner.inside) ∙ size-append (joined (take i texts)) (piece_at texts i) in
       elim (cases_lt i n) [
@@ -113,7 +113,7 @@ is_cut xs i left right at inside halved = record {
   text = piece_at xs i;
   left = left;
   right = right;
-  behind = drop (suc i) xs;
+  after = drop (suc i) xs;
   was = sym (take-append-drop i xs) ∙ ap (λ r. take i xs ++ r) (drop-piece xs i inside);
   is = rw add-one (cut_list xs i left right inside);
   at = at;
@@ -124,10 +124,10 @@ is_cut xs i left right at inside halved = record {
 -- and the joined text stays
 pub joined-cut : (old new : List Text) (byte : ℕ) → IsCut old new byte → joined new ≡ joined old
 joined-cut old new byte cut =
-    ap joined cut.is ∙ joined-append cut.before (cut.left ∷ cut.right ∷ cut.behind)
-    ∙ ap (λ r. joined cut.before ++ r) (sym (append_assoc cut.left cut.right (joined cut.behind))
-    ∙ ap (λ t. t ++ joined cut.behind) (sym cut.halved.halves))
-    ∙ sym (joined-append cut.before (cut.text ∷ cut.behind)) ∙ ap joined (sym cut.was)
+    ap joined cut.is ∙ joined-append cut.before (cut.left ∷ cut.right ∷ cut.after)
+    ∙ ap (λ r. joined cut.before ++ r) (sym (append_assoc cut.left cut.right (joined cut.after))
+    ∙ ap (λ t. t ++ joined cut.after) (sym cut.halved.halves))
+    ∙ sym (joined-append cut.before (cut.text ∷ cut.after)) ∙ ap joined (sym cut.was)
 
 -- the halves of a text, cut between its chars
 pub is_halved : (bytes : List ℕ) → IsUtf8 bytes → (at : ℕ) → IsBoundary (chars bytes) at → 0 < at

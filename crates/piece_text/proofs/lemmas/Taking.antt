@@ -16,7 +16,7 @@ few_looks {old} {new} asks = pow-le-pow_right (omega arith) (omega (arith, asks.
 
 -- no search
 pub took_none : (state : PiecesState) {b c : ℕ} → Searched b c (parts_of state) (parts_of state)
-took_none state = taken_within (record { by_byte = pow_pos (length state.texts); by_count = pow_pos (length state.texts) })
+took_none state = taken_within (record { byte_choices = pow_pos (length state.texts); count_choices = pow_pos (length state.texts) })
     (omega arith) (omega arith) (none_taken (parts_of state))
 
 -- one by a byte
@@ -26,10 +26,10 @@ took_byte {old} {new} asks =
     record {
       text = ap joined asks.texts;
       pieces = asks.texts;
-      begins = refl;
-      by_byte = ap (λ t. 2 ^ length t) asks.texts;
-      by_count = ap (λ t. 2 ^ length t) asks.texts;
-      apart = refl;
+      latest_start = refl;
+      byte_choices = ap (λ t. 2 ^ length t) asks.texts;
+      count_choices = ap (λ t. 2 ^ length t) asks.texts;
+      unit_searches = refl;
       looks = omega (arith, few_looks asks, power_one m, ap (λ n. (m ^ 1) * n) (pow-zero m));
       looks_kept = asks.looks_kept;
       reads = omega (arith, asks.reads);
@@ -43,10 +43,10 @@ took_count {old} {new} asks =
     record {
       text = ap joined asks.texts;
       pieces = asks.texts;
-      begins = refl;
-      by_byte = ap (λ t. 2 ^ length t) asks.texts;
-      by_count = ap (λ t. 2 ^ length t) asks.texts;
-      apart = refl;
+      latest_start = refl;
+      byte_choices = ap (λ t. 2 ^ length t) asks.texts;
+      count_choices = ap (λ t. 2 ^ length t) asks.texts;
+      unit_searches = refl;
       looks = omega (arith, few_looks asks, power_one m, ap (λ n. n * (m ^ 1)) (pow-zero m));
       looks_kept = asks.looks_kept;
       reads = omega (arith, asks.reads);

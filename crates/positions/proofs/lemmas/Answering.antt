@@ -2,7 +2,7 @@
 use Rattle.positions.proofs.lemmas.Cuts.{boundary_within}
 use Rattle.positions.proofs.lemmas.Units.{place_of_least}
 use Rattle.positions.specs.Characters.{IsBackOf}
-use Rattle.positions.specs.Lines.{IsReturnBehind}
+use Rattle.positions.specs.Lines.{IsCrlfOffset}
 use Rattle.positions.specs.declared.encodings.Encoding.TheVariants.{Utf8, Utf16, Utf32}
 use Rattle.positions.proofs.lemmas.Common.{Some, None, ◌≡◌, ◌≢◌, ℕ, ◌+◌, ◌-◌, ◌<◌, ◌≤◌, ◌⊎◌, min, [], ◌∷◌, ◌++◌, inl, inr, sym, refl, ap, ap₂, ◌∙◌, arith, append_assoc, cases_lt, size-append, sum_by-append, sum_by-cons, line_feed, Scheme, cut, cut_is_longest, weighed_at, weighed-le-weighed, from-to, to-from_is_greatest, to_byte_idx-le-size, from_byte_idx-all, from_byte_idx-le, from_byte_idx-le-count, count-le-size, IsBoundary, IsGreatestBoundary, Text, size, count, from_byte_idx, to_byte_idx, weighed, boundary_weighed, units_of, carriage_return, chars, before_first, is_break, scheme_of, line_end, position_at, byte_at, exact_byte_at, IsPart, HasByte, HasLine, Part, Position, Encoding, LineType}
 use Rattle.positions.proofs.lemmas.Kinds.{not_utf16, none_before}
@@ -31,7 +31,7 @@ return_weighs Utf8 = refl
 return_weighs Utf16 = refl
 return_weighs Utf32 = refl
 
--- behind a boundary a text weighs what is before it, and what is behind it
+-- after a boundary a text weighs what is before it, and what is after it
 pub weighed_from : (w : ℕ → ℕ) (cs rest : Text) (at n : ℕ) → IsBackOf cs rest at
     → weighed w cs (at + n) ≡ weighed w cs at + weighed w rest n
 weighed_from w cs rest at n is =
@@ -106,11 +106,11 @@ module _ (cs : Text) (l : LineType) (e : Encoding) (part : Part) (is : IsPart cs
           greatest_in_part cs is.front own is.back part.start is.split is.start (to_byte_idx s cs (line + 1) - 1) last
           (omega (arith, place, next_in_part)) (inl (omega (arith, place, next_in_part, next_within))) (rw before greatest)
 
-      pub return_within : (n : ℕ) → IsReturnBehind l cs (part.start + last) n → n ≤ part.start + last
+      pub return_within : (n : ℕ) → IsCrlfOffset l cs (part.start + last) n → n ≤ part.start + last
       return_within n (inl (one, (_, middle))) = omega (arith, one, middle_above cs (part.start + last) middle)
       return_within n (inr (none, _)) = omega (arith, none)
 
-      pub end_is : (n : ℕ) → IsReturnBehind l cs (part.start + last) n → part.start + last - n ≡ line_end l cs line
+      pub end_is : (n : ℕ) → IsCrlfOffset l cs (part.start + last) n → part.start + last - n ≡ line_end l cs line
       end_is n (inl (one, (breaks, middle))) =
           omega (arith, one, ends_before_return l cs line more (part.start + last) last_in_text breaks middle)
       end_is n (inr (none, other)) =
@@ -156,7 +156,7 @@ module _ (cs : Text) (l : LineType) (e : Encoding) (part : Part) (is : IsPart cs
           place k k_is (rest_told k told) other
 
 -- a byte between a CR that begins a break and LF has one unit more before it than the end of its line
-on_line : (l : LineType) (e : Encoding) (cs : Text) (b n : ℕ) → IsReturnBehind l cs b n
+on_line : (l : LineType) (e : Encoding) (cs : Text) (b n : ℕ) → IsCrlfOffset l cs b n
     → n + weighed (units_of e) cs (min b (line_end l cs (from_byte_idx (scheme_of l) cs b))) ≡ weighed (units_of e) cs b
 on_line l e cs b n (inr (none, other)) = omega (arith, none, weighed_on_line l cs b (units_of e) other)
 on_line l e cs b n (inl (one, (breaks, middle))) =
@@ -268,7 +268,7 @@ module _ (cs : Text) (l : LineType) (e : Encoding) (part : Part) (is : IsPart cs
       )
 
   -- the units from the beginning of the line to it
-  module _ (n : ℕ) (behind : IsReturnBehind l cs here n) (line units : ℕ) (line_is : line ≡ from_byte_idx (scheme_of l) cs byte)
+  module _ (n : ℕ) (behind : IsCrlfOffset l cs here n) (line units : ℕ) (line_is : line ≡ from_byte_idx (scheme_of l) cs byte)
       (units_is : units + weighed (units_of e) cs (to_byte_idx (scheme_of l) cs line) ≡ weighed (units_of e) cs here) where
     character_is : n + (position_at l e cs byte).character ≡ units
     character_is =
@@ -319,7 +319,7 @@ module _ (cs : Text) (l : LineType) (e : Encoding) (part : Part) (is : IsPart cs
       )
 
   -- and else those of the text up to it, without those before the line
-  module _ (n : ℕ) (behind : IsReturnBehind l cs here n) (line before units : ℕ)
+  module _ (n : ℕ) (behind : IsCrlfOffset l cs here n) (line before units : ℕ)
       (line_is : line ≡ from_byte_idx (scheme_of l) cs byte)
       (before_is : before ≡ weighed (units_of e) cs (to_byte_idx (scheme_of l) cs line))
       (units_is : units ≡ weighed (units_of e) cs here) where
@@ -357,7 +357,7 @@ byte_made l e cs p end before units most place end_is before_is units_is long pl
     ∙ ap (λ b. boundary_weighed w cs (b + p.character)) before_is in
     omega (arith, byte_of_units l e cs p, is, end_is)
 
--- where the line of a byte begins, by the text behind a place: all of it, or one in which a break ends up to the byte
+-- where the line of a byte begins, by the text after a place: all of it, or one in which a break ends up to the byte
 pub begins_of_back : (l : LineType) (cs rest : Text) (from byte breaks : ℕ) → IsBackOf cs rest from → from ≤ byte
     → breaks ≡ from_byte_idx (scheme_of l) rest (byte - from) → (from ≡ 0) ⊎ (0 < breaks)
     → from + to_byte_idx (scheme_of l) rest breaks ≡ to_byte_idx (scheme_of l) cs (from_byte_idx (scheme_of l) cs byte)

@@ -164,7 +164,7 @@ none_joined l a b last greatest none = elim (cases_lt 0 (count (scheme_of l) (a 
       ]
 ]
 
--- a text with a part of it behind
+-- a text with a part of it after
 module _ (l : LineType) (cs b : Text) (at : ℕ) (is : IsBackOf cs b at) where
   pub none_at_end : to_byte_idx (scheme_of l) cs 1 ≡ size cs → IsGreatestBoundary cs (size cs - 1) at
       → count (scheme_of l) b ≡ 0 → size cs ≡ size (before_first (is_break l) cs)

@@ -21,7 +21,7 @@ pub use Rattle.positions.specs.Relations.{IsBreakStart, IsLineEnd, IsGreatestPla
 pub use Rattle.positions.specs.declared.Position.{Position}
 pub use Rattle.positions.specs.declared.Range.{Range}
 pub use Rattle.positions.specs.declared.encodings.Encoding.{Encoding}
-pub use Rattle.positions.specs.Lines.{behind, scheme_of, is_break, line_content, line_end}
+pub use Rattle.positions.specs.Lines.{text_after, scheme_of, is_break, line_content, line_end}
 pub use Rattle.positions.specs.Positions.{is_at_or_before, units_on_line, position_at, byte_at, is_exact, exact_byte_at, byte_range_at}
 pub use Rattle.positions.specs.Parts.{PartsState, IsSearched, Searched, IsPart, HasByte, HasLine}
 pub use Rattle.positions.specs.Units.{unit_scheme}

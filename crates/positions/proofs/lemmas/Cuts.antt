@@ -2,7 +2,7 @@
 use Rattle.positions.proofs.lemmas.Common.{◌≡◌, ℕ, ◌≤◌, length, drop, ◌∙◌, ap, arith, drop-append_seam, Text, size, size-append, cut_front, IsBoundary, behind}
 
 -- after a boundary is the rest of the text
-pub behind_boundary : (cs : Text) (p : ℕ) (at : IsBoundary cs p) → behind cs p ≡ at.back
+pub behind_boundary : (cs : Text) (p : ℕ) (at : IsBoundary cs p) → text_after cs p ≡ at.back
 behind_boundary cs p at = ap (λ f. drop (length f) cs) (cut_front cs p at)
     ∙ ap (drop (length at.front)) at.split ∙ drop-append_seam at.front at.back
 

@@ -14,7 +14,7 @@ return_last (c ∷ d ∷ cs) ends =
     let (f, is) = return_last (d ∷ cs) (sym (ends_in_return-cons c d cs) ∙ ends) in
     (c ∷ f, ap (λ r. c ∷ r) is)
 
--- a text that starts with LF, and what is behind that
+-- a text that starts with LF, and what is after that
 feed_first : (b : Text) → starts_with_feed b ≡ true → (r : Text) × (b ≡ line_feed ∷ r)
 feed_first [] starts = cc
 feed_first (c ∷ cs) starts =

@@ -3,8 +3,8 @@ use Rattle.positions.proofs.lemmas.Cuts.{boundary_within}
 use Rattle.positions.proofs.lemmas.Firsts.{split_at_first}
 use Rattle.positions.specs.Characters.{IsBackOf}
 use Rattle.positions.specs.Units.{HasSameUnits}
-use Rattle.positions.specs.Parts.{HasOwn}
-use Rattle.positions.specs.declared.parts.Own.{Own}
+use Rattle.positions.specs.Parts.{HasPartCounts}
+use Rattle.positions.specs.declared.parts.PartCounts.{PartCounts}
 use Rattle.positions.proofs.lemmas.Common.{◌≡◌, ℕ, ◌+◌, ◌≤◌, [], ◌++◌, sym, refl, ap, ◌∙◌, arith, append_assoc, append-nil, sum_by, sum_by-append, sum_by-le-sum_by, cut, cut_is_longest, is_joined, Text, size, count, from_byte_idx, from-to, IsBoundary, Option, Some, None, subst, to_byte_idx, to_byte_idx-zero, weighed, boundary_weighed, boundary_weighed_is_greatest, boundary_weighed_iff, units_of, scheme_of, is_break, line_content, byte_at, chars, IsPart, Part, Encoding, LineType}
 use Rattle.positions.proofs.lemmas.Lines.{line_end_past}
 use Rattle.std.specs.Prelude.{IfSome, IsSome}
@@ -118,6 +118,6 @@ some_is {A} P (Some a) is holds same = let here : a ≡ is = cc in subst P here 
 some_is P None is holds same = cc
 
 -- so it is with the counts that a part has of its own
-pub own_is : (cs : Text) (l : LineType) (e : Encoding) (part : Part) (own : Own) → IsPart cs l e part → part.own ≡ Some own
-    → HasOwn l e (chars part.text.now) own
-own_is cs l e part own is told = some_is (HasOwn l e (chars part.text.now)) part.own own is.own told
+pub part_counts_are : (cs : Text) (l : LineType) (e : Encoding) (part : Part) (own : PartCounts) → IsPart cs l e part → part.counts ≡ Some own
+    → HasPartCounts l e (chars part.text.now) own
+part_counts_are cs l e part own is told = some_is (HasPartCounts l e (chars part.text.now)) part.counts own is.counts told

@@ -2,7 +2,7 @@
 use Rattle.positions.proofs.lemmas.Firsts.{split_at_first}
 use Rattle.positions.proofs.lemmas.Cuts.{behind_boundary, boundary_within}
 use Rattle.std.proofs.lemmas.Bool.{and_parts, eqb-true}
-use Rattle.positions.proofs.lemmas.Common.{◌≡◌, ℕ, ◌+◌, ◌-◌, ◌<◌, ◌≤◌, true, [], ◌∷◌, ◌++◌, ◌⊎◌, inl, inr, sym, ◌∙◌, ap, arith, cond, refl, min, append_assoc, append-nil, count_by, len_utf8, cases_Bool, cases_lt, append_cancel_left, sum_by-append, len_utf8_bounds, Text, size, line_feed, carriage_return, is_crlf_middle, from_byte_idx, to_byte_idx, count, weighed, IsBoundary, IsEnd, IsEndOf, IsCrlfMiddle, size-append, size-cons, boundary_beside, cut_front, cut_goes_on, is_crlf_middle_iff, weighed_at, IsBoundary-to_byte_idx, from-to, to-from_is_greatest, from_byte_idx-le, from_byte_idx-le-count, is_joined, seam_loss, to_byte_idx-le, to_byte_idx-zero, to_byte_idx-le-size, behind, scheme_of, is_break, line_content, line_end, LineType}
+use Rattle.positions.proofs.lemmas.Common.{◌≡◌, ℕ, ◌+◌, ◌-◌, ◌<◌, ◌≤◌, true, [], ◌∷◌, ◌++◌, ◌⊎◌, inl, inr, sym, ◌∙◌, ap, arith, cond, refl, min, append_assoc, append-nil, count_by, len_utf8, cases_Bool, cases_lt, append_cancel_left, sum_by-append, len_utf8_bounds, Text, size, line_feed, carriage_return, is_crlf_middle, from_byte_idx, to_byte_idx, count, weighed, IsBoundary, IsEnd, IsEndOf, IsCrlfMiddle, size-append, size-cons, boundary_beside, cut_front, cut_goes_on, is_crlf_middle_iff, weighed_at, IsBoundary-to_byte_idx, from-to, to-from_is_greatest, from_byte_idx-le, from_byte_idx-le-count, is_joined, seam_loss, to_byte_idx-le, to_byte_idx-zero, to_byte_idx-le-size, text_after, scheme_of, is_break, line_content, line_end, LineType}
 use Rattle.positions.proofs.lemmas.Kinds.{not_utf16, break_of_end, end_of_break, feed_breaks, past_last, none_before}
 
 -- no end stands between CR and LF, and neither does the text's beginning
@@ -12,7 +12,7 @@ not_middle_at_end l cs p (inr zero) = λ middle.
     let size_of = size-append middle.front (carriage_return ∷ []) in
     omega (arith, middle.place, size-cons carriage_return [], len_utf8_bounds carriage_return)
 
--- behind such a place an end stands
+-- after such a place an end stands
 pub feed_ends : (l : LineType) (cs : Text) (p : ℕ) → IsCrlfMiddle cs p → IsEnd (scheme_of l) cs (p + 1)
 feed_ends l cs p middle =
     let front = middle.front ++ carriage_return ∷ [] in
@@ -68,7 +68,7 @@ module _ (l : LineType) (cs : Text) (line : ℕ) where
   pub line_parts : LineParts
   line_parts =
       let at = IsBoundary-to_byte_idx (scheme_of l) cs line in
-      let parts = split_at_first (is_break l) (behind cs start) in
+      let parts = split_at_first (is_break l) (text_after cs start) in
       let split = at.split ∙ ap (λ r. at.front ++ r) (sym (behind_boundary cs _ at) ∙ parts.split) in
       record {
         before = at.front;
@@ -304,7 +304,7 @@ later_of_second l a b line later place le = elim (cases_lt (count (scheme_of l) 
 
 -- so from a line's beginning on, the rest of the text has each line after it
 pub later_line : (l : LineType) (cs : Text) (line later : ℕ) → line ≤ later → let start = to_byte_idx (scheme_of l) cs line in
-    start + to_byte_idx (scheme_of l) (behind cs start) (later - line) ≡ to_byte_idx (scheme_of l) cs later
+    start + to_byte_idx (scheme_of l) (text_after cs start) (later - line) ≡ to_byte_idx (scheme_of l) cs later
 later_line l cs line later le =
     let start = to_byte_idx (scheme_of l) cs line in
     let at = IsBoundary-to_byte_idx (scheme_of l) cs line in

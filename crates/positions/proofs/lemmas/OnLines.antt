@@ -1,4 +1,4 @@
--- Where a byte is on its line: at or before the line's end, or in the break that is behind it.
+-- Where a byte is on its line: at or before the line's end, or in the break that is after it.
 use Rattle.positions.proofs.lemmas.Common.{true, ◌≡◌, ℕ, ◌+◌, ◌-◌, ◌<◌, ◌≤◌, min, [], ◌∷◌, ◌++◌, sym, refl, ap, ◌∙◌, inl, inr, arith, append_assoc, append_cancel_left, cases_lt, size-append, size-cons, len_utf8_bounds, cut_front, cut_is_longest, cut, weighed_at, weighed-le-weighed, to-from_is_greatest, IsBoundary, IsCrlfMiddle, IsEnd, from_byte_idx, to_byte_idx, weighed, Text, size, line_feed, carriage_return, scheme_of, is_break, line_end, LineType}
 use Rattle.positions.proofs.lemmas.Kinds.{not_utf16}
 use Rattle.positions.proofs.lemmas.Lines.{not_middle_at_end, feed_ends, break_from_line_end, end_before}
@@ -93,7 +93,7 @@ module _ (l : LineType) (cs : Text) (byte : ℕ) where
               absurd (not_middle_at_end l cs start last.end_or_zero (rw same at middle))
         ]
 
-    -- and one that is a middle, where CR begins a break, is one behind the end of its line
+    -- and one that is a middle, where CR begins a break, is one after the end of its line
     pub behind_line : line_end l cs line + 1 ≡ byte
     behind_line =
         let q = size middle.front in

@@ -10,7 +10,7 @@ none_of [] none = refl
 none_of (c ∷ cs) none = absurd (omega (arith, none, size-cons c cs, len_utf8_bounds c))
 
 module _ (cs front part back : Text) (start : ℕ) (split : cs ≡ front ++ (part ++ back)) (place : size front ≡ start) where
-  -- where the part ends, the text does not, or nothing is behind it
+  -- where the part ends, the text does not, or nothing is after it
   pub ends_within : start + size part ≤ size cs
   ends_within = omega (arith, ap size split, size-append front (part ++ back), size-append part back, place)
 

@@ -2,13 +2,13 @@
 use Rattle.std.specs.Prelude.{IfSome, IsSome}
 use Rattle.std.proofs.lemmas.Bool.{and_from, and_parts}
 use Rattle.str_indices.proofs.lemmas.Callers.{seam_loss-same, starts_with_feed-append}
-use Rattle.text_summary.specs.Fronts.{IsFront, IsLook}
+use Rattle.text_summary.specs.Fronts.{IsFront, IsStep}
 use Rattle.text_summary.specs.Summaries.{summary_of}
 use Rattle.text_summary.specs.declared.fronts.Front.{Front}
-use Rattle.text_summary.specs.declared.fronts.Look.{Look}
+use Rattle.text_summary.specs.declared.fronts.Step.{Step}
 use Rattle.text_summary.specs.declared.summaries.Summary.{Summary}
-use Rattle.positions.specs.Parts.{HasOwn}
-use Rattle.positions.specs.declared.parts.Own.{Own}
+use Rattle.positions.specs.Parts.{HasPartCounts}
+use Rattle.positions.specs.declared.parts.PartCounts.{PartCounts}
 use Rattle.positions.proofs.lemmas.Common.{◌≡◌, ◌≢◌, ℕ, ◌+◌, ◌-◌, ◌⊎◌, ◌↔◌, Option, Some, None, IsTrue, true, [], ◌++◌, refl, sym, ap, ◌∙◌, inl, inr, arith, chars, Text, size, from_byte_idx, seam_loss, is_joined, ends_in_return, starts_with_feed, weighed, IsCrlfMiddle, units_of, unit_scheme, scheme_of, Scheme, Encoding, LineType, IsPart, Part}
 use Rattle.positions.proofs.lemmas.Encoded.{weighed_by_bytes}
 use Rattle.positions.proofs.lemmas.Joins.{join_of_middle, middle_of_join}
@@ -72,12 +72,12 @@ module _ (l : LineType) (cs front piece back : Text) (before : Front) (split : c
 
   -- so it is a part of the text
   pub piece_is_part : (e : Encoding) (part : Part) (own : Summary) → chars part.text.now ≡ piece → part.start ≡ before.len
-      → (look : Look) → IsLook s front piece look → part.lines ≡ look.reached → IfSome part.units (λ n. n ≡ before.len)
+      → (step : Step) → IsStep s front piece step → part.lines ≡ step.reached → IfSome part.units (λ n. n ≡ before.len)
       → (IsSome part.units → (unit_scheme e ≡ None) ⊎ (before.len ≡ 0))
-      → IsTrue part.in_crlf ↔ ((before.ends_cr ≡ true) × (own.starts_lf ≡ true)) → own ≡ summary_of piece → (its : Own)
-      → part.own ≡ Some its → HasOwn l e piece its
+      → IsTrue part.in_crlf ↔ ((before.ends_cr ≡ true) × (own.starts_lf ≡ true)) → own ≡ summary_of piece → (its : PartCounts)
+      → part.counts ≡ Some its → HasPartCounts l e piece its
       → IsPart cs l e part
-  piece_is_part e part own text start look told lines units bytes in_crlf own_is its told_own has =
+  piece_is_part e part own text start step told lines units bytes in_crlf own_is its told_own has =
       let middle = middle_before own own_is in
       record {
         front = front;
@@ -87,5 +87,5 @@ module _ (l : LineType) (cs front piece back : Text) (before : Front) (split : c
         lines = rw start (omega (arith, lines, told.reached, is.total, lines_before));
         units = rw start (units_before e part.units units bytes);
         in_crlf = rw start (λ yes. middle.0 (in_crlf.0 yes), λ there. in_crlf.1 (middle.1 there));
-        own = rw (told_own, text) has;
+        counts = rw (told_own, text) has;
       }

@@ -42,7 +42,7 @@ byte_on_first l e cs k =
       at.place,
     )
 
--- the same, by the bytes that are no more than the units, and what comes behind them
+-- the same, by the bytes that are no more than the units, and what comes after them
 module _ (l : LineType) (e : Encoding) (cs : Text) (k near : ℕ) (greatest : IsGreatestBoundary cs k near) where
   abbrev first_place : ℕ
   first_place = boundary_weighed (units_of e) cs k

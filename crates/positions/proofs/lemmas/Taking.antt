@@ -7,17 +7,17 @@ pub none_taken : (state : PartsState) → Searched 0 0 state state
 none_taken state = record {
   text = refl;
   pieces = refl;
-  begins = refl;
-  by_byte = refl;
-  by_count = refl;
-  apart = refl;
+  latest_start = refl;
+  byte_choices = refl;
+  count_choices = refl;
+  unit_searches = refl;
   looks = let still : state.looks - state.looks ≡ 0 = omega arith in
       omega (
         arith,
         ap (λ n. 2 ^ n) still,
         pow-zero 2,
-        ap (λ n. n * (state.by_count ^ 0)) (pow-zero state.by_byte),
-        ap (λ n. 1 * n) (pow-zero state.by_count),
+        ap (λ n. n * (state.count_choices ^ 0)) (pow-zero state.byte_choices),
+        ap (λ n. 1 * n) (pow-zero state.count_choices),
       );
   looks_kept = omega arith;
   reads = omega arith;
@@ -29,21 +29,21 @@ pub taken_after : {i j k m : ℕ} {a b c : PartsState} → Searched i j a b → 
 taken_after {i} {j} {k} {m} {a} {b} {c} first next =
     let together : (b.looks - a.looks) + (c.looks - b.looks) ≡ c.looks - a.looks =
     omega (arith, first.looks_kept, next.looks_kept) in
-    let later : 2 ^ (c.looks - b.looks) ≤ (a.by_byte ^ k) * (a.by_count ^ m) = rw (first.by_byte, first.by_count) at next.looks in
+    let later : 2 ^ (c.looks - b.looks) ≤ (a.byte_choices ^ k) * (a.count_choices ^ m) = rw (first.byte_choices, first.count_choices) at next.looks in
     let both = mul-le-mul first.looks later in
     record {
       text = next.text ∙ first.text;
       pieces = next.pieces ∙ first.pieces;
-      begins = next.begins ∙ first.begins;
-      by_byte = next.by_byte ∙ first.by_byte;
-      by_count = next.by_count ∙ first.by_count;
-      apart = next.apart ∙ first.apart;
+      latest_start = next.latest_start ∙ first.latest_start;
+      byte_choices = next.byte_choices ∙ first.byte_choices;
+      count_choices = next.count_choices ∙ first.count_choices;
+      unit_searches = next.unit_searches ∙ first.unit_searches;
       looks = rw (
         sym together,
         pow-add 2 (b.looks - a.looks) (c.looks - b.looks),
-        pow-add a.by_byte i k,
-        pow-add a.by_count j m,
-        mul-mul-mul_comm (a.by_byte ^ i) (a.by_byte ^ k) (a.by_count ^ j) (a.by_count ^ m),
+        pow-add a.byte_choices i k,
+        pow-add a.count_choices j m,
+        mul-mul-mul_comm (a.byte_choices ^ i) (a.byte_choices ^ k) (a.count_choices ^ j) (a.count_choices ^ m),
       ) both;
       looks_kept = omega (arith, first.looks_kept, next.looks_kept);
       reads = omega (arith, first.reads, next.reads);
@@ -53,15 +53,15 @@ taken_after {i} {j} {k} {m} {a} {b} {c} first next =
 -- at most fewer searches is at most more
 pub taken_within : {i j k m : ℕ} {a b : PartsState} → IsSearched a → i ≤ k → j ≤ m → Searched i j a b → Searched k m a b
 taken_within {i} {j} {k} {m} {a} {b} some le more took =
-    let byte = pow-le-pow_right some.by_byte le in
-    let count = pow-le-pow_right some.by_count more in
+    let byte = pow-le-pow_right some.byte_choices le in
+    let count = pow-le-pow_right some.count_choices more in
     record {
       text = took.text;
       pieces = took.pieces;
-      begins = took.begins;
-      by_byte = took.by_byte;
-      by_count = took.by_count;
-      apart = took.apart;
+      latest_start = took.latest_start;
+      byte_choices = took.byte_choices;
+      count_choices = took.count_choices;
+      unit_searches = took.unit_searches;
       looks = omega (arith, took.looks, mul-le-mul byte count);
       looks_kept = took.looks_kept;
       reads = omega (arith, took.reads, le, more);
@@ -76,6 +76,6 @@ taken_both some first next le more = taken_within some le more (taken_after firs
 -- a search leaves what another may take
 pub searched_before : {i j : ℕ} {a b : PartsState} → Searched i j a b → IsSearched b → IsSearched a
 searched_before {i} {j} {a} {b} took some = record {
-  by_byte = omega (arith, took.by_byte, some.by_byte);
-  by_count = omega (arith, took.by_count, some.by_count);
+  byte_choices = omega (arith, took.byte_choices, some.byte_choices);
+  count_choices = omega (arith, took.count_choices, some.count_choices);
 }

@@ -16,7 +16,7 @@ use Rattle.positions.specs.declared.Range.{Range}
 use Rattle.positions.specs.Positions.{is_at_or_before, is_exact}
 use Rattle.text_summary.specs.Changes.{IsReplaced}
 use Rattle.rope_positions.specs.Changes.{exact_part_at, part_at}
-use Rattle.positions.specs.declared.line_type.LineType.TheVariants.{Crlf}
+use Rattle.positions.specs.declared.line_type.LineType.TheVariants.{LfCr}
 
 -- where all of a text is exchanged for another, that is all
 all_replaced : (old new text : Text) → IsReplaced old new 0 (size old) text → new ≡ text
@@ -40,18 +40,18 @@ whole_exactly_changed e old new text (Some range) part is replaced = tt
 whole_exactly_changed e old new text None part is replaced = whole_changed e old new text None part is replaced
 
 -- the byte of a position that names a place is that of the position
-pub exact_byte : (e : Encoding) (cs : Text) (p : Position) (byte : ℕ) → Some byte ≡ exact_byte_at Crlf e cs p → byte ≡ byte_at Crlf e cs p
-exact_byte e cs p byte is = elim (cases_Bool (is_exact Crlf e cs p)) [
+pub exact_byte : (e : Encoding) (cs : Text) (p : Position) (byte : ℕ) → Some byte ≡ exact_byte_at LfCr e cs p → byte ≡ byte_at LfCr e cs p
+exact_byte e cs p byte is = elim (cases_Bool (is_exact LfCr e cs p)) [
   | inl exact ↦ let same = rw exact at is in cc
   | inr not_exact ↦ let none = rw not_exact at is in cc
 ]
 
 -- so the bytes of a range that is in order are in order
 pub exact_in_order : (e : Encoding) (cs : Text) (range : Range) (from to : ℕ)
-    → IsTrue (is_at_or_before range.start range.end) → Some from ≡ exact_byte_at Crlf e cs range.start
-    → Some to ≡ exact_byte_at Crlf e cs range.end → from ≤ to
+    → IsTrue (is_at_or_before range.start range.end) → Some from ≡ exact_byte_at LfCr e cs range.start
+    → Some to ≡ exact_byte_at LfCr e cs range.end → from ≤ to
 exact_in_order e cs range from to ordered start end =
-    let le : byte_at Crlf e cs range.start ≤ byte_at Crlf e cs range.end = rw ordered at (byte_range_in_order Crlf e cs range) in
+    let le : byte_at LfCr e cs range.start ≤ byte_at LfCr e cs range.end = rw ordered at (byte_range_in_order LfCr e cs range) in
     omega (arith, le, exact_byte e cs range.start from start, exact_byte e cs range.end to end)
 
 -- what follows from what is so where there was no refusal
@@ -60,6 +60,6 @@ on_ok (Ok a) is so = so is
 on_ok (Err e) is so = tt
 
 -- and it is a boundary
-pub exact_is_boundary : (e : Encoding) (cs : Text) (p : Position) (byte : ℕ) → Some byte ≡ exact_byte_at Crlf e cs p
+pub exact_is_boundary : (e : Encoding) (cs : Text) (p : Position) (byte : ℕ) → Some byte ≡ exact_byte_at LfCr e cs p
     → IsBoundary cs byte
-exact_is_boundary e cs p byte is = subst (IsBoundary cs) (sym (exact_byte e cs p byte is)) (IsBoundary-byte_at Crlf e cs p)
+exact_is_boundary e cs p byte is = subst (IsBoundary cs) (sym (exact_byte e cs p byte is)) (IsBoundary-byte_at LfCr e cs p)

@@ -100,23 +100,23 @@ fn surround(alloc: Global, letters: usize, middle: &str) -> Result<String, Alloc
 
 /// The answers of a line module's conversions at `index`, with `breaks` breaks after the letters.
 fn around_breaks(letters: usize, middle: &str, breaks: usize, index: usize) -> (usize, usize) {
-    let behind = letters.saturating_add(middle.len());
+    let after = letters.saturating_add(middle.len());
     let two_characters_apart = middle == "\n\r";
-    let from = if index >= behind {
+    let from = if index >= after {
         breaks
     } else {
         usize::from(two_characters_apart && index > letters)
     };
     let first = match breaks {
-        0 => behind.saturating_add(1),
-        1 if !two_characters_apart => behind,
+        0 => after.saturating_add(1),
+        1 if !two_characters_apart => after,
         _ => letters.saturating_add(1),
     };
     let to = match index {
         0 => 0,
         1 => first,
-        2 if breaks == 2 => behind,
-        _ => behind.saturating_add(1),
+        2 if breaks == 2 => after,
+        _ => after.saturating_add(1),
     };
     (from, to)
 }
@@ -162,7 +162,7 @@ fn walk_sees_middle(
     Ok(())
 }
 
-fn walk_sees_each_break_behind(rt: &impl Abort, alloc: Global, letters: usize) -> Result<(), Fail> {
+fn walk_sees_each_break_after(rt: &impl Abort, alloc: Global, letters: usize) -> Result<(), Fail> {
     for (middle, breaks) in &MIDDLES {
         walk_sees_middle(rt, alloc, letters, middle, *breaks)?;
     }
@@ -172,13 +172,13 @@ fn walk_sees_each_break_behind(rt: &impl Abort, alloc: Global, letters: usize) -
 #[test]
 fn the_walk_sees_each_break(rt: HostRuntime) -> Result<(), Fail> {
     for letters in 0..73 {
-        walk_sees_each_break_behind(&rt, rt.alloc(), letters)?;
+        walk_sees_each_break_after(&rt, rt.alloc(), letters)?;
     }
     Ok(())
 }
 
 /// Compares the kernels at every index of a text that has `letters` letters before a middle.
-fn middle_behind<T: ByteChunk>(
+fn middle_after<T: ByteChunk>(
     rt: &impl Abort,
     alloc: Global,
     letters: usize,
@@ -190,76 +190,76 @@ fn middle_behind<T: ByteChunk>(
 }
 
 /// Compares the kernels for each middle, after `letters` letters.
-fn middles_behind<T: ByteChunk>(
+fn middles_after<T: ByteChunk>(
     rt: &impl Abort,
     alloc: Global,
     letters: usize,
 ) -> Result<(), Fail> {
     for (middle, _) in &MIDDLES {
-        middle_behind::<T>(rt, alloc, letters, middle)?;
+        middle_after::<T>(rt, alloc, letters, middle)?;
     }
     Ok(())
 }
 
 /// Compares the kernels for each middle, after each number of letters from `first` up to `end`.
-fn middles_behind_each<T: ByteChunk>(
+fn middles_after_each<T: ByteChunk>(
     rt: &impl Abort,
     alloc: Global,
     first: usize,
     end: usize,
 ) -> Result<(), Fail> {
     for letters in first..end {
-        middles_behind::<T>(rt, alloc, letters)?;
+        middles_after::<T>(rt, alloc, letters)?;
     }
     Ok(())
 }
 
 #[test]
 fn half_words_see_each_break_at_every_edge(rt: HostRuntime) -> Result<(), Fail> {
-    middles_behind_each::<HalfWord>(&rt, rt.alloc(), 0, 41)
+    middles_after_each::<HalfWord>(&rt, rt.alloc(), 0, 41)
 }
 
 #[test]
-fn arrays_see_each_break_behind_up_to_15_letters(rt: HostRuntime) -> Result<(), Fail> {
-    middles_behind_each::<Plain>(&rt, rt.alloc(), 0, 16)
+fn arrays_see_each_break_after_up_to_15_letters(rt: HostRuntime) -> Result<(), Fail> {
+    middles_after_each::<Plain>(&rt, rt.alloc(), 0, 16)
 }
 
 #[test]
-fn arrays_see_each_break_behind_16_to_24_letters(rt: HostRuntime) -> Result<(), Fail> {
-    middles_behind_each::<Plain>(&rt, rt.alloc(), 16, 25)
+fn arrays_see_each_break_after_16_to_24_letters(rt: HostRuntime) -> Result<(), Fail> {
+    middles_after_each::<Plain>(&rt, rt.alloc(), 16, 25)
 }
 
 #[test]
-fn arrays_see_each_break_behind_25_to_32_letters(rt: HostRuntime) -> Result<(), Fail> {
-    middles_behind_each::<Plain>(&rt, rt.alloc(), 25, 33)
+fn arrays_see_each_break_after_25_to_32_letters(rt: HostRuntime) -> Result<(), Fail> {
+    middles_after_each::<Plain>(&rt, rt.alloc(), 25, 33)
 }
 
 #[test]
-fn arrays_see_each_break_behind_33_to_40_letters(rt: HostRuntime) -> Result<(), Fail> {
-    middles_behind_each::<Plain>(&rt, rt.alloc(), 33, 41)
+fn arrays_see_each_break_after_33_to_40_letters(rt: HostRuntime) -> Result<(), Fail> {
+    middles_after_each::<Plain>(&rt, rt.alloc(), 33, 41)
 }
 
 #[test]
 fn words_see_each_break_at_every_edge(rt: HostRuntime) -> Result<(), Fail> {
-    middles_behind_each::<usize>(&rt, rt.alloc(), 0, 41)
+    middles_after_each::<usize>(&rt, rt.alloc(), 0, 41)
 }
 
 #[test]
 fn double_words_see_each_break_at_every_edge(rt: HostRuntime) -> Result<(), Fail> {
-    middles_behind_each::<u128>(&rt, rt.alloc(), 0, 41)
+    middles_after_each::<u128>(&rt, rt.alloc(), 0, 41)
 }
 
 #[test]
 fn sixteen_lanes_see_each_break_at_every_edge(rt: HostRuntime) -> Result<(), Fail> {
-    middles_behind_each::<u8x16>(&rt, rt.alloc(), 0, 41)
+    middles_after_each::<u8x16>(&rt, rt.alloc(), 0, 41)
 }
 
 #[test]
 fn thirty_two_lanes_see_each_break_at_every_edge(rt: HostRuntime) -> Result<(), Fail> {
-    middles_behind_each::<u8x32>(&rt, rt.alloc(), 0, 41)
+    middles_after_each::<u8x32>(&rt, rt.alloc(), 0, 41)
 }
 
 #[test]
 fn sixty_four_lanes_see_each_break_at_every_edge(rt: HostRuntime) -> Result<(), Fail> {
-    middles_behind_each::<Widest>(&rt, rt.alloc(), 0, 73)
+    middles_after_each::<Widest>(&rt, rt.alloc(), 0, 73)
 }

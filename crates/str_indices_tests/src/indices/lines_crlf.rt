@@ -104,7 +104,7 @@ const BEGINS: &[Row] = &[
 ];
 
 #[test]
-fn line_begins_behind_a_break(rt: HostRuntime) {
+fn line_begins_after_a_break(rt: HostRuntime) {
     rows::to_bytes(&rt, Scheme::Crlf, BEGINS);
 }
 

@@ -83,7 +83,7 @@ const BEGINS: &[Row] = &[
 ];
 
 #[test]
-fn a_line_begins_behind_a_break(rt: HostRuntime) {
+fn a_line_begins_after_a_break(rt: HostRuntime) {
     rows::to_bytes(&rt, Scheme::Lf, BEGINS);
 }
 

@@ -12,10 +12,10 @@ use Rattle.positions.specs.declared.encodings.Encoding.{Encoding}
 use Rattle.positions.specs.declared.encodings.Encoding.TheVariants.{Utf8, Utf16, Utf32}
 use Rattle.positions.proofs.lemmas.Callers.{none_before}
 use Rattle.positions.specs.Lines.{scheme_of}
-use Rattle.positions.specs.Parts.{HasOwn, Searched, HasByte, HasLine}
+use Rattle.positions.specs.Parts.{HasPartCounts, Searched, HasByte, HasLine}
 use Rattle.positions.specs.Parts as parts
 use Rattle.positions.specs.Units.{unit_scheme}
-use Rattle.positions.specs.declared.parts.Own.{Own}
+use Rattle.positions.specs.declared.parts.PartCounts.{PartCounts}
 use Rattle.positions.specs.declared.line_type.LineType.{LineType}
 use Rattle.positions.specs.declared.parts.Part.{Part}
 use Rattle.text_index.proofs.lemmas.Common.{◌≡◌, ℕ, ◌+◌, ◌-◌, ◌*◌, ◌^◌, ◌≤◌, inl, inr, true, false, [], ◌∷◌, ◌++◌, sym, refl, ap, subst, ◌∙◌, arith, chars, Text, size, Scheme, Chars, Utf16, from_byte_idx, is_joined, stretches_of, count_at, IsBoundary, IsMark, IsPart, IsStretch, HasPlace, Reaches, Mark, Stretch, MarksState, parts_of, Asked}
@@ -80,7 +80,7 @@ pub part_of_stretch : (l : LineType) (e : Encoding) (text : Text) (stretch : Str
     → IsPart text stretch.start.now.byte stretch.end.now.byte (chars part.text.now)
     → part.start ≡ stretch.start.now.byte → part.lines ≡ count_at stretch.start.now (scheme_of l)
     → (units : ℕ) → part.units ≡ Some units → units ≡ weighed (units_of e) text stretch.start.now.byte → part.in_crlf ≡ false
-    → (own : Own) → part.own ≡ Some own → HasOwn l e (chars part.text.now) own → parts.IsPart text l e part
+    → (own : PartCounts) → part.counts ≡ Some own → HasPartCounts l e (chars part.text.now) own → parts.IsPart text l e part
 part_of_stretch l e text stretch part is own start lines units has units_is in_crlf has_own told are =
     let first = is.start in
     record {
@@ -96,7 +96,7 @@ part_of_stretch l e text stretch part is own start lines units has units_is in_c
         λ middle. absurd (true≢false (sym (join_of_middle text first.front first.back part.start first.split
             (sym first.byte ∙ sym start) middle) ∙ first.whole)),
       );
-      own = subst (λ may. IfSome may (HasOwn l e (chars part.text.now))) (sym told) are;
+      counts = subst (λ may. IfSome may (HasPartCounts l e (chars part.text.now))) (sym told) are;
     }
 
 -- the part has what is asked for
@@ -152,10 +152,10 @@ module _ (old new : MarksState) (text : new.text ≡ old.text) (kept : old.looks
       record {
         text = text;
         pieces = ap (λ t. t ∷ []) text;
-        begins = refl;
-        by_byte = refl;
-        by_count = ap (λ t. 2 * stretches_of t) text;
-        apart = refl;
+        latest_start = refl;
+        byte_choices = refl;
+        count_choices = ap (λ t. 2 * stretches_of t) text;
+        unit_searches = refl;
         looks = omega (arith, four, ap (λ n. 4 * n) (pow-zero most));
         looks_kept = kept;
         reads = omega (arith, reads);
@@ -166,10 +166,10 @@ module _ (old new : MarksState) (text : new.text ≡ old.text) (kept : old.looks
   took_count few = record {
     text = text;
     pieces = ap (λ t. t ∷ []) text;
-    begins = refl;
-    by_byte = refl;
-    by_count = ap (λ t. 2 * stretches_of t) text;
-    apart = refl;
+    latest_start = refl;
+    byte_choices = refl;
+    count_choices = ap (λ t. 2 * stretches_of t) text;
+    unit_searches = refl;
     looks = omega (arith, few, pow-suc most 0, ap (λ n. n * most) (pow-zero most));
     looks_kept = kept;
     reads = omega (arith, reads);

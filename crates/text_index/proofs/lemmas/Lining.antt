@@ -4,7 +4,7 @@ use Rattle.std.proofs.Math.Seq.{drop-append_seam}
 use Rattle.std.proofs.lemmas.List.Sums.{take_while-cons}
 use Rattle.std.specs.List.{before_first}
 use Rattle.str_indices.proofs.lemmas.Callers.{cut_front}
-use Rattle.positions.specs.Lines.{behind}
+use Rattle.positions.specs.Lines.{text_after}
 use Rattle.positions.specs.Lines.{scheme_of, is_break, line_content, line_end}
 use Rattle.positions.specs.declared.line_type.LineType.{LineType}
 use Rattle.text_index.proofs.lemmas.Common.{◌≡◌, ℕ, Bool, List, [], ◌∷◌, ◌++◌, length, sym, refl, ap, ◌∙◌, arith, cases_Bool, inl, inr, Text, size, to_byte_idx, IsBoundary, IsPart, same_cut}
@@ -29,9 +29,9 @@ pub content_of_part : (l : LineType) (cs part : Text) (line start end : ℕ) →
 content_of_part l cs part line start end start_is end_is is =
     let first : IsBoundary cs start = record { front = is.front; back = part ++ is.back; split = is.parts; place = is.start } in
     let front = cut_front cs start first in
-    let there : behind cs start ≡ part ++ is.back =
+    let there : text_after cs start ≡ part ++ is.back =
     ap (λ r. drop (length r) cs) front ∙ ap (drop (length is.front)) is.parts ∙ drop-append_seam is.front (part ++ is.back) in
-    let content_is : behind cs (to_byte_idx (scheme_of l) cs line) ≡ part ++ is.back = rw start_is at there in
-    let (rest, split) = first_part (is_break l) (behind cs (to_byte_idx (scheme_of l) cs line)) in
+    let content_is : text_after cs (to_byte_idx (scheme_of l) cs line) ≡ part ++ is.back = rw start_is at there in
+    let (rest, split) = first_part (is_break l) (text_after cs (to_byte_idx (scheme_of l) cs line)) in
     let sizes : size part ≡ size (line_content l cs line) = omega (arith, is.start, is.end, start_is, end_is) in
     (same_cut part is.back (line_content l cs line) rest (sym content_is ∙ split) sizes).front

@@ -1,5 +1,5 @@
 -- Marks of a text, and what stands between two of them.
-use Rattle.text_index.proofs.lemmas.Common.{◌≡◌, ℕ, ◌+◌, ◌≤◌, false, [], ◌∷◌, ◌++◌, sym, refl, ap, ◌∙◌, append_assoc, append-nil, arith, cases_Bool, inl, inr, Text, size, size-append, Scheme, Chars, Utf16, Lf, Crlf, Lines, count, seam_loss, joins_crlf, ends_in_return, starts_with_feed-append, IsBoundary, same_cut, none_of, is_joined, count-nil, IsMark, IsWholeAt, IsPart, Mark, count_at}
+use Rattle.text_index.proofs.lemmas.Common.{◌≡◌, ℕ, ◌+◌, ◌≤◌, false, [], ◌∷◌, ◌++◌, sym, refl, ap, ◌∙◌, append_assoc, append-nil, arith, cases_Bool, inl, inr, Text, size, size-append, Scheme, Chars, Utf16, Lf, Crlf, Lines, count, seam_loss, joins_crlf, ends_in_return, starts_with_feed-append, IsBoundary, same_cut, none_of, is_joined, count-nil, IsMark, IsMarkPlace, IsPart, Mark, count_at}
 
 -- a seam that makes no CRLF takes nothing off
 pub no_loss : (s : Scheme) (a b : Text) → joins_crlf a b ≡ false → seam_loss s a b ≡ 0
@@ -9,7 +9,7 @@ no_loss Lf a b whole = refl
 no_loss Crlf a b whole = rw whole refl
 no_loss Lines a b whole = rw whole refl
 
--- nor does it where less of the text stands behind it
+-- nor does it where less of the text stands after it
 pub whole_before : (a b c : Text) → joins_crlf a (b ++ c) ≡ false → joins_crlf a b ≡ false
 whole_before a [] c whole = elim (cases_Bool (ends_in_return a)) [
   | inl ends ↦ rw ends refl
@@ -36,7 +36,7 @@ are_parted text a c f g part first second is =
     }
 
 -- a mark and a later place: what is before that counts as the text before the mark and the part between both
-pub counts_behind : (text part : Text) (mark : Mark) (to : ℕ) (is : IsMark text mark) (place : IsWholeAt text to)
+pub counts_behind : (text part : Text) (mark : Mark) (to : ℕ) (is : IsMark text mark) (place : IsMarkPlace text to)
     → IsPart text mark.byte to part → (s : Scheme) → count_at mark s + count s part ≡ count s place.front
 counts_behind text part mark to is place between s =
     let between' = rw (is.byte, sym place.place) at between in
@@ -51,11 +51,11 @@ pub mark_at_boundary : (text : Text) (mark : Mark) → IsMark text mark → IsBo
 mark_at_boundary text mark is = record { front = is.front; back = is.back; split = is.split; place = sym is.byte }
 
 -- and so is each place where the text may be parted
-pub place_at_boundary : (text : Text) (at : ℕ) → IsWholeAt text at → IsBoundary text at
+pub place_at_boundary : (text : Text) (at : ℕ) → IsMarkPlace text at → IsBoundary text at
 place_at_boundary text at is = record { front = is.front; back = is.back; split = is.split; place = is.place }
 
 -- the beginning of a text is one, and its end
-pub whole_at_end : (text : Text) → IsWholeAt text (size text)
+pub whole_at_end : (text : Text) → IsMarkPlace text (size text)
 whole_at_end text = record {
   front = text;
   back = [];

@@ -1,11 +1,11 @@
 -- Places of a text between chars, and those between CR and LF.
-use Rattle.text_index.proofs.lemmas.Common.{◌≡◌, ℕ, ◌+◌, ◌-◌, ◌<◌, ◌≤◌, false, [], ◌∷◌, ◌++◌, sym, refl, ap, ◌∙◌, append_assoc, arith, cases_lt, cases_Bool, inl, inr, len_utf8_bounds, Text, size, size-append, size-cons, line_feed, carriage_return, joins_crlf, ends_in_return, starts_with_feed, IsBoundary, IsCrlfMiddle, IsWholeAt}
+use Rattle.text_index.proofs.lemmas.Common.{◌≡◌, ℕ, ◌+◌, ◌-◌, ◌<◌, ◌≤◌, false, [], ◌∷◌, ◌++◌, sym, refl, ap, ◌∙◌, append_assoc, arith, cases_lt, cases_Bool, inl, inr, len_utf8_bounds, Text, size, size-append, size-cons, line_feed, carriage_return, joins_crlf, ends_in_return, starts_with_feed, IsBoundary, IsCrlfMiddle, IsMarkPlace}
 use Rattle.positions.proofs.lemmas.Callers.{middle_of_join}
 use Rattle.str_indices.proofs.lemmas.Callers.{starts_with_feed_is}
 use Rattle.std.specs.Char.{len_utf8}
 
 -- a boundary that is no such middle may part the text
-pub whole_at_boundary : (cs : Text) (at : ℕ) → IsBoundary cs at → ¬ (IsCrlfMiddle cs at) → IsWholeAt cs at
+pub whole_at_boundary : (cs : Text) (at : ℕ) → IsBoundary cs at → ¬ (IsCrlfMiddle cs at) → IsMarkPlace cs at
 whole_at_boundary cs at boundary other = record {
   front = boundary.front;
   back = boundary.back;
@@ -19,7 +19,7 @@ whole_at_boundary cs at boundary other = record {
 }
 
 -- and so may the place before the CR
-pub whole_before_middle : (cs : Text) (at : ℕ) → IsCrlfMiddle cs at → IsWholeAt cs (at - 1)
+pub whole_before_middle : (cs : Text) (at : ℕ) → IsCrlfMiddle cs at → IsMarkPlace cs (at - 1)
 whole_before_middle cs at middle =
     let one = size-append middle.front (carriage_return ∷ []) in
     record {
@@ -55,7 +55,7 @@ pub boundary_near : (cs : Text) (at p : ℕ) → IsBoundary cs p → p ≤ at �
     → ((q : ℕ) → p < q → q ≤ at → ¬ (IsBoundary cs q)) → at ≤ p + 3
 boundary_near cs at p boundary le within nearest = behind boundary.back boundary.split
   where
-    behind : (back : Text) → cs ≡ boundary.front ++ back → at ≤ p + 3
+    after : (back : Text) → cs ≡ boundary.front ++ back → at ≤ p + 3
     behind [] split = omega (arith, within, ap size split, size-append boundary.front [], boundary.place)
     behind (c ∷ rest) split =
         let next : IsBoundary cs (p + len_utf8 c) = record {

@@ -210,7 +210,7 @@ exchanged_right xs ys new whole chunks from to first last ex first_is last_is is
   is = is ∙ ap (λ r. xs ++ r) ex.is ∙ sym (append_assoc xs ex.front (chunks ++ ex.back));
 }
 
--- no chunk is before the beginning, and none behind the end
+-- no chunk is before the beginning, and none after the end
 pub no_front : (old front : List Text) (at : ℕ) → AreFirst old front at → AreSome old → at ≡ 0 → front ≡ []
 no_front old front at is each none =
     none_some front (all_front HasBytes front is.back (subst AreSome is.split each)) (omega (arith, is.place, none))
@@ -255,7 +255,7 @@ exchanged_across xs ys front back chunks more whole all from to j ex ey to_is ea
           ∙ ap (λ r. ex.front ++ (r ++ ey.back)) (sym all_is);
     }
 
--- by the chunks before a part, and those behind it
+-- by the chunks before a part, and those after it
 pub exchanged_between : (old front back chunks whole : List Text) (from to : ℕ) → AreExchanged old front from (joined_size old) []
     → AreExchanged old back 0 to [] → AreSome old → whole ≡ (front ++ chunks) ++ back → AreExchanged old whole from to chunks
 exchanged_between old front back chunks whole from to ex ey each is = record {

@@ -12,9 +12,9 @@ pub use Rattle.str_indices.specs.Text.{Text, size}
 pub use Rattle.str_indices.specs.declared.Scheme.{Scheme}
 pub use Rattle.str_indices.specs.declared.Scheme.TheVariants.{Chars, Crlf, Lf, Lines, Utf16}
 pub use Rattle.text_summary.proofs.lemmas.Callers.{replaced_bytes, size-replaced, taken_then_put, AreParts, parts_of, same_cut, same_parts, boundary-le, boundary_left, boundary_right, boundary_start, boundary_end, boundary_upto, none_of, some_of, size-some, count_of-summary, same_fields, joined-append, joined-split, joined-take, joined-drop, drop-piece, joined_size-take, Tells, tells}
-pub use Rattle.text_summary.specs.Fronts.{IsFront, IsLook}
+pub use Rattle.text_summary.specs.Fronts.{IsFront, IsStep}
 pub use Rattle.text_summary.specs.declared.fronts.Front.{Front}
-pub use Rattle.text_summary.specs.declared.fronts.Look.{Look}
+pub use Rattle.text_summary.specs.declared.fronts.Step.{Step}
 pub use Rattle.text_summary.specs.Changes.{IsReplaced}
 pub use Rattle.text_summary.specs.Pieces.{joined, joined_size, piece_at}
 pub use Rattle.text_summary.specs.Summaries.{summary_of, count_of}

@@ -90,7 +90,7 @@ chunk_end_boundary texts at is = record {
   place = is.place;
 }
 
--- no chunk ends behind the end
+-- no chunk ends after the end
 pub chunk_within : (texts : List Text) (chunk : Text) (start end : ℕ) → IsChunkOf texts chunk start end → end ≤ joined_size texts
 chunk_within texts chunk start end is = omega (
   arith,

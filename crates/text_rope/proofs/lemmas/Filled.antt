@@ -40,7 +40,7 @@ no_bytes : (chunks : List Text) → length chunks ≡ 0 → joined_size chunks �
 no_bytes [] none = omega arith
 no_bytes (x ∷ xs) none = absurd (omega (arith, none))
 
--- of one chunk, none before what is not all, and none behind what is not nothing
+-- of one chunk, none before what is not all, and none after what is not nothing
 alone_front : (old front back : List Text) → length old ≤ 1 → old ≡ front ++ back → joined_size front < joined_size old → front ≡ []
 alone_front old [] back one split part = refl
 alone_front old (x ∷ xs) back one split part =

@@ -27,7 +27,7 @@ same_character cs c d p is other =
     (is.place ∙ sym other.place)).front in
     simp reverse-append at (ap (λ l. get_or (reverse l) 0 0) same)
 
--- before it and behind it are boundaries
+-- before it and after it are boundaries
 pub boundary_at_end : (cs : Text) (c p : ℕ) → IsEndOf cs c p → IsBoundary cs p
 boundary_at_end cs c p is = record { front = is.front ++ c ∷ []; back = is.back; split = is.split; place = is.place }
 

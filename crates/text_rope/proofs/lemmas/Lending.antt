@@ -79,10 +79,10 @@ took_count {old} {new} texts looks kept reads reads_kept =
     record {
       text = ap joined texts;
       pieces = texts;
-      begins = refl;
-      by_byte = ap (λ t. (length t + 1) * (length t + 1)) texts;
-      by_count = ap (λ t. (length t + 1) * (length t + 1)) texts;
-      apart = refl;
+      latest_start = refl;
+      byte_choices = ap (λ t. (length t + 1) * (length t + 1)) texts;
+      count_choices = ap (λ t. (length t + 1) * (length t + 1)) texts;
+      unit_searches = refl;
       looks = omega (arith, looks, power_one m, ap (λ n. n * (m ^ 1)) (pow-zero m));
       looks_kept = kept;
       reads = omega (arith, reads);
@@ -91,7 +91,7 @@ took_count {old} {new} texts looks kept reads reads_kept =
 
 -- no search is one at most
 pub took_none : (state : RopeState) {b c : ℕ} → Searched b c (parts_of state) (parts_of state)
-took_none state = taken_within (record { by_byte = omega arith; by_count = omega arith }) (omega arith) (omega arith)
+took_none state = taken_within (record { byte_choices = omega arith; count_choices = omega arith }) (omega arith) (omega arith)
     (none_taken (parts_of state))
 
 -- what searches took, as questions

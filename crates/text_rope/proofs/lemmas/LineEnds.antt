@@ -13,7 +13,7 @@ use Rattle.str_indices.specs.Text.{cut, line_feed, carriage_return, is_crlf_midd
 use Rattle.text_rope.proofs.lemmas.Common.{◌≡◌, ◌≢◌, ℕ, ◌+◌, ◌-◌, ◌<◌, ◌≤◌, [], ◌∷◌, ◌++◌, length, drop, refl, sym, ap, ◌∙◌, inl, inr, arith, append_assoc, cases_lt, subst, len_utf8, len_utf8_bounds, Text, size, size-cons, size-append, count, from_byte_idx, to_byte_idx, from_byte_idx-le-count, to_byte_idx-zero, size-some, Scheme, Chars, Utf16, Lf, Crlf, Lines, IsBoundary, AreParts, parts_of}
 use Rattle.text_rope.proofs.lemmas.LastCharacters.{end_above, same_character}
 use Rattle.text_rope.proofs.lemmas.Places.{to_past}
-use Rattle.text_rope.specs.Lines.{begins_break, line_text, line_content, line_end, IsFeedOf, IsBreakLen}
+use Rattle.text_rope.specs.Lines.{begins_break, line_text, line_content_by, line_end_by, IsFeedOf, IsBreakLen}
 
 -- a text, split before its first char that passes a test, or at its end
 record SplitAtFirst (p : ℕ → Bool) (cs : Text) : Type 0 where
@@ -176,7 +176,7 @@ module _ (s : Scheme) (cs : Text) (k : ℕ) where
       ∙ ap (drop (length front)) (cut_front cs next there) ∙ drop-append_seam front middle
 
   abbrev content : Text
-  content = line_content s cs k
+  content = line_content_by s cs k
 
   abbrev first : SplitAtFirst (begins_break s) (line_text s cs k)
   first = split_at_first (begins_break s) (line_text s cs k)
@@ -191,10 +191,10 @@ module _ (s : Scheme) (cs : Text) (k : ℕ) where
       simp append_assoc in
       parts.parts ∙ ap (λ m. parts.front ++ (m ++ parts.back)) (sym text_is ∙ first.split) ∙ both
 
-  begin_is : size begin ≡ line_end s cs k
+  begin_is : size begin ≡ line_end_by s cs k
   begin_is = omega (arith, size-append parts.front content, parts.start)
 
-  rest_is : line_end s cs k + size first.after ≡ next
+  rest_is : line_end_by s cs k + size first.after ≡ next
   rest_is = omega (
     arith,
     parts.start,
@@ -204,22 +204,22 @@ module _ (s : Scheme) (cs : Text) (k : ℕ) where
   )
 
   -- where nothing is after the content, it ends where the line does
-  end_at_next : first.after ≡ [] → line_end s cs k ≡ next
+  end_at_next : first.after ≡ [] → line_end_by s cs k ≡ next
   end_at_next none = omega (arith, rest_is, ap size none)
 
   -- no break begins in the content
-  none_in_content : (c p : ℕ) → IsEndOf cs c p → begins_break s c ≡ true → start < p → p ≤ line_end s cs k → ⊥
+  none_in_content : (c p : ℕ) → IsEndOf cs c p → begins_break s c ≡ true → start < p → p ≤ line_end_by s cs k → ⊥
   none_in_content c p end breaks above within =
       let weight : ℕ → ℕ = λ d. cond (begins_break s d) 1 0 in
       let split = end.split ∙ append_assoc end.front (c ∷ []) end.back in
       let width = size-append end.front (c ∷ []) in
       let here : IsBoundary cs start =
       record { front = parts.front; back = parts.middle ++ parts.back; split = parts.parts; place = parts.start } in
-      let there : IsBoundary cs (line_end s cs k) =
+      let there : IsBoundary cs (line_end_by s cs k) =
       record { front = begin; back = first.after ++ parts.back; split = split_behind; place = begin_is } in
       let one : ◌≡◌ {A = ℕ} (weight c) 1 = rw breaks refl in
       let low = boundary_beside weight cs end.front c end.back split start here in
-      let high = boundary_beside weight cs end.front c end.back split (line_end s cs k) there in
+      let high = boundary_beside weight cs end.front c end.back split (line_end_by s cs k) there in
       omega (
         arith,
         low,
@@ -234,8 +234,8 @@ module _ (s : Scheme) (cs : Text) (k : ℕ) where
       )
 
   -- in a scheme that counts chars the content is all of the line
-  pub end_of_characters : IsCharacterScheme s → line_end s cs k ≡ next
-  end_of_characters is = (elim first.after as (λ after. first.after ≡ after → line_end s cs k ≡ next) [
+  pub end_of_characters : IsCharacterScheme s → line_end_by s cs k ≡ next
+  end_of_characters is = (elim first.after as (λ after. first.after ≡ after → line_end_by s cs k ≡ next) [
     | [] ↦ λ none. end_at_next none
     | c ∷ rest ↦ λ more. let clash : true ≡ false = sym (first.next c rest more) ∙ no_break s is c in cc
   ]) refl
@@ -290,8 +290,8 @@ module _ (s : Scheme) (cs : Text) (k : ℕ) where
         ]
 
     -- the last line has no break, nor has one past it
-    pub end_of_last : count s cs ≤ k → line_end s cs k ≡ next
-    end_of_last past = (elim first.after as (λ after. first.after ≡ after → line_end s cs k ≡ next) [
+    pub end_of_last : count s cs ≤ k → line_end_by s cs k ≡ next
+    end_of_last past = (elim first.after as (λ after. first.after ≡ after → line_end_by s cs k ≡ next) [
       | [] ↦ λ none. end_at_next none
       | c ∷ rest ↦ λ more.
           let split = split_behind ∙ ap (λ r. begin ++ (r ++ parts.back)) more in
@@ -332,27 +332,27 @@ module _ (s : Scheme) (cs : Text) (k : ℕ) where
       next_not_middle = not_middle_at next (rw on_next at (to-from_is_greatest s not_utf16 cs next).end_or_zero)
 
       -- so where a break of one char begins at the content's end, no CR ends there that belongs to it
-      no_feed : (c : ℕ) → line_end s cs k + len_utf8 c ≡ next → IsEndOf cs c next → ¬ (IsFeedOf s cs c next)
+      no_feed : (c : ℕ) → line_end_by s cs k + len_utf8 c ≡ next → IsEndOf cs c next → ¬ (IsFeedOf s cs c next)
       no_feed c width end = λ feed.
           let is : c ≡ line_feed = feed.0 in
           let one : len_utf8 c ≡ 1 = ap len_utf8 is in
-          let before : next - 1 ≡ line_end s cs k = omega (arith, width, one) in
-          let return : IsEndOf cs carriage_return (line_end s cs k) = subst (IsEndOf cs carriage_return) before feed.1.1 in
-          let place : next ≡ line_end s cs k + 1 = omega (arith, width, one) in
-          let last : IsEndOf cs line_feed (line_end s cs k + 1) =
+          let before : next - 1 ≡ line_end_by s cs k = omega (arith, width, one) in
+          let return : IsEndOf cs carriage_return (line_end_by s cs k) = subst (IsEndOf cs carriage_return) before feed.1.1 in
+          let place : next ≡ line_end_by s cs k + 1 = omega (arith, width, one) in
+          let last : IsEndOf cs line_feed (line_end_by s cs k + 1) =
           subst (IsEndOf cs line_feed) place (subst (λ d. IsEndOf cs d next) is end) in
-          elim (cases_lt start (line_end s cs k)) [
+          elim (cases_lt start (line_end_by s cs k)) [
             | inl above ↦
                 none_in_content carriage_return _ return (return_breaks s line feed.1.0) above (omega arith)
             | inr le ↦
-                let same : line_end s cs k ≡ start = omega arith in
+                let same : line_end_by s cs k ≡ start = omega arith in
                 start_not_middle (subst (IsCrlfMiddle cs) same (middle_of cs _ return last))
           ]
 
       -- where the content ends, by the char before the next line
       abbrev EndsBy : ℕ → Type 0
-      EndsBy c = (IsFeedOf s cs c next × (line_end s cs k + 2 ≡ next))
-          ⊎ (¬ (IsFeedOf s cs c next) × (line_end s cs k + len_utf8 c ≡ next))
+      EndsBy c = (IsFeedOf s cs c next × (line_end_by s cs k + 2 ≡ next))
+          ⊎ (¬ (IsFeedOf s cs c next) × (line_end_by s cs k + len_utf8 c ≡ next))
 
       -- something is after the content, since the line ends with a break
       ends_none : (c : ℕ) → first.after ≡ [] → EndsBy c
@@ -391,7 +391,7 @@ module _ (s : Scheme) (cs : Text) (k : ℕ) where
             let same : behind_first ≡ next =
             omega (arith, next_le behind_first end first_above, first_within) in
             let is_d : d ≡ c = same_character cs d c next (subst (IsEndOf cs d) same first_ends) is in
-            let width : line_end s cs k + len_utf8 c ≡ next = omega (arith, same, begin_is, ap len_utf8 is_d) in
+            let width : line_end_by s cs k + len_utf8 c ≡ next = omega (arith, same, begin_is, ap len_utf8 is_d) in
             inr (no_feed c width is, width)
 
         -- or it is CR, and LF is the rest of the break
@@ -428,7 +428,7 @@ module _ (s : Scheme) (cs : Text) (k : ℕ) where
       ]) refl
 
       -- so by how many bytes the break takes
-      pub end_made : (place n : ℕ) → place ≡ next → IsBreakLen s cs place n → place - n ≡ line_end s cs k
+      pub end_made : (place n : ℕ) → place ≡ next → IsBreakLen s cs place n → place - n ≡ line_end_by s cs k
       end_made place n same (c, is, len) = elim (end_of_line c (subst (IsEndOf cs c) same is)) [
         | inl (feed, two) ↦ elim len [
           | inl (_, n_is) ↦ omega (arith, same, two, n_is)
@@ -441,7 +441,7 @@ module _ (s : Scheme) (cs : Text) (k : ℕ) where
       ]
 
 -- past the last line, and in the last, the content ends where the text does
-pub end_past : (s : Scheme) (cs : Text) (k : ℕ) → count s cs ≤ k → line_end s cs k ≡ size cs
+pub end_past : (s : Scheme) (cs : Text) (k : ℕ) → count s cs ≤ k → line_end_by s cs k ≡ size cs
 end_past s cs k past =
     let whole = to_past s cs (k + 1) (omega (arith, past)) in
     elim (breaks_or_characters s) [

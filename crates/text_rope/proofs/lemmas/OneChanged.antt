@@ -51,7 +51,7 @@ pub some_after : {A : Type 0} (old new : Text) (shift : Shift) (result : Result 
 some_after old new shift (Ok done) is same some = is.some_new
 some_after old new shift (Err e) is same some = λ none. some (sym same ∙ none)
 
--- with chunks behind it
+-- with chunks after it
 pub changed_left : (left new right : List Text) (from to : ℕ) (text : Text) (shift : Shift)
     → IsOneChanged left new from to text shift → IsOneChanged (left ++ right) (new ++ right) from to text shift
 changed_left left new right from to text shift c = record {

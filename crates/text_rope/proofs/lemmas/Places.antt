@@ -1,12 +1,12 @@
 -- A chunk of a tree, and what the text answers by it.
-use Rattle.text_rope.proofs.lemmas.Common.{◌≡◌, ◌≢◌, ℕ, ◌+◌, ◌-◌, ◌^◌, ◌<◌, ◌≤◌, List, [], ◌∷◌, ◌++◌, length, take, drop, refl, sym, ap, ◌∙◌, arith, append_assoc, append-nil, take-append-drop, Text, size, size-append, count, from_byte_idx, to_byte_idx, seam_loss, is_joined, seam_loss-same, starts_with_feed, starts_with_feed-append, IsBoundary, boundary_left, boundary_right, joined, joined_size, piece_at, joined-append, joined-take, drop-piece, add-one, IsFront, IsLook, Scheme, Front, Look, tells, from_byte_idx-le-count, count-nil, to_byte_idx-le-size}
+use Rattle.text_rope.proofs.lemmas.Common.{◌≡◌, ◌≢◌, ℕ, ◌+◌, ◌-◌, ◌^◌, ◌<◌, ◌≤◌, List, [], ◌∷◌, ◌++◌, length, take, drop, refl, sym, ap, ◌∙◌, arith, append_assoc, append-nil, take-append-drop, Text, size, size-append, count, from_byte_idx, to_byte_idx, seam_loss, is_joined, seam_loss-same, starts_with_feed, starts_with_feed-append, IsBoundary, boundary_left, boundary_right, joined, joined_size, piece_at, joined-append, joined-take, drop-piece, add-one, IsFront, IsStep, Scheme, Front, Step, tells, from_byte_idx-le-count, count-nil, to_byte_idx-le-size}
 use Rattle.text_rope.specs.Places.{IsPlaceAt, IsPlaceOf}
 
--- the chunks of two trees behind a text
+-- the chunks of two trees after a text
 pub behind-append : (a : Text) (xs ys : List Text) → a ++ joined (xs ++ ys) ≡ (a ++ joined xs) ++ joined ys
 behind-append a xs ys = ap (λ r. a ++ r) (joined-append xs ys) ∙ sym (append_assoc a (joined xs) (joined ys))
 
--- the bytes of a text, and of the chunks behind it
+-- the bytes of a text, and of the chunks after it
 pub size-parts : (a : Text) (front : List Text) (chunk : Text) (back : List Text)
     → size a + joined_size (front ++ chunk ∷ back) ≡ size (a ++ joined front) + size chunk + joined_size back
 size-parts a front chunk back = omega (
@@ -23,7 +23,7 @@ pub behind-take : (a : Text) (xs : List Text) (i : ℕ) (chunk : Text) → i < l
 behind-take a xs i chunk inside is = ap (λ r. a ++ r) (joined-take xs i inside ∙ ap (λ r. joined (take i xs) ++ r) (sym is))
     ∙ sym (append_assoc a (joined (take i xs)) chunk)
 
--- a chunk and those behind it
+-- a chunk and those after it
 pub chunks_at : (xs : List Text) (i : ℕ) (chunk : Text) → i < length xs → chunk ≡ piece_at xs i → drop i xs ≡ chunk ∷ drop (i + 1) xs
 chunks_at xs i chunk inside is = rw add-one (drop-piece xs i inside) ∙ ap (λ r. r ∷ drop (i + 1) xs) (sym is)
 
@@ -32,7 +32,7 @@ pub parts_at : (xs : List Text) (i : ℕ) (chunk : Text) → i < length xs → c
     → xs ≡ take i xs ++ chunk ∷ drop (i + 1) xs
 parts_at xs i chunk inside is = sym (take-append-drop i xs) ∙ ap (λ r. take i xs ++ r) (chunks_at xs i chunk inside is)
 
--- so the chunk is not too long behind what is before it
+-- so the chunk is not too long after what is before it
 pub short_at : (a : Text) (xs : List Text) (i : ℕ) (chunk : Text) → i < length xs → chunk ≡ piece_at xs i
     → size a + joined_size xs < 2 ^ 63 → size (a ++ joined (take i xs)) + size chunk < 2 ^ 63
 short_at a xs i chunk inside is short = omega (
@@ -134,14 +134,14 @@ pub text_of_place : (texts front : List Text) (chunk : Text) (back : List Text) 
 text_of_place texts front chunk back parts = ap joined parts ∙ joined-append front (chunk ∷ back)
 
 -- what the text answers at a byte, by the chunk that it is in
-pub answer_at : {s : Scheme} {texts : List Text} {chunk : Text} {before : Front} {at : ℕ} (look : Look)
-    (place : IsPlaceAt s [] texts chunk before at) → chunk ≢ [] → IsLook s (joined place.front) chunk look
-    → from_byte_idx s (joined texts) at ≡ look.reached + from_byte_idx s chunk (at - before.len)
-answer_at {s = s} {texts = texts} {chunk = chunk} {before = before} {at = at} look place some told =
+pub answer_at : {s : Scheme} {texts : List Text} {chunk : Text} {before : Front} {at : ℕ} (step : Step)
+    (place : IsPlaceAt s [] texts chunk before at) → chunk ≢ [] → IsStep s (joined place.front) chunk step
+    → from_byte_idx s (joined texts) at ≡ step.reached + from_byte_idx s chunk (at - before.len)
+answer_at {s = s} {texts = texts} {chunk = chunk} {before = before} {at = at} step place some told =
     let front = joined place.front in
-    let own = (tells s front chunk (joined place.back) look some told).from_here at
+    let own = (tells s front chunk (joined place.back) step some told).from_here at
     (omega (arith, place.after, place.before_is.len))
-    (omega (arith, place.inside, place.before_is.len, told.behind.len, size-append front chunk)) in
+    (omega (arith, place.inside, place.before_is.len, told.after.len, size-append front chunk)) in
     rw (text_of_place texts place.front chunk place.back place.parts, place.before_is.len) own
 
 -- and whether that byte is a boundary
@@ -166,7 +166,7 @@ from_nil s b = omega (arith, from_byte_idx-le-count s [] b, count-nil s)
 pub to_nil : (s : Scheme) (k : ℕ) → to_byte_idx s [] k ≡ 0
 to_nil s k = omega (arith, to_byte_idx-le-size s [] k)
 
--- a chunk is not too long behind what is before it
+-- a chunk is not too long after what is before it
 pub short_of : (texts front : List Text) (chunk : Text) (back : List Text) → texts ≡ front ++ chunk ∷ back
     → joined_size texts < 2 ^ 63 → size (joined front) + size chunk < 2 ^ 63
 short_of texts front chunk back parts short = omega (arith, ap joined_size parts, size-parts [] front chunk back, short)

@@ -8,7 +8,7 @@ pub record IsShifted (whole own out new bytes : ℕ) : Type 0 where
   pub out_le : out ≤ whole + own
   pub is : whole + own - out ≡ new
 
--- a chunk that is not empty stays so with a text behind it
+-- a chunk that is not empty stays so with a text after it
 some-append : (a b : Text) → a ≢ [] → a ++ b ≢ []
 some-append [] b some is = some refl
 some-append (c ∷ cs) b some is = cc

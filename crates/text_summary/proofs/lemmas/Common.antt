@@ -13,10 +13,10 @@ pub use Rattle.str_indices.specs.Text.{Text, size, line_feed, carriage_return}
 pub use Rattle.str_indices.specs.declared.Scheme.{Scheme}
 pub use Rattle.str_indices.specs.declared.Scheme.TheVariants.{Chars, Crlf, Lf, Lines, Utf16}
 pub use Rattle.text_summary.specs.Changes.{IsReplaced, IsUpdate, FitsIn}
-pub use Rattle.text_summary.specs.Fronts.{IsFront, IsLook, IsBefore, IsFollowed}
+pub use Rattle.text_summary.specs.Fronts.{IsFront, IsStep, IsBefore, IsFollowed}
 pub use Rattle.text_summary.specs.Pieces.{joined, joined_size, piece_at}
 pub use Rattle.text_summary.specs.Summaries.{summary_of, count_of, AreSummaries}
 pub use Rattle.text_summary.specs.declared.changes.Update.{Update}
 pub use Rattle.text_summary.specs.declared.fronts.Front.{Front}
-pub use Rattle.text_summary.specs.declared.fronts.Look.{Look}
+pub use Rattle.text_summary.specs.declared.fronts.Step.{Step}
 pub use Rattle.text_summary.specs.declared.summaries.Summary.{Summary}

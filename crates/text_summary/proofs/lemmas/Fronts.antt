@@ -1,16 +1,16 @@
 -- The front of a piece, and the answers of a text by it.
-use Rattle.text_summary.proofs.lemmas.Common.{◌≡◌, ◌≢◌, ℕ, ◌+◌, ◌-◌, ◌<◌, ◌≤◌, List, [], ◌++◌, length, take, drop, refl, arith, ◌∙◌, ap, append_assoc, Text, size, from_byte_idx, to_byte_idx, size-append, is_joined, starts_with_feed-append, seam_loss-same, IsFront, IsLook, joined, piece_at, Scheme, Front, Look}
+use Rattle.text_summary.proofs.lemmas.Common.{◌≡◌, ◌≢◌, ℕ, ◌+◌, ◌-◌, ◌<◌, ◌≤◌, List, [], ◌++◌, length, take, drop, refl, arith, ◌∙◌, ap, append_assoc, Text, size, from_byte_idx, to_byte_idx, size-append, is_joined, starts_with_feed-append, seam_loss-same, IsFront, IsStep, joined, piece_at, Scheme, Front, Step}
 use Rattle.text_summary.proofs.lemmas.Joining.{joined-split, joined-take, joined-drop}
 
--- a look at b after a, and the answers of a, b and any text after them
-pub record Tells (s : Scheme) (a b c : Text) (look : Look) : Type 0 where
-  pub from_here : (i : ℕ) → size a ≤ i → i < look.behind.len
-      → from_byte_idx s (a ++ (b ++ c)) i ≡ look.reached + from_byte_idx s b (i - size a)
-  pub to_reached : (k : ℕ) → k ≤ look.reached → to_byte_idx s (a ++ (b ++ c)) k ≡ to_byte_idx s a k
-  pub to_here : (k : ℕ) → look.reached < k → to_byte_idx s (a ++ b) k ≡ size a + to_byte_idx s b (k - look.reached)
+-- a step over b after a, and the answers of a, b and any text after them
+pub record Tells (s : Scheme) (a b c : Text) (step : Step) : Type 0 where
+  pub from_here : (i : ℕ) → size a ≤ i → i < step.after.len
+      → from_byte_idx s (a ++ (b ++ c)) i ≡ step.reached + from_byte_idx s b (i - size a)
+  pub to_reached : (k : ℕ) → k ≤ step.reached → to_byte_idx s (a ++ (b ++ c)) k ≡ to_byte_idx s a k
+  pub to_here : (k : ℕ) → step.reached < k → to_byte_idx s (a ++ b) k ≡ size a + to_byte_idx s b (k - step.reached)
 
-pub tells : (s : Scheme) (a b c : Text) (look : Look) → b ≢ [] → IsLook s a b look → Tells s a b c look
-tells s a b c look some is =
+pub tells : (s : Scheme) (a b c : Text) (step : Step) → b ≢ [] → IsStep s a b step → Tells s a b c step
+tells s a b c step some is =
     let seam = is_joined s a b in
     let reached = is.reached in
     let within = seam.loss_within in
@@ -20,34 +20,34 @@ tells s a b c look some is =
       from_here = λ i past inside.
           let place : size a + (i - size a) ≡ i = omega arith in
           let own = rw place at (seam.from_behind (i - size a)) in
-          let whole = (is_joined s (a ++ b) c).from_before i (omega (arith, is.behind.len)) in
+          let whole = (is_joined s (a ++ b) c).from_before i (omega (arith, is.after.len)) in
           rw (← append_assoc a b c) (omega (arith, own, whole));
       to_reached = λ k within. (is_joined s a (b ++ c)).to_before k (omega (arith, same));
-      to_here = λ k past. seam.to_behind k (k - look.reached) (omega arith) (omega arith);
+      to_here = λ k past. seam.to_behind k (k - step.reached) (omega arith) (omega arith);
     }
 
--- a look at piece i of a list of pieces, and the answers of their joined text
-pub record TellsAt (s : Scheme) (texts : List Text) (i : ℕ) (front : Front) (look : Look) : Type 0 where
-  pub behind : IsFront s (joined (take (i + 1) texts)) look.behind
-  pub from_here : (b : ℕ) → front.len ≤ b → b < look.behind.len
-      → from_byte_idx s (joined texts) b ≡ look.reached + from_byte_idx s (piece_at texts i) (b - front.len)
-  pub to_reached : (k : ℕ) → k ≤ look.reached → to_byte_idx s (joined texts) k ≡ to_byte_idx s (joined (take i texts)) k
-  pub to_here : (k : ℕ) → look.reached < k → to_byte_idx s (joined (take (i + 1) texts)) k
-      ≡ front.len + to_byte_idx s (piece_at texts i) (k - look.reached)
+-- a step over piece i of a list of pieces, and the answers of their joined text
+pub record TellsAt (s : Scheme) (texts : List Text) (i : ℕ) (front : Front) (step : Step) : Type 0 where
+  pub after : IsFront s (joined (take (i + 1) texts)) step.after
+  pub from_here : (b : ℕ) → front.len ≤ b → b < step.after.len
+      → from_byte_idx s (joined texts) b ≡ step.reached + from_byte_idx s (piece_at texts i) (b - front.len)
+  pub to_reached : (k : ℕ) → k ≤ step.reached → to_byte_idx s (joined texts) k ≡ to_byte_idx s (joined (take i texts)) k
+  pub to_here : (k : ℕ) → step.reached < k → to_byte_idx s (joined (take (i + 1) texts)) k
+      ≡ front.len + to_byte_idx s (piece_at texts i) (k - step.reached)
 
-pub tells_at : (s : Scheme) (texts : List Text) (i : ℕ) (front : Front) (look : Look) → i < length texts
+pub tells_at : (s : Scheme) (texts : List Text) (i : ℕ) (front : Front) (step : Step) → i < length texts
     → piece_at texts i ≢ [] → IsFront s (joined (take i texts)) front
-    → IsLook s (joined (take i texts)) (piece_at texts i) look → TellsAt s texts i front look
-tells_at s texts i front look inside some front_is is =
+    → IsStep s (joined (take i texts)) (piece_at texts i) step → TellsAt s texts i front step
+tells_at s texts i front step inside some front_is is =
     let before = joined (take i texts) in
     let piece = piece_at texts i in
     let behind = joined (drop (i + 1) texts) in
     let more = joined-take texts i inside in
     let whole : joined texts ≡ before ++ (piece ++ behind) =
     joined-split texts i ∙ ap (λ r. before ++ r) (joined-drop texts i inside) in
-    let own = tells s before piece behind look some is in
+    let own = tells s before piece behind step some is in
     record {
-      behind = rw more is.behind;
+      after = rw more is.after;
       from_here = λ b past inside. rw (whole, front_is.len) (own.from_here b (omega (arith, front_is.len)) inside);
       to_reached = λ k within. rw whole (own.to_reached k within);
       to_here = λ k past. rw (more, front_is.len) (own.to_here k past);

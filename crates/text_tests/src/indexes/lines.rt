@@ -7,7 +7,7 @@ use std::process::Abort;
 use std::test::Fail;
 use text_index::TextIndex;
 
-const KINDS: [LineType; 3] = [LineType::Lf, LineType::Crlf, LineType::Lines];
+const KINDS: [LineType; 3] = [LineType::Lf, LineType::LfCr, LineType::All];
 
 const ENCODINGS: [Encoding; 3] = [Encoding::Utf8, Encoding::Utf16, Encoding::Utf32];
 
@@ -45,7 +45,7 @@ fn assert_position(
     );
 }
 
-/// Compares the position of a byte, it and the one behind it on its line, and the line.
+/// Compares the position of a byte, it and the one after it on its line, and the line.
 fn assert_byte(rt: &impl Abort, index: &TextIndex<'_>, l: LineType, byte: usize) {
     let whole = &mut Whole::<Chunk>::of(index.text());
     for e in ENCODINGS {

@@ -77,7 +77,7 @@ fn assert_byte(rt: &impl Abort, index: &TextIndex<'_>, byte: usize) {
 /// Compares the content and the end of a line, and positions on it.
 fn assert_line(rt: &impl Abort, index: &TextIndex<'_>, line: usize) {
     let text = index.text();
-    let end = LineType::Crlf.line_end(text, line);
+    let end = LineType::LfCr.line_end(text, line);
     assert_eq!(rt; index.line_end(line), end, "{line}");
     let start = Encoding::Utf8.byte_of(text, Position { line, character: 0 });
     assert!(rt; Some(index.line(line)) == text.get(start..end), "{line}");

@@ -6,7 +6,7 @@ use positions::{Encoding, LineType, Position, Whole};
 use std::process::Abort;
 use std::test::Fail;
 
-const KINDS: [LineType; 3] = [LineType::Lf, LineType::Crlf, LineType::Lines];
+const KINDS: [LineType; 3] = [LineType::Lf, LineType::LfCr, LineType::All];
 
 const ENCODINGS: [Encoding; 3] = [Encoding::Utf8, Encoding::Utf16, Encoding::Utf32];
 

@@ -151,7 +151,7 @@ fn assert_same_in(
 
 fn assert_same_line_end(rt: &impl Abort, rope: &Rope, text: &str, line: usize) {
     let found = line_end(rope, line);
-    let wanted = LineType::Crlf.line_end(text, line);
+    let wanted = LineType::LfCr.line_end(text, line);
     assert!(rt; found == wanted, "{text:?} {line}: {found}");
 }
 

@@ -10,11 +10,11 @@ use std::process::Abort;
 use std::test::Fail;
 use text_rope::Rope;
 
-const KINDS: [LineType; 3] = [LineType::Lf, LineType::Crlf, LineType::Lines];
+const KINDS: [LineType; 3] = [LineType::Lf, LineType::LfCr, LineType::All];
 
 const ENCODINGS: [Encoding; 3] = [Encoding::Utf8, Encoding::Utf16, Encoding::Utf32];
 
-/// Pairs of texts: the first ends a rope, and the second begins the rope that is put behind it.
+/// Pairs of texts: the first ends a rope, and the second begins the rope that is put after it.
 const SEAMS: [(&str, &str); 7] = [
     ("\r", "\n"),
     ("\r", "\r\n"),

@@ -16,25 +16,25 @@ placed c =
       some = rw kept at c.summary-own.ensures.some;
     }
 
-pub look-requires : goal.look-requires
-look-requires c =
+pub step-requires : goal.step-requires
+step-requires c =
     let is = placed c in
     next_piece c.args.s c.args.p.now.texts c.loop-i.i c.loop-i.front c.summary-own.result is.inside is.before_is is.own_is is.some
     c.range_round-range.ensures.short
 
-pub returns-then-b-behind-clause-place : goal.returns-then-b-behind-clause-place
-returns-then-b-behind-clause-place c =
+pub returns-then-b-after-clause-place : goal.returns-then-b-after-clause-place
+returns-then-b-after-clause-place c =
     let texts = c.args.p.now.texts in
     let i = c.loop-i.i in
     let is = placed c.before.before.before.before in
-    let look = c.look.ensures (joined (take i texts)) (piece_at texts i) is.before_is is.own_is is.some in
+    let look = c.step.ensures (joined (take i texts)) (piece_at texts i) is.before_is is.own_is is.some in
     record {
       is = is;
       after = c.loop-i.invariant.past;
       before = inl (omega (
         arith,
-        c.if-b-behind.true,
-        look.behind.len,
+        c.if-b-after.true,
+        look.after.len,
         size-append (joined (take i texts)) (piece_at texts i),
         is.before_is.len,
         ap (λ o. o.len) is.own_is,
@@ -46,11 +46,11 @@ loop-i-preserved c =
     let texts = c.args.p.now.texts in
     let i = c.loop-i.i in
     let is = placed c.before.before.before.before in
-    let look = c.look.ensures (joined (take i texts)) (piece_at texts i) is.before_is is.own_is is.some in
+    let look = c.step.ensures (joined (take i texts)) (piece_at texts i) is.before_is is.own_is is.some in
     record {
-      front = rw (joined-take texts i is.inside) look.behind;
+      front = rw (joined-take texts i is.inside) look.after;
       state = grind (arith, c.summary-own.ensures.state, c.loop-i.invariant.state);
-      past = omega (arith, c.if-b-behind.false);
+      past = omega (arith, c.if-b-after.false);
     }
 
 pub returns-clause-place : goal.returns-clause-place

@@ -16,8 +16,8 @@ placed c =
       some = rw kept at c.summary-own.ensures.some;
     }
 
-pub look-look-requires : goal.look-look-requires
-look-look-requires c =
+pub step-step-requires : goal.step-step-requires
+step-step-requires c =
     let is = placed c in
     let texts = c.args.p.now.texts in
     let kept : c.loop-i.p.texts ≡ texts = ap (λ p. p.texts) c.loop-i.invariant.state ∙ c.range_for-range.ensures.texts in
@@ -25,22 +25,22 @@ look-look-requires c =
     (rw kept at c.summary-own.ensures.short)
 
 -- the text comes to the count before piece i, and not before the piece before it
-pub returns-then-k-look-clause-comes : goal.returns-then-k-look-clause-comes
-returns-then-k-look-clause-comes c =
+pub returns-then-k-step-clause-comes : goal.returns-then-k-step-clause-comes
+returns-then-k-step-clause-comes c =
     let s = c.args.s in
     let texts = c.args.p.now.texts in
     let i = c.loop-i.i in
     let first = c.range_for-range.result.first in
     let last = c.loop-i.last in
     let here = placed c.before.before.before in
-    let told = c.look-look.ensures (joined (take i texts)) (piece_at texts i) here.before_is here.own_is here.some in
+    let told = c.step-step.ensures (joined (take i texts)) (piece_at texts i) here.before_is here.own_is here.some in
     let later : first < i = elim (cases_lt first i) [
       | inl later ↦ later
       | inr not_later ↦
           let same : i ≡ first = omega (arith, not_later, c.loop-i.auto.i) in
-          absurd (omega (arith, c.loop-i.invariant.below same, told.reached, here.before_is.total, c.if-k-look.true))
+          absurd (omega (arith, c.loop-i.invariant.below same, told.reached, here.before_is.total, c.if-k-step.true))
     ] in
-    let there = come_before s texts i c.args.k here.inside here.some (omega (arith, told.reached, c.if-k-look.true)) in
+    let there = come_before s texts i c.args.k here.inside here.some (omega (arith, told.reached, c.if-k-step.true)) in
     comes_at s texts last (c.loop-i.invariant.placed later) c.args.k (c.loop-i.invariant.past later)
     (rw (c.loop-i.invariant.next later) at there)
 
@@ -49,14 +49,14 @@ loop-i-preserved c =
     let texts = c.args.p.now.texts in
     let i = c.loop-i.i in
     let here = placed c.before.before.before.before in
-    let told = c.look-look.ensures (joined (take i texts)) (piece_at texts i) here.before_is here.own_is here.some in
+    let told = c.step-step.ensures (joined (take i texts)) (piece_at texts i) here.before_is here.own_is here.some in
     record {
-      front = rw (joined-take texts i here.inside) told.behind;
+      front = rw (joined-take texts i here.inside) told.after;
       state = grind (arith, c.summary-own.ensures.state, c.loop-i.invariant.state);
       below = λ first. absurd (omega (arith, first, c.loop-i.auto.i));
       placed = λ _. here;
       next = λ _. refl;
-      past = λ _. omega (arith, told.reached, here.before_is.total, c.if-k-look.false);
+      past = λ _. omega (arith, told.reached, here.before_is.total, c.if-k-step.false);
     }
 
 -- the range goes to the end of the text, or so far that the text comes to the count before its last piece

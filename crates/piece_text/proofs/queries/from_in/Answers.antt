@@ -6,10 +6,10 @@ pub overflow_add-result : goal.overflow_add-result
 overflow_add-result c =
     let s = c.args.s in
     let texts = c.loop-i.p.texts in
-    let kept = ap (λ p. p.texts) c.look_at-look.ensures.state in
+    let kept = ap (λ p. p.texts) c.step_over-step.ensures.state in
     let own = c.from_byte_idx.ensures
     ∙ ap (λ t. from_byte_idx s t (c.args.b - c.loop-i.front.len)) (rw kept at c.text.ensures.text) in
-    let here = c.look_at-look.ensures.from_here c.args.b c.loop-i.invariant.past c.if-b-look.true in
+    let here = c.step_over-step.ensures.from_here c.args.b c.loop-i.invariant.past c.if-b-step.true in
     let same = ap (λ p. joined_size p.texts) c.loop-i.invariant.state in
     omega (
       arith,

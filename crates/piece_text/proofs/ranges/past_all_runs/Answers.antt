@@ -33,7 +33,7 @@ loop-run-preserved c =
     let texts_is = ap (λ p. p.texts) c.loop-run.invariant.state in
     record {
       first = here.next;
-      front = rw texts_is at c.pass-front.ensures.behind;
+      front = rw texts_is at c.pass-front.ensures.after;
       state = rw (← add_assoc) (c.pass-front.ensures.state ∙ ap {A = PiecesState} (λ p. record p { looks = p.looks + 1 }) c.loop-run.invariant.state);
       looks = omega (arith, here.some, c.loop-run.invariant.looks);
     }

@@ -16,8 +16,8 @@ overflow_add-end c =
     omega (arith, here.within, c.len-all.ensures.len)
 
 -- the run has its place there
-pub pass-behind-requires-clause-run : goal.pass-behind-requires-clause-run
-pass-behind-requires-clause-run c =
+pub pass-after-requires-clause-run : goal.pass-after-requires-clause-run
+pass-after-requires-clause-run c =
     let runs = c.runs-run-items.result.now in
     let texts = c.args.p.now.texts in
     let here = passing runs texts c.loop-run.first c.loop-run.run-index no_run c.runs-run-items.ensures c.loop-run-test.true
@@ -33,10 +33,10 @@ loop-run-preserved c =
     let texts_is = ap (λ p. p.texts) c.loop-run.invariant.state in
     record {
       first = here.next;
-      front = rw texts_is at c.pass-behind.ensures.behind;
-      state = rw (← add_assoc) (c.pass-behind.ensures.state ∙ ap {A = PiecesState} (λ p. record p { looks = p.looks + 1 }) c.loop-run.invariant.state);
+      front = rw texts_is at c.pass-after.ensures.after;
+      state = rw (← add_assoc) (c.pass-after.ensures.state ∙ ap {A = PiecesState} (λ p. record p { looks = p.looks + 1 }) c.loop-run.invariant.state);
       looks = omega (arith, here.some, c.loop-run.invariant.looks);
-      below = omega (arith, c.if-k-behind.false);
+      below = omega (arith, c.if-k-after.false);
       left = λ _. omega (arith, here.within, c.len-all.ensures.len, c.if-all-end-lt2.false);
     }
 

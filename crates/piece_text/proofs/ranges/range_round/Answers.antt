@@ -16,8 +16,8 @@ overflow_add-end c =
     omega (arith, here.within, c.len-all.ensures.len)
 
 -- the run has its place there
-pub pass-behind-requires-clause-run : goal.pass-behind-requires-clause-run
-pass-behind-requires-clause-run c =
+pub pass-after-requires-clause-run : goal.pass-after-requires-clause-run
+pass-after-requires-clause-run c =
     let runs = c.runs-run-items.result.now in
     let texts = c.args.p.now.texts in
     let here = passing runs texts c.loop-run.first c.loop-run.run-index no_run c.runs-run-items.ensures c.loop-run-test.true
@@ -33,10 +33,10 @@ loop-run-preserved c =
     let texts_is = ap (λ p. p.texts) c.loop-run.invariant.state in
     record {
       first = here.next;
-      front = rw texts_is at c.pass-behind.ensures.behind;
-      state = rw (← add_assoc) (c.pass-behind.ensures.state ∙ ap {A = PiecesState} (λ p. record p { looks = p.looks + 1 }) c.loop-run.invariant.state);
+      front = rw texts_is at c.pass-after.ensures.after;
+      state = rw (← add_assoc) (c.pass-after.ensures.state ∙ ap {A = PiecesState} (λ p. record p { looks = p.looks + 1 }) c.loop-run.invariant.state);
       looks = omega (arith, here.some, c.loop-run.invariant.looks);
-      past = omega (arith, c.if-b-behind.false);
+      past = omega (arith, c.if-b-after.false);
       left = λ _. omega (arith, here.within, c.len-all.ensures.len, c.if-end-all.false);
     }
 
@@ -58,8 +58,8 @@ returns-clause-looks c =
     let le = passed runs texts c.loop-run.first c.loop-run.run-index c.runs-run-items.ensures c.loop-run.invariant.first in
     omega (arith, le, c.len-all.ensures.len, ap (λ p. p.looks) c.loop-run.invariant.state, c.loop-run.invariant.looks)
 
-pub returns-then-b-behind-clause-range : goal.returns-then-b-behind-clause-range
-returns-then-b-behind-clause-range c =
+pub returns-then-b-after-clause-range : goal.returns-then-b-after-clause-range
+returns-then-b-after-clause-range c =
     let runs = c.runs-run-items.result.now in
     let texts = c.args.p.now.texts in
     let here = passing runs texts c.loop-run.first c.loop-run.run-index no_run c.runs-run-items.ensures c.loop-run-test.true
@@ -70,13 +70,13 @@ returns-then-b-behind-clause-range c =
       front = c.loop-run.invariant.front;
     }
 
-pub returns-then-b-behind-clause-looks : goal.returns-then-b-behind-clause-looks
-returns-then-b-behind-clause-looks c =
+pub returns-then-b-after-clause-looks : goal.returns-then-b-after-clause-looks
+returns-then-b-after-clause-looks c =
     let runs = c.runs-run-items.result.now in
     let texts = c.args.p.now.texts in
     let here = passing runs texts c.loop-run.first c.loop-run.run-index no_run c.runs-run-items.ensures c.loop-run-test.true
     c.loop-run.invariant.first in
-    let state = c.pass-behind.ensures.state ∙ ap {A = PiecesState} (λ p. record p { looks = p.looks + 1 }) c.loop-run.invariant.state in
+    let state = c.pass-after.ensures.state ∙ ap {A = PiecesState} (λ p. record p { looks = p.looks + 1 }) c.loop-run.invariant.state in
     omega (arith, here.within, c.len-all.ensures.len, ap (λ p. p.looks) state, c.loop-run.invariant.looks, c.if-end-all.false)
 
 -- the run has pieces
@@ -88,8 +88,8 @@ returns-then-end-all-clause-some c =
     c.loop-run.invariant.first in
     λ _. omega (arith, here.some)
 
-pub returns-then-b-behind-clause-some : goal.returns-then-b-behind-clause-some
-returns-then-b-behind-clause-some c =
+pub returns-then-b-after-clause-some : goal.returns-then-b-after-clause-some
+returns-then-b-after-clause-some c =
     let runs = c.runs-run-items.result.now in
     let texts = c.args.p.now.texts in
     let here = passing runs texts c.loop-run.first c.loop-run.run-index no_run c.runs-run-items.ensures c.loop-run-test.true

@@ -12,8 +12,8 @@ overflow_add-result g c =
     let e = c.args.encoding in
     let start = c.args.start.now in
     let rest = chars c.from_byte-rest.result.now in
-    let is = place_told cs l e start.part c.requires.part start.own rest c.from_byte-rest.ensures c.args.position c.requires.place
-    c.place_on_line-own.result (c.place_on_line-own.ensures cs start.own c.requires.part c.requires.own c.from_byte-rest.ensures) (c.tells.ensures.0 c.if-tells.true) in
+    let is = place_told cs l e start.part c.requires.part start.offset rest c.from_byte-rest.ensures c.args.position c.requires.place
+    c.place_on_line-offset.result (c.place_on_line-offset.ensures cs start.offset c.requires.part c.requires.offset c.from_byte-rest.ensures) (c.tells.ensures.0 c.if-tells.true) in
     omega (arith, is, boundary_within cs (byte_at l e cs c.args.position) (IsBoundary-byte_at l e cs c.args.position), c.len-len.ensures.short)
 
 pub overflow_add-result-then-tells : goal.overflow_add-result-then-tells
@@ -23,8 +23,8 @@ overflow_add-result-then-tells g c =
     let e = c.args.encoding in
     let start = c.args.start.now in
     let rest = chars c.from_byte-rest.result.now in
-    let is = place_told cs l e start.part c.requires.part start.own rest c.from_byte-rest.ensures c.args.position c.requires.place
-    c.place_on_line-own.result (c.place_on_line-own.ensures cs start.own c.requires.part c.requires.own c.from_byte-rest.ensures) (c.tells.ensures.0 c.if-tells.true) in
+    let is = place_told cs l e start.part c.requires.part start.offset rest c.from_byte-rest.ensures c.args.position c.requires.place
+    c.place_on_line-offset.result (c.place_on_line-offset.ensures cs start.offset c.requires.part c.requires.offset c.from_byte-rest.ensures) (c.tells.ensures.0 c.if-tells.true) in
     omega (arith, is, boundary_within cs (byte_at l e cs c.args.position) (IsBoundary-byte_at l e cs c.args.position), c.len-len.ensures.short)
 
 pub returns-then-tells-clause-answer : goal.returns-then-tells-clause-answer
@@ -34,8 +34,8 @@ returns-then-tells-clause-answer g c =
     let e = c.args.encoding in
     let start = c.args.start.now in
     let rest = chars c.from_byte-rest.result.now in
-    place_told cs l e start.part c.requires.part start.own rest c.from_byte-rest.ensures c.args.position c.requires.place
-    c.place_on_line-own.result (c.place_on_line-own.ensures cs start.own c.requires.part c.requires.own c.from_byte-rest.ensures) (c.tells.ensures.0 c.if-tells.true)
+    place_told cs l e start.part c.requires.part start.offset rest c.from_byte-rest.ensures c.args.position c.requires.place
+    c.place_on_line-offset.result (c.place_on_line-offset.ensures cs start.offset c.requires.part c.requires.offset c.from_byte-rest.ensures) (c.tells.ensures.0 c.if-tells.true)
 
 pub returns-then-tells-clause-boundary : goal.returns-then-tells-clause-boundary
 returns-then-tells-clause-boundary g c =
@@ -53,7 +53,7 @@ units_up_to-before_line-requires g c = λ k. (
   (refl, tt),
   (
     c.requires.part,
-    (c.requires.units, boundary_within (chars c.args.start.now.part.text.now) c.args.start.now.own c.requires.boundary),
+    (c.requires.units, boundary_within (chars c.args.start.now.part.text.now) c.args.start.now.offset c.requires.boundary),
   ),
 )
 

@@ -29,7 +29,7 @@ returns-clause-cost g c =
     let last = c.later_line-last.ensures.cost in
     let from = c.byte_on-from.ensures.cost in
     taken_both c.len-len.ensures.searched (taken_after (taken_after first last) from) c.byte_on-to.ensures.cost
-    (omega (arith, first.apart, last.apart, from.apart)) (omega arith)
+    (omega (arith, first.unit_searches, last.unit_searches, from.unit_searches)) (omega arith)
 
 pub returns-clause-on_line : goal.returns-clause-on_line
 returns-clause-on_line g c = λ same.
@@ -37,4 +37,4 @@ returns-clause-on_line g c = λ same.
     let last = c.later_line-last.ensures.same same in
     let from = c.byte_on-from.ensures.cost in
     taken_both c.len-len.ensures.searched (taken_after (taken_after first last) from) c.byte_on-to.ensures.cost
-    (omega (arith, first.apart, last.apart, from.apart)) (omega arith)
+    (omega (arith, first.unit_searches, last.unit_searches, from.unit_searches)) (omega arith)

@@ -7,7 +7,7 @@ units_up_to-before_line-requires g c =
       (refl, tt),
       (
         c.requires.part,
-        (c.requires.units, boundary_within (chars c.args.start.now.part.text.now) c.args.start.now.own c.requires.boundary),
+        (c.requires.units, boundary_within (chars c.args.start.now.part.text.now) c.args.start.now.offset c.requires.boundary),
       ),
     )
 

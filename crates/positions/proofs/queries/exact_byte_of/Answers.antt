@@ -18,13 +18,13 @@ returns-then-units_before-position-clause-answer g c =
     let e = c.args.encoding in
     let start = c.line_in-start in
     let rest = chars c.from_byte-rest.result.now in
-    let own = c.place_on_line-own in
-    let own_is = own.ensures cs start.result.own start.ensures.part start.ensures.own c.from_byte-rest.ensures in
+    let own = c.place_on_line-offset in
+    let own_is = own.ensures cs start.result.offset start.ensures.part start.ensures.offset c.from_byte-rest.ensures in
     let same = same_behind e c.encoding.result (chars start.result.part.text.now) (c.encoding.ensures cs l start.ensures.part) rest
-    start.result.own c.from_byte-rest.ensures in
+    start.result.offset c.from_byte-rest.ensures in
     let counted = c.units_before.ensures ∙ sym (weighed_same e c.encoding.result rest same own.result) in
     let told = rw start.ensures.cost.text at (c.tells.ensures.0 c.if-tells.true) in
-    no_place cs l e start.result.part start.ensures.part start.result.own rest c.from_byte-rest.ensures c.args.position start.ensures.place own.result own_is told (λ same. c.if-units_before-position.true (counted ∙ same))
+    no_place cs l e start.result.part start.ensures.part start.result.offset rest c.from_byte-rest.ensures c.args.position start.ensures.place own.result own_is told (λ same. c.if-units_before-position.true (counted ∙ same))
 
 pub returns-then-units_before-position-clause-cost : goal.returns-then-units_before-position-clause-cost
 returns-then-units_before-position-clause-cost g c = taken_within c.len-len.ensures.searched (omega arith) (omega arith) c.line_in-start.ensures.cost
@@ -36,10 +36,10 @@ overflow_add-result g c =
     let e = c.args.encoding in
     let start = c.line_in-start in
     let rest = chars c.from_byte-rest.result.now in
-    let own = c.place_on_line-own in
-    let own_is = own.ensures cs start.result.own start.ensures.part start.ensures.own c.from_byte-rest.ensures in
+    let own = c.place_on_line-offset in
+    let own_is = own.ensures cs start.result.offset start.ensures.part start.ensures.offset c.from_byte-rest.ensures in
     let told = rw start.ensures.cost.text at (c.tells.ensures.0 c.if-tells.true) in
-    let is = place_told cs l e start.result.part start.ensures.part start.result.own rest c.from_byte-rest.ensures c.args.position start.ensures.place own.result own_is told in
+    let is = place_told cs l e start.result.part start.ensures.part start.result.offset rest c.from_byte-rest.ensures c.args.position start.ensures.place own.result own_is told in
     omega (arith, is, boundary_within cs (byte_at l e cs c.args.position) (IsBoundary-byte_at l e cs c.args.position), c.len-len.ensures.short)
 
 pub overflow_add-result-then-tells : goal.overflow_add-result-then-tells
@@ -49,10 +49,10 @@ overflow_add-result-then-tells g c =
     let e = c.args.encoding in
     let start = c.line_in-start in
     let rest = chars c.from_byte-rest.result.now in
-    let own = c.place_on_line-own in
-    let own_is = own.ensures cs start.result.own start.ensures.part start.ensures.own c.from_byte-rest.ensures in
+    let own = c.place_on_line-offset in
+    let own_is = own.ensures cs start.result.offset start.ensures.part start.ensures.offset c.from_byte-rest.ensures in
     let told = rw start.ensures.cost.text at (c.tells.ensures.0 c.if-tells.true) in
-    let is = place_told cs l e start.result.part start.ensures.part start.result.own rest c.from_byte-rest.ensures c.args.position start.ensures.place own.result own_is told in
+    let is = place_told cs l e start.result.part start.ensures.part start.result.offset rest c.from_byte-rest.ensures c.args.position start.ensures.place own.result own_is told in
     omega (arith, is, boundary_within cs (byte_at l e cs c.args.position) (IsBoundary-byte_at l e cs c.args.position), c.len-len.ensures.short)
 
 pub returns-then-tells-clause-answer : goal.returns-then-tells-clause-answer
@@ -62,13 +62,13 @@ returns-then-tells-clause-answer g c =
     let e = c.args.encoding in
     let start = c.line_in-start in
     let rest = chars c.from_byte-rest.result.now in
-    let own = c.place_on_line-own in
-    let own_is = own.ensures cs start.result.own start.ensures.part start.ensures.own c.from_byte-rest.ensures in
+    let own = c.place_on_line-offset in
+    let own_is = own.ensures cs start.result.offset start.ensures.part start.ensures.offset c.from_byte-rest.ensures in
     let same = same_behind e c.encoding.result (chars start.result.part.text.now) (c.encoding.ensures cs l start.ensures.part) rest
-    start.result.own c.from_byte-rest.ensures in
+    start.result.offset c.from_byte-rest.ensures in
     let counted = c.units_before.ensures ∙ sym (weighed_same e c.encoding.result rest same own.result) in
     let told = rw start.ensures.cost.text at (c.tells.ensures.0 c.if-tells.true) in
-    exact_place cs l e start.result.part start.ensures.part start.result.own rest c.from_byte-rest.ensures c.args.position start.ensures.place own.result own_is told (rw start.ensures.cost.text at (c.has_line.ensures.0 c.if-not-has_line.false)) (sym counted ∙ c.if-units_before-position.false)
+    exact_place cs l e start.result.part start.ensures.part start.result.offset rest c.from_byte-rest.ensures c.args.position start.ensures.place own.result own_is told (rw start.ensures.cost.text at (c.has_line.ensures.0 c.if-not-has_line.false)) (sym counted ∙ c.if-units_before-position.false)
 
 pub returns-then-tells-clause-boundary : goal.returns-then-tells-clause-boundary
 returns-then-tells-clause-boundary g c =
@@ -77,10 +77,10 @@ returns-then-tells-clause-boundary g c =
     let e = c.args.encoding in
     let start = c.line_in-start in
     let rest = chars c.from_byte-rest.result.now in
-    let own = c.place_on_line-own in
-    let own_is = own.ensures cs start.result.own start.ensures.part start.ensures.own c.from_byte-rest.ensures in
+    let own = c.place_on_line-offset in
+    let own_is = own.ensures cs start.result.offset start.ensures.part start.ensures.offset c.from_byte-rest.ensures in
     let told = rw start.ensures.cost.text at (c.tells.ensures.0 c.if-tells.true) in
-    subst (IsBoundary cs) (sym (place_told cs l e start.result.part start.ensures.part start.result.own rest c.from_byte-rest.ensures c.args.position start.ensures.place own.result own_is told)) (IsBoundary-byte_at l e cs c.args.position)
+    subst (IsBoundary cs) (sym (place_told cs l e start.result.part start.ensures.part start.result.offset rest c.from_byte-rest.ensures c.args.position start.ensures.place own.result own_is told)) (IsBoundary-byte_at l e cs c.args.position)
 
 pub returns-then-tells-clause-cost : goal.returns-then-tells-clause-cost
 returns-then-tells-clause-cost g c = taken_within c.len-len.ensures.searched (omega arith) (omega arith) c.line_in-start.ensures.cost
@@ -95,4 +95,4 @@ returns-clause-boundary g c = rw c.line_in-start.ensures.cost.text at c.exact_by
 pub returns-clause-cost : goal.returns-clause-cost
 returns-clause-cost g c =
     let first = c.line_in-start.ensures.cost in
-    taken_both c.len-len.ensures.searched first c.exact_byte_after.ensures.cost (omega (arith, first.apart)) (omega arith)
+    taken_both c.len-len.ensures.searched first c.exact_byte_after.ensures.cost (omega (arith, first.unit_searches)) (omega arith)

@@ -4,7 +4,7 @@ use Rattle.positions.proofs.queries.position_of.Goals as goal
 pub returns-clause-cost : goal.returns-clause-cost
 returns-clause-cost g c =
     let first = c.part_of_byte-part.ensures.cost in
-    rw first.apart at (taken_after first c.position_from.ensures.cost)
+    rw first.unit_searches at (taken_after first c.position_from.ensures.cost)
 
 pub returns-clause-near : goal.returns-clause-near
 returns-clause-near g c near =

@@ -17,10 +17,10 @@ pub returns-clause-answer : goal.returns-clause-answer
 returns-clause-answer g c =
     let w = units_of c.args.encoding in
     let start = c.line_in-start.ensures in
-    c.units_up_to.ensures.answer ∙ ap (λ t. weighed w t (c.line_in-start.result.part.start + c.line_in-start.result.own)) start.cost.text
+    c.units_up_to.ensures.answer ∙ ap (λ t. weighed w t (c.line_in-start.result.part.start + c.line_in-start.result.offset)) start.cost.text
     ∙ ap (weighed w (g.P.Parts.state c.args.parts.now).text) start.place
 
 pub returns-clause-cost : goal.returns-clause-cost
 returns-clause-cost g c =
     let first = c.line_in-start.ensures.cost in
-    rw (first.apart, zero-add) at (taken_after first c.units_up_to.ensures.cost)
+    rw (first.unit_searches, zero-add) at (taken_after first c.units_up_to.ensures.cost)

@@ -28,7 +28,7 @@ returns-clause-some g c =
 pub returns-clause-cost : goal.returns-clause-cost
 returns-clause-cost g c =
     let first = c.part_of_byte-part.ensures.cost in
-    rw first.apart at (taken_after first c.position_from.ensures.cost)
+    rw first.unit_searches at (taken_after first c.position_from.ensures.cost)
 
 pub returns-then-not-is_place-clause-near : goal.returns-then-not-is_place-clause-near
 returns-then-not-is_place-clause-near g c near = c.part_of_byte-part.ensures.cost

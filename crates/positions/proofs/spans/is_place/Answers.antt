@@ -12,12 +12,12 @@ returns-then-is_boundary c cs e is round =
       | inr last ↦ inr last
     ] in
     let boundary = boundary_in cs is.front own is.back part.start is.split is.start at (c.is_boundary.ensures.0 c.if-is_boundary.true) in
-    elim (c.return_behind.ensures cs c.args.lines e is inside) [
+    elim (c.crlf_offset.ensures cs c.args.lines e is inside) [
       | inl behind ↦ (
-        (λ none. absurd (omega (arith, behind.0, eqb-true c.return_behind.result 0 none))),
+        (λ none. absurd (omega (arith, behind.0, eqb-true c.crlf_offset.result 0 none))),
         (λ place. absurd (place.1 behind.1)),
       )
-      | inr none ↦ ((λ _. (boundary, λ both. none.1 both.0 both.1)), λ _. eq-eqb c.return_behind.result 0 none.0)
+      | inr none ↦ ((λ _. (boundary, λ both. none.1 both.0 both.1)), λ _. eq-eqb c.crlf_offset.result 0 none.0)
     ]
 
 pub returns-else-is_boundary : goal.returns-else-is_boundary

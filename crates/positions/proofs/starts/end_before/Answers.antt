@@ -5,7 +5,7 @@ pub overflow_sub-next : goal.overflow_sub-next
 overflow_sub-next g c =
     let cs = (g.P.Parts.state c.args.parts.now).text in
     let next = c.args.next.now in
-    next_in_part cs c.args.lines c.args.encoding next.part c.requires.part c.args.line next.own c.requires.round c.requires.place c.requires.boundary c.requires.more
+    next_in_part cs c.args.lines c.args.encoding next.part c.requires.part c.args.line next.offset c.requires.round c.requires.place c.requires.boundary c.requires.more
 
 pub overflow_add-result : goal.overflow_add-result
 overflow_add-result g c =
@@ -14,7 +14,7 @@ overflow_add-result g c =
     omega (
       arith,
       part_within cs c.args.lines c.args.encoding next.part c.requires.part,
-      last_inside cs c.args.lines c.args.encoding next.part c.requires.part c.args.line next.own c.requires.round c.requires.place c.requires.boundary c.requires.more c.char_start-last.result c.char_start-last.ensures,
+      last_inside cs c.args.lines c.args.encoding next.part c.requires.part c.args.line next.offset c.requires.round c.requires.place c.requires.boundary c.requires.more c.char_start-last.result c.char_start-last.ensures,
       c.len-len.ensures.short,
     )
 
@@ -22,14 +22,14 @@ pub overflow_sub-result : goal.overflow_sub-result
 overflow_sub-result g c =
     let cs = (g.P.Parts.state c.args.parts.now).text in
     let next = c.args.next.now in
-    let behind = c.return_behind.ensures cs c.args.lines c.args.encoding c.requires.part
-    (inl (last_inside cs c.args.lines c.args.encoding next.part c.requires.part c.args.line next.own c.requires.round c.requires.place c.requires.boundary c.requires.more c.char_start-last.result c.char_start-last.ensures)) in
-    return_within cs c.args.lines c.args.encoding next.part c.requires.part c.args.line next.own c.requires.round c.requires.place c.requires.boundary c.requires.more c.char_start-last.result c.char_start-last.ensures c.return_behind.result behind
+    let behind = c.crlf_offset.ensures cs c.args.lines c.args.encoding c.requires.part
+    (inl (last_inside cs c.args.lines c.args.encoding next.part c.requires.part c.args.line next.offset c.requires.round c.requires.place c.requires.boundary c.requires.more c.char_start-last.result c.char_start-last.ensures)) in
+    return_within cs c.args.lines c.args.encoding next.part c.requires.part c.args.line next.offset c.requires.round c.requires.place c.requires.boundary c.requires.more c.char_start-last.result c.char_start-last.ensures c.crlf_offset.result behind
 
 pub returns : goal.returns
 returns g c =
     let cs = (g.P.Parts.state c.args.parts.now).text in
     let next = c.args.next.now in
-    let behind = c.return_behind.ensures cs c.args.lines c.args.encoding c.requires.part
-    (inl (last_inside cs c.args.lines c.args.encoding next.part c.requires.part c.args.line next.own c.requires.round c.requires.place c.requires.boundary c.requires.more c.char_start-last.result c.char_start-last.ensures)) in
-    end_is cs c.args.lines c.args.encoding next.part c.requires.part c.args.line next.own c.requires.round c.requires.place c.requires.boundary c.requires.more c.char_start-last.result c.char_start-last.ensures c.return_behind.result behind
+    let behind = c.crlf_offset.ensures cs c.args.lines c.args.encoding c.requires.part
+    (inl (last_inside cs c.args.lines c.args.encoding next.part c.requires.part c.args.line next.offset c.requires.round c.requires.place c.requires.boundary c.requires.more c.char_start-last.result c.char_start-last.ensures)) in
+    end_is cs c.args.lines c.args.encoding next.part c.requires.part c.args.line next.offset c.requires.round c.requires.place c.requires.boundary c.requires.more c.char_start-last.result c.char_start-last.ensures c.crlf_offset.result behind

@@ -12,10 +12,10 @@ pub returns-then-tells-clause-end : goal.returns-then-tells-clause-end
 returns-then-tells-clause-end g c =
     let cs = (g.P.Parts.state c.args.parts.now).text in
     let start = c.line_in-start in
-    let own = c.content_end-own in
-    let is = own.ensures cs Utf8 start.result.own start.ensures.part start.ensures.own c.from_byte-rest.ensures in
+    let own = c.content_end-offset in
+    let is = own.ensures cs Utf8 start.result.offset start.ensures.part start.ensures.offset c.from_byte-rest.ensures in
     let told = rw start.ensures.cost.text at (c.tells.ensures.0 c.if-tells.true) in
-    line_end_told cs c.args.lines Utf8 start.result.part start.ensures.part start.result.own (chars c.from_byte-rest.result.now)
+    line_end_told cs c.args.lines Utf8 start.result.part start.ensures.part start.result.offset (chars c.from_byte-rest.result.now)
     c.from_byte-rest.ensures c.args.line own.result start.ensures.place is told
 
 pub returns-then-tells-clause-cost : goal.returns-then-tells-clause-cost
@@ -30,10 +30,10 @@ pub overflow_add-result : goal.overflow_add-result
 overflow_add-result g c =
     let cs = (g.P.Parts.state c.args.parts.now).text in
     let start = c.line_in-start in
-    let own = c.content_end-own in
-    let is = own.ensures cs Utf8 start.result.own start.ensures.part start.ensures.own c.from_byte-rest.ensures in
+    let own = c.content_end-offset in
+    let is = own.ensures cs Utf8 start.result.offset start.ensures.part start.ensures.offset c.from_byte-rest.ensures in
     let told = rw start.ensures.cost.text at (c.tells.ensures.0 c.if-tells.true) in
-    let end = line_end_told cs c.args.lines Utf8 start.result.part start.ensures.part start.result.own
+    let end = line_end_told cs c.args.lines Utf8 start.result.part start.ensures.part start.result.offset
     (chars c.from_byte-rest.result.now) c.from_byte-rest.ensures c.args.line own.result start.ensures.place is told in
     omega (arith, end, boundary_within cs (line_end c.args.lines cs c.args.line) (IsBoundary-line_end c.args.lines cs c.args.line), c.len-len.ensures.short)
 

@@ -36,7 +36,7 @@ returns-in-Some-clause-cost g c =
 pub returns-in-None-clause-cost : goal.returns-in-None-clause-cost
 returns-in-None-clause-cost g c =
     let state = g.P.Parts.state c.args.parts.now in
-    let one : 1 ≤ state.apart = elim (cases_lt 0 state.apart) [
+    let one : 1 ≤ state.unit_searches = elim (cases_lt 0 state.unit_searches) [
       | inl some ↦ some
       | inr none ↦ absurd (not_none c.args.part.now.units c.in-None.is (c.requires.units (omega (arith, none))))
     ] in

@@ -12,5 +12,5 @@ returns-clause-part c = λ l e.
       lines = sym (none_before l cs);
       units = sym (weighed_none (units_of e) cs);
       in_crlf = (λ is. cc, λ middle. absurd (omega (arith, middle_above cs 0 middle)));
-      own = tt;
+      counts = tt;
     }

@@ -6,4 +6,4 @@ pub returns-clause-whole : goal.returns-clause-whole
 returns-clause-whole c =
     let change = c.args.change in
     on_ok c.replace.result c.replace.ensures.ok (whole_changed c.args.encoding c.args.rope.now c.replace.new.self
-    (chars change.text.now) change.range c.in-Some.part (sym c.in-Some.is ∙ c.part_of.ensures.part))
+    (chars change.text.now) change.range c.in-Some.part (sym c.in-Some.is ∙ c.byte_range_of.ensures.part))

@@ -5,7 +5,7 @@ use Rattle.text_rope.specs.States.{texts_of}
 use Rattle.text_rope.specs.Work.{WorkState, Costs, height_of}
 use Rattle.text_rope.proofs.changes.splice.Goals as goal
 
--- what is before and behind, the chunks between, and two joins: by the heights of the first three, of the joined one and of the last
+-- what is before and after, the chunks between, and two joins: by the heights of the first three, of the joined one and of the last
 sum_of : (h n f o g b : ℕ) (old front own joined back new : WorkState) → f ≤ h + 1 → o ≤ n → b ≤ h + 1 → IsJoinedHeight f o g
     → Costs old front (6 * f + 16 * h + 6) (48 + 16 * min h 2 + 16 * min f 1) → Costs front own (32 * n + 5) (2 * n + 16)
     → Costs own joined (6 * ((f - o) + (o - f)) + 3) (16 * (1 - min f o))

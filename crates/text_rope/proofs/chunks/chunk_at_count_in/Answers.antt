@@ -26,8 +26,8 @@ returns-then-count-k-clause-byte c =
     let past : count s cs < c.args.k = omega (arith, counted, c.if-count-k.true) in
     rw (← c.in-Some.ensures) (c.found_empty-then-count-k.ensures.byte ∙ ap (λ w. w.len) whole ∙ sym (to_past s cs c.args.k past))
 
-pub look-look-requires : goal.look-look-requires
-look-look-requires c =
+pub step-step-requires : goal.step-step-requires
+step-step-requires c =
     let place = c.place_of-place.ensures.place in
     let chunk = c.place_of-place.result.chunk.now in
     record {
@@ -45,11 +45,11 @@ overflow_add-result c =
     let place = c.place_of-place.ensures.place in
     let chunk = c.place_of-place.result.chunk.now in
     let before = c.place_of-place.result.before in
-    let told = c.look-look.ensures (joined place.front) chunk place.before_is c.summary.ensures.summary c.summary.ensures.some in
-    let reached : before.total - seam_loss s (joined place.front) chunk ≡ c.look-look.result.reached =
+    let told = c.step-step.ensures (joined place.front) chunk place.before_is c.summary.ensures.summary c.summary.ensures.some in
+    let reached : before.total - seam_loss s (joined place.front) chunk ≡ c.step-step.result.reached =
     omega (arith, place.before_is.total, told.reached) in
     let cs = joined c.in-Some.subtree.now.texts in
-    let here : to_byte_idx s cs c.args.k ≡ before.len + to_byte_idx s chunk (c.args.k - c.look-look.result.reached) =
+    let here : to_byte_idx s cs c.args.k ≡ before.len + to_byte_idx s chunk (c.args.k - c.step-step.result.reached) =
     rw reached at place.answer in
     omega (arith, here, c.to_byte_idx.ensures, to_byte_idx-le-size s cs c.args.k, c.summary-whole.ensures.short)
 
@@ -57,8 +57,8 @@ pub returns-clause-chunk : goal.returns-clause-chunk
 returns-clause-chunk c =
     let place = c.place_of-place.ensures.place in
     let chunk = c.place_of-place.result.chunk.now in
-    let told = c.look-look.ensures (joined place.front) chunk place.before_is c.summary.ensures.summary c.summary.ensures.some in
-    rw (← c.in-Some.ensures, c.to_byte_idx.ensures) (round_of c.look-look.result.reached place c.text-text.ensures.text
+    let told = c.step-step.ensures (joined place.front) chunk place.before_is c.summary.ensures.summary c.summary.ensures.some in
+    rw (← c.in-Some.ensures, c.to_byte_idx.ensures) (round_of c.step-step.result.reached place c.text-text.ensures.text
     (omega (arith, place.before_is.total, told.reached)))
 
 pub returns-clause-inside : goal.returns-clause-inside
@@ -66,7 +66,7 @@ returns-clause-inside c = λ line above has.
     let place = c.place_of-place.ensures.place in
     let chunk = c.place_of-place.result.chunk.now in
     let some = c.summary.ensures.some in
-    let told = c.look-look.ensures (joined place.front) chunk place.before_is c.summary.ensures.summary some in
-    let reached = c.look-look.result.reached in
+    let told = c.step-step.ensures (joined place.front) chunk place.before_is c.summary.ensures.summary some in
+    let reached = c.step-step.result.reached in
     let less : 0 < c.args.k - reached = omega (arith, place.before_is.total, told.reached, place.past) in
     omega (arith, c.to_byte_idx.ensures, break_above c.args.s line chunk some (c.args.k - reached) less)

@@ -20,7 +20,7 @@ splice-requires-clause-short c =
     let patch = c.widen-patch.result in
     let p = c.widen-patch.ensures.patch in
     let head = chars patch.before.now ++ chars patch.head.now in
-    let tail = chars patch.tail.now ++ chars patch.behind.now in
+    let tail = chars patch.tail.now ++ chars patch.after.now in
     let more = chars c.args.more.now in
     omega (
       arith,
@@ -53,7 +53,7 @@ returns-clause-replaced c =
     let patch = c.widen-patch.result in
     let p = c.widen-patch.ensures.patch in
     let head = chars patch.before.now ++ chars patch.head.now in
-    let tail = chars patch.tail.now ++ chars patch.behind.now in
+    let tail = chars patch.tail.now ++ chars patch.after.now in
     let more = chars c.args.more.now in
     let text = c.in_ok-chunks.ensures.text ∙ c.in_ok-text.ensures.text in
     let texts = c.args.subtree.now.texts in

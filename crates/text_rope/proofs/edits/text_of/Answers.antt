@@ -7,7 +7,7 @@ returns-clause-text c =
     let b = c.args.head.now in
     let m = c.args.more.now in
     let d = c.args.tail.now in
-    let e = c.args.behind.now in
+    let e = c.args.after.now in
     let bytes : string_bytes c.push_str-5.new.self ≡ (((a ++ b) ++ m) ++ d) ++ e =
     c.in_ok-push_str-5.ensures.bytes ∙ ap (λ x. x ++ e) (c.in_ok-push_str-4.ensures.bytes
     ∙ ap (λ x. x ++ d) (c.in_ok-push_str-3.ensures.bytes ∙ ap (λ x. x ++ m) (c.in_ok-push_str-2.ensures.bytes

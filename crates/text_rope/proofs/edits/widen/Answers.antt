@@ -12,7 +12,7 @@ returns-then-patch-whole-clause-patch c =
     let told = c.stretch_at-next.ensures in
     let begins = chunk_begins texts own next.start next.end patch.end p.end told.chunk told.after told.inside in
     let tail : IsPartAt (joined texts) (chars patch.tail.now) c.args.to patch.end =
-    rw (chars-none patch.behind.now c.requires.behind, append-nil) at p.tail in
+    rw (chars-none patch.after.now c.requires.after, append-nil) at p.tail in
     let chunk : IsPartAt (joined texts) own patch.end next.end = rw begins at (part_chunk texts own next.start next.end told.chunk) in
     record {
       start = p.start;

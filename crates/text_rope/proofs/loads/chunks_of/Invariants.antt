@@ -4,7 +4,7 @@ use Rattle.text_rope.proofs.lemmas.{◌≡◌, ◌+◌, ◌*◌, ◌++◌, ◌<�
 use Rattle.text_rope.specs.ChunkSizes.{max_chunk, min_chunk, AreLongEnough}
 use Rattle.text_rope.proofs.loads.chunks_of.Given as goal
 
--- the chunks so far, and what is behind them
+-- the chunks so far, and what is after them
 abbrev pub invariant-loop-rest : goal.invariant-loop-rest
 invariant-loop-rest l = record {
   utf8 : shadow (Utf8 l.rest);

@@ -1,8 +1,8 @@
 use Rattle.text_rope.proofs.lemmas.{joined, short_of, text_of_place}
 use Rattle.text_rope.proofs.parts.part_in.Goals as goal
 
-pub of_piece-requires-clause-own : goal.of_piece-requires-clause-own
-of_piece-requires-clause-own c = rw c.text.ensures.text c.summary-own.ensures.summary
+pub of_piece-requires-clause-summary : goal.of_piece-requires-clause-summary
+of_piece-requires-clause-summary c = rw c.text.ensures.text c.summary-own.ensures.summary
 
 pub of_piece-requires-clause-followed : goal.of_piece-requires-clause-followed
 of_piece-requires-clause-followed c =

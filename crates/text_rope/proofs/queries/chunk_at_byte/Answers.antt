@@ -4,8 +4,8 @@ use Rattle.text_rope.proofs.queries.chunk_at_byte.Goals as goal
 pub loop-i-init : goal.loop-i-init
 loop-i-init c = record { front = λ a is. rw (append-nil a) is; after = c.requires.after }
 
-pub look-look-requires : goal.look-look-requires
-look-look-requires c =
+pub step-step-requires : goal.step-step-requires
+step-step-requires c =
     let chunks = c.args.chunks.now in
     let i = c.loop-i.i in
     let chunk = c.index-chunks-i.result in
@@ -20,21 +20,21 @@ look-look-requires c =
       short = short_at before.a chunks i chunk c.loop-i-test.true own before.short;
     }
 
-pub returns-then-at-look : goal.returns-then-at-look
-returns-then-at-look c a is =
+pub returns-then-at-step : goal.returns-then-at-step
+returns-then-at-step c a is =
     let chunks = c.args.chunks.now in
     let i = c.loop-i.i in
     let chunk = c.index-chunks-i.result in
     let own : chunk ≡ piece_at chunks i = c.index-chunks-i.is ∙ get_or_default chunks i chunk [] c.loop-i-test.true in
     let now = c.loop-i.invariant.front a is in
-    let told = c.look-look.ensures (a ++ joined (take i chunks)) chunk now c.summary.ensures.summary c.summary.ensures.some in
+    let told = c.step-step.ensures (a ++ joined (take i chunks)) chunk now c.summary.ensures.summary c.summary.ensures.some in
     record {
       front = take i chunks;
       back = drop (i + 1) chunks;
       parts = parts_at chunks i chunk c.loop-i-test.true own;
       before_is = now;
       after = c.loop-i.invariant.after;
-      inside = omega (arith, told.behind.len, now.len, size-append (a ++ joined (take i chunks)) chunk, c.if-at-look.true);
+      inside = omega (arith, told.after.len, now.len, size-append (a ++ joined (take i chunks)) chunk, c.if-at-step.true);
     }
 
 pub loop-i-preserved : goal.loop-i-preserved
@@ -46,9 +46,9 @@ loop-i-preserved c =
     record {
       front = λ a is.
           let now = c.loop-i.invariant.front a is in
-          let told = c.look-look.ensures (a ++ joined (take i chunks)) chunk now c.summary.ensures.summary c.summary.ensures.some in
-          rw (behind-take a chunks i chunk c.loop-i-test.true own) told.behind;
-      after = c.if-at-look.false;
+          let told = c.step-step.ensures (a ++ joined (take i chunks)) chunk now c.summary.ensures.summary c.summary.ensures.some in
+          rw (behind-take a chunks i chunk c.loop-i-test.true own) told.after;
+      after = c.if-at-step.false;
     }
 
 pub unreachable-requires : goal.unreachable-requires

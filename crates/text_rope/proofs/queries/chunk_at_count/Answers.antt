@@ -21,8 +21,8 @@ loop-i-init c =
           rw (append-nil a) (omega (arith, reaches.past, seam, same, is.total, reaches.is.total));
     }
 
-pub look-look-requires : goal.look-look-requires
-look-look-requires c =
+pub step-step-requires : goal.step-step-requires
+step-step-requires c =
     let chunks = c.args.chunks.now in
     let j = c.loop-i.i - 1 in
     let chunk = c.loop-i.last.now in
@@ -53,9 +53,9 @@ returns-then-k-count_before c a is =
     ap (λ (n : ℕ). a ++ joined (take n chunks)) (sym one) ∙ behind-take a chunks j chunk inside loop.last in
     let more : take i chunks ≡ take j chunks ++ chunk ∷ [] =
     ap (λ (n : ℕ). take n chunks) (sym one) ∙ take_more chunks j [] inside ∙ ap (λ r. take j chunks ++ r ∷ []) (sym loop.last) in
-    let told = c.look-look.ensures x chunk (loop.front a is) c.summary.ensures.summary c.summary.ensures.some in
+    let told = c.step-step.ensures x chunk (loop.front a is) c.summary.ensures.summary c.summary.ensures.some in
     let y = a ++ joined (take i chunks) in
-    let reached = c.count_before.ensures y next (rw whole told.behind) (ap (λ m. m.starts_lf) c.summary-in-loop-i.ensures.summary) in
+    let reached = c.count_before.ensures y next (rw whole told.after) (ap (λ m. m.starts_lf) c.summary-in-loop-i.ensures.summary) in
     let own : next ≡ piece_at chunks i = c.index-chunks-i.is ∙ get_or_default chunks i next [] c.loop-i-test.true in
     let seam : seam_loss s y (joined (drop i chunks)) ≡ seam_loss s y next =
     ap (λ r. seam_loss s y (joined r)) (chunks_at chunks i next c.loop-i-test.true own)
@@ -78,8 +78,8 @@ loop-i-preserved c =
     let own : next ≡ piece_at chunks i = c.index-chunks-i.is ∙ get_or_default chunks i next [] c.loop-i-test.true in
     let whole : (a : Text) → a ++ joined (take (i + 1 - 1) chunks) ≡ (a ++ joined (take j chunks)) ++ chunk =
     λ a. ap (λ (n : ℕ). a ++ joined (take n chunks)) one ∙ behind-take a chunks j chunk inside loop.last in
-    let behind : (a : Text) → IsFront s a c.args.before → IsFront s (a ++ joined (take (i + 1 - 1) chunks)) c.look-look.result.behind =
-    λ a is. rw (whole a) (c.look-look.ensures (a ++ joined (take j chunks)) chunk (loop.front a is) c.summary.ensures.summary c.summary.ensures.some).behind in
+    let behind : (a : Text) → IsFront s a c.args.before → IsFront s (a ++ joined (take (i + 1 - 1) chunks)) c.step-step.result.after =
+    λ a is. rw (whole a) (c.step-step.ensures (a ++ joined (take j chunks)) chunk (loop.front a is) c.summary.ensures.summary c.summary.ensures.some).after in
     record {
       within = omega (arith, c.loop-i-test.true);
       last = own ∙ ap (λ (n : ℕ). piece_at chunks n) (omega (arith));

@@ -11,8 +11,8 @@ returns-then-whole-b-clause-answer c =
     let past = from_byte_idx-all c.args.s cs c.args.b (omega (arith, c.if-whole-b.true, ap (λ w. w.len) whole)) in
     rw (← c.in-Some.ensures) (c.count.ensures ∙ ap (λ w. count_of w c.args.s) whole ∙ count_of-summary c.args.s cs ∙ sym past)
 
-pub look-look-requires : goal.look-look-requires
-look-look-requires c =
+pub step-step-requires : goal.step-step-requires
+step-step-requires c =
     let place = c.place_at-place.ensures.place in
     let chunk = c.place_at-place.result.chunk.now in
     record {
@@ -29,8 +29,8 @@ overflow_add-result c =
     let s = c.args.s in
     let place = c.place_at-place.ensures.place in
     let chunk = c.place_at-place.result.chunk.now in
-    let told = c.look-look.ensures (joined place.front) chunk place.before_is c.summary-own.ensures.summary c.summary-own.ensures.some in
-    let here = answer_at c.look-look.result place c.summary-own.ensures.some told in
+    let told = c.step-step.ensures (joined place.front) chunk place.before_is c.summary-own.ensures.summary c.summary-own.ensures.some in
+    let here = answer_at c.step-step.result place c.summary-own.ensures.some told in
     let cs = joined c.in-Some.subtree.now.texts in
     omega (
       arith,
@@ -45,6 +45,6 @@ pub returns-clause-answer : goal.returns-clause-answer
 returns-clause-answer c =
     let place = c.place_at-place.ensures.place in
     let chunk = c.place_at-place.result.chunk.now in
-    let told = c.look-look.ensures (joined place.front) chunk place.before_is c.summary-own.ensures.summary c.summary-own.ensures.some in
-    let here = answer_at c.look-look.result place c.summary-own.ensures.some told in
+    let told = c.step-step.ensures (joined place.front) chunk place.before_is c.summary-own.ensures.summary c.summary-own.ensures.some in
+    let here = answer_at c.step-step.result place c.summary-own.ensures.some told in
     rw (← c.in-Some.ensures) (omega (arith, here, c.from_byte_idx.ensures))

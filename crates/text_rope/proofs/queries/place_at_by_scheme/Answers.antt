@@ -26,18 +26,18 @@ returns-in-Chunks-clause-looks c = few_looks (c.look.new.self.looks - c.args.v.n
     (omega (arith, c.down.invariant.looks, ap (λ v. v.looks) c.in-Chunks.ensures.state, c.in-Chunks.ensures.look.height))
     c.height-height.ensures.many
 
-pub down-preserved-then-at-look : goal.down-preserved-then-at-look
-down-preserved-then-at-look c =
+pub down-preserved-then-at-step : goal.down-preserved-then-at-step
+down-preserved-then-at-step c =
     let down = c.down.invariant in
     let branch = c.in-Subtrees.ensures.look in
     let left = joined c.in-Subtrees.left.now.texts in
     let before = down.before in
     let some : left ≢ [] = some_of left (λ none. omega (arith, none, c.summary.ensures.some, c.summary.ensures.few)) in
-    let told = c.look-look.ensures before.a left before.is c.summary.ensures.summary some in
+    let told = c.step-step.ensures before.a left before.is c.summary.ensures.summary some in
     record {
       before = record { a = before.a; is = before.is; short = omega (arith, before.short, branch.size_is) };
       after = down.after;
-      inside = omega (arith, told.behind.len, before.is.len, size-append before.a left, c.if-at-look.true);
+      inside = omega (arith, told.after.len, before.is.len, size-append before.a left, c.if-at-step.true);
       place = λ chunk front own. down.place chunk front (λ a is. rw branch.texts (place_left c.in-Subtrees.right.now.texts (own a is)));
       texts = search rules;
       looks = grind (arith, down.looks, ap (λ v. v.looks) c.in-Subtrees.ensures.state, branch.height);
@@ -52,18 +52,18 @@ down-preserved c =
     let left = joined c.in-Subtrees.left.now.texts in
     let before = down.before in
     let some : left ≢ [] = some_of left (λ none. omega (arith, none, c.summary.ensures.some, c.summary.ensures.few)) in
-    let told = c.look-look.ensures before.a left before.is c.summary.ensures.summary some in
+    let told = c.step-step.ensures before.a left before.is c.summary.ensures.summary some in
     record {
       before = record {
         a = before.a ++ left;
-        is = told.behind;
+        is = told.after;
         short = omega (arith, before.short, branch.size_is, size-append before.a left);
       };
-      after = omega (arith, c.if-at-look.false);
-      inside = omega (arith, told.behind.len, before.is.len, size-append before.a left, branch.size_is, down.inside);
+      after = omega (arith, c.if-at-step.false);
+      inside = omega (arith, told.after.len, before.is.len, size-append before.a left, branch.size_is, down.inside);
       place = λ chunk front own. down.place chunk front (λ a is.
-          let here = c.look-look.ensures a left is c.summary.ensures.summary some in
-          rw branch.texts (place_right c.in-Subtrees.left.now.texts (own (a ++ left) here.behind)));
+          let here = c.step-step.ensures a left is c.summary.ensures.summary some in
+          rw branch.texts (place_right c.in-Subtrees.left.now.texts (own (a ++ left) here.after)));
       texts = search rules;
       looks = grind (arith, down.looks, ap (λ v. v.looks) c.in-Subtrees.ensures.state, branch.height);
       looks_kept = search rules;

@@ -44,8 +44,8 @@ returns-in-Chunks-clause-looks c = few_looks (c.look.new.self.looks - c.args.v.n
     (omega (arith, c.down.invariant.looks, ap (λ v. v.looks) c.in-Chunks.ensures.state, c.in-Chunks.ensures.look.height))
     c.height-height.ensures.many
 
-pub look-first-requires : goal.look-first-requires
-look-first-requires c =
+pub step-first-requires : goal.step-first-requires
+step-first-requires c =
     let branch = c.in-Subtrees.ensures.look in
     let left = joined c.in-Subtrees.left.now.texts in
     let reaches = c.down.invariant.reaches in
@@ -58,18 +58,18 @@ look-first-requires c =
       short = omega (arith, reaches.short, branch.size_is);
     }
 
-pub look-next-requires : goal.look-next-requires
-look-next-requires c =
+pub step-next-requires : goal.step-next-requires
+step-next-requires c =
     let branch = c.in-Subtrees.ensures.look in
     let left = joined c.in-Subtrees.left.now.texts in
     let right = joined c.in-Subtrees.right.now.texts in
     let reaches = c.down.invariant.reaches in
     let some : left ≢ [] = some_of left (λ none. omega (arith, none, c.summary.ensures.some, c.summary.ensures.few)) in
-    let told = c.look-first.ensures reaches.a left reaches.is c.summary.ensures.summary some in
+    let told = c.step-first.ensures reaches.a left reaches.is c.summary.ensures.summary some in
     record {
       a = reaches.a ++ left;
       b = right;
-      front_is = told.behind;
+      front_is = told.after;
       piece_is = c.summary-in-Subtrees.ensures.summary;
       some = some_of right (λ none. omega (arith, none, c.summary-in-Subtrees.ensures.some, c.summary-in-Subtrees.ensures.few));
       short = omega (arith, reaches.short, branch.size_is, size-append reaches.a left);
@@ -97,8 +97,8 @@ down-preserved-then-k-next c =
         );
       };
       place = λ chunk front own. down.place chunk front (λ a is.
-          let told = c.look-first.ensures a left is c.summary.ensures.summary some in
-          let next = c.look-next.ensures (a ++ left) right told.behind c.summary-in-Subtrees.ensures.summary some_right in
+          let told = c.step-first.ensures a left is c.summary.ensures.summary some in
+          let next = c.step-next.ensures (a ++ left) right told.after c.summary-in-Subtrees.ensures.summary some_right in
           rw branch.texts (place_of_left c.in-Subtrees.right.now.texts (omega (arith, next.reached, c.if-k-next.true)) (own a is)));
       texts = search rules;
       looks = grind (arith, down.looks, ap (λ v. v.looks) c.in-Subtrees.ensures.state, branch.height);
@@ -115,18 +115,18 @@ down-preserved c =
     let reaches = down.reaches in
     let some : left ≢ [] = some_of left (λ none. omega (arith, none, c.summary.ensures.some, c.summary.ensures.few)) in
     let some_right : right ≢ [] = some_of right (λ none. omega (arith, none, c.summary-in-Subtrees.ensures.some, c.summary-in-Subtrees.ensures.few)) in
-    let told = c.look-first.ensures reaches.a left reaches.is c.summary.ensures.summary some in
-    let next = c.look-next.ensures (reaches.a ++ left) right told.behind c.summary-in-Subtrees.ensures.summary some_right in
+    let told = c.step-first.ensures reaches.a left reaches.is c.summary.ensures.summary some in
+    let next = c.step-next.ensures (reaches.a ++ left) right told.after c.summary-in-Subtrees.ensures.summary some_right in
     record {
       reaches = record {
         a = reaches.a ++ left;
-        is = told.behind;
+        is = told.after;
         short = omega (arith, reaches.short, branch.size_is, size-append reaches.a left);
         past = omega (arith, next.reached, c.if-k-next.false);
       };
       place = λ chunk front own. down.place chunk front (λ a is.
-          let here = c.look-first.ensures a left is c.summary.ensures.summary some in
-          rw branch.texts (place_of_right c.in-Subtrees.left.now.texts (own (a ++ left) here.behind)));
+          let here = c.step-first.ensures a left is c.summary.ensures.summary some in
+          rw branch.texts (place_of_right c.in-Subtrees.left.now.texts (own (a ++ left) here.after)));
       texts = search rules;
       looks = grind (arith, down.looks, ap (λ v. v.looks) c.in-Subtrees.ensures.state, branch.height);
       looks_kept = search rules;

@@ -8,8 +8,8 @@ pub returns-then-k-eq0-clause-answer : goal.returns-then-k-eq0-clause-answer
 returns-then-k-eq0-clause-answer c =
     rw c.if-k-eq0.true (sym (to_byte_idx-zero c.args.s (joined c.args.v.now.texts)))
 
-pub look-look-requires : goal.look-look-requires
-look-look-requires c =
+pub step-step-requires : goal.step-step-requires
+step-step-requires c =
     let place = c.place_of-place.ensures.place in
     let chunk = c.place_of-place.result.chunk.now in
     record {
@@ -27,11 +27,11 @@ overflow_add-result c =
     let place = c.place_of-place.ensures.place in
     let chunk = c.place_of-place.result.chunk.now in
     let before = c.place_of-place.result.before in
-    let told = c.look-look.ensures (joined place.front) chunk place.before_is c.summary-own.ensures.summary c.summary-own.ensures.some in
-    let reached : before.total - seam_loss s (joined place.front) chunk ≡ c.look-look.result.reached =
+    let told = c.step-step.ensures (joined place.front) chunk place.before_is c.summary-own.ensures.summary c.summary-own.ensures.some in
+    let reached : before.total - seam_loss s (joined place.front) chunk ≡ c.step-step.result.reached =
     omega (arith, place.before_is.total, told.reached) in
     let cs = joined c.in-Some.subtree.now.texts in
-    let here : to_byte_idx s cs c.args.k ≡ before.len + to_byte_idx s chunk (c.args.k - c.look-look.result.reached) =
+    let here : to_byte_idx s cs c.args.k ≡ before.len + to_byte_idx s chunk (c.args.k - c.step-step.result.reached) =
     rw reached at place.answer in
     omega (arith, here, c.to_byte_idx.ensures, to_byte_idx-le-size s cs c.args.k, c.summary-whole.ensures.short)
 
@@ -41,9 +41,9 @@ returns-clause-answer c =
     let place = c.place_of-place.ensures.place in
     let chunk = c.place_of-place.result.chunk.now in
     let before = c.place_of-place.result.before in
-    let told = c.look-look.ensures (joined place.front) chunk place.before_is c.summary-own.ensures.summary c.summary-own.ensures.some in
-    let reached : before.total - seam_loss s (joined place.front) chunk ≡ c.look-look.result.reached =
+    let told = c.step-step.ensures (joined place.front) chunk place.before_is c.summary-own.ensures.summary c.summary-own.ensures.some in
+    let reached : before.total - seam_loss s (joined place.front) chunk ≡ c.step-step.result.reached =
     omega (arith, place.before_is.total, told.reached) in
-    let here : to_byte_idx s (joined c.in-Some.subtree.now.texts) c.args.k ≡ before.len + to_byte_idx s chunk (c.args.k - c.look-look.result.reached) =
+    let here : to_byte_idx s (joined c.in-Some.subtree.now.texts) c.args.k ≡ before.len + to_byte_idx s chunk (c.args.k - c.step-step.result.reached) =
     rw reached at place.answer in
     rw (← c.in-Some.ensures) (omega (arith, here, c.to_byte_idx.ensures))

@@ -7,7 +7,7 @@ use Rattle.text_summary.specs.Changes.{IsReplaced}
 use Rattle.text_rope.specs.declared.refusals.Refusal.TheVariants.{NoMemory, NotBoundary, TooLong}
 use Rattle.text_rope_c.proofs.Refused.{never_too_long, refused_by}
 use Rattle.text_rope_c.proofs.exact_changes.apply_change.Goals as goal
-use Rattle.positions.specs.declared.line_type.LineType.TheVariants.{Crlf}
+use Rattle.positions.specs.declared.line_type.LineType.TheVariants.{LfCr}
 
 pub returns-in_err-apply_exact-clause-too_long : goal.returns-in_err-apply_exact-clause-too_long
 returns-in_err-apply_exact-clause-too_long c =
@@ -40,7 +40,7 @@ returns-clause-ok c =
 pub returns-clause-not_boundary : goal.returns-clause-not_boundary
 returns-clause-not_boundary c =
     subst (λ whole. IsErrOf c.apply_exact-2.result NotBoundary
-    ↔ (IsSome (byte_range_at Crlf c.args.encoding whole c.args.range)
+    ↔ (IsSome (byte_range_at LfCr c.args.encoding whole c.args.range)
     × IsNone (exact_part_at c.args.encoding whole (Some c.args.range)))) (c.as_mut.ensures.value ∙ ap (λ s. s.text) c.is_null.ensures.told.1)
     c.apply_exact-2.ensures.not_boundary
 

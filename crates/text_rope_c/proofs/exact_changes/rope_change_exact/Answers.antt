@@ -9,7 +9,7 @@ use Rattle.text_rope.specs.declared.refusals.Refusal.TheVariants.{NoMemory, NotB
 use Rattle.text_rope_c.specs.Numbers.{status_of}
 use Rattle.text_rope_c.proofs.Refused.{is_no_memory, is_no_place, is_too_long, on_done}
 use Rattle.text_rope_c.proofs.exact_changes.rope_change_exact.Goals as goal
-use Rattle.positions.specs.declared.line_type.LineType.TheVariants.{Crlf}
+use Rattle.positions.specs.declared.line_type.LineType.TheVariants.{LfCr}
 
 pub returns-in-Ok-clause-done : goal.returns-in-Ok-clause-done
 returns-in-Ok-clause-done c = λ is.
@@ -26,7 +26,7 @@ returns-in-Ok-clause-not_boundary c =
     let old = c.args.rope.now.text in
     let r = c.apply_change.result in
     let utf8 : IsUtf8 c.args.text.now = search rules in
-    let refused = λ (e : Encoding). IsErrOf r NotBoundary ↔ (IsSome (byte_range_at Crlf e old c.args.range)
+    let refused = λ (e : Encoding). IsErrOf r NotBoundary ↔ (IsSome (byte_range_at LfCr e old c.args.range)
     × IsNone (exact_part_at e old (Some c.args.range))) in
     let iff = subst refused c.encoding_at.ensures c.apply_change.ensures.not_boundary in
     (λ is. (utf8, iff.0 (is_no_place r (sym c.status_at.ensures ∙ is))), λ both. c.status_at.ensures ∙ ap status_of (iff.1 both.1))

@@ -10,12 +10,12 @@ apply_update-requires c =
     record {
       a = joined sw.before;
       m = joined sw.gone;
-      b = joined sw.behind;
+      b = joined sw.after;
       t = joined sw.come;
       whole_is = is.is.whole ∙ ap summary_of same.old_joined;
       update_is = record {
         ends_cr = c.ends_before.ensures.ends ∙ ap (λ ts. ends_in_return (joined ts)) same.before;
-        starts_lf = c.starts_from.ensures ∙ ap (λ ts. starts_with_feed (joined ts)) same.behind;
+        starts_lf = c.starts_from.ensures ∙ ap (λ ts. starts_with_feed (joined ts)) same.after;
         removed = sw.out;
         inserted = sw.own;
       };
@@ -32,11 +32,11 @@ returns c =
     let all = take_all (length new) new (omega arith) in
     record {
       count = refl;
-      whole = c.apply_update.ensures (joined sw.before) (joined sw.gone) (joined sw.behind) (joined sw.come)
+      whole = c.apply_update.ensures (joined sw.before) (joined sw.gone) (joined sw.after) (joined sw.come)
           (is.is.whole ∙ ap summary_of same.old_joined)
           (record {
             ends_cr = c.ends_before.ensures.ends ∙ ap (λ ts. ends_in_return (joined ts)) same.before;
-            starts_lf = c.starts_from.ensures ∙ ap (λ ts. starts_with_feed (joined ts)) same.behind;
+            starts_lf = c.starts_from.ensures ∙ ap (λ ts. starts_with_feed (joined ts)) same.after;
             removed = sw.out;
             inserted = sw.own;
           })

@@ -14,5 +14,5 @@ returns-clause-part c = λ l e. record {
   lines = sym (none_before l []);
   units = sym (weighed_none (units_of e) []);
   in_crlf = (λ is. cc, λ middle. absurd (omega (arith, middle_above [] 0 middle)));
-  own = tt;
+  counts = tt;
 }

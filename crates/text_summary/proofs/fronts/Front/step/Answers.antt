@@ -1,5 +1,5 @@
 use Rattle.text_summary.proofs.lemmas.{◌≡◌, ◌-◌, ◌∙◌, ap, arith, count, seam_loss, sym, size-append, count-le-size, is_joined, count_of, count_of-summary, ends_in_return-append}
-use Rattle.text_summary.proofs.fronts.Front.look.Goals as goal
+use Rattle.text_summary.proofs.fronts.Front.step.Goals as goal
 
 pub count_before-reached-requires : goal.count_before-reached-requires
 count_before-reached-requires c = record {
@@ -29,7 +29,7 @@ returns c a b front_is piece_is some =
     let seam = is_joined s a b in
     record {
       reached = reached;
-      behind = record {
+      after = record {
         len = omega (arith, front_is.len, ap (λ p. p.len) piece_is, size-append a b);
         total = omega (arith, reached, own, seam.counts, seam.loss_within);
         ends_cr = ap (λ p. p.ends_cr) piece_is ∙ sym (ends_in_return-append a b some);

@@ -1,6 +1,6 @@
 use Rattle.std.proofs.Common.{true≢false}
 use Rattle.text_index.proofs.lemmas.{chars, sym, ◌∙◌, arith, size-chars, IsBoundary-from_char_boundary, IsCharBoundary-from_boundary, boundary_near, whole_at_boundary, whole_before_middle}
-use Rattle.text_index.proofs.places.whole_place.Goals as goal
+use Rattle.text_index.proofs.places.mark_place.Goals as goal
 
 pub returns-then-is_middle-clause-near : goal.returns-then-is_middle-clause-near
 returns-then-is_middle-clause-near c =

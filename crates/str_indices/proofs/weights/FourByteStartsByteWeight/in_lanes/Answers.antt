@@ -1,5 +1,5 @@
 use Rattle.str_indices.proofs.lemmas.{masked_lanes, bits_exchanged}
-use Rattle.str_indices.proofs.weights.FourByteLeadsByteWeight.in_lanes.Goals as goal
+use Rattle.str_indices.proofs.weights.FourByteStartsByteWeight.in_lanes.Goals as goal
 
 pub returns : goal.returns
 returns g c =

@@ -1,5 +1,5 @@
 use Rattle.text_index.proofs.lemmas.{chars, arith, boundary_upto}
-use Rattle.text_index.proofs.places.part_of.Goals as goal
+use Rattle.text_index.proofs.places.text_between.Goals as goal
 
 pub halves-requires-2 : goal.halves-requires-2
 halves-requires-2 c =

@@ -1,6 +1,6 @@
 use Rattle.positions.proofs.lemmas.{◌∙◌, sym, true≢false, inl, inr, refl}
-use Rattle.positions.proofs.middles.return_behind.Goals as goal
-use Rattle.positions.proofs.middles.return_behind.Goals.{else-ends_at_return-via-then-ends_at_return+else-is_middle_in, else-ends_at_return-via-else-ends_at_return}
+use Rattle.positions.proofs.middles.crlf_offset.Goals as goal
+use Rattle.positions.proofs.middles.crlf_offset.Goals.{else-ends_at_return-via-then-ends_at_return+else-is_middle_in, else-ends_at_return-via-else-ends_at_return}
 
 pub returns-then-is_middle_in : goal.returns-then-is_middle_in
 returns-then-is_middle_in c = λ cs l e is within.
