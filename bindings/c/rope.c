@@ -142,13 +142,13 @@ str_rope_status str_rope_copy_to(const str_rope *rope, size_t from, size_t to, c
     return (str_rope_status)rope_copy_to(&own, from, to, room_of(out), room);
 }
 
-str_rope_status str_rope_change(str_rope *rope, str_rope_encoding encoding, str_indices_range range, const char *text,
-                                size_t len)
+str_rope_status str_rope_change(str_rope *rope, str_indices_encoding encoding, str_indices_range range,
+                                const char *text, size_t len)
 {
     return (str_rope_status)rope_change(rope, encoding, range, text_of(text), len);
 }
 
-str_rope_status str_rope_change_exact(str_rope *rope, str_rope_encoding encoding, str_indices_range range,
+str_rope_status str_rope_change_exact(str_rope *rope, str_indices_encoding encoding, str_indices_range range,
                                       const char *text, size_t len)
 {
     return (str_rope_status)rope_change_exact(rope, encoding, range, text_of(text), len);

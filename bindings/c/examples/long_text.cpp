@@ -18,10 +18,10 @@ int main(int number, char **words)
     for (size_t at = 0; at < lines; at++)
         rope.insert(at / 2 * line.size(), line);
 
-    const size_t begin = rope.to_byte_idx(STR_ROPE_CRLF, lines / 2);
+    const size_t begin = rope.to_byte_idx(STR_INDICES_CRLF, lines / 2);
     rope.replace(begin, begin + 4, "word");
-    std::cout << rope.len() << " bytes, " << rope.count(STR_ROPE_UTF16) << " UTF-16 code units, "
-              << rope.count(STR_ROPE_CRLF) << " line breaks; line " << lines / 2 << ": "
+    std::cout << rope.len() << " bytes, " << rope.count(STR_INDICES_UTF16) << " UTF-16 code units, "
+              << rope.count(STR_INDICES_CRLF) << " line breaks; line " << lines / 2 << ": "
               << rope.part(begin, str_rope_line_end(rope.get(), lines / 2)) << "\n";
 
     try {

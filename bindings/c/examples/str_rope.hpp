@@ -34,12 +34,12 @@ public:
     }
 
     size_t len() const { return str_rope_len(&handle); }
-    size_t count(str_rope_scheme scheme) const { return str_rope_count(&handle, scheme); }
-    size_t from_byte_idx(str_rope_scheme scheme, size_t byte) const
+    size_t count(str_indices_scheme scheme) const { return str_rope_count(&handle, scheme); }
+    size_t from_byte_idx(str_indices_scheme scheme, size_t byte) const
     {
         return str_rope_from_byte_idx(&handle, scheme, byte);
     }
-    size_t to_byte_idx(str_rope_scheme scheme, size_t index) const
+    size_t to_byte_idx(str_indices_scheme scheme, size_t index) const
     {
         return str_rope_to_byte_idx(&handle, scheme, index);
     }

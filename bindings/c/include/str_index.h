@@ -10,7 +10,7 @@
  *
  *     str_index *index;
  *     if (str_index_make(&index, text, len) != STR_INDEX_OK) ...
- *     size_t lines = str_index_count(index, STR_INDEX_CRLF) + 1;
+ *     size_t lines = str_index_count(index, STR_INDICES_CRLF) + 1;
  *     str_index_free(index);
  *
  * All indices are byte indices where nothing else is said, and begin at 0. A
@@ -70,33 +70,6 @@ extern "C" {
 /* An index. What is in it is the library's own. */
 typedef struct str_index str_index;
 
-/* A scheme: what to count. The breaks of the last three are those of lines_lf,
- * lines_crlf and lines in str_indices.h. A greater number counts as
- * STR_INDEX_LINES. */
-typedef enum str_index_scheme {
-    STR_INDEX_CHARS, /* chars */
-    STR_INDEX_UTF16, /* UTF-16 code units */
-    STR_INDEX_LF,    /* line breaks: LF alone */
-    STR_INDEX_CRLF,  /* line breaks: LF, CR, and CR LF, which is one break */
-    STR_INDEX_LINES  /* line breaks: all those of Unicode */
-} str_index_scheme;
-
-/* The unit of an offset on a line. The first is the protocol's default. A
- * greater number counts as STR_INDEX_ENCODING_UTF32. */
-typedef enum str_index_encoding {
-    STR_INDEX_ENCODING_UTF16, /* UTF-16 code units */
-    STR_INDEX_ENCODING_UTF8,  /* bytes */
-    STR_INDEX_ENCODING_UTF32  /* chars */
-} str_index_encoding;
-
-/* Line break kinds. The first is the protocol's. A greater number counts as
- * STR_INDEX_LINE_TYPE_ALL. */
-typedef enum str_index_line_type {
-    STR_INDEX_LINE_TYPE_LF_CR, /* LF, CR, and CR LF, which is one break */
-    STR_INDEX_LINE_TYPE_LF,   /* LF alone: a CR before it is of the line */
-    STR_INDEX_LINE_TYPE_ALL /* all line breaks of Unicode */
-} str_index_line_type;
-
 /* Whether an index was made. */
 typedef enum str_index_status {
     STR_INDEX_OK,        /* it was */
@@ -140,18 +113,18 @@ void str_index_free(str_index *index);
 size_t str_index_len(const str_index *index);
 
 /* How many chars, UTF-16 code units or line breaks the text has. */
-size_t str_index_count(const str_index *index, str_index_scheme scheme);
+size_t str_index_count(const str_index *index, str_indices_scheme scheme);
 
 /* From a byte index to a char, code unit or line index: how many of them end
  * at or before the byte. A byte inside a char or a break belongs to that char,
  * or to the line that the break ends. Any byte index past the end gives all. */
-size_t str_index_from_byte_idx(const str_index *index, str_index_scheme scheme,
-                               size_t byte_idx);
+size_t str_index_from_byte_idx(const str_index *index,
+                               str_indices_scheme scheme, size_t byte_idx);
 
 /* From a char, code unit or line index to the byte index where that char, the
  * char of that unit, or that line begins. An index past the last gives the
  * length of the text in bytes. */
-size_t str_index_to_byte_idx(const str_index *index, str_index_scheme scheme,
+size_t str_index_to_byte_idx(const str_index *index, str_indices_scheme scheme,
                              size_t idx);
 
 /* Whether a byte index is between two chars, or at the beginning or the end of
@@ -177,31 +150,31 @@ str_indices_bytes str_index_line(const str_index *index, size_t line_idx);
  * the char begins, the byte between CR and LF that of the line's end, and a
  * byte past the end that of the text's end. */
 str_indices_position str_index_position_of(const str_index *index,
-                                           str_index_encoding encoding,
+                                           str_indices_encoding encoding,
                                            size_t byte_idx);
 
 /* From a position to the byte index where the char at it begins. An offset
  * inside a char belongs to it. An offset past the end of the line gives the
  * line's end, before its break, and a line past the last one the length of the
  * text in bytes. */
-size_t str_index_byte_of(const str_index *index, str_index_encoding encoding,
+size_t str_index_byte_of(const str_index *index, str_indices_encoding encoding,
                          str_indices_position position);
 
 /* The byte index of a position that names a place: as str_index_byte_of, but
  * SIZE_MAX where the text has no such line, or the offset is past the end of
  * the line or inside a char. */
 size_t str_index_exact_byte_of(const str_index *index,
-                               str_index_encoding encoding,
+                               str_indices_encoding encoding,
                                str_indices_position position);
 
 /* The byte indices of a range, each as str_index_byte_of answers it; SIZE_MAX
  * twice where the range's end is before its start. */
 str_indices_bytes str_index_byte_range(const str_index *index,
-                                       str_index_encoding encoding,
+                                       str_indices_encoding encoding,
                                        str_indices_range range);
 
 /*
- * Lines and positions by what ends a line. With STR_INDEX_LINE_TYPE_LF_CR a
+ * Lines and positions by what ends a line. With STR_INDICES_LINE_TYPE_LF_CR a
  * line, a position and its byte are those of str_index_line,
  * str_index_position_of and str_index_byte_of.
  */
@@ -209,38 +182,39 @@ str_indices_bytes str_index_byte_range(const str_index *index,
 /* The bytes of the content of a line, without its break. Past the last line
  * they are none, at the end of the text. */
 str_indices_bytes str_index_line_by(const str_index *index,
-                                    str_index_line_type lines, size_t line_idx);
+                                    str_indices_line_type lines,
+                                    size_t line_idx);
 
 /* The position of a byte: its line, and the units from that line's beginning
  * to the byte. A byte inside a char has the position where the char begins,
  * the byte between the CR and the LF of one break that of the line's end, and a
  * byte past the end that of the text's end. */
 str_indices_position str_index_position_by(const str_index *index,
-                                           str_index_line_type lines,
-                                           str_index_encoding encoding,
+                                           str_indices_line_type lines,
+                                           str_indices_encoding encoding,
                                            size_t byte_idx);
 
 /* The byte index where the char at a position begins. An offset inside a char
  * belongs to it. An offset past the end of the line gives the line's end,
  * before its break, and a line past the last one the length of the text in
  * bytes. */
-size_t str_index_byte_by(const str_index *index, str_index_line_type lines,
-                         str_index_encoding encoding,
+size_t str_index_byte_by(const str_index *index, str_indices_line_type lines,
+                         str_indices_encoding encoding,
                          str_indices_position position);
 
 /* The position of a byte that is a place on a line: SIZE_MAX twice where it is
  * inside a char, between the CR and the LF of one break, or past the end. So a
  * compiler notices a span that is wrong. */
 str_indices_position str_index_exact_position_by(const str_index *index,
-                                                 str_index_line_type lines,
-                                                 str_index_encoding encoding,
+                                                 str_indices_line_type lines,
+                                                 str_indices_encoding encoding,
                                                  size_t byte_idx);
 
 /* The positions of both ends of a span of bytes, each as str_index_position_by
  * answers it, also where the end is before the start. */
 str_indices_range str_index_range_by(const str_index *index,
-                                     str_index_line_type lines,
-                                     str_index_encoding encoding,
+                                     str_indices_line_type lines,
+                                     str_indices_encoding encoding,
                                      str_indices_bytes span);
 
 #ifdef __cplusplus

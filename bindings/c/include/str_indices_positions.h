@@ -49,6 +49,34 @@ typedef struct str_indices_bytes {
     size_t end;
 } str_indices_bytes;
 
+/* A scheme: what a rope or an index counts. The breaks of the last three are
+ * those of lines_lf, lines_crlf and lines in str_indices.h. A greater number
+ * counts as STR_INDICES_LINES. */
+typedef enum str_indices_scheme {
+    STR_INDICES_CHARS = 0, /* chars */
+    STR_INDICES_UTF16 = 1, /* UTF-16 code units */
+    STR_INDICES_LF = 2,    /* line breaks: LF alone */
+    STR_INDICES_CRLF = 3,  /* line breaks: LF, CR, and CR LF as one break */
+    STR_INDICES_LINES = 4  /* line breaks: all those of Unicode */
+} str_indices_scheme;
+
+/* The unit of an offset on a line. UTF-32 and UTF-16 have the numbers of the
+ * schemes that count as they do. Each other number counts as
+ * STR_INDICES_ENCODING_UTF32. */
+typedef enum str_indices_encoding {
+    STR_INDICES_ENCODING_UTF32 = 0, /* chars */
+    STR_INDICES_ENCODING_UTF16 = 1, /* UTF-16 code units, the default */
+    STR_INDICES_ENCODING_UTF8 = 5   /* bytes */
+} str_indices_encoding;
+
+/* Line break kinds, each with the number of the scheme that counts its breaks.
+ * Each other number counts as STR_INDICES_LINE_TYPE_ALL. */
+typedef enum str_indices_line_type {
+    STR_INDICES_LINE_TYPE_LF = 2,    /* LF: a CR before it is of the line */
+    STR_INDICES_LINE_TYPE_LF_CR = 3, /* LF, CR, and CR LF: the protocol's */
+    STR_INDICES_LINE_TYPE_ALL = 4    /* all line breaks of Unicode */
+} str_indices_line_type;
+
 /* From a byte index to its position: the byte's line, and the UTF-16 code
  * units from that line's beginning to the byte. A byte inside a char has the
  * position where the char begins, the byte between CR and LF that of the

@@ -14,7 +14,7 @@
  *
  *     str_rope rope = STR_ROPE_EMPTY;
  *     if (str_rope_assign(&rope, text, len) != STR_ROPE_OK) ...
- *     size_t lines = str_rope_count(&rope, STR_ROPE_CRLF) + 1;
+ *     size_t lines = str_rope_count(&rope, STR_INDICES_CRLF) + 1;
  *     str_rope_free(&rope);
  *
  * All indices are byte indices where nothing else is said, and begin at 0. A
@@ -112,33 +112,6 @@ typedef struct str_rope_chunk {
 /* How many bytes a chunk has at most. */
 #define STR_ROPE_MAX_CHUNK 1024
 
-/* A scheme: what to count. The breaks of the last three are those of lines_lf,
- * lines_crlf and lines in str_indices.h. A greater number counts as
- * STR_ROPE_LINES. */
-typedef enum str_rope_scheme {
-    STR_ROPE_CHARS, /* chars */
-    STR_ROPE_UTF16, /* UTF-16 code units */
-    STR_ROPE_LF,    /* line breaks: LF alone */
-    STR_ROPE_CRLF,  /* line breaks: LF, CR, and CR LF, which is one break */
-    STR_ROPE_LINES  /* line breaks: all those of Unicode */
-} str_rope_scheme;
-
-/* The unit of an offset on a line. The first is the protocol's default. A
- * greater number counts as STR_ROPE_ENCODING_UTF32. */
-typedef enum str_rope_encoding {
-    STR_ROPE_ENCODING_UTF16, /* UTF-16 code units */
-    STR_ROPE_ENCODING_UTF8,  /* bytes */
-    STR_ROPE_ENCODING_UTF32  /* chars */
-} str_rope_encoding;
-
-/* Line break kinds. The first is the protocol's. A greater number counts as
- * STR_ROPE_LINE_TYPE_ALL. */
-typedef enum str_rope_line_type {
-    STR_ROPE_LINE_TYPE_LF_CR, /* LF, CR, and CR LF, which is one break */
-    STR_ROPE_LINE_TYPE_LF,   /* LF alone: a CR before it is of the line */
-    STR_ROPE_LINE_TYPE_ALL /* all line breaks of Unicode */
-} str_rope_line_type;
-
 /* Whether a call did what it was asked. Where two reasons hold, the status is
  * the one that stands first here; but STR_ROPE_NOT_UTF8 comes before all
  * others. */
@@ -191,18 +164,18 @@ size_t str_rope_len(const str_rope *rope);
 
 /* How many chars, UTF-16 code units or line breaks the text has. Takes no
  * longer for a longer text. */
-size_t str_rope_count(const str_rope *rope, str_rope_scheme scheme);
+size_t str_rope_count(const str_rope *rope, str_indices_scheme scheme);
 
 /* From a byte index to a char, code unit or line index: how many of them end
  * at or before the byte. A byte inside a char or a break belongs to that char,
  * or to the line that the break ends. Any byte index past the end gives all. */
-size_t str_rope_from_byte_idx(const str_rope *rope, str_rope_scheme scheme,
+size_t str_rope_from_byte_idx(const str_rope *rope, str_indices_scheme scheme,
                               size_t byte_idx);
 
 /* From a char, code unit or line index to the byte index where that char, the
  * char of that unit, or that line begins. An index past the last gives the
  * length of the text in bytes. */
-size_t str_rope_to_byte_idx(const str_rope *rope, str_rope_scheme scheme,
+size_t str_rope_to_byte_idx(const str_rope *rope, str_indices_scheme scheme,
                             size_t idx);
 
 /* Whether a byte index is a boundary. One past the end is none. */
@@ -297,27 +270,28 @@ size_t str_rope_line_end(const str_rope *rope, size_t line_idx);
  * the char begins, the byte between CR and LF that of the line's end, and a
  * byte past the end that of the text's end. */
 str_indices_position str_rope_position_of(const str_rope *rope,
-                                          str_rope_encoding encoding,
+                                          str_indices_encoding encoding,
                                           size_t byte_idx);
 
 /* From a position to the byte index where the char at it begins. An offset
  * inside a char belongs to it. An offset past the end of the line gives the
  * line's end, before its break, and a line past the last one the length of the
  * text in bytes. */
-size_t str_rope_byte_of(const str_rope *rope, str_rope_encoding encoding,
+size_t str_rope_byte_of(const str_rope *rope, str_indices_encoding encoding,
                         str_indices_position position);
 
 /* The byte index of a position that names a place: as str_rope_byte_of, but
  * SIZE_MAX where the text has no such line, or the offset is past the end of
  * the line or inside a char. So a server notices a client that is out of step.
  */
-size_t str_rope_exact_byte_of(const str_rope *rope, str_rope_encoding encoding,
+size_t str_rope_exact_byte_of(const str_rope *rope,
+                              str_indices_encoding encoding,
                               str_indices_position position);
 
 /* The byte indices of a range, each as str_rope_byte_of answers it; SIZE_MAX
  * twice where the range's end is before its start. */
 str_indices_bytes str_rope_byte_range(const str_rope *rope,
-                                      str_rope_encoding encoding,
+                                      str_indices_encoding encoding,
                                       str_indices_range range);
 
 /* Replaces the bytes of a range, as str_rope_byte_range answers them, by a
@@ -326,7 +300,7 @@ str_indices_bytes str_rope_byte_range(const str_rope *rope,
  * STR_ROPE_NOT_ORDERED, STR_ROPE_TOO_LONG, STR_ROPE_NOT_UTF8 and, where
  * something goes or comes, STR_ROPE_NO_MEMORY. */
 STR_ROPE_CHECKED str_rope_status str_rope_change(str_rope *rope,
-                                                 str_rope_encoding encoding,
+                                                 str_indices_encoding encoding,
                                                  str_indices_range range,
                                                  const char *text, size_t len);
 
@@ -337,11 +311,11 @@ STR_ROPE_CHECKED str_rope_status str_rope_change(str_rope *rope,
  * STR_ROPE_NOT_BOUNDARY, STR_ROPE_TOO_LONG, STR_ROPE_NOT_UTF8 and, where
  * something goes or comes, STR_ROPE_NO_MEMORY. */
 STR_ROPE_CHECKED str_rope_status
-str_rope_change_exact(str_rope *rope, str_rope_encoding encoding,
+str_rope_change_exact(str_rope *rope, str_indices_encoding encoding,
                       str_indices_range range, const char *text, size_t len);
 
 /*
- * Lines and positions by what ends a line. With STR_ROPE_LINE_TYPE_LF_CR the end
+ * Lines and positions by what ends a line. With STR_INDICES_LINE_TYPE_LF_CR the end
  * of a line, a position and its byte are those of str_rope_line_end,
  * str_rope_position_of and str_rope_byte_of.
  */
@@ -349,38 +323,39 @@ str_rope_change_exact(str_rope *rope, str_rope_encoding encoding,
 /* The bytes of the content of a line, without its break. Past the last line
  * they are none, at the end of the text. */
 str_indices_bytes str_rope_line_by(const str_rope *rope,
-                                   str_rope_line_type lines, size_t line_idx);
+                                   str_indices_line_type lines,
+                                   size_t line_idx);
 
 /* The position of a byte: its line, and the units from that line's beginning
  * to the byte. A byte inside a char has the position where the char begins,
  * the byte between the CR and the LF of one break that of the line's end, and a
  * byte past the end that of the text's end. */
 str_indices_position str_rope_position_by(const str_rope *rope,
-                                          str_rope_line_type lines,
-                                          str_rope_encoding encoding,
+                                          str_indices_line_type lines,
+                                          str_indices_encoding encoding,
                                           size_t byte_idx);
 
 /* The byte index where the char at a position begins. An offset inside a char
  * belongs to it. An offset past the end of the line gives the line's end,
  * before its break, and a line past the last one the length of the text in
  * bytes. */
-size_t str_rope_byte_by(const str_rope *rope, str_rope_line_type lines,
-                        str_rope_encoding encoding,
+size_t str_rope_byte_by(const str_rope *rope, str_indices_line_type lines,
+                        str_indices_encoding encoding,
                         str_indices_position position);
 
 /* The position of a byte that is a place on a line: SIZE_MAX twice where it is
  * inside a char, between the CR and the LF of one break, or past the end. So a
  * compiler notices a span that is wrong. */
 str_indices_position str_rope_exact_position_by(const str_rope *rope,
-                                                str_rope_line_type lines,
-                                                str_rope_encoding encoding,
+                                                str_indices_line_type lines,
+                                                str_indices_encoding encoding,
                                                 size_t byte_idx);
 
 /* The positions of both ends of a span of bytes, each as str_rope_position_by
  * answers it, also where the end is before the start. */
 str_indices_range str_rope_range_by(const str_rope *rope,
-                                    str_rope_line_type lines,
-                                    str_rope_encoding encoding,
+                                    str_indices_line_type lines,
+                                    str_indices_encoding encoding,
                                     str_indices_bytes span);
 
 #ifdef __cplusplus

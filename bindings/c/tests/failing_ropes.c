@@ -55,9 +55,10 @@ static int has(str_rope *rope, const char *text, size_t len)
 static int has_whole(str_rope *rope)
 {
     size_t number = WHOLE / LINE;
-    return has(rope, whole, WHOLE) && str_rope_count(rope, STR_ROPE_CRLF) == number &&
-           str_rope_count(rope, STR_ROPE_CHARS) == 17 * number && str_rope_count(rope, STR_ROPE_UTF16) == 18 * number &&
-           str_rope_to_byte_idx(rope, STR_ROPE_LF, 1000) == 1000 * LINE;
+    return has(rope, whole, WHOLE) && str_rope_count(rope, STR_INDICES_CRLF) == number &&
+           str_rope_count(rope, STR_INDICES_CHARS) == 17 * number &&
+           str_rope_count(rope, STR_INDICES_UTF16) == 18 * number &&
+           str_rope_to_byte_idx(rope, STR_INDICES_LF, 1000) == 1000 * LINE;
 }
 
 /*
@@ -102,8 +103,8 @@ static str_rope_status make(const call *one, str_rope *rope, str_rope *rest)
     case INSERT: return str_rope_insert(rope, one->from, put, one->len);
     case REMOVE: return str_rope_remove(rope, one->from, one->to);
     case REPLACE: return str_rope_replace(rope, one->from, one->to, put, one->len);
-    case CHANGE: return str_rope_change(rope, STR_ROPE_ENCODING_UTF8, range, put, one->len);
-    case CHANGE_EXACT: return str_rope_change_exact(rope, STR_ROPE_ENCODING_UTF8, range, put, one->len);
+    case CHANGE: return str_rope_change(rope, STR_INDICES_ENCODING_UTF8, range, put, one->len);
+    case CHANGE_EXACT: return str_rope_change_exact(rope, STR_INDICES_ENCODING_UTF8, range, put, one->len);
     case APPEND: return str_rope_append(rope, rest);
     default: return str_rope_split_off(rope, one->from, rest);
     }

@@ -24,8 +24,7 @@ enum { APART = 1024, MOST_BYTES = 200000, MOST_TOLD = 20 };
 enum { PAST = 3 };
 
 /* The kinds of line break, and what counts them. */
-enum { KINDS = 3 };
-static const size_t breaks_of_kind[KINDS] = {STR_INDEX_CRLF, STR_INDEX_LF, STR_INDEX_LINES};
+static const size_t breaks_of_kind[KINDS] = {STR_INDICES_CRLF, STR_INDICES_LF, STR_INDICES_LINES};
 
 static size_t passed, failed, every = 1;
 
@@ -76,10 +75,10 @@ static size_t weight(size_t scheme, size_t at, size_t size)
     const char *here = model_text + at;
     int is_cr = *here == '\r' && !(at + 1 < model_len && here[1] == '\n');
     switch (scheme) {
-    case STR_INDEX_CHARS: return 1;
-    case STR_INDEX_UTF16: return size == 4 ? 2 : 1;
-    case STR_INDEX_LF: return *here == '\n';
-    case STR_INDEX_CRLF: return *here == '\n' || is_cr;
+    case STR_INDICES_CHARS: return 1;
+    case STR_INDICES_UTF16: return size == 4 ? 2 : 1;
+    case STR_INDICES_LF: return *here == '\n';
+    case STR_INDICES_CRLF: return *here == '\n' || is_cr;
     default: return *here == '\n' || is_cr || is_one_of(here, size, unicode, NUMBER_OF(unicode));
     }
 }
@@ -87,7 +86,7 @@ static size_t weight(size_t scheme, size_t at, size_t size)
 /* A scheme of the model. An index of a break is that of the line after it. */
 static void walk(size_t scheme)
 {
-    int is_of_lines = scheme >= STR_INDEX_LF;
+    int is_of_lines = scheme >= STR_INDICES_LF;
     size_t number = 0, at = 0;
     begins[scheme][0] = 0;
     while (at < model_len) {
@@ -145,8 +144,9 @@ static size_t line_scheme(void)
 static int model_is_break(size_t at)
 {
     char here = model_text[at];
-    return here == '\n' || (line_scheme() != STR_INDEX_LF && here == '\r') ||
-           (line_scheme() == STR_INDEX_LINES && is_one_of(model_text + at, size_of(here), unicode, NUMBER_OF(unicode)));
+    return here == '\n' || (line_scheme() != STR_INDICES_LF && here == '\r') ||
+           (line_scheme() == STR_INDICES_LINES &&
+            is_one_of(model_text + at, size_of(here), unicode, NUMBER_OF(unicode)));
 }
 
 static str_indices_bytes model_line(size_t line)
@@ -161,8 +161,8 @@ static str_indices_bytes model_line(size_t line)
 /* The units between two boundaries. */
 static size_t model_units(size_t encoding, size_t from, size_t to)
 {
-    size_t scheme = encoding == STR_INDEX_ENCODING_UTF16 ? STR_INDEX_UTF16 : STR_INDEX_CHARS;
-    return encoding == STR_INDEX_ENCODING_UTF8 ? to - from : before[scheme][to] - before[scheme][from];
+    size_t scheme = encodings[encoding] == STR_INDICES_ENCODING_UTF16 ? STR_INDICES_UTF16 : STR_INDICES_CHARS;
+    return encodings[encoding] == STR_INDICES_ENCODING_UTF8 ? to - from : before[scheme][to] - before[scheme][from];
 }
 
 static str_indices_position model_position(size_t encoding, size_t byte)
@@ -199,7 +199,7 @@ static size_t model_exact_byte_of(size_t encoding, str_indices_position position
 static str_indices_position model_exact_position(size_t encoding, size_t byte)
 {
     static const str_indices_position none = {NONE, NONE};
-    int is_middle = line_scheme() != STR_INDEX_LF && byte > 0 && byte < model_len && model_text[byte] == '\n' &&
+    int is_middle = line_scheme() != STR_INDICES_LF && byte > 0 && byte < model_len && model_text[byte] == '\n' &&
                     model_text[byte - 1] == '\r';
     return byte > model_len || !model_is_boundary(byte) || is_middle ? none : model_position(encoding, byte);
 }
@@ -222,10 +222,10 @@ static int model_is_reversed(str_indices_range range)
 static void try_byte(const str_index *index, size_t byte)
 {
     for (size_t scheme = 0; scheme <= SCHEMES; scheme++)
-        same(str_index_from_byte_idx(index, (str_index_scheme)scheme, byte) == model_from_byte(scheme, byte),
+        same(str_index_from_byte_idx(index, (str_indices_scheme)scheme, byte) == model_from_byte(scheme, byte),
              "from_byte_idx", scheme, byte);
     for (size_t encoding = 0; encoding <= ENCODINGS; encoding++) {
-        str_indices_position here = str_index_position_of(index, (str_index_encoding)encoding, byte);
+        str_indices_position here = str_index_position_of(index, encodings[encoding], byte);
         str_indices_position wanted = model_position(encoding, byte);
         same(here.line == wanted.line && here.character == wanted.character, "position_of", encoding, byte);
     }
@@ -234,7 +234,7 @@ static void try_byte(const str_index *index, size_t byte)
 
 static void try_index(const str_index *index, size_t scheme, size_t idx)
 {
-    same(str_index_to_byte_idx(index, (str_index_scheme)scheme, idx) == model_to_byte(scheme, idx), "to_byte_idx",
+    same(str_index_to_byte_idx(index, (str_indices_scheme)scheme, idx) == model_to_byte(scheme, idx), "to_byte_idx",
          scheme, idx);
 }
 
@@ -247,7 +247,7 @@ static void try_line(const str_index *index, size_t line)
 
 static void try_position(const str_index *index, size_t number, str_indices_position position)
 {
-    str_index_encoding encoding = (str_index_encoding)number;
+    str_indices_encoding encoding = encodings[number];
     same(str_index_byte_of(index, encoding, position) == model_byte_of(number, position), "byte_of", position.line,
          position.character);
     same(str_index_exact_byte_of(index, encoding, position) == model_exact_byte_of(number, position), "exact_byte_of",
@@ -256,7 +256,7 @@ static void try_position(const str_index *index, size_t number, str_indices_posi
 
 static void try_range(const str_index *index, size_t encoding, str_indices_range range)
 {
-    str_indices_bytes bytes = str_index_byte_range(index, (str_index_encoding)encoding, range), wanted = {NONE, NONE};
+    str_indices_bytes bytes = str_index_byte_range(index, encodings[encoding], range), wanted = {NONE, NONE};
     if (!model_is_reversed(range)) {
         wanted.start = model_byte_of(encoding, range.start);
         wanted.end = model_byte_of(encoding, range.end);
@@ -281,9 +281,9 @@ static void try_positions(const str_index *index, size_t encoding, size_t line)
 /* Lines of a kind: the place of a byte and of the byte of its position, and of a span from there. */
 static void try_byte_by(const str_index *index, size_t byte)
 {
-    str_index_line_type lines = (str_index_line_type)kind;
+    str_indices_line_type lines = line_types[kind];
     for (size_t number = 0; number <= ENCODINGS; number++) {
-        str_index_encoding encoding = (str_index_encoding)number;
+        str_indices_encoding encoding = encodings[number];
         str_indices_position wanted = model_position(number, byte), next = wanted;
         str_indices_bytes span = {byte, byte < MOST - 9 ? byte + 9 : MOST};
         str_indices_range range = str_index_range_by(index, lines, encoding, span);
@@ -302,7 +302,7 @@ static void try_byte_by(const str_index *index, size_t byte)
 static void try_lines_by(const str_index *index)
 {
     for (kind = 0; kind <= KINDS; kind++) {
-        str_index_line_type lines = (str_index_line_type)kind;
+        str_indices_line_type lines = line_types[kind];
         for (size_t byte = 0; byte <= model_len + PAST; byte += 7 * every)
             try_byte_by(index, byte);
         try_byte_by(index, model_len);
@@ -326,13 +326,13 @@ static void try_questions(const str_index *index)
     try_byte(index, MOST);
     for (size_t scheme = 0; scheme <= SCHEMES; scheme++) {
         size_t number = before[scheme_of(scheme)][model_len];
-        same(str_index_count(index, (str_index_scheme)scheme) == number, "count", scheme, number);
+        same(str_index_count(index, (str_indices_scheme)scheme) == number, "count", scheme, number);
         for (size_t idx = 0; idx <= number + PAST; idx += every)
             try_index(index, scheme, idx);
         try_index(index, scheme, MOST - 1);
         try_index(index, scheme, MOST);
     }
-    for (size_t line = 0; line <= before[STR_INDEX_CRLF][model_len] + PAST; line += every) {
+    for (size_t line = 0; line <= before[STR_INDICES_CRLF][model_len] + PAST; line += every) {
         try_line(index, line);
         for (size_t encoding = 0; encoding <= ENCODINGS; encoding++)
             try_positions(index, encoding, line);
@@ -397,9 +397,9 @@ static void no_text_and_a_long_one(void)
 {
     str_index *index = NULL;
     same(str_index_make(&index, NULL, 0) == STR_INDEX_OK && index != NULL, "make of no text", 0, 0);
-    same(index != NULL && str_index_len(index) == 0 && str_index_count(index, STR_INDEX_LINES) == 0, "no text", 0, 0);
-    same(index != NULL && str_index_position_of(index, STR_INDEX_ENCODING_UTF16, 1).line == 0, "position of no text", 0,
-         0);
+    same(index != NULL && str_index_len(index) == 0 && str_index_count(index, STR_INDICES_LINES) == 0, "no text", 0, 0);
+    same(index != NULL && str_index_position_of(index, STR_INDICES_ENCODING_UTF16, 1).line == 0, "position of no text",
+         0, 0);
     str_index_free(index);
     for (size_t len = (size_t)PTRDIFF_MAX + 1, i = 0; i < 2; len = SIZE_MAX, i++) {
         index = (str_index *)&index;
@@ -421,7 +421,7 @@ static void worked_indices(void)
     str_index *index = indexed(breaks, sizeof breaks - 1, &copy);
     make_model(breaks, sizeof breaks - 1);
     for (size_t scheme = 0; scheme <= SCHEMES; scheme++) {
-        str_index_scheme asked = (str_index_scheme)scheme;
+        str_indices_scheme asked = (str_indices_scheme)scheme;
         same(str_index_count(index, asked) == counted[scheme], "count", scheme, counted[scheme]);
         for (size_t i = 0; i < NUMBER_OF(from_byte_rows); i++) {
             size_t byte = from_byte_rows[i].byte, wanted = from_byte_rows[i].by_scheme[scheme];
@@ -448,7 +448,7 @@ static void worked_positions(void)
     str_index *index = indexed(lines, sizeof lines - 1, &copy);
     make_model(lines, sizeof lines - 1);
     for (size_t number = 0; number <= ENCODINGS; number++) {
-        str_index_encoding encoding = (str_index_encoding)number;
+        str_indices_encoding encoding = encodings[number];
         for (size_t i = 0; i < NUMBER_OF(position_rows); i++) {
             size_t byte = position_rows[i].byte, wanted = position_rows[i].character[number];
             str_indices_position here = str_index_position_of(index, encoding, byte);
@@ -502,11 +502,11 @@ static void worked_kinds(void)
     char *copy;
     str_index *index = indexed(text, sizeof text - 1, &copy);
     for (size_t number = 0; number < KINDS; number++) {
-        str_index_line_type lines = (str_index_line_type)number;
+        str_indices_line_type lines = line_types[number];
         for (size_t line = 0; line < 7; line++)
             same(str_index_line_by(index, lines, line).end == line_ends_of[number][line], "line_by", number, line);
         for (size_t i = 0; i < NUMBER_OF(bytes); i++)
-            same(same_positions(str_index_position_by(index, lines, STR_INDEX_ENCODING_UTF16, bytes[i]),
+            same(same_positions(str_index_position_by(index, lines, STR_INDICES_ENCODING_UTF16, bytes[i]),
                                 positions[number][i]),
                  "position_by", number, bytes[i]);
     }

@@ -214,8 +214,14 @@ typedef struct walk {
     size_t chars_at_line[KINDS], units_at_line[KINDS]; /* these counts where the line of `at` begins */
 } walk;
 
+/* The encodings, and the kinds of lines, of which the first is the protocol's. */
+static const str_indices_encoding encodings[ENCODINGS] = {STR_INDICES_ENCODING_UTF16, STR_INDICES_ENCODING_UTF8,
+                                                          STR_INDICES_ENCODING_UTF32};
+static const str_indices_line_type line_types[KINDS] = {STR_INDICES_LINE_TYPE_LF_CR, STR_INDICES_LINE_TYPE_LF,
+                                                        STR_INDICES_LINE_TYPE_ALL};
+
 /* The scheme that counts the breaks of a kind of lines. */
-static const int line_scheme[KINDS] = {STR_ROPE_CRLF, STR_ROPE_LF, STR_ROPE_LINES};
+static const int line_scheme[KINDS] = {STR_INDICES_CRLF, STR_INDICES_LF, STR_INDICES_LINES};
 
 static int ends_with(const walk *on, const char *bytes)
 {
@@ -232,16 +238,16 @@ static int is_followed_by(const walk *on, char byte)
 static size_t weight(const walk *on, int scheme)
 {
     int crlf = ends_with(on, "\n") || (ends_with(on, "\r") && !is_followed_by(on, '\n'));
-    if (scheme == STR_ROPE_LF)
+    if (scheme == STR_INDICES_LF)
         return ends_with(on, "\n");
-    if (scheme == STR_ROPE_CRLF)
+    if (scheme == STR_INDICES_CRLF)
         return crlf;
-    if (scheme == STR_ROPE_LINES)
+    if (scheme == STR_INDICES_LINES)
         return crlf || ends_with(on, "\v") || ends_with(on, "\f") || ends_with(on, "\302\205") ||
                ends_with(on, "\342\200\250") || ends_with(on, "\342\200\251");
     if (on->at < on->len && is_continuation(on->text[on->at]))
         return 0;
-    return scheme == STR_ROPE_UTF16 && on->at >= 4 && (unsigned char)on->text[on->at - 4] >= 0xF0 ? 2 : 1;
+    return scheme == STR_INDICES_UTF16 && on->at >= 4 && (unsigned char)on->text[on->at - 4] >= 0xF0 ? 2 : 1;
 }
 
 static void step(walk *on)
@@ -255,28 +261,28 @@ static void step(walk *on)
     }
     for (int kind = 0; kind < KINDS; kind++)
         if (on->starts[line_scheme[kind]] == on->at) {
-            on->chars_at_line[kind] = on->counts[STR_ROPE_CHARS];
-            on->units_at_line[kind] = on->counts[STR_ROPE_UTF16];
+            on->chars_at_line[kind] = on->counts[STR_INDICES_CHARS];
+            on->units_at_line[kind] = on->counts[STR_INDICES_UTF16];
         }
 }
 
 /* Whether the walk is between the CR and the LF of one break. */
 static size_t is_in_break(const walk *on, int kind)
 {
-    return kind != STR_ROPE_LINE_TYPE_LF && ends_with(on, "\r") && is_followed_by(on, '\n');
+    return line_types[kind] != STR_INDICES_LINE_TYPE_LF && ends_with(on, "\r") && is_followed_by(on, '\n');
 }
 
 /* The position where the walk is: in a CR LF, that of its beginning. */
 static str_indices_position position(const walk *on, int kind, int encoding)
 {
     size_t less = is_in_break(on, kind);
-    size_t chars = on->counts[STR_ROPE_CHARS] - on->chars_at_line[kind];
-    size_t units = on->counts[STR_ROPE_UTF16] - on->units_at_line[kind];
-    size_t bytes = on->starts[STR_ROPE_CHARS] - on->starts[line_scheme[kind]];
+    size_t chars = on->counts[STR_INDICES_CHARS] - on->chars_at_line[kind];
+    size_t units = on->counts[STR_INDICES_UTF16] - on->units_at_line[kind];
+    size_t bytes = on->starts[STR_INDICES_CHARS] - on->starts[line_scheme[kind]];
     str_indices_position here = {on->counts[line_scheme[kind]], units - less};
-    if (encoding == STR_ROPE_ENCODING_UTF8)
+    if (encodings[encoding] == STR_INDICES_ENCODING_UTF8)
         here.character = bytes - less;
-    if (encoding == STR_ROPE_ENCODING_UTF32)
+    if (encodings[encoding] == STR_INDICES_ENCODING_UTF32)
         here.character = chars - less;
     return here;
 }
@@ -311,12 +317,12 @@ static int are_same(str_indices_position one, str_indices_position other)
 static void ask_lines_by(str_rope *rope, const walk *on)
 {
     int kind = (int)(on->at % KINDS);
-    str_rope_line_type lines = (str_rope_line_type)kind;
-    size_t less = is_in_break(on, kind), begin = on->starts[STR_ROPE_CHARS] - less;
+    str_indices_line_type lines = line_types[kind];
+    size_t less = is_in_break(on, kind), begin = on->starts[STR_INDICES_CHARS] - less;
     str_indices_bytes content = str_rope_line_by(rope, lines, on->counts[line_scheme[kind]]);
     same(content.start == on->starts[line_scheme[kind]] && content.end == content_end(on, kind), "line_by", on->at);
     for (int number = 0; number < ENCODINGS; number++) {
-        str_rope_encoding encoding = (str_rope_encoding)number;
+        str_indices_encoding encoding = encodings[number];
         static const str_indices_position none = {SIZE_MAX, SIZE_MAX};
         str_indices_position right = position(on, kind, number);
         str_indices_bytes span = {on->at, content.start};
@@ -332,10 +338,10 @@ static void ask_lines_by(str_rope *rope, const walk *on)
 
 static void ask_positions(str_rope *rope, const walk *on)
 {
-    size_t less = ends_with(on, "\r") && is_followed_by(on, '\n'), begin = on->starts[STR_ROPE_CHARS] - less;
+    size_t less = ends_with(on, "\r") && is_followed_by(on, '\n'), begin = on->starts[STR_INDICES_CHARS] - less;
     for (int number = 0; number < ENCODINGS; number++) {
-        str_rope_encoding encoding = (str_rope_encoding)number;
-        str_indices_position right = position(on, STR_ROPE_LINE_TYPE_LF_CR, number);
+        str_indices_encoding encoding = encodings[number];
+        str_indices_position right = position(on, 0, number);
         str_indices_position answer = str_rope_position_of(rope, encoding, on->at);
         str_indices_range range = {right, right};
         str_indices_bytes bytes = str_rope_byte_range(rope, encoding, range);
@@ -344,20 +350,20 @@ static void ask_positions(str_rope *rope, const walk *on)
         same(str_rope_exact_byte_of(rope, encoding, right) == begin, "exact_byte_of", on->at);
         same(bytes.start == begin && bytes.end == begin, "byte_range", on->at);
     }
-    same(str_rope_line_end(rope, on->counts[STR_ROPE_CRLF]) == content_end(on, STR_ROPE_LINE_TYPE_LF_CR), "line_end",
-         on->at);
+    same(str_rope_line_end(rope, on->counts[STR_INDICES_CRLF]) == content_end(on, 0), "line_end", on->at);
     ask_lines_by(rope, on);
 }
 
 static void ask(str_rope *rope, const walk *on)
 {
     for (int number = 0; number < SCHEMES; number++) {
-        str_rope_scheme scheme = (str_rope_scheme)number;
+        str_indices_scheme scheme = (str_indices_scheme)number;
         size_t count = on->counts[number];
         same(str_rope_from_byte_idx(rope, scheme, on->at) == count, "from_byte_idx", on->at);
         same(str_rope_to_byte_idx(rope, scheme, count) == on->starts[number], "to_byte_idx", on->at);
     }
-    same(str_rope_is_char_boundary(rope, on->at) == (on->starts[STR_ROPE_CHARS] == on->at), "is_char_boundary", on->at);
+    same(str_rope_is_char_boundary(rope, on->at) == (on->starts[STR_INDICES_CHARS] == on->at), "is_char_boundary",
+         on->at);
     ask_positions(rope, on);
 }
 
@@ -382,7 +388,7 @@ static void ask_all(str_rope *rope, const char *text, size_t len)
         ask(rope, &on);
     }
     for (int scheme = 0; scheme < SCHEMES; scheme++)
-        same(str_rope_count(rope, (str_rope_scheme)scheme) == on.counts[scheme], "count", (size_t)scheme);
+        same(str_rope_count(rope, (str_indices_scheme)scheme) == on.counts[scheme], "count", (size_t)scheme);
 }
 
 /* The rope's bytes, written out at once and part by part. */
@@ -418,7 +424,7 @@ static void checkpoint(str_rope *rope, const model *text)
 /* The part's bytes go and the text comes, in the rope by one call of five, and in the model. */
 static void replace(str_rope *rope, model *text, size_t from, size_t to, const char *bytes, size_t len)
 {
-    str_rope_encoding encoding = (str_rope_encoding)pick(ENCODINGS);
+    str_indices_encoding encoding = encodings[pick(ENCODINGS)];
     str_indices_range range = {str_rope_position_of(rope, encoding, from), str_rope_position_of(rope, encoding, to)};
     str_indices_bytes meant = str_rope_byte_range(rope, encoding, range);
     str_rope_status status;
@@ -524,7 +530,8 @@ static uint64_t sum_of_rope(str_rope *rope)
 /* It has the text that it was taken of. Then it is changed, which leaves the texts that it shares its pieces with. */
 static void look_back(snapshot *one)
 {
-    size_t half = str_rope_to_byte_idx(&one->rope, STR_ROPE_CHARS, str_rope_count(&one->rope, STR_ROPE_CHARS) / 2);
+    size_t half =
+        str_rope_to_byte_idx(&one->rope, STR_INDICES_CHARS, str_rope_count(&one->rope, STR_INDICES_CHARS) / 2);
     same(str_rope_len(&one->rope) == one->len && sum_of_rope(&one->rope) == one->sum, "a snapshot", one->len);
     same(str_rope_insert(&one->rope, half, "\r\nput in", 8) == STR_ROPE_OK, "insert into a snapshot", half);
     same(str_rope_remove(&one->rope, 0, half) == STR_ROPE_OK, "remove from a snapshot", half);

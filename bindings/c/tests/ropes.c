@@ -53,8 +53,8 @@ static void counts(void)
 {
     str_rope rope = WITH(breaks);
     for (size_t i = 0; i < NUMBER_OF(counted); i++)
-        same(str_rope_count(&rope, (str_rope_scheme)i) == counted[i], "count", i, 0);
-    same(str_rope_count(&rope, (str_rope_scheme)7) == 4, "count", 7, 0);
+        same(str_rope_count(&rope, (str_indices_scheme)i) == counted[i], "count", i, 0);
+    same(str_rope_count(&rope, (str_indices_scheme)7) == 4, "count", 7, 0);
     same(str_rope_len(&rope) == 17, "len", 17, 0);
     str_rope_free(&rope);
 }
@@ -64,7 +64,7 @@ static void from_bytes(void)
     str_rope rope = WITH(breaks);
     for (size_t i = 0; i < NUMBER_OF(from_byte_rows); i++)
         for (size_t scheme = 0; scheme <= SCHEMES; scheme++)
-            same(str_rope_from_byte_idx(&rope, (str_rope_scheme)scheme, from_byte_rows[i].byte) ==
+            same(str_rope_from_byte_idx(&rope, (str_indices_scheme)scheme, from_byte_rows[i].byte) ==
                      from_byte_rows[i].by_scheme[scheme],
                  "from_byte_idx", scheme, from_byte_rows[i].byte);
     str_rope_free(&rope);
@@ -75,7 +75,7 @@ static void to_bytes(void)
     str_rope rope = WITH(breaks);
     for (size_t i = 0; i < NUMBER_OF(to_byte_rows); i++)
         for (size_t scheme = 0; scheme <= SCHEMES; scheme++)
-            same(str_rope_to_byte_idx(&rope, (str_rope_scheme)scheme, to_byte_rows[i].index) ==
+            same(str_rope_to_byte_idx(&rope, (str_indices_scheme)scheme, to_byte_rows[i].index) ==
                      to_byte_rows[i].by_scheme[scheme],
                  "to_byte_idx", scheme, to_byte_rows[i].index);
     str_rope_free(&rope);
@@ -95,20 +95,20 @@ static void ask_the_empty_text(str_rope *rope)
 {
     str_indices_position begin = {0, 0}, behind = {0, 1};
     for (size_t i = 0; i < SCHEMES; i++) {
-        str_rope_scheme scheme = (str_rope_scheme)i;
+        str_indices_scheme scheme = (str_indices_scheme)i;
         same(str_rope_count(rope, scheme) == 0 && str_rope_from_byte_idx(rope, scheme, 9) == 0 &&
                  str_rope_to_byte_idx(rope, scheme, 9) == 0,
              "no text, by scheme", i, 0);
     }
     for (size_t i = 0; i < ENCODINGS; i++) {
-        str_rope_encoding encoding = (str_rope_encoding)i;
+        str_indices_encoding encoding = encodings[i];
         str_indices_position end = str_rope_position_of(rope, encoding, 9);
         same(end.line == 0 && end.character == 0 && str_rope_byte_of(rope, encoding, behind) == 0 &&
                  str_rope_exact_byte_of(rope, encoding, begin) == 0 &&
                  str_rope_exact_byte_of(rope, encoding, behind) == NONE,
              "no text, by encoding", i, 0);
-        str_indices_bytes bytes = str_rope_line_by(rope, (str_rope_line_type)i, 9);
-        end = str_rope_exact_position_by(rope, (str_rope_line_type)i, encoding, 1);
+        str_indices_bytes bytes = str_rope_line_by(rope, line_types[i], 9);
+        end = str_rope_exact_position_by(rope, line_types[i], encoding, 1);
         same(bytes.start == 0 && bytes.end == 0 && end.line == NONE && end.character == NONE, "no text, by line", i, 0);
     }
     same(str_rope_len(rope) == 0 && str_rope_line_end(rope, 9) == 0, "no text, len and line_end", 0, 0);
@@ -262,25 +262,25 @@ static void a_break_over_two_chunks(void)
     rest = with(back, HALF);
     same(str_rope_append(&rope, &rest) == STR_ROPE_OK, "append", HALF, HALF);
     has(&rope, whole, 2 * HALF, "append");
-    same(str_rope_count(&rope, STR_ROPE_CRLF) == 1 && str_rope_count(&rope, STR_ROPE_LF) == 1, "count", 1, 1);
-    same(str_rope_count(&rope, STR_ROPE_LINES) == 1 && str_rope_count(&rope, STR_ROPE_CHARS) == 2 * HALF, "count", 1,
-         0);
-    same(str_rope_from_byte_idx(&rope, STR_ROPE_CRLF, HALF) == 0, "from_byte_idx", HALF, 0);
-    same(str_rope_from_byte_idx(&rope, STR_ROPE_CRLF, HALF + 1) == 1, "from_byte_idx", HALF + 1, 1);
-    same(str_rope_to_byte_idx(&rope, STR_ROPE_CRLF, 1) == HALF + 1, "to_byte_idx", 1, HALF + 1);
+    same(str_rope_count(&rope, STR_INDICES_CRLF) == 1 && str_rope_count(&rope, STR_INDICES_LF) == 1, "count", 1, 1);
+    same(str_rope_count(&rope, STR_INDICES_LINES) == 1 && str_rope_count(&rope, STR_INDICES_CHARS) == 2 * HALF, "count",
+         1, 0);
+    same(str_rope_from_byte_idx(&rope, STR_INDICES_CRLF, HALF) == 0, "from_byte_idx", HALF, 0);
+    same(str_rope_from_byte_idx(&rope, STR_INDICES_CRLF, HALF + 1) == 1, "from_byte_idx", HALF + 1, 1);
+    same(str_rope_to_byte_idx(&rope, STR_INDICES_CRLF, 1) == HALF + 1, "to_byte_idx", 1, HALF + 1);
     same(str_rope_line_end(&rope, 0) == HALF - 1, "line_end", 0, HALF - 1);
-    same(str_rope_insert(&rope, HALF, "x", 1) == STR_ROPE_OK && str_rope_count(&rope, STR_ROPE_CRLF) == 2, "insert", 1,
-         2);
-    same(str_rope_remove(&rope, HALF, HALF + 1) == STR_ROPE_OK && str_rope_count(&rope, STR_ROPE_CRLF) == 1, "remove",
-         1, 1);
+    same(str_rope_insert(&rope, HALF, "x", 1) == STR_ROPE_OK && str_rope_count(&rope, STR_INDICES_CRLF) == 2, "insert",
+         1, 2);
+    same(str_rope_remove(&rope, HALF, HALF + 1) == STR_ROPE_OK && str_rope_count(&rope, STR_INDICES_CRLF) == 1,
+         "remove", 1, 1);
     same(str_rope_split_off(&rope, HALF, &rest) == STR_ROPE_OK, "split_off", HALF, 0);
-    same(str_rope_count(&rope, STR_ROPE_CRLF) == 1 && str_rope_count(&rest, STR_ROPE_CRLF) == 1, "count", 1, 1);
+    same(str_rope_count(&rope, STR_INDICES_CRLF) == 1 && str_rope_count(&rest, STR_INDICES_CRLF) == 1, "count", 1, 1);
     str_rope_free(&rope);
     str_rope_free(&rest);
 }
 
 /*
- * Positions; by encoding, in the order of the header: UTF-16, UTF-8, UTF-32.
+ * Positions; by encoding, in the order of `encodings`.
  */
 
 static void positions_of_bytes(void)
@@ -288,7 +288,7 @@ static void positions_of_bytes(void)
     str_rope rope = WITH(lines);
     for (size_t i = 0; i < NUMBER_OF(position_rows); i++)
         for (size_t encoding = 0; encoding <= ENCODINGS; encoding++) {
-            str_indices_position here = str_rope_position_of(&rope, (str_rope_encoding)encoding, position_rows[i].byte);
+            str_indices_position here = str_rope_position_of(&rope, encodings[encoding], position_rows[i].byte);
             same(here.line == position_rows[i].line && here.character == position_rows[i].character[encoding],
                  "position_of", encoding, position_rows[i].byte);
         }
@@ -300,7 +300,7 @@ static void bytes_of_positions(void)
     str_rope rope = WITH(lines);
     for (size_t i = 0; i < NUMBER_OF(byte_rows); i++)
         for (size_t number = 0; number <= ENCODINGS; number++) {
-            str_rope_encoding encoding = (str_rope_encoding)number;
+            str_indices_encoding encoding = encodings[number];
             str_indices_position position = byte_rows[i].position;
             same(str_rope_byte_of(&rope, encoding, position) == byte_rows[i].byte[number], "byte_of", number, i);
             same(str_rope_exact_byte_of(&rope, encoding, position) == byte_rows[i].exact[number], "exact_byte_of",
@@ -314,7 +314,7 @@ static void ranges_and_lines(void)
     str_rope rope = WITH(lines);
     for (size_t i = 0; i < NUMBER_OF(range_rows); i++)
         for (size_t encoding = 0; encoding <= ENCODINGS; encoding++) {
-            str_indices_bytes bytes = str_rope_byte_range(&rope, (str_rope_encoding)encoding, range_rows[i].range);
+            str_indices_bytes bytes = str_rope_byte_range(&rope, encodings[encoding], range_rows[i].range);
             str_indices_bytes wanted = range_rows[i].bytes[encoding];
             same(bytes.start == wanted.start && bytes.end == wanted.end, "byte_range", encoding, i);
         }
@@ -324,7 +324,7 @@ static void ranges_and_lines(void)
     str_rope_free(&rope);
 }
 
-/* By what ends a line, in the order of the header, of a text with a break of each kind. */
+/* By what ends a line, in the order of `line_types`, of a text with a break of each kind. */
 static void lines_by_kind(void)
 {
     static const char text[] = "a\342\200\250b\fc\rd\r\ne\nf";
@@ -339,24 +339,25 @@ static void lines_by_kind(void)
     };
     str_rope rope = WITH(text);
     for (size_t kind = 0; kind <= NUMBER_OF(rows); kind++) {
-        str_rope_line_type lines = (str_rope_line_type)kind;
+        str_indices_line_type lines = line_types[kind];
         size_t row = kind < NUMBER_OF(rows) ? kind : NUMBER_OF(rows) - 1;
         str_indices_position far_right = {1, 9};
         str_indices_bytes span = {5, 10};
-        str_indices_range range = str_rope_range_by(&rope, lines, STR_ROPE_ENCODING_UTF16, span);
+        str_indices_range range = str_rope_range_by(&rope, lines, STR_INDICES_ENCODING_UTF16, span);
         for (size_t line = 0; line < NUMBER_OF(rows[row].lines); line++) {
             str_indices_bytes bytes = str_rope_line_by(&rope, lines, line), wanted = rows[row].lines[line];
             same(bytes.start == wanted.start && bytes.end == wanted.end, "line_by", kind, line);
         }
-        same(are_same(str_rope_position_by(&rope, lines, STR_ROPE_ENCODING_UTF16, 5), rows[row].at_form_feed),
+        same(are_same(str_rope_position_by(&rope, lines, STR_INDICES_ENCODING_UTF16, 5), rows[row].at_form_feed),
              "position_by", kind, 5);
-        same(are_same(str_rope_position_by(&rope, lines, STR_ROPE_ENCODING_UTF16, 10), rows[row].at_line_feed),
+        same(are_same(str_rope_position_by(&rope, lines, STR_INDICES_ENCODING_UTF16, 10), rows[row].at_line_feed),
              "position_by", kind, 10);
-        same(are_same(str_rope_exact_position_by(&rope, lines, STR_ROPE_ENCODING_UTF16, 10), rows[row].exact),
+        same(are_same(str_rope_exact_position_by(&rope, lines, STR_INDICES_ENCODING_UTF16, 10), rows[row].exact),
              "exact_position_by", kind, 10);
         same(are_same(range.start, rows[row].at_form_feed) && are_same(range.end, rows[row].at_line_feed), "range_by",
              kind, 10);
-        same(str_rope_byte_by(&rope, lines, STR_ROPE_ENCODING_UTF16, far_right) == rows[row].byte, "byte_by", kind, 9);
+        same(str_rope_byte_by(&rope, lines, STR_INDICES_ENCODING_UTF16, far_right) == rows[row].byte, "byte_by", kind,
+             9);
     }
     str_rope_free(&rope);
 }
@@ -379,8 +380,8 @@ static void changes_by_positions(void)
         for (size_t encoding = 0; encoding <= ENCODINGS; encoding++) {
             const char *put = rows[i].text, *left = rows[i].left[encoding];
             str_rope rope = WITH(text);
-            same(str_rope_change(&rope, (str_rope_encoding)encoding, rows[i].range, put, strlen(put)) == STR_ROPE_OK,
-                 "change", encoding, i);
+            same(str_rope_change(&rope, encodings[encoding], rows[i].range, put, strlen(put)) == STR_ROPE_OK, "change",
+                 encoding, i);
             has(&rope, left, strlen(left), "change");
             str_rope_free(&rope);
         }
@@ -407,7 +408,7 @@ static void exact_changes(void)
             const char *put = rows[i].text, *left = rows[i].left[encoding];
             str_rope rope = WITH(text);
             str_rope_status wanted = left ? STR_ROPE_OK : STR_ROPE_NOT_BOUNDARY;
-            same(str_rope_change_exact(&rope, (str_rope_encoding)encoding, rows[i].range, put, strlen(put)) == wanted,
+            same(str_rope_change_exact(&rope, encodings[encoding], rows[i].range, put, strlen(put)) == wanted,
                  "change_exact", encoding, i);
             has(&rope, left ? left : text, strlen(left ? left : text), "change_exact");
             str_rope_free(&rope);
@@ -418,13 +419,13 @@ static void refusals_by_positions(void)
 {
     str_indices_range back = {{1, 0}, {0, 1}}, forth = {{0, 0}, {1, 0}};
     str_rope rope = WITH(lines);
-    same(str_rope_change(&rope, STR_ROPE_ENCODING_UTF16, back, "\200", 1) == STR_ROPE_NOT_UTF8, "change", 1, 0);
-    same(str_rope_change(&rope, STR_ROPE_ENCODING_UTF8, back, "x", 1) == STR_ROPE_NOT_ORDERED, "change", 1, 0);
-    same(str_rope_change(&rope, STR_ROPE_ENCODING_UTF32, forth, "\343\201", 2) == STR_ROPE_NOT_UTF8, "change", 0, 1);
-    same(str_rope_change_exact(&rope, STR_ROPE_ENCODING_UTF16, back, "\200", 1) == STR_ROPE_NOT_UTF8, "change_exact", 1,
-         0);
-    same(str_rope_change_exact(&rope, STR_ROPE_ENCODING_UTF8, back, "x", 1) == STR_ROPE_NOT_ORDERED, "change_exact", 1,
-         0);
+    same(str_rope_change(&rope, STR_INDICES_ENCODING_UTF16, back, "\200", 1) == STR_ROPE_NOT_UTF8, "change", 1, 0);
+    same(str_rope_change(&rope, STR_INDICES_ENCODING_UTF8, back, "x", 1) == STR_ROPE_NOT_ORDERED, "change", 1, 0);
+    same(str_rope_change(&rope, STR_INDICES_ENCODING_UTF32, forth, "\343\201", 2) == STR_ROPE_NOT_UTF8, "change", 0, 1);
+    same(str_rope_change_exact(&rope, STR_INDICES_ENCODING_UTF16, back, "\200", 1) == STR_ROPE_NOT_UTF8, "change_exact",
+         1, 0);
+    same(str_rope_change_exact(&rope, STR_INDICES_ENCODING_UTF8, back, "x", 1) == STR_ROPE_NOT_ORDERED, "change_exact",
+         1, 0);
     HAS(&rope, lines, "what refusals leave");
     str_rope_free(&rope);
 }
@@ -460,9 +461,9 @@ static void null_texts(void)
     same(str_rope_copy_to(&rope, 1, 1, NULL, 0) == STR_ROPE_OK, "copy_to null", 1, 1);
     same(str_rope_copy_to(&rope, 0, 1, NULL, 0) == STR_ROPE_TOO_LONG, "copy_to null", 0, 1);
     HAS(&rope, "ab", "null texts");
-    same(str_rope_change(&rope, STR_ROPE_ENCODING_UTF16, range, NULL, 0) == STR_ROPE_OK, "change to null", 1, 2);
+    same(str_rope_change(&rope, STR_INDICES_ENCODING_UTF16, range, NULL, 0) == STR_ROPE_OK, "change to null", 1, 2);
     HAS(&rope, "a", "change to null");
-    same(str_rope_change_exact(&rope, STR_ROPE_ENCODING_UTF8, range, NULL, 0) == STR_ROPE_NOT_BOUNDARY,
+    same(str_rope_change_exact(&rope, STR_INDICES_ENCODING_UTF8, range, NULL, 0) == STR_ROPE_NOT_BOUNDARY,
          "change_exact to null", 1, 2);
     same(str_rope_replace(&rope, 0, 1, NULL, 0) == STR_ROPE_OK, "replace by null", 0, 1);
     same(str_rope_assign(&rope, NULL, 0) == STR_ROPE_OK, "assign null", 0, 0);

@@ -44,18 +44,18 @@ static void ask(struct found *found, size_t at)
     str_indices_bytes bytes = str_index_line(shared, at);
     same(found, bytes.start == start && bytes.end == start + CONTENT);
     same(found, str_index_line_end(shared, at) == start + CONTENT);
-    same(found, str_index_to_byte_idx(shared, STR_INDEX_CRLF, at) == start);
-    same(found, str_index_to_byte_idx(shared, STR_INDEX_CHARS, CHARS * at) == start);
-    same(found, str_index_from_byte_idx(shared, STR_INDEX_UTF16, start + AFTER_FROG) == UNITS * at + FROG + 2);
-    same(found, str_index_from_byte_idx(shared, STR_INDEX_LINES, start + LINE - 1) == at);
-    there = str_index_position_of(shared, STR_INDEX_ENCODING_UTF16, start + AFTER_FROG);
+    same(found, str_index_to_byte_idx(shared, STR_INDICES_CRLF, at) == start);
+    same(found, str_index_to_byte_idx(shared, STR_INDICES_CHARS, CHARS * at) == start);
+    same(found, str_index_from_byte_idx(shared, STR_INDICES_UTF16, start + AFTER_FROG) == UNITS * at + FROG + 2);
+    same(found, str_index_from_byte_idx(shared, STR_INDICES_LINES, start + LINE - 1) == at);
+    there = str_index_position_of(shared, STR_INDICES_ENCODING_UTF16, start + AFTER_FROG);
     same(found, there.line == at && there.character == FROG + 2);
-    same(found, str_index_byte_of(shared, STR_INDEX_ENCODING_UTF16, after) == start + AFTER_FROG);
-    same(found, str_index_exact_byte_of(shared, STR_INDEX_ENCODING_UTF32, frog) == start + FROG);
-    bytes = str_index_byte_range(shared, STR_INDEX_ENCODING_UTF16, range);
+    same(found, str_index_byte_of(shared, STR_INDICES_ENCODING_UTF16, after) == start + AFTER_FROG);
+    same(found, str_index_exact_byte_of(shared, STR_INDICES_ENCODING_UTF32, frog) == start + FROG);
+    bytes = str_index_byte_range(shared, STR_INDICES_ENCODING_UTF16, range);
     same(found, bytes.start == start + FROG && bytes.end == start + AFTER_FROG);
     same(found, str_index_is_char_boundary(shared, start + FROG) && !str_index_is_char_boundary(shared, start + 14));
-    same(found, str_index_count(shared, STR_INDEX_CRLF) == LINES && str_index_len(shared) == sizeof text);
+    same(found, str_index_count(shared, STR_INDICES_CRLF) == LINES && str_index_len(shared) == sizeof text);
 }
 
 static void *ask_often(void *given)

@@ -42,8 +42,8 @@ static size_t pick(size_t below)
 /* Every byte is a char and a unit, and each word has one LF. */
 static void checkpoint(str_rope *rope, size_t len)
 {
-    same(str_rope_len(rope) == len && str_rope_count(rope, STR_ROPE_CHARS) == len, "len", len);
-    same(str_rope_to_byte_idx(rope, STR_ROPE_UTF16, len / 2) == len / 2, "to_byte_idx", len / 2);
+    same(str_rope_len(rope) == len && str_rope_count(rope, STR_INDICES_CHARS) == len, "len", len);
+    same(str_rope_to_byte_idx(rope, STR_INDICES_UTF16, len / 2) == len / 2, "to_byte_idx", len / 2);
 }
 
 /* Words at random places, and at times many one after the other. */
@@ -58,7 +58,7 @@ static void make(str_rope *rope, size_t bytes)
         if (i % (number / CHECKPOINTS + 1) == 0)
             checkpoint(rope, (i + 1) * WORD);
     }
-    same(str_rope_count(rope, STR_ROPE_LF) == number, "count", number);
+    same(str_rope_count(rope, STR_INDICES_LF) == number, "count", number);
 }
 
 /* A few bytes at random places, until there are none. */
@@ -93,7 +93,7 @@ static void cut_and_join(str_rope *rope, size_t at)
 {
     str_rope rest = STR_ROPE_EMPTY;
     same(str_rope_split_off(rope, at, &rest) == STR_ROPE_OK, "split_off", at);
-    same(str_rope_len(rope) == at && str_rope_count(rope, STR_ROPE_CHARS) == at, "len", at);
+    same(str_rope_len(rope) == at && str_rope_count(rope, STR_INDICES_CHARS) == at, "len", at);
     same(str_rope_append(rope, &rest) == STR_ROPE_OK, "append", at);
     str_rope_free(&rest);
 }
@@ -109,9 +109,9 @@ static void double_up(str_rope *rope)
         size_t at = WORD * pick(words_in + 1);
         same(str_rope_insert(rope, at, word, WORD) == STR_ROPE_OK, "insert", at);
         cut_and_join(rope, 1 + pick(WORD * words_in));
-        same(str_rope_to_byte_idx(rope, STR_ROPE_CRLF, at / WORD) == at, "to_byte_idx", at);
+        same(str_rope_to_byte_idx(rope, STR_INDICES_CRLF, at / WORD) == at, "to_byte_idx", at);
     }
-    same(str_rope_count(rope, STR_ROPE_LF) == words_in, "count", words_in);
+    same(str_rope_count(rope, STR_INDICES_LF) == words_in, "count", words_in);
     checkpoint(rope, WORD * words_in);
 }
 

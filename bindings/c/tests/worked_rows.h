@@ -27,8 +27,13 @@ static const char lines[] = "a\r\n" FROG "b\r\343\201\233\n\nx";
 #define MOST SIZE_MAX
 #define NONE SIZE_MAX
 
-/* From STR_ROPE_CHARS, STR_ROPE_UTF16, STR_ROPE_LF and STR_ROPE_CRLF to STR_ROPE_LINES, and the encodings. */
-enum { SCHEMES = 5, ENCODINGS = 3 };
+/* The schemes from STR_INDICES_CHARS to STR_INDICES_LINES, and in the order of the rows the encodings and the kinds of line
+ * break, each with a number past them. */
+enum { SCHEMES = 5, ENCODINGS = 3, KINDS = 3 };
+static const str_indices_encoding encodings[ENCODINGS + 1] = {STR_INDICES_ENCODING_UTF16, STR_INDICES_ENCODING_UTF8,
+                                                              STR_INDICES_ENCODING_UTF32, (str_indices_encoding)6};
+static const str_indices_line_type line_types[KINDS + 1] = {STR_INDICES_LINE_TYPE_LF_CR, STR_INDICES_LINE_TYPE_LF,
+                                                            STR_INDICES_LINE_TYPE_ALL, (str_indices_line_type)5};
 #define NUMBER_OF(rows) (sizeof rows / sizeof rows[0])
 
 /*

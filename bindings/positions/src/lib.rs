@@ -117,13 +117,13 @@ pub enum Scheme {
 #[derive(Clone, Copy, Debug, Default, PartialEq, Eq, Hash)]
 #[repr(u32)]
 pub enum LineType {
+    /// LF alone: a CR before it is of the line.
+    Lf = 2,
     /// LF, CR and CR LF, which is one break, as the protocol has it.
     #[default]
-    LfCr = 0,
-    /// LF alone: a CR before it is of the line.
-    Lf = 1,
+    LfCr = 3,
     /// The line breaks of Unicode: LF, VT, FF, CR, CR LF, U+0085, U+2028 and U+2029.
-    All = 2,
+    All = 4,
 }
 
 /// How an offset on a line is counted, on which a server and its client agree: the protocol's `PositionEncodingKind`. The
@@ -131,13 +131,13 @@ pub enum LineType {
 #[derive(Clone, Copy, Debug, Default, PartialEq, Eq, Hash)]
 #[repr(u32)]
 pub enum Encoding {
+    /// In scalar values: each char is one.
+    Utf32 = 0,
     /// In UTF-16 code units, the protocol's default.
     #[default]
-    Utf16 = 0,
+    Utf16 = 1,
     /// In bytes.
-    Utf8 = 1,
-    /// In scalar values: each char is one.
-    Utf32 = 2,
+    Utf8 = 5,
 }
 
 impl Encoding {

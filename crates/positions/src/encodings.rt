@@ -10,12 +10,12 @@ use std::ops;
 /// agree on one.
 #[derive(Clone, Copy, PartialEq, Eq, Debug)]
 pub enum Encoding {
+    /// In scalar values.
+    Utf32,
     /// In UTF-16 code units, the protocol's default.
     Utf16,
     /// In bytes.
     Utf8,
-    /// In scalar values.
-    Utf32,
 }
 
 impl Encoding {

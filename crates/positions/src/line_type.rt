@@ -10,10 +10,10 @@ use str_indices::Scheme;
 /// A kind of line break.
 #[derive(Clone, Copy, PartialEq, Eq, Debug)]
 pub enum LineType {
-    /// LF, CR or CRLF, as the Language Server Protocol has it.
-    LfCr,
     /// LF alone: a CR before it belongs to the line's content.
     Lf,
+    /// LF, CR or CRLF, as the Language Server Protocol has it.
+    LfCr,
     /// LF, VT, FF, CR, CRLF, U+0085, U+2028 or U+2029.
     All,
 }

@@ -33,8 +33,8 @@ pub(crate) fn encoding_at(number: u32) -> Encoding
     ensures { result ≡ encoding_of number }
 {
     match number {
-        0 => Encoding::Utf16,
-        1 => Encoding::Utf8,
+        1 => Encoding::Utf16,
+        5 => Encoding::Utf8,
         _ => Encoding::Utf32,
     }
 }
@@ -44,8 +44,8 @@ pub(crate) fn kind_at(number: u32) -> LineType
     ensures { result ≡ kind_of number }
 {
     match number {
-        0 => LineType::LfCr,
-        1 => LineType::Lf,
+        2 => LineType::Lf,
+        3 => LineType::LfCr,
         _ => LineType::All,
     }
 }
