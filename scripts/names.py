@@ -2,7 +2,8 @@
 """Searches names and words: a thing has one, and a function that is no test is named by no bare participle.
 
 The words of docs/DEFINITIONS.md are the ones to use. A name that was given up for one of them is searched in the sources,
-the definitions, the headers and the pages. The last line printed is 'N passed, M failed'.
+the definitions, the headers and the pages. A wrong body names a function that its crate has. The last line printed is
+'N passed, M failed'.
 """
 import pathlib
 import re
@@ -23,12 +24,15 @@ GIVEN_UP = [
     (ROPE, "fork", r"[Ff]orks?", "branch"),
     (SOURCES, "MAX_PIECE", r"(MAX|MIN)_PIECE", "MAX_CHUNK"),
     (SOURCES, "exchange", r"[Ee]xchange[sd]?(_\w+)?", "replace, splice or update"),
+    (r"^crates/(?!str_indices/).*/(src|specs)/", "behind", r"\w*behind\w*(?! a reference)", "after"),
     (r"^crates/.*/src/.*\.rt$", "character", r"(?<=// ).*characters(?! of the Unicode)", "char"),
 ]
 # what ends like a participle, and is none
 NOUNS = {"encoding", "feed", "heading", "seed", "string"}
 IRREGULAR = {"begun", "built", "found", "given", "held", "kept", "known", "left", "lent", "lost", "made", "shown", "taken",
              "written"}
+DECLARED = re.compile(r"\b(?:struct|enum|trait) (\w+)")
+REFUSED = re.compile(r"^refuses: ([\w:]+)", re.MULTILINE)
 FUNCTION = re.compile(r"^ *(?:pub(?:\(crate\))? )?fn ([a-z]+)\b", re.MULTILINE)
 
 tally = Tally()
@@ -36,7 +40,8 @@ tally = Tally()
 
 def files():
     """The text of each file that git knows, or would, by its name."""
-    listed = ["git", "ls-files", "--cached", "--others", "--exclude-standard", "*.rt", "*.antt", "*.rs", "*.h", "*.hpp", "*.md"]
+    endings = ["*.rt", "*.antt", "*.rs", "*.h", "*.hpp", "*.md", "*.edits"]
+    listed = ["git", "ls-files", "--cached", "--others", "--exclude-standard", *endings]
     names = subprocess.run(listed, cwd=ROOT, capture_output=True, text=True, check=True).stdout.splitlines()
     return {name: (ROOT / name).read_text(encoding="utf-8") for name in names if (ROOT / name).is_file()}
 
@@ -55,6 +60,23 @@ def lines_with(found, where, pattern):
                     yield f"{name}:{number}: {line.strip()}"
 
 
+def has_function(text, function):
+    """Whether a crate's text declares a function, and the type, with a trait or not, that its name begins with."""
+    *path, name = function.split("::")
+    declared = DECLARED.findall(text)
+    types = [part for part in path if part[0].isupper()]
+    known = [part for part in types if any(part.startswith(of) or part.endswith(of) for of in declared)]
+    return known == types and re.search(rf"\bfn {name}\b", text)
+
+
+def unknown_functions(found):
+    """The functions that wrong bodies name, and that their crates do not have."""
+    for edits in [name for name in found if name.endswith(".edits")]:
+        crate = pathlib.Path(edits).stem
+        text = "\n".join(text for name, text in found.items() if name.startswith(f"crates/{crate}/src/"))
+        yield from [f"{edits}: {function}" for function in REFUSED.findall(found[edits]) if not has_function(text, function)]
+
+
 def main():
     found = files()
     for where, word, pattern, used in GIVEN_UP:
@@ -63,6 +85,8 @@ def main():
     named = [f"{name}: {function}" for name, text in found.items() if re.match(r"(crates|bindings|examples)/.*/src/", name)
              for function in FUNCTION.findall(text) if is_participle(function)]
     tally.result(not named, "\n".join(["no function is named by a bare participle", *named]))
+    unknown = list(unknown_functions(found))
+    tally.result(not unknown, "\n".join(["each wrong body names a function of its crate", *unknown]))
     return tally.end()
 
 

@@ -1,2 +1,4 @@
 pub mod Changing
+pub mod InTurn
 pub use Changing.*
+pub use InTurn.*

@@ -1,5 +1,5 @@
 -- A text, cut at a boundary.
-use Rattle.positions.proofs.lemmas.Common.{◌≡◌, ℕ, ◌≤◌, length, drop, ◌∙◌, ap, arith, drop-append_seam, Text, size, size-append, cut_front, IsBoundary, behind}
+use Rattle.positions.proofs.lemmas.Common.{◌≡◌, ℕ, ◌≤◌, length, drop, ◌∙◌, ap, arith, drop-append_seam, Text, size, size-append, cut_front, IsBoundary, text_after}
 
 -- after a boundary is the rest of the text
 pub behind_boundary : (cs : Text) (p : ℕ) (at : IsBoundary cs p) → text_after cs p ≡ at.back

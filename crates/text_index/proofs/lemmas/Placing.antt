@@ -53,11 +53,11 @@ middle_is_boundary cs at middle = record {
 -- the greatest boundary at or before a place of the text is near it
 pub boundary_near : (cs : Text) (at p : ℕ) → IsBoundary cs p → p ≤ at → at ≤ size cs
     → ((q : ℕ) → p < q → q ≤ at → ¬ (IsBoundary cs q)) → at ≤ p + 3
-boundary_near cs at p boundary le within nearest = behind boundary.back boundary.split
+boundary_near cs at p boundary le within nearest = after_it boundary.back boundary.split
   where
-    after : (back : Text) → cs ≡ boundary.front ++ back → at ≤ p + 3
-    behind [] split = omega (arith, within, ap size split, size-append boundary.front [], boundary.place)
-    behind (c ∷ rest) split =
+    after_it : (back : Text) → cs ≡ boundary.front ++ back → at ≤ p + 3
+    after_it [] split = omega (arith, within, ap size split, size-append boundary.front [], boundary.place)
+    after_it (c ∷ rest) split =
         let next : IsBoundary cs (p + len_utf8 c) = record {
           front = boundary.front ++ c ∷ [];
           back = rest;
