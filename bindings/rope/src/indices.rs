@@ -1,76 +1,143 @@
-//! The questions that have a name in ropey. Each is one or two questions of the rope.
-use crate::{Rope, Scheme};
+//! Counts, conversions and places, which a rope and its slices have alike.
 
-/// Counts and conversions by their names in ropey. Lines are those of [`Scheme::Lines`].
-///
-/// Each takes any index. An index inside a char, or the second unit of a surrogate pair, belongs to the char; an index past
-/// the end is answered as the end is.
-///
-/// ```
-/// # fn main() -> Result<(), str_rope::Error> {
-/// let rope: str_rope::Rope = "a\r\n🐸b".parse()?;
-/// assert_eq!((rope.len_chars(), rope.len_utf16_cu(), rope.len_lines()), (5, 6, 2));
-/// assert_eq!((rope.byte_to_char(7), rope.char_to_byte(4)), (4, 7));
-/// assert_eq!((rope.byte_to_line(7), rope.line_to_byte(1)), (1, 3));
-/// assert_eq!((rope.char_to_line(4), rope.line_to_char(1)), (1, 3));
-/// assert_eq!((rope.char_to_utf16_cu(4), rope.utf16_cu_to_char(5)), (5, 4));
-/// # Ok(())
-/// # }
-/// ```
-impl Rope {
-    /// How many chars the text has.
-    pub fn len_chars(&self) -> usize {
-        self.count(Scheme::Chars)
-    }
+/// Methods over `len`, `count`, `from_byte_idx`, `to_byte_idx` and `whole`.
+macro_rules! index_methods {
+    () => {
+        /// Whether the text has no byte. O(1).
+        pub fn is_empty(&self) -> bool {
+            self.len() == 0
+        }
 
-    /// How many lines the text has: one more than its line breaks.
-    pub fn len_lines(&self) -> usize {
-        // No sum that wraps: a text has at most `isize::MAX` bytes.
-        self.count(Scheme::Lines) + 1
-    }
+        /// How many chars (Unicode scalar values) the text has. O(1) for a rope, O(log n) for a slice.
+        pub fn len_chars(&self) -> usize {
+            self.count($crate::Scheme::Chars)
+        }
 
-    /// How many UTF-16 code units the text has.
-    pub fn len_utf16_cu(&self) -> usize {
-        self.count(Scheme::Utf16)
-    }
+        /// How many UTF-16 code units the text has. O(1) for a rope, O(log n) for a slice.
+        pub fn len_utf16(&self) -> usize {
+            self.count($crate::Scheme::Utf16)
+        }
 
-    /// The char of a byte. Past the end it is how many chars there are.
-    pub fn byte_to_char(&self, byte_idx: usize) -> usize {
-        self.from_byte_idx(Scheme::Chars, byte_idx)
-    }
+        /// From a byte index to a char index: how many chars end at the byte or before it. Past the end it is
+        /// `len_chars()`; a byte inside a char has the index of that char. O(log n).
+        ///
+        /// ```
+        /// let rope = str_rope::Rope::from("é🐸b");
+        /// assert_eq!([0, 1, 2, 5, 6, 99].map(|byte| rope.byte_to_char_idx(byte)), [0, 0, 1, 1, 2, 3]);
+        /// ```
+        pub fn byte_to_char_idx(&self, byte_idx: usize) -> usize {
+            self.from_byte_idx($crate::Scheme::Chars, byte_idx)
+        }
 
-    /// Where a char begins. Past the last one it is the length in bytes.
-    pub fn char_to_byte(&self, char_idx: usize) -> usize {
-        self.to_byte_idx(Scheme::Chars, char_idx)
-    }
+        /// From a char index to the byte index where that char begins. Past the last char it is `len()`. O(log n).
+        ///
+        /// ```
+        /// let rope = str_rope::Rope::from("é🐸b");
+        /// assert_eq!([0, 1, 2, 3, 99].map(|char| rope.char_to_byte_idx(char)), [0, 2, 6, 7, 7]);
+        /// ```
+        pub fn char_to_byte_idx(&self, char_idx: usize) -> usize {
+            self.to_byte_idx($crate::Scheme::Chars, char_idx)
+        }
 
-    /// The line of a byte, from 0. Past the end it is the last line.
-    pub fn byte_to_line(&self, byte_idx: usize) -> usize {
-        self.from_byte_idx(Scheme::Lines, byte_idx)
-    }
+        /// From a byte index to an index in UTF-16 code units: how many of them the chars have that end at the byte or
+        /// before it. Past the end it is `len_utf16()`; a byte inside a char has the index of that char. O(log n).
+        ///
+        /// ```
+        /// let rope = str_rope::Rope::from("é🐸b");
+        /// assert_eq!([0, 1, 2, 5, 6, 99].map(|byte| rope.byte_to_utf16_idx(byte)), [0, 0, 1, 1, 3, 4]);
+        /// ```
+        pub fn byte_to_utf16_idx(&self, byte_idx: usize) -> usize {
+            self.from_byte_idx($crate::Scheme::Utf16, byte_idx)
+        }
 
-    /// Where a line begins. Past the last one it is the length in bytes.
-    pub fn line_to_byte(&self, line_idx: usize) -> usize {
-        self.to_byte_idx(Scheme::Lines, line_idx)
-    }
+        /// From an index in UTF-16 code units to the byte index where the char of that unit begins. Past the last unit it
+        /// is `len()`; the second unit of a surrogate pair has the byte of the first. O(log n).
+        ///
+        /// ```
+        /// let rope = str_rope::Rope::from("é🐸b");
+        /// assert_eq!([0, 1, 2, 3, 99].map(|unit| rope.utf16_to_byte_idx(unit)), [0, 2, 2, 6, 7]);
+        /// ```
+        pub fn utf16_to_byte_idx(&self, utf16_idx: usize) -> usize {
+            self.to_byte_idx($crate::Scheme::Utf16, utf16_idx)
+        }
 
-    /// The line of a char, from 0. Past the end it is the last line.
-    pub fn char_to_line(&self, char_idx: usize) -> usize {
-        self.byte_to_line(self.char_to_byte(char_idx))
-    }
+        /// The greatest char boundary at a byte index or before it. Past the end it is `len()`. O(log n), and reads a char.
+        ///
+        /// ```
+        /// let rope = str_rope::Rope::from("é🐸b");
+        /// assert_eq!([1, 2, 5, 6, 99].map(|byte| rope.floor_char_boundary(byte)), [0, 2, 2, 6, 7]);
+        /// ```
+        pub fn floor_char_boundary(&self, byte_idx: usize) -> usize {
+            let Some((text, start)) = self.whole().chunk_of(byte_idx) else {
+                return self.len();
+            };
+            let is_boundary = |&at: &usize| text.is_char_boundary(at - start);
+            // The chunk begins at a boundary.
+            (start..=byte_idx).rev().find(is_boundary).unwrap_or(start)
+        }
 
-    /// The char with which a line begins. Past the last line it is how many chars there are.
-    pub fn line_to_char(&self, line_idx: usize) -> usize {
-        self.byte_to_char(self.line_to_byte(line_idx))
-    }
+        /// The least char boundary at a byte index or after it. Past the end it is `len()`. O(log n), and reads a char.
+        ///
+        /// ```
+        /// let rope = str_rope::Rope::from("é🐸b");
+        /// assert_eq!([0, 1, 2, 3, 99].map(|byte| rope.ceil_char_boundary(byte)), [0, 2, 2, 6, 7]);
+        /// ```
+        pub fn ceil_char_boundary(&self, byte_idx: usize) -> usize {
+            let Some((text, start)) = self.whole().chunk_of(byte_idx) else {
+                return self.len();
+            };
+            let end = start + text.len();
+            let is_boundary = |&at: &usize| text.is_char_boundary(at - start);
+            (byte_idx..end).find(is_boundary).unwrap_or(end)
+        }
 
-    /// How many UTF-16 code units are before a char. Past the end it is all of them.
-    pub fn char_to_utf16_cu(&self, char_idx: usize) -> usize {
-        self.from_byte_idx(Scheme::Utf16, self.char_to_byte(char_idx))
-    }
+        /// The byte at a byte index. From the end on it is `None`. O(log n).
+        ///
+        /// ```
+        /// let rope = str_rope::Rope::from("ab");
+        /// assert_eq!([0, 1, 2].map(|byte| rope.byte(byte)), [Some(b'a'), Some(b'b'), None]);
+        /// ```
+        pub fn byte(&self, byte_idx: usize) -> Option<u8> {
+            let (text, start) = self.whole().chunk_of(byte_idx)?;
+            text.as_bytes().get(byte_idx - start).copied()
+        }
 
-    /// The char of a UTF-16 code unit. Past the last one it is how many chars there are.
-    pub fn utf16_cu_to_char(&self, utf16_cu_idx: usize) -> usize {
-        self.byte_to_char(self.to_byte_idx(Scheme::Utf16, utf16_cu_idx))
-    }
+        /// The char that begins at a byte index. From the end on, and inside a char, it is `None`;
+        /// `floor_char_boundary` tells where a char begins. O(log n).
+        ///
+        /// ```
+        /// let rope = str_rope::Rope::from("🐸b");
+        /// assert_eq!([0, 1, 4, 5].map(|byte| rope.char(byte)), [Some('🐸'), None, Some('b'), None]);
+        /// ```
+        pub fn char(&self, byte_idx: usize) -> Option<char> {
+            let (text, start) = self.whole().chunk_of(byte_idx)?;
+            text.get(byte_idx - start..)?.chars().next()
+        }
+
+        /// The text between two byte indices as one block of memory. O(log n), and the number of bytes.
+        ///
+        /// It is [`Error::NotOrdered`](crate::Error) where the range ends before it starts, `NotBoundary` where a byte is past
+        /// the end or inside a char, and `NoMemory` where memory is refused.
+        ///
+        /// ```
+        /// use str_rope::{Error, Rope};
+        ///
+        /// let rope = Rope::from("one two");
+        /// assert_eq!(rope.text_in(4..).as_deref(), Ok("two"));
+        /// assert_eq!(rope.text_in(4..8), Err(Error::NotBoundary));
+        /// ```
+        pub fn text_in(
+            &self,
+            range: impl core::ops::RangeBounds<usize>,
+        ) -> Result<alloc::string::String, $crate::Error> {
+            let slice = self.slice(range)?;
+            let mut text = alloc::string::String::new();
+            text.try_reserve_exact(slice.len())
+                .map_err(|_| $crate::Error::NoMemory)?;
+            text.extend(slice.chunks());
+            Ok(text)
+        }
+    };
 }
+
+pub(crate) use index_methods;

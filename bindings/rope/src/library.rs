@@ -3,7 +3,6 @@
 //! You pass a handle that was zeroed once. Calls that take it as `*const` may run at once, in many threads; one that takes it as
 //! `*mut` runs beside no other. Bytes that you pass must stay where and as they are until the call returns. Those of a `&str`
 //! do, and are UTF-8.
-use crate::Bytes;
 use core::ffi::c_void;
 use core::ptr;
 use str_indices_positions::{Position, Range};
@@ -19,6 +18,22 @@ impl Handle {
     pub const EMPTY: Handle = Handle {
         hidden: ptr::null_mut(),
     };
+}
+
+/// A chunk that the library lends. Its bytes stay until the handle is in a call that takes it as `*mut`.
+#[repr(C)]
+pub struct LentChunk {
+    pub text: *const u8,
+    pub len: usize,
+    /// The byte index where it starts in the text.
+    pub start: usize,
+}
+
+/// The byte indices of a part, as the library has them.
+#[repr(C)]
+pub struct Bytes {
+    pub start: usize,
+    pub end: usize,
 }
 
 extern "C" {
@@ -37,10 +52,9 @@ extern "C" {
     pub fn str_rope_append(rope: *mut Handle, other: *mut Handle) -> u32;
     pub fn str_rope_split_off(rope: *mut Handle, at: usize, rest: *mut Handle) -> u32;
 
-    pub fn str_rope_read(rope: *const Handle, at: usize, out: *mut u8, room: usize) -> usize;
+    pub fn str_rope_chunk_at(rope: *const Handle, byte_idx: usize, chunk: *mut LentChunk) -> bool;
     pub fn str_rope_copy_to(rope: *const Handle, from: usize, to: usize, out: *mut u8, room: usize) -> u32;
 
-    pub fn str_rope_line_end(rope: *const Handle, line_idx: usize) -> usize;
     pub fn str_rope_position_of(rope: *const Handle, encoding: u32, byte_idx: usize) -> Position;
     pub fn str_rope_byte_of(rope: *const Handle, encoding: u32, position: Position) -> usize;
     pub fn str_rope_exact_byte_of(rope: *const Handle, encoding: u32, position: Position) -> usize;

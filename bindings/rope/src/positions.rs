@@ -5,13 +5,6 @@ use crate::{Error, Rope};
 use core::ops;
 use str_indices_positions::{Encoding, LineType, Position, Range};
 
-/// The byte indices of a range, as the library has them.
-#[repr(C)]
-pub struct Bytes {
-    start: usize,
-    end: usize,
-}
-
 /// The library's answer for none: no text is this long.
 const NONE: usize = usize::MAX;
 
@@ -79,21 +72,6 @@ impl Rope {
         (bytes.start != NONE).then_some(bytes.start..bytes.end)
     }
 
-    /// The byte index where the content of a line ends: before its break, or the length of the text in bytes where it is
-    /// the last line or past it.
-    ///
-    /// ```
-    /// # fn main() -> Result<(), str_rope::Error> {
-    /// let rope: str_rope::Rope = "one\r\ntwo".parse()?;
-    /// assert_eq!((rope.line_end(0), rope.line_end(1)), (3, 8));
-    /// # Ok(())
-    /// # }
-    /// ```
-    pub fn line_end(&self, line_idx: usize) -> usize {
-        // SAFETY: as `library` says.
-        unsafe { str_rope_line_end(self.handle(), line_idx) }
-    }
-
     /// Replaces what stands in a range by a text: one entry of the protocol's `contentChanges`. Each entry is meant in
     /// the text that the one before it left. Where the entry has no range, its text is the whole one: [`Rope::assign`].
     ///
@@ -131,28 +109,20 @@ impl Rope {
     }
 }
 
-/// Lines and positions by a [`LineType`], for compilers and editors that have other lines than the protocol.
+/// Positions by a [`LineType`], for compilers and editors that have other lines than the protocol. These calls end in `_by`, and
+/// take the kind of line first.
 ///
 /// ```
 /// use str_rope::{Encoding, LineType, Position, Rope};
 ///
 /// # fn main() -> Result<(), str_rope::Error> {
 /// let rope: Rope = "a\u{2028}b\r\nc".parse()?;
-/// let lines = [LineType::Lf, LineType::LfCr, LineType::All].map(|lines| rope.line_by(lines, 0));
-/// assert_eq!(lines, [0..6, 0..5, 0..1]);
 /// let here = Position { line: 1, character: 0 };
 /// assert_eq!(rope.position_by(LineType::All, Encoding::Utf16, 4), here);
 /// # Ok(())
 /// # }
 /// ```
 impl Rope {
-    /// The byte indices of the content of a line, without its break. Past the last line they are none, at the end of the text.
-    pub fn line_by(&self, lines: LineType, line_idx: usize) -> ops::Range<usize> {
-        // SAFETY: as `library` says.
-        let bytes = unsafe { str_rope_line_by(self.handle(), lines as u32, line_idx) };
-        bytes.start..bytes.end
-    }
-
     /// The position of a byte: its line, and the units from that line's beginning to the byte.
     ///
     /// A byte inside a char has the position where the char begins, the byte between the CR and the LF of one break that of

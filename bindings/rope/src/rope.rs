@@ -1,9 +1,12 @@
 //! A rope: how it is made, asked and changed.
 use crate::errors::result_of;
+use crate::indices::index_methods;
+use crate::iter::iterator_methods;
 use crate::library::*;
-use crate::Error;
-use core::ops::{self, Bound, RangeBounds};
-use str_indices_positions::Scheme;
+use crate::lines::line_methods;
+use crate::slice::bytes_of;
+use crate::{Error, LineType, RopeSlice, Scheme};
+use core::ops::{self, RangeBounds};
 
 /// A text in a balanced tree of chunks. A question looks at a number of places that is logarithmic in the number of chunks.
 /// A change goes down the tree too, and copies what it puts in. A clone shares the chunks, and takes one step.
@@ -53,6 +56,35 @@ impl Rope {
         &mut self.handle
     }
 
+    /// The whole text, for methods that a slice has too.
+    pub(crate) fn whole(&self) -> RopeSlice<'_> {
+        RopeSlice::new(self, 0, self.len())
+    }
+
+    /// The bytes of the content of a line. Past the last line they are none, at the end of the text.
+    pub(crate) fn content(&self, line_idx: usize, line_type: LineType) -> ops::Range<usize> {
+        // SAFETY: as `library` says.
+        let bytes = unsafe { str_rope_line_by(self.handle(), line_type as u32, line_idx) };
+        bytes.start..bytes.end
+    }
+
+    /// A rope of a text, which is copied, or [`Error::NoMemory`]. It is `parse` of `std` under its name in ropey; `Rope::from`
+    /// ends the program where memory is refused.
+    ///
+    /// ```
+    /// # fn main() -> Result<(), str_rope::Error> {
+    /// assert_eq!(str_rope::Rope::from_str("one")?, "one");
+    /// # Ok(())
+    /// # }
+    /// ```
+    // The trait `FromStr` has it too, for `parse`; this one needs no import.
+    #[allow(clippy::should_implement_trait)]
+    pub fn from_str(text: &str) -> Result<Rope, Error> {
+        let mut rope = Rope::new();
+        rope.assign(text)?;
+        Ok(rope)
+    }
+
     /// Replaces the whole text by another. Both take memory until it is done.
     ///
     /// ```
@@ -87,18 +119,13 @@ impl Rope {
         Ok(copy)
     }
 
-    /// Whether the text has no byte.
-    pub fn is_empty(&self) -> bool {
-        self.len_bytes() == 0
-    }
-
-    /// How many bytes the text has.
-    pub fn len_bytes(&self) -> usize {
+    /// How many bytes the text has. O(1).
+    pub fn len(&self) -> usize {
         // SAFETY: as `library` says.
         unsafe { str_rope_len(self.handle()) }
     }
 
-    /// How many chars, UTF-16 code units or line breaks the text has.
+    /// How many chars, UTF-16 code units or line breaks the text has. O(1).
     ///
     /// ```
     /// use str_rope::{Rope, Scheme};
@@ -115,7 +142,8 @@ impl Rope {
         unsafe { str_rope_count(self.handle(), scheme as u32) }
     }
 
-    /// How many chars, UTF-16 code units or line breaks end at a byte index or before it. Past the end it is all.
+    /// From a byte index to a count: how many chars, UTF-16 code units or line breaks end at the byte or before it. Past the
+    /// end it is all of them. O(log n), one search.
     ///
     /// ```
     /// use str_rope::{Rope, Scheme};
@@ -134,8 +162,8 @@ impl Rope {
         unsafe { str_rope_from_byte_idx(self.handle(), scheme as u32, byte_idx) }
     }
 
-    /// The byte index where a char, or the char of a UTF-16 code unit, or a line begins. Past the last one it is the
-    /// length of the text in bytes.
+    /// From a count to a byte index: where the char, the char of the UTF-16 code unit, or the line of that index begins. Past
+    /// the last one it is [`Rope::len`]. O(log n), one search.
     ///
     /// ```
     /// use str_rope::{Rope, Scheme};
@@ -154,13 +182,17 @@ impl Rope {
         unsafe { str_rope_to_byte_idx(self.handle(), scheme as u32, idx) }
     }
 
-    /// Whether a byte index is where a char begins, or the end of the text.
+    /// Whether a byte index is where a char begins, or the end of the text. Past the end it is false. O(log n), one search.
     pub fn is_char_boundary(&self, byte_idx: usize) -> bool {
         // SAFETY: as `library` says.
         unsafe { str_rope_is_char_boundary(self.handle(), byte_idx) }
     }
 
-    /// Puts a text in at a byte index.
+    /// Puts a text in at a byte index. Past the end, or inside a char, it is [`Error::NotBoundary`]. O(log n), and copies
+    /// the text.
+    ///
+    /// It is [`Error::TooLong`] where the text would have more than `isize::MAX` bytes, and [`Error::NoMemory`] where memory
+    /// is refused. The text is then as it was.
     ///
     /// ```
     /// use str_rope::{Error, Rope};
@@ -173,12 +205,29 @@ impl Rope {
     /// # Ok(())
     /// # }
     /// ```
-    pub fn insert(&mut self, at: usize, text: &str) -> Result<(), Error> {
+    pub fn insert(&mut self, byte_idx: usize, text: &str) -> Result<(), Error> {
         // SAFETY: as `library` says.
-        result_of(unsafe { str_rope_insert(self.handle_mut(), at, text.as_ptr(), text.len()) })
+        result_of(unsafe { str_rope_insert(self.handle_mut(), byte_idx, text.as_ptr(), text.len()) })
     }
 
-    /// Takes out what stands between two byte indices.
+    /// Puts a char in at a byte index, as [`Rope::insert`] does.
+    ///
+    /// ```
+    /// # fn main() -> Result<(), str_rope::Error> {
+    /// let mut rope: str_rope::Rope = "ac".parse()?;
+    /// rope.insert_char(1, 'é')?;
+    /// assert_eq!(rope, "aéc");
+    /// # Ok(())
+    /// # }
+    /// ```
+    pub fn insert_char(&mut self, byte_idx: usize, char: char) -> Result<(), Error> {
+        self.insert(byte_idx, char.encode_utf8(&mut [0; 4]))
+    }
+
+    /// Takes out the text between two byte indices. Past the end, or inside a char, it is [`Error::NotBoundary`]. O(log n).
+    ///
+    /// It is [`Error::NotOrdered`] where the range ends before it starts, and [`Error::NoMemory`] where memory is refused; to
+    /// take out all of the text needs none. The text is then as it was.
     ///
     /// ```
     /// # fn main() -> Result<(), str_rope::Error> {
@@ -189,12 +238,15 @@ impl Rope {
     /// # }
     /// ```
     pub fn remove(&mut self, range: impl RangeBounds<usize>) -> Result<(), Error> {
-        let bytes = self.bytes_of(range);
+        let bytes = bytes_of(range, self.len());
         // SAFETY: as `library` says.
         result_of(unsafe { str_rope_remove(self.handle_mut(), bytes.start, bytes.end) })
     }
 
-    /// Replaces what stands between two byte indices by a text, in one change.
+    /// Replaces the text between two byte indices by another, in one change. Past the end, or inside a char, it is
+    /// [`Error::NotBoundary`]. O(log n), and copies the new text.
+    ///
+    /// It is refused for the reasons of [`Rope::remove`] and of [`Rope::insert`]. The text is then as it was.
     ///
     /// ```
     /// # fn main() -> Result<(), str_rope::Error> {
@@ -205,13 +257,16 @@ impl Rope {
     /// # }
     /// ```
     pub fn replace(&mut self, range: impl RangeBounds<usize>, text: &str) -> Result<(), Error> {
-        let bytes = self.bytes_of(range);
+        let bytes = bytes_of(range, self.len());
         // SAFETY: as `library` says.
         result_of(unsafe { str_rope_replace(self.handle_mut(), bytes.start, bytes.end, text.as_ptr(), text.len()) })
     }
 
-    /// Puts the text of another rope at the end of this one, and leaves the other empty. Where it is refused, both are as
-    /// they were.
+    /// Moves the text of another rope to the end of this one, and leaves the other empty. O(log n), and copies two chunks at
+    /// most.
+    ///
+    /// It is [`Error::TooLong`] where the text would have more than `isize::MAX` bytes, and [`Error::NoMemory`] where memory
+    /// is refused. Both are then as they were.
     ///
     /// ```
     /// # fn main() -> Result<(), str_rope::Error> {
@@ -228,7 +283,10 @@ impl Rope {
         result_of(unsafe { str_rope_append(self.handle_mut(), other.handle_mut()) })
     }
 
-    /// Takes off what stands from a byte index on, and answers it as a rope.
+    /// Takes off the text from a byte index on, and gives it as a rope. Past the end, or inside a char, it is
+    /// [`Error::NotBoundary`]. O(log n).
+    ///
+    /// It is [`Error::NoMemory`] where memory is refused. The text is then as it was.
     ///
     /// ```
     /// # fn main() -> Result<(), str_rope::Error> {
@@ -238,15 +296,18 @@ impl Rope {
     /// # Ok(())
     /// # }
     /// ```
-    pub fn split_off(&mut self, at: usize) -> Result<Rope, Error> {
+    pub fn split_off(&mut self, byte_idx: usize) -> Result<Rope, Error> {
         let mut rest = Rope::new();
         // SAFETY: as `library` says; the new rope is another one.
-        result_of(unsafe { str_rope_split_off(self.handle_mut(), at, rest.handle_mut()) })?;
+        result_of(unsafe { str_rope_split_off(self.handle_mut(), byte_idx, rest.handle_mut()) })?;
         Ok(rest)
     }
 
-    /// Copies the bytes between two byte indices to the beginning of a room, and answers how many they are. Where it is
-    /// refused, the room is as it was; it is [`Error::TooLong`] where the room is shorter than the part.
+    /// Copies the bytes between two byte indices to the beginning of a room, and answers how many they are. Past the end, or
+    /// inside a char, it is [`Error::NotBoundary`]. O(log n), and the number of bytes.
+    ///
+    /// It is [`Error::NotOrdered`] where the range ends before it starts, and [`Error::TooLong`] where the room is shorter than
+    /// the part. The room is then as it was.
     ///
     /// ```
     /// # fn main() -> Result<(), str_rope::Error> {
@@ -258,26 +319,24 @@ impl Rope {
     /// # }
     /// ```
     pub fn copy_to(&self, range: impl RangeBounds<usize>, room: &mut [u8]) -> Result<usize, Error> {
-        let bytes = self.bytes_of(range);
+        let bytes = bytes_of(range, self.len());
         let (out, len) = (room.as_mut_ptr(), room.len());
         // SAFETY: as `library` says, and the room may be written to.
         result_of(unsafe { str_rope_copy_to(self.handle(), bytes.start, bytes.end, out, len) })?;
         Ok(bytes.len())
     }
+}
 
-    /// The byte indices that a range means.
-    pub(crate) fn bytes_of(&self, range: impl RangeBounds<usize>) -> ops::Range<usize> {
-        // No text has a byte at `usize::MAX`, so an index that is cut to it is past the end as well.
-        let start = match range.start_bound() {
-            Bound::Included(&byte) => byte,
-            Bound::Excluded(&byte) => byte.saturating_add(1),
-            Bound::Unbounded => 0,
-        };
-        let end = match range.end_bound() {
-            Bound::Included(&byte) => byte.saturating_add(1),
-            Bound::Excluded(&byte) => byte,
-            Bound::Unbounded => self.len_bytes(),
-        };
-        start..end
-    }
+impl Rope {
+    index_methods!();
+}
+
+/// Lines by a [`LineType`].
+impl Rope {
+    line_methods!('_);
+}
+
+/// Parts and iterators.
+impl Rope {
+    iterator_methods!('_);
 }

@@ -1,9 +1,18 @@
-//! The traits that other crates expect of a text.
-use crate::{Error, Rope, MAX_CHUNK};
+//! The traits of `std` that other crates expect of a text. Those of comparison are in `compare`.
+use crate::{Error, Rope, RopeBuilder, RopeSlice, MAX_CHUNK};
 use alloc::alloc::{handle_alloc_error, Layout};
-use alloc::string::{String, ToString};
+use alloc::borrow::Cow;
+use alloc::string::String;
 use core::fmt::{self, Write};
 use core::str::FromStr;
+
+/// What was made; or the end of the program, as a `String` ends it where memory is refused.
+fn made<T>(result: Result<T, Error>) -> T {
+    result.unwrap_or_else(|error| match error {
+        Error::NoMemory => handle_alloc_error(Layout::new::<[u8; MAX_CHUNK]>()),
+        _ => panic!("{error}"),
+    })
+}
 
 impl Default for Rope {
     fn default() -> Rope {
@@ -15,8 +24,7 @@ impl Default for Rope {
 /// [`Rope::try_clone`] answers the error.
 impl Clone for Rope {
     fn clone(&self) -> Rope {
-        self.try_clone()
-            .unwrap_or_else(|_| handle_alloc_error(Layout::new::<[u8; MAX_CHUNK]>()))
+        made(self.try_clone())
     }
 }
 
@@ -25,42 +33,150 @@ impl FromStr for Rope {
     type Err = Error;
 
     fn from_str(text: &str) -> Result<Rope, Error> {
-        let mut rope = Rope::new();
-        rope.assign(text)?;
-        Ok(rope)
+        Rope::from_str(text)
     }
 }
 
-/// It fails where memory is refused.
-impl TryFrom<&str> for Rope {
-    type Error = Error;
+/// Makes a rope of what derefs to a `str`.
+macro_rules! from_text {
+    ($($text:ty),*) => {$(
+        /// It copies the text. Where memory is refused, it ends the program as a `String` does; `parse` answers the error.
+        impl From<$text> for Rope {
+            fn from(text: $text) -> Rope {
+                made(Rope::from_str(&text))
+            }
+        }
+    )*};
+}
 
-    fn try_from(text: &str) -> Result<Rope, Error> {
-        text.parse()
+from_text!(&str, &String, String, Cow<'_, str>);
+
+/// It shares the chunks that lie inside the slice. Where memory is refused, it ends the program as a `String` does;
+/// [`RopeSlice::to_rope`] answers the error.
+impl From<RopeSlice<'_>> for Rope {
+    fn from(slice: RopeSlice<'_>) -> Rope {
+        made(slice.to_rope())
     }
 }
 
+/// The text as one block of memory.
+impl From<RopeSlice<'_>> for String {
+    fn from(slice: RopeSlice<'_>) -> String {
+        let mut text = String::with_capacity(slice.len());
+        text.extend(slice.chunks());
+        text
+    }
+}
+
+/// The text as one block of memory.
 impl From<&Rope> for String {
     fn from(rope: &Rope) -> String {
-        rope.to_string()
+        rope.whole().into()
+    }
+}
+
+/// The text as one block of memory.
+impl From<Rope> for String {
+    fn from(rope: Rope) -> String {
+        String::from(&rope)
+    }
+}
+
+/// The text, lent where it lies in one chunk, and else copied.
+impl<'a> From<RopeSlice<'a>> for Cow<'a, str> {
+    fn from(slice: RopeSlice<'a>) -> Cow<'a, str> {
+        match slice.as_str() {
+            Some(text) => Cow::Borrowed(text),
+            None => Cow::Owned(slice.into()),
+        }
+    }
+}
+
+/// The text, lent where it lies in one chunk, and else copied.
+impl<'a> From<&'a Rope> for Cow<'a, str> {
+    fn from(rope: &'a Rope) -> Cow<'a, str> {
+        rope.whole().into()
+    }
+}
+
+/// Makes or extends a rope by pieces that deref to a `str`.
+macro_rules! from_pieces {
+    ($($piece:ty),*) => {$(
+        /// Where memory is refused, it ends the program as a `String` does.
+        impl<'a> FromIterator<$piece> for Rope {
+            fn from_iter<I: IntoIterator<Item = $piece>>(pieces: I) -> Rope {
+                let mut rope = Rope::new();
+                rope.extend(pieces);
+                rope
+            }
+        }
+
+        /// Where memory is refused, it ends the program as a `String` does.
+        impl<'a> Extend<$piece> for Rope {
+            fn extend<I: IntoIterator<Item = $piece>>(&mut self, pieces: I) {
+                let mut builder = RopeBuilder::new();
+                pieces.into_iter().for_each(|piece| made(builder.append(&piece)));
+                made(builder.finish().and_then(|mut rest| self.append(&mut rest)));
+            }
+        }
+    )*};
+}
+
+from_pieces!(&'a str, &'a String, String, Cow<'a, str>);
+
+/// Where memory is refused, it ends the program as a `String` does.
+impl FromIterator<char> for Rope {
+    fn from_iter<I: IntoIterator<Item = char>>(chars: I) -> Rope {
+        let mut rope = Rope::new();
+        rope.extend(chars);
+        rope
+    }
+}
+
+/// Where memory is refused, it ends the program as a `String` does.
+impl Extend<char> for Rope {
+    fn extend<I: IntoIterator<Item = char>>(&mut self, chars: I) {
+        let mut builder = RopeBuilder::new();
+        let append = |char: char| made(builder.append(char.encode_utf8(&mut [0; 4])));
+        chars.into_iter().for_each(append);
+        made(builder.finish().and_then(|mut rest| self.append(&mut rest)));
+    }
+}
+
+/// Puts text at the end. It fails where [`Rope::insert`] is refused.
+impl fmt::Write for Rope {
+    fn write_str(&mut self, text: &str) -> fmt::Result {
+        self.insert(self.len(), text).map_err(|_| fmt::Error)
+    }
+}
+
+/// Writes the text, chunk by chunk. A width or a precision changes nothing.
+impl fmt::Display for RopeSlice<'_> {
+    fn fmt(&self, f: &mut fmt::Formatter<'_>) -> fmt::Result {
+        self.chunks().try_for_each(|chunk| f.write_str(chunk))
     }
 }
 
 /// Writes the text, chunk by chunk. A width or a precision changes nothing.
 impl fmt::Display for Rope {
     fn fmt(&self, f: &mut fmt::Formatter<'_>) -> fmt::Result {
-        self.chunks().try_for_each(|chunk| f.write_str(&chunk))
+        fmt::Display::fmt(&self.whole(), f)
+    }
+}
+
+/// Writes the text as a `str` is written: in quotation marks, and with escapes.
+impl fmt::Debug for RopeSlice<'_> {
+    fn fmt(&self, f: &mut fmt::Formatter<'_>) -> fmt::Result {
+        f.write_char('"')?;
+        self.chunks().try_for_each(|chunk| write_escaped(f, chunk))?;
+        f.write_char('"')
     }
 }
 
 /// Writes the text as a `str` is written: in quotation marks, and with escapes.
 impl fmt::Debug for Rope {
     fn fmt(&self, f: &mut fmt::Formatter<'_>) -> fmt::Result {
-        f.write_char('"')?;
-        for chunk in self.chunks() {
-            write_escaped(f, &chunk)?;
-        }
-        f.write_char('"')
+        fmt::Debug::fmt(&self.whole(), f)
     }
 }
 
@@ -69,43 +185,4 @@ fn write_escaped(f: &mut fmt::Formatter<'_>, text: &str) -> fmt::Result {
         '\'' => f.write_char(char),
         _ => write!(f, "{}", char.escape_debug()),
     })
-}
-
-impl Rope {
-    /// Whether a text stands at a byte index, where it has at most as many bytes as a chunk.
-    fn has_at(&self, at: usize, text: &str) -> bool {
-        let mut room = [0; MAX_CHUNK];
-        let room = &mut room[..text.len()];
-        self.copy_to(at..at + text.len(), room).is_ok() && room == text.as_bytes()
-    }
-}
-
-/// Two ropes are equal where their texts are, in whatever chunks.
-impl PartialEq for Rope {
-    fn eq(&self, other: &Rope) -> bool {
-        self.len_bytes() == other.len_bytes() && self.chunks().all(|chunk| other.has_at(chunk.start(), &chunk))
-    }
-}
-
-impl Eq for Rope {}
-
-impl PartialEq<str> for Rope {
-    fn eq(&self, text: &str) -> bool {
-        self.len_bytes() == text.len()
-            && self
-                .chunks()
-                .all(|chunk| text.as_bytes()[chunk.start()..chunk.end()] == *chunk.as_bytes())
-    }
-}
-
-impl PartialEq<&str> for Rope {
-    fn eq(&self, text: &&str) -> bool {
-        self == *text
-    }
-}
-
-impl PartialEq<String> for Rope {
-    fn eq(&self, text: &String) -> bool {
-        self == text.as_str()
-    }
 }

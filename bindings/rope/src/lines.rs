@@ -1,0 +1,190 @@
+//! Lines by what ends them. A rope and its slices have them alike.
+use crate::walk::Steps;
+use crate::{LineType, RopeSlice, Scheme};
+
+/// The scheme that counts the breaks of a kind of line.
+pub(crate) fn breaks(line_type: LineType) -> Scheme {
+    match line_type {
+        LineType::Lf => Scheme::Lf,
+        LineType::LfCr => Scheme::Crlf,
+        LineType::All => Scheme::Lines,
+    }
+}
+
+/// Methods over `count`, `from_byte_idx`, `to_byte_idx` and `whole`, which answer for the lifetime of the text.
+macro_rules! line_methods {
+    ($life:lifetime) => {
+        /// How many lines the text has: one more than its line breaks. A text that ends in a break has an empty last line.
+        /// O(1) for a rope, O(log n) for a slice.
+        ///
+        /// ```
+        /// use str_rope::{LineType, Rope};
+        ///
+        /// let rope = Rope::from("a\r\nb\rc\u{2028}");
+        /// let types = [LineType::Lf, LineType::LfCr, LineType::All];
+        /// assert_eq!(types.map(|line_type| rope.len_lines(line_type)), [2, 3, 4]);
+        /// ```
+        pub fn len_lines(&self, line_type: $crate::LineType) -> usize {
+            // No sum that wraps: a text has at most `isize::MAX` bytes.
+            self.count($crate::lines::breaks(line_type)) + 1
+        }
+
+        /// From a byte index to the index of its line: how many breaks end at the byte or before it. Past the end it is the
+        /// last line; a byte inside a break is on the line that the break ends. O(log n).
+        ///
+        /// ```
+        /// use str_rope::{LineType, Rope};
+        ///
+        /// let rope = Rope::from("a\r\nb");
+        /// let line = |byte| rope.byte_to_line_idx(byte, LineType::LfCr);
+        /// assert_eq!([0, 1, 2, 3, 99].map(line), [0, 0, 0, 1, 1]);
+        /// ```
+        pub fn byte_to_line_idx(&self, byte_idx: usize, line_type: $crate::LineType) -> usize {
+            self.from_byte_idx($crate::lines::breaks(line_type), byte_idx)
+        }
+
+        /// From a line index to the byte index where that line begins. Past the last line it is `len()`. O(log n).
+        ///
+        /// ```
+        /// use str_rope::{LineType, Rope};
+        ///
+        /// let rope = Rope::from("a\r\nb");
+        /// let byte = |line| rope.line_to_byte_idx(line, LineType::LfCr);
+        /// assert_eq!([0, 1, 2].map(byte), [0, 3, 4]);
+        /// ```
+        pub fn line_to_byte_idx(&self, line_idx: usize, line_type: $crate::LineType) -> usize {
+            self.to_byte_idx($crate::lines::breaks(line_type), line_idx)
+        }
+
+        /// A line, with its break. Past the last line it is `None`. O(log n).
+        ///
+        /// ```
+        /// use str_rope::{LineType, Rope};
+        ///
+        /// let rope = Rope::from("a\r\nb\n");
+        /// let line = |line| rope.line(line, LineType::LfCr).map(String::from);
+        /// assert_eq!([0, 1, 2, 3].map(line), [Some("a\r\n".into()), Some("b\n".into()), Some("".into()), None]);
+        /// ```
+        pub fn line(&self, line_idx: usize, line_type: $crate::LineType) -> Option<$crate::RopeSlice<$life>> {
+            self.lines_at(line_idx, line_type).next()
+        }
+
+        /// The byte indices of the content of a line, without its break. Past the last line they are none, at the end of the
+        /// text. O(log n).
+        ///
+        /// ```
+        /// use str_rope::{LineType, Rope};
+        ///
+        /// let rope = Rope::from("a\u{2028}b\r\nc");
+        /// let types = [LineType::Lf, LineType::LfCr, LineType::All];
+        /// assert_eq!(types.map(|line_type| rope.line_content(0, line_type)), [0..6, 0..5, 0..1]);
+        /// assert_eq!(rope.line_content(9, LineType::Lf), 8..8);
+        /// ```
+        pub fn line_content(&self, line_idx: usize, line_type: $crate::LineType) -> core::ops::Range<usize> {
+            let slice = self.whole();
+            let before = $crate::lines::line_of_start(slice, line_type);
+            slice.cut(slice.rope().content(before.saturating_add(line_idx), line_type))
+        }
+
+        /// The byte index where the content of a line ends, before its break. It is `len()` for the last line, and past it.
+        /// O(log n).
+        ///
+        /// ```
+        /// use str_rope::{LineType, Rope};
+        ///
+        /// let rope = Rope::from("one\r\ntwo");
+        /// assert_eq!([0, 1, 2].map(|line| rope.line_end(line, LineType::LfCr)), [3, 8, 8]);
+        /// ```
+        pub fn line_end(&self, line_idx: usize, line_type: $crate::LineType) -> usize {
+            self.line_content(line_idx, line_type).end
+        }
+
+        /// The lines in order, each with its break; the last one has none, and is empty where the text ends in a break.
+        /// Each takes a search in O(log n).
+        ///
+        /// ```
+        /// use str_rope::{LineType, Rope};
+        ///
+        /// let rope = Rope::from("one\ntwo\n");
+        /// let lines: Vec<_> = rope.lines(LineType::Lf).map(String::from).collect();
+        /// assert_eq!(lines, ["one\n", "two\n", ""]);
+        /// ```
+        pub fn lines(&self, line_type: $crate::LineType) -> $crate::Lines<$life> {
+            self.lines_at(0, line_type)
+        }
+
+        /// The lines, from a line index on; [`Lines::prev`](crate::Lines::prev) gives those before it. Past the last line
+        /// none remains. O(log n).
+        ///
+        /// ```
+        /// use str_rope::{LineType, Rope};
+        ///
+        /// let rope = Rope::from("one\ntwo\nthree");
+        /// let mut lines = rope.lines_at(2, LineType::Lf);
+        /// assert_eq!(lines.prev().unwrap(), "two\n");
+        /// assert_eq!(lines.next().unwrap(), "two\n");
+        /// assert_eq!(lines.next().unwrap(), "three");
+        /// assert_eq!(lines.next(), None);
+        /// ```
+        pub fn lines_at(&self, line_idx: usize, line_type: $crate::LineType) -> $crate::Lines<$life> {
+            let end = self.len_lines(line_type);
+            $crate::Lines::new(self.whole(), line_type, line_idx.min(end), end)
+        }
+    };
+}
+
+pub(crate) use line_methods;
+
+/// The line of the rope in which a slice begins.
+pub(crate) fn line_of_start(slice: RopeSlice<'_>, line_type: LineType) -> usize {
+    slice.rope().from_byte_idx(breaks(line_type), slice.range().start)
+}
+
+/// Goes from line to line, by the lines' numbers.
+#[derive(Clone)]
+pub(crate) struct LineSteps<'a> {
+    slice: RopeSlice<'a>,
+    scheme: Scheme,
+    /// The line of the rope in which the slice begins.
+    first: usize,
+    /// A line of the slice, and the byte of the rope where it begins, if one is known.
+    known: Option<(usize, usize)>,
+}
+
+impl<'a> LineSteps<'a> {
+    pub fn new(slice: RopeSlice<'a>, line_type: LineType) -> LineSteps<'a> {
+        LineSteps {
+            slice,
+            scheme: breaks(line_type),
+            first: line_of_start(slice, line_type),
+            known: None,
+        }
+    }
+
+    /// The byte of the rope where a line of the slice begins. Past the last one it is the slice's end.
+    fn byte_of(&self, line: usize) -> usize {
+        if let Some((_, byte)) = self.known.filter(|known| known.0 == line) {
+            return byte;
+        }
+        let bytes = self.slice.range();
+        let byte = self.slice.rope().to_byte_idx(self.scheme, self.first + line);
+        byte.clamp(bytes.start, bytes.end)
+    }
+}
+
+impl<'a> Steps for LineSteps<'a> {
+    type Item = RopeSlice<'a>;
+    const MOST: usize = 1;
+
+    fn after(&mut self, at: usize, _end: usize) -> Option<(RopeSlice<'a>, usize)> {
+        let (start, end) = (self.byte_of(at), self.byte_of(at + 1));
+        self.known = Some((at + 1, end));
+        Some((RopeSlice::new(self.slice.rope(), start, end), at + 1))
+    }
+
+    fn before(&mut self, at: usize, _start: usize) -> Option<(RopeSlice<'a>, usize)> {
+        let (start, end) = (self.byte_of(at - 1), self.byte_of(at));
+        self.known = Some((at - 1, start));
+        Some((RopeSlice::new(self.slice.rope(), start, end), at - 1))
+    }
+}

@@ -1,0 +1,212 @@
+//! A part of a rope's text, lent.
+use crate::indices::index_methods;
+use crate::iter::iterator_methods;
+use crate::lines::line_methods;
+use crate::{Error, Rope, Scheme};
+use core::ops::{self, Bound, RangeBounds};
+
+/// A part of a rope's text, which borrows the rope and copies nothing. Its methods answer for this part as a [`Rope`] with that
+/// text alone answers: each index counts from where the part begins.
+///
+/// A part may begin or end between the CR and the LF of one break. Then it begins with an LF, or ends with a CR, which ends a
+/// line of the part.
+///
+/// ```
+/// use str_rope::{LineType, Rope};
+///
+/// # fn main() -> Result<(), str_rope::Error> {
+/// let rope = Rope::from("one\r\ntwo 🐸\r\n");
+/// let slice = rope.slice(5..13)?;
+/// assert_eq!(slice, "two 🐸");
+/// assert_eq!((slice.len(), slice.len_chars(), slice.len_utf16()), (8, 5, 6));
+/// assert_eq!(rope.slice(..4)?.len_lines(LineType::LfCr), 2);
+/// # Ok(())
+/// # }
+/// ```
+///
+/// It lives no longer than the rope stays as it is:
+///
+/// ```compile_fail,E0502
+/// # fn main() -> Result<(), str_rope::Error> {
+/// let mut rope = str_rope::Rope::from("one two");
+/// let slice = rope.slice(..3)?;
+/// rope.insert(0, "x")?;
+/// assert_eq!(slice, "one");
+/// # Ok(())
+/// # }
+/// ```
+#[derive(Clone, Copy)]
+pub struct RopeSlice<'a> {
+    rope: &'a Rope,
+    /// A boundary of the rope's text.
+    start: usize,
+    /// A boundary that is not before `start`.
+    end: usize,
+}
+
+impl<'a> RopeSlice<'a> {
+    /// The part between two boundaries that are in order.
+    pub(crate) fn new(rope: &'a Rope, start: usize, end: usize) -> RopeSlice<'a> {
+        RopeSlice { rope, start, end }
+    }
+
+    /// The rope that lends the text.
+    pub(crate) fn rope(&self) -> &'a Rope {
+        self.rope
+    }
+
+    /// The bytes of the rope's text that the slice has. O(1).
+    ///
+    /// ```
+    /// # fn main() -> Result<(), str_rope::Error> {
+    /// let rope = str_rope::Rope::from("one two three");
+    /// assert_eq!(rope.slice(4..)?.slice(..3)?.range(), 4..7);
+    /// # Ok(())
+    /// # }
+    /// ```
+    pub fn range(&self) -> ops::Range<usize> {
+        self.start..self.end
+    }
+
+    /// How many bytes the slice has. O(1).
+    pub fn len(&self) -> usize {
+        self.end - self.start
+    }
+
+    /// How many chars, UTF-16 code units or line breaks the slice has. O(log n), two searches.
+    pub fn count(&self, scheme: Scheme) -> usize {
+        self.from_byte_idx(scheme, self.len())
+    }
+
+    /// From a byte index to a count: how many chars, UTF-16 code units or line breaks end at the byte or before it. Past the
+    /// end it is all of them. O(log n), two searches.
+    pub fn from_byte_idx(&self, scheme: Scheme, byte_idx: usize) -> usize {
+        let byte = self.in_rope(byte_idx);
+        let found = self.rope.from_byte_idx(scheme, byte) - self.rope.from_byte_idx(scheme, self.start);
+        found + usize::from(byte == self.end && self.ends_inside_break(scheme))
+    }
+
+    /// From a count to a byte index: where the char, the char of the UTF-16 code unit, or the line of that index begins. Past
+    /// the last one it is [`RopeSlice::len`]. O(log n), two searches.
+    pub fn to_byte_idx(&self, scheme: Scheme, idx: usize) -> usize {
+        let before = self.rope.from_byte_idx(scheme, self.start);
+        let byte = self.rope.to_byte_idx(scheme, before.saturating_add(idx));
+        byte.clamp(self.start, self.end) - self.start
+    }
+
+    /// Whether a byte index is where a char begins, or the end of the slice. Past the end it is false. O(log n), one search.
+    pub fn is_char_boundary(&self, byte_idx: usize) -> bool {
+        byte_idx <= self.len() && self.rope.is_char_boundary(self.start + byte_idx)
+    }
+
+    /// Copies the bytes between two byte indices to the beginning of a room, and answers how many they are. O(log n), and the
+    /// number of bytes.
+    ///
+    /// Where it is refused, the room stays as it was: [`Error::NotOrdered`] where the range ends before it starts,
+    /// [`Error::NotBoundary`] where a byte is past the end or inside a char, [`Error::TooLong`] where the room is too short.
+    pub fn copy_to(&self, range: impl RangeBounds<usize>, room: &mut [u8]) -> Result<usize, Error> {
+        self.rope.copy_to(self.slice(range)?.range(), room)
+    }
+
+    /// A rope of this text, which shares the chunks that lie inside the slice and copies a chunk at most at either end.
+    /// O(log n). It is [`Error::NoMemory`] where memory is refused; `Rope::from` ends the program then.
+    ///
+    /// ```
+    /// # fn main() -> Result<(), str_rope::Error> {
+    /// let rope = str_rope::Rope::from("one two three");
+    /// let mut part = rope.slice(4..7)?.to_rope()?;
+    /// part.insert(3, "!")?;
+    /// assert_eq!((part, rope), ("two!".parse()?, "one two three".parse()?));
+    /// # Ok(())
+    /// # }
+    /// ```
+    pub fn to_rope(&self) -> Result<Rope, Error> {
+        if self.start == self.end {
+            return Ok(Rope::new());
+        }
+        let mut rope = self.rope.try_clone()?;
+        if self.end < rope.len() {
+            rope.split_off(self.end)?;
+        }
+        if self.start == 0 {
+            return Ok(rope);
+        }
+        rope.split_off(self.start)
+    }
+
+    /// The whole slice, for methods that a rope has too.
+    pub(crate) fn whole(&self) -> RopeSlice<'a> {
+        *self
+    }
+
+    /// The byte index of the rope's text that an index of the slice means. Past the slice's end it is that end.
+    fn in_rope(&self, byte_idx: usize) -> usize {
+        self.start.saturating_add(byte_idx).min(self.end)
+    }
+
+    /// The bytes of a range that the rope answered, as far as the slice has them, counted from where it begins.
+    pub(crate) fn cut(&self, bytes: ops::Range<usize>) -> ops::Range<usize> {
+        let inside = |byte: usize| byte.clamp(self.start, self.end) - self.start;
+        inside(bytes.start)..inside(bytes.end)
+    }
+
+    /// The part of the slice that a range of it means.
+    pub(crate) fn part(self, bytes: ops::Range<usize>) -> Result<RopeSlice<'a>, Error> {
+        if bytes.end < bytes.start {
+            return Err(Error::NotOrdered);
+        }
+        if !(self.is_char_boundary(bytes.start) && self.is_char_boundary(bytes.end)) {
+            return Err(Error::NotBoundary);
+        }
+        Ok(RopeSlice::new(
+            self.rope,
+            self.start + bytes.start,
+            self.start + bytes.end,
+        ))
+    }
+
+    /// The chunk that a byte of the slice is in, as far as the slice has it, and where that begins.
+    pub(crate) fn chunk_of(self, byte_idx: usize) -> Option<(&'a str, usize)> {
+        if byte_idx >= self.len() {
+            return None;
+        }
+        let (text, start) = self.rope.lend(self.start + byte_idx)?;
+        let bytes = start.max(self.start)..(start + text.len()).min(self.end);
+        Some((&text[bytes.start - start..bytes.end - start], bytes.start - self.start))
+    }
+
+    /// Whether the slice ends between the CR and the LF of one break. That CR, if the slice has it, ends a line of the slice.
+    fn ends_inside_break(&self, scheme: Scheme) -> bool {
+        let pairs = matches!(scheme, Scheme::Crlf | Scheme::Lines);
+        let byte = |at| self.rope.whole().byte(at);
+        pairs && self.start < self.end && byte(self.end) == Some(b'\n') && byte(self.end - 1) == Some(b'\r')
+    }
+}
+
+impl<'a> RopeSlice<'a> {
+    index_methods!();
+}
+
+impl<'a> RopeSlice<'a> {
+    line_methods!('a);
+}
+
+impl<'a> RopeSlice<'a> {
+    iterator_methods!('a);
+}
+
+/// The byte indices that a range means in a text of that length.
+pub fn bytes_of(range: impl RangeBounds<usize>, len: usize) -> ops::Range<usize> {
+    // No text has a byte at `usize::MAX`, so an index that is cut to it is past the end as well.
+    let start = match range.start_bound() {
+        Bound::Included(&byte) => byte,
+        Bound::Excluded(&byte) => byte.saturating_add(1),
+        Bound::Unbounded => 0,
+    };
+    let end = match range.end_bound() {
+        Bound::Included(&byte) => byte.saturating_add(1),
+        Bound::Excluded(&byte) => byte,
+        Bound::Unbounded => len,
+    };
+    start..end
+}
