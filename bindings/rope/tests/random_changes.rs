@@ -1,7 +1,10 @@
 //! Random changes of a rope and of a `String`: every question answers as `std` or a plain walk does.
 mod model;
+use model::answers::{of_rope, of_slice};
 use model::*;
-use str_rope::{Encoding, Error, Position, Range, Rope, Scheme};
+use std::collections::hash_map::DefaultHasher;
+use std::hash::{Hash, Hasher};
+use str_rope::{Encoding, Error, LineType, Position, Range, Rope, RopeBuilder, Scheme};
 
 /// A rope, and the text that it should have.
 struct Pair {
@@ -27,12 +30,14 @@ impl Pair {
 
     /// Makes a random change of both.
     fn change(&mut self, numbers: &mut Numbers) {
-        match numbers.below(8) {
+        match numbers.below(10) {
             0 | 1 => self.insert(numbers),
             2 => self.remove(numbers),
             3 => self.replace(numbers),
             4 => self.append(numbers),
             5 => self.split_off(numbers),
+            6 => self.insert_char(numbers),
+            7 => self.extend(numbers),
             _ => self.change_by_positions(numbers),
         }
     }
@@ -42,6 +47,22 @@ impl Pair {
         let text = numbers.text(400);
         self.rope.insert(at, &text).unwrap();
         self.text.insert_str(at, &text);
+    }
+
+    fn insert_char(&mut self, numbers: &mut Numbers) {
+        let at = numbers.boundary(&self.text);
+        let char = numbers.text(9).chars().next().unwrap_or('x');
+        self.rope.insert_char(at, char).unwrap();
+        self.text.insert(at, char);
+    }
+
+    /// Puts a copy of a part at the end, by its chunks.
+    fn extend(&mut self, numbers: &mut Numbers) {
+        let (from, to) = numbers.part(&self.text);
+        let to = floor(&self.text, to.min(from + 300));
+        let part = self.rope.slice(from..to).unwrap().to_rope().unwrap();
+        self.rope.extend(part.chunks());
+        self.text += &self.text[from..to].to_owned();
     }
 
     fn remove(&mut self, numbers: &mut Numbers) {
@@ -113,7 +134,7 @@ impl Pair {
     }
 
     fn assert_text(&self) {
-        assert_eq!(self.rope.len_bytes(), self.text.len());
+        assert_eq!(self.rope.len(), self.text.len());
         assert_eq!(joined(&self.rope), self.text);
         assert_eq!(self.rope, self.text);
         for scheme in SCHEMES {
@@ -123,14 +144,13 @@ impl Pair {
 
     /// Asks everything at an index.
     fn assert_answers(&self, index: usize) {
-        let (rope, text) = (&self.rope, &self.text);
-        for scheme in SCHEMES {
-            let answers = (rope.from_byte_idx(scheme, index), rope.to_byte_idx(scheme, index));
-            let expected = (from_byte_idx(scheme, text, index), to_byte_idx(scheme, text, index));
-            assert_eq!(answers, expected, "{scheme:?} at {index} of {text:?}");
+        let (rope, text) = (&self.rope, &self.text[..]);
+        of_rope::assert_indices(rope, text, index);
+        of_rope::assert_places(rope, text, index);
+        for line_type in LINE_TYPES {
+            of_rope::assert_line(rope, text, line_type, index);
         }
-        assert_eq!(rope.is_char_boundary(index), text.is_char_boundary(index));
-        assert_eq!(rope.line_end(index), line_end(text, index));
+        assert_eq!(rope.line_end(index, LineType::LfCr), line_end(text, index));
         for encoding in ENCODINGS {
             self.assert_positions(encoding, index);
         }
@@ -157,42 +177,45 @@ impl Pair {
         );
     }
 
-    /// Asks by the names of ropey, whose answers come from `std`.
-    fn assert_names(&self, byte: usize) {
-        let (rope, text) = (&self.rope, &self.text);
-        let before = &text[..byte];
-        let char = before.chars().count();
-        let unit = before.encode_utf16().count();
-        let line = from_byte_idx(Scheme::Lines, text, byte);
-        let start = to_byte_idx(Scheme::Lines, text, line);
-        assert_eq!((rope.byte_to_char(byte), rope.char_to_byte(char)), (char, byte));
-        assert_eq!((rope.char_to_utf16_cu(char), rope.utf16_cu_to_char(unit)), (unit, char));
-        assert_eq!((rope.byte_to_line(byte), rope.char_to_line(char)), (line, line));
-        assert_eq!(
-            (rope.line_to_byte(line), rope.line_to_char(line)),
-            (start, text[..start].chars().count())
-        );
-        assert_eq!(
-            (rope.len_chars(), rope.len_utf16_cu()),
-            (text.chars().count(), text.encode_utf16().count())
-        );
-        assert_eq!(rope.len_lines(), count(Scheme::Lines, text) + 1);
+    /// Compares a part with another text, by slices, ropes and plain texts.
+    fn assert_order(&self, numbers: &mut Numbers) {
+        let (from, to) = numbers.part(&self.text);
+        let (slice, text) = (self.rope.slice(from..to).unwrap(), &self.text[from..to]);
+        let mut other = Pair::of(text.to_owned());
+        if numbers.below(2) == 0 {
+            other.insert_char(numbers);
+            other.remove(numbers);
+        }
+        let order = text.cmp(&other.text);
+        assert_eq!(slice.cmp(&other.rope.slice(..).unwrap()), order);
+        assert_eq!(slice.partial_cmp(&other.text[..]), Some(order));
+        assert_eq!(other.text[..].partial_cmp(&slice), Some(order.reverse()));
+        assert_eq!(Rope::from(slice).cmp(&other.rope), order);
+        let is_equal = order.is_eq();
+        assert_eq!((slice == other.rope, other.rope == slice), (is_equal, is_equal));
+        assert_eq!((slice == other.text, other.text == slice), (is_equal, is_equal));
+        assert_eq!(hash(slice) == hash(&other.rope), is_equal);
     }
 
-    /// Copies a part out in each way.
-    fn assert_part(&self, numbers: &mut Numbers) {
-        let (from, to) = numbers.part(&self.text);
-        let part = &self.text[from..to];
-        assert_eq!(self.rope.text_in(from..to).unwrap(), part);
-        let chunks = self.rope.chunks_in(from..to).unwrap();
-        assert_eq!(chunks.map(|chunk| chunk.to_string()).collect::<String>(), part);
-        let mut room = vec![b'.'; part.len() + 2];
-        assert_eq!(self.rope.copy_to(from..to, &mut room), Ok(part.len()));
-        assert_eq!(room, [part.as_bytes(), b".."].concat());
-        if let Some(chunk) = self.rope.chunk_at(from) {
-            assert!(chunk.start() == from && self.text[from..].starts_with(&chunk[..]));
+    /// Loads the text in pieces.
+    fn assert_built(&self, numbers: &mut Numbers) {
+        let mut builder = RopeBuilder::new();
+        let mut rest = &self.text[..];
+        while !rest.is_empty() {
+            let piece = floor(rest, numbers.below(900) + 4);
+            builder.append(&rest[..piece]).unwrap();
+            rest = &rest[piece..];
         }
+        let built = builder.finish().unwrap();
+        assert_eq!((&built, hash(&built)), (&self.rope, hash(&self.rope)));
+        assert_eq!(built, self.text);
     }
+}
+
+fn hash(text: impl Hash) -> u64 {
+    let mut hasher = DefaultHasher::new();
+    text.hash(&mut hasher);
+    hasher.finish()
 }
 
 #[test]
@@ -210,9 +233,8 @@ fn every_answer_is_that_of_the_plain_text() {
                 pair.assert_answers(index);
             }
             pair.assert_answers(usize::MAX);
-            let byte = numbers.boundary(&pair.text);
-            pair.assert_names(byte);
-            pair.assert_part(&mut numbers);
+            pair.assert_order(&mut numbers);
+            pair.assert_built(&mut numbers);
         }
         kept.iter().for_each(Pair::assert_text);
     }
@@ -243,4 +265,36 @@ fn a_short_text_at_every_index() {
             pair.assert_answers(index);
         }
     }
+}
+
+/// Everything of a rope, of a part of it, and of a part of that part.
+#[test]
+fn slices_and_iterators_answer_as_the_plain_text() {
+    let mut numbers = Numbers(7);
+    for _ in 0..30 {
+        let mut pair = Pair::of(numbers.text(2000));
+        for _ in 0..3 {
+            pair.change(&mut numbers);
+            assert_all(&pair, &mut numbers);
+        }
+    }
+}
+
+#[test]
+fn slices_of_short_texts() {
+    let mut numbers = Numbers(8);
+    for _ in 0..400 {
+        let pair = Pair::of(numbers.text(12));
+        assert_all(&pair, &mut numbers);
+    }
+}
+
+fn assert_all(pair: &Pair, numbers: &mut Numbers) {
+    let text = &pair.text[..];
+    of_rope::assert_all(&pair.rope, text, numbers);
+    let (from, to) = numbers.part(text);
+    let (slice, part) = (pair.rope.slice(from..to).unwrap(), &text[from..to]);
+    of_slice::assert_all(slice, part, numbers);
+    let (from, to) = numbers.part(part);
+    of_slice::assert_all(slice.slice(from..to).unwrap(), &part[from..to], numbers);
 }

@@ -5,7 +5,7 @@ use std::error::Error as _;
 use std::fs;
 use std::ops;
 use std::thread;
-use str_rope::{Chunk, Encoding, Error, LineType, Position, Range, Rope, Scheme, MAX_CHUNK};
+use str_rope::{Encoding, Error, LineType, Position, Range, Rope, Scheme, MAX_CHUNK};
 
 /// Nine bytes: a break of two, and a char of four.
 const TEXT: &str = "a\r\n🐸bc";
@@ -51,11 +51,14 @@ fn a_copy_is_refused_and_the_room_stays() {
     assert_eq!(&room, "🐸".as_bytes());
     assert_eq!(rope.text_in(2..5), Err(Error::NotBoundary));
     assert_eq!(rope.text_in(3..99), Err(Error::NotBoundary));
-    assert_eq!(
-        rope.chunks_in(ops::Range { start: 9, end: 3 }).unwrap_err(),
-        Error::NotOrdered
-    );
-    assert_eq!(rope.chunks_in(4..).unwrap_err(), Error::NotBoundary);
+    assert_eq!(rope.slice(ops::Range { start: 9, end: 3 }), Err(Error::NotOrdered));
+    assert_eq!(rope.slice(4..), Err(Error::NotBoundary));
+    assert_eq!(rope.slice(3..=usize::MAX), Err(Error::NotBoundary));
+    let slice = rope.slice(3..8).unwrap();
+    assert_eq!(slice.slice(4..6), Err(Error::NotBoundary));
+    assert_eq!(slice.slice(ops::Range { start: 4, end: 0 }), Err(Error::NotOrdered));
+    assert_eq!(slice.copy_to(.., &mut room), Err(Error::TooLong));
+    assert_eq!(slice.copy_to(..2, &mut room), Err(Error::NotBoundary));
 }
 
 #[test]
@@ -82,7 +85,14 @@ fn an_error_tells_what_it_is() {
 fn the_empty_text() {
     let mut rope = Rope::default();
     assert!(rope.is_empty() && rope.chunks().next().is_none() && rope.chunk_at(0).is_none());
-    assert_eq!((rope.len_chars(), rope.len_lines(), rope.char_to_byte(7)), (0, 1, 0));
+    assert_eq!(
+        (
+            rope.len_chars(),
+            rope.len_lines(LineType::All),
+            rope.char_to_byte_idx(7)
+        ),
+        (0, 1, 0)
+    );
     assert_eq!(rope.position_of(Encoding::Utf16, 7), Position { line: 0, character: 0 });
     rope.assign(TEXT).unwrap();
     rope.remove(..).unwrap();
@@ -102,10 +112,6 @@ fn it_is_written_as_the_text_is() {
         assert_eq!(format!("{rope:?}"), format!("{text:?}"));
         assert_eq!(String::from(&rope), text);
     }
-    assert_eq!(
-        format!("{:?}", rope().chunk_at(3)),
-        "Some(Chunk { start: 3, text: \"🐸bc\" })"
-    );
 }
 
 #[test]
@@ -115,47 +121,58 @@ fn equal_texts_in_other_pieces_are_equal() {
     let whole: Rope = text.parse().unwrap();
     let mut grown = Rope::new();
     for char in text.chars() {
-        grown.insert(grown.len_bytes(), char.encode_utf8(&mut [0; 4])).unwrap();
+        grown.insert_char(grown.len(), char).unwrap();
     }
     assert_eq!(grown, whole);
     assert_eq!(grown, text);
     let mut copy = grown.clone();
     assert_eq!(copy, whole);
     copy.insert(0, "x").unwrap();
-    copy.remove(copy.char_to_byte(copy.len_chars() - 1)..).unwrap();
+    copy.remove(copy.char_to_byte_idx(copy.len_chars() - 1)..).unwrap();
     assert!(copy != whole && copy != text.as_str());
     assert_eq!(grown, whole);
 }
 
 #[test]
-fn chunks_are_short_and_own_their_bytes() {
-    let rope: Rope = TEXT.repeat(1000).parse().unwrap();
-    let chunks: Vec<Chunk> = rope.chunks().collect();
+fn chunks_are_short_and_lent() {
+    let text = TEXT.repeat(1000);
+    let rope = Rope::from(&text);
+    let chunks: Vec<&str> = rope.chunks().collect();
     assert!(chunks.iter().all(|chunk| chunk.len() <= MAX_CHUNK));
-    assert!(chunks.len() <= rope.len_bytes() / (MAX_CHUNK - 4) + 1);
-    drop(rope);
-    let joined: String = chunks.iter().map(|chunk| &**chunk).collect();
-    assert_eq!(joined, TEXT.repeat(1000));
+    assert!(chunks.len() <= 2 * (rope.len() / MAX_CHUNK + 1));
+    let again: Vec<&str> = rope.chunks().rev().collect();
+    let places = |chunks: &[&str]| chunks.iter().map(|chunk| chunk.as_ptr()).collect::<Vec<_>>();
+    assert!(places(&chunks).iter().eq(places(&again).iter().rev()));
+    assert_eq!(chunks.concat(), text);
 }
 
+/// A clone has the chunks of its rope, and a change of it leaves those that another one lends.
 #[test]
-fn chunks_are_the_same_by_a_loop_and_by_a_fold() {
+fn a_lent_chunk_stays_while_a_clone_changes() {
     let text = TEXT.repeat(1000);
-    let rope: Rope = text.parse().unwrap();
-    let part = TEXT.len()..text.len() - TEXT.len();
-    let mut looped = Vec::new();
-    for chunk in rope.chunks_in(part.clone()).unwrap() {
-        looped.push((chunk.start(), chunk.end(), chunk.to_string()));
-    }
-    let mut folded = Vec::new();
-    let chunks = rope.chunks_in(part.clone()).unwrap();
-    chunks.for_each(|chunk| folded.push((chunk.start(), chunk.end(), chunk.clone().to_string())));
-    assert_eq!(looped, folded);
-    assert!(folded.len() > 2);
-    assert_eq!(
-        folded.iter().map(|(.., piece)| &piece[..]).collect::<String>(),
-        text[part]
-    );
+    let rope = Rope::from(&text);
+    let mut clone = rope.clone();
+    let lent: Vec<&str> = rope.chunks().collect();
+    assert!(lent
+        .iter()
+        .zip(clone.chunks())
+        .all(|(one, other)| one.as_ptr() == other.as_ptr()));
+    clone.replace(3..text.len() - 2, "x").unwrap();
+    clone.insert(0, &text).unwrap();
+    drop(clone);
+    assert_eq!(lent.concat(), text);
+}
+
+/// A slice as a rope has those chunks that lie inside it.
+#[test]
+fn a_slice_as_a_rope_shares_chunks() {
+    let text = TEXT.repeat(10_000);
+    let rope = Rope::from(&text);
+    let part = rope.slice(9..text.len() - 9).unwrap().to_rope().unwrap();
+    assert_eq!(part, text[9..text.len() - 9]);
+    let places: Vec<_> = rope.chunks().map(str::as_ptr).collect();
+    let own = part.chunks().filter(|chunk| !places.contains(&chunk.as_ptr())).count();
+    assert!(own <= 4, "{own} of {} chunks are copies", places.len());
 }
 
 #[test]
@@ -181,7 +198,7 @@ fn threads_ask_one_rope() {
     let ask = |byte: usize| {
         let position = rope.position_of(Encoding::Utf16, byte);
         let chars = rope.from_byte_idx(Scheme::Chars, byte);
-        let chunk = rope.chunk_at(byte).map(|chunk| chunk.start());
+        let chunk = rope.chunk_at(byte);
         (
             position,
             rope.byte_of(Encoding::Utf16, position),
@@ -201,6 +218,30 @@ fn threads_ask_one_rope() {
     });
 }
 
+/// Threads walk slices of one rope, which they share as `&Rope`, both ways.
+#[test]
+fn threads_walk_slices_of_one_rope() {
+    fn shared<T: Send + Sync>(one: T) -> T {
+        one
+    }
+    let text = TEXT.repeat(2000);
+    let rope = shared(Rope::from(&text));
+    thread::scope(|scope| {
+        for nth in 0..4 {
+            let (rope, text) = (&rope, &text);
+            scope.spawn(move || {
+                let bytes = nth * 9..text.len() - nth * 9;
+                let (slice, part) = (shared(rope.slice(bytes.clone()).unwrap()), &text[bytes]);
+                assert!(slice.chars().eq(part.chars()) && slice.chars().rev().eq(part.chars().rev()));
+                assert!(slice.bytes().eq(part.bytes()) && slice.bytes().rev().eq(part.bytes().rev()));
+                let lines = slice.lines(LineType::Lf).map(|line| line.len());
+                assert!(lines.eq(part.split_inclusive('\n').map(str::len)));
+                assert_eq!(slice, *part);
+            });
+        }
+    });
+}
+
 /// Each thread changes and clones its own clone, while all of them share chunks.
 #[test]
 fn clones_of_a_rope_are_changed_by_other_threads() {
@@ -211,7 +252,7 @@ fn clones_of_a_rope_are_changed_by_other_threads() {
             for _ in 0..500 {
                 let before = own.clone();
                 own.insert(at, "b").unwrap();
-                assert_eq!(own.len_bytes(), before.len_bytes() + 1);
+                assert_eq!(own.len(), before.len() + 1);
             }
             own
         }
@@ -257,7 +298,7 @@ fn what_is_dropped_is_freed() {
         let mut rest = rope.split_off(nth % 2 * 45_000).unwrap();
         if nth % 4 == 3 {
             rope.append(&mut rest).unwrap();
-            assert_eq!(rope.len_bytes(), text.len());
+            assert_eq!(rope.len(), text.len());
         }
         rope.assign(&text[..9]).unwrap();
     };
@@ -304,7 +345,7 @@ fn worked_kinds_of_lines() {
         ),
     ] {
         let e = Encoding::Utf16;
-        assert_eq!([0, 1, 2].map(|line| rope.line_by(lines, line)), contents);
+        assert_eq!([0, 1, 2].map(|line| rope.line_content(line, lines)), contents);
         assert_eq!([2, 5, 8, 11].map(|byte| rope.position_by(lines, e, byte)), positions);
         assert_eq!(rope.exact_position_by(lines, e, 10), middle);
         assert_eq!(

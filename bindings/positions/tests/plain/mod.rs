@@ -50,7 +50,7 @@ pub fn floor(text: &str, byte: usize) -> usize {
 }
 
 /// Where the chars or the line breaks of a text end, in order.
-fn ends(scheme: Scheme, text: &str) -> Vec<usize> {
+pub fn ends(scheme: Scheme, text: &str) -> Vec<usize> {
     let is_end = |&(at, char): &(usize, char)| match (scheme, char) {
         (Scheme::Chars, _) | (_, '\n') => true,
         (Scheme::Crlf | Scheme::Lines, '\r') => !text[at..].starts_with("\r\n"),
