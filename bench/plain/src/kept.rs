@@ -121,7 +121,7 @@ impl Kept for Rope {
     }
 
     fn len(&self) -> usize {
-        self.len_bytes()
+        Rope::len(self)
     }
 
     fn byte_of(&self, scheme: Scheme, index: usize) -> usize {
@@ -155,7 +155,7 @@ impl Kept for Rope {
     }
 
     fn read(&self, from: usize, to: usize, mut each: impl FnMut(&[u8])) {
-        let chunks = self.chunks_in(from..to).expect("both places are boundaries");
-        chunks.for_each(|chunk| each(chunk.as_bytes()));
+        let slice = self.slice(from..to).expect("both places are boundaries");
+        slice.chunks().for_each(|chunk| each(chunk.as_bytes()));
     }
 }

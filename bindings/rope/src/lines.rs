@@ -11,6 +11,11 @@ pub(crate) fn breaks(line_type: LineType) -> Scheme {
     }
 }
 
+/// Whether a scheme takes CR LF for one break, and a CR alone for one too.
+pub(crate) fn takes_pairs(scheme: Scheme) -> bool {
+    matches!(scheme, Scheme::Crlf | Scheme::Lines)
+}
+
 /// Methods over `count`, `from_byte_idx`, `to_byte_idx` and `whole`, which answer for the lifetime of the text.
 macro_rules! line_methods {
     ($life:lifetime) => {

@@ -1,7 +1,7 @@
 //! A part of a rope's text, lent.
 use crate::indices::index_methods;
 use crate::iter::iterator_methods;
-use crate::lines::line_methods;
+use crate::lines::{line_methods, takes_pairs};
 use crate::{Error, Rope, Scheme};
 use core::ops::{self, Bound, RangeBounds};
 
@@ -177,9 +177,11 @@ impl<'a> RopeSlice<'a> {
 
     /// Whether the slice ends between the CR and the LF of one break. That CR, if the slice has it, ends a line of the slice.
     fn ends_inside_break(&self, scheme: Scheme) -> bool {
-        let pairs = matches!(scheme, Scheme::Crlf | Scheme::Lines);
-        let byte = |at| self.rope.whole().byte(at);
-        pairs && self.start < self.end && byte(self.end) == Some(b'\n') && byte(self.end - 1) == Some(b'\r')
+        let byte = |at| self.rope.byte(at);
+        takes_pairs(scheme)
+            && self.start < self.end
+            && byte(self.end) == Some(b'\n')
+            && byte(self.end - 1) == Some(b'\r')
     }
 }
 

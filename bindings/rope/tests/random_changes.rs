@@ -62,7 +62,7 @@ impl Pair {
         let to = floor(&self.text, to.min(from + 300));
         let part = self.rope.slice(from..to).unwrap().to_rope().unwrap();
         self.rope.extend(part.chunks());
-        self.text += &self.text[from..to].to_owned();
+        self.text = self.text.clone() + &self.text[from..to];
     }
 
     fn remove(&mut self, numbers: &mut Numbers) {

@@ -107,7 +107,7 @@ fn it_is_written_as_the_text_is() {
     let mut numbers = Numbers(3);
     for _ in 0..50 {
         let text = numbers.text(2000) + "'\"\\\u{301}";
-        let rope = Rope::try_from(text.as_str()).unwrap();
+        let rope = Rope::from(&text);
         assert_eq!(rope.to_string(), text);
         assert_eq!(format!("{rope:?}"), format!("{text:?}"));
         assert_eq!(String::from(&rope), text);

@@ -1,7 +1,9 @@
 //! Answers worked out by hand, a row for each method.
 use std::borrow::Cow;
+use std::cmp::Ordering;
 use std::collections::{BTreeSet, HashSet};
 use std::fmt::Write;
+use std::hash::{BuildHasher, RandomState};
 use str_rope::{Error, LineType, Rope, RopeBuilder, RopeSlice};
 
 /// Fourteen bytes: `a` at 0, CR LF at 1, a char of four at 3, of two at 7, a line separator at 9, `b` at 12, LF at 13.
@@ -198,7 +200,7 @@ fn worked_parts() {
     assert_eq!(slice.trim(), "🐸é");
     assert_eq!(rope.slice(..3).unwrap().trim_start(), "a\r\n");
     assert_eq!(rope.slice(..3).unwrap().trim_end(), "a");
-    assert_eq!(rope.slice(1..3).unwrap().trim().range(), 1..1);
+    assert_eq!(rope.slice(1..3).unwrap().trim(), "");
     assert_eq!(slice.text_in(..4).as_deref(), Ok("🐸"));
     let mut room = *b".....";
     assert_eq!(slice.copy_to(4..6, &mut room), Ok(2));
@@ -258,21 +260,74 @@ fn the_empty_text_has_no_item_and_one_line() {
     assert_eq!(rope.trim(), "");
 }
 
+/// How two texts compare, by each of the two: whether they are equal, and their order.
+fn compared<A, B>(one: &A, other: &B) -> ([bool; 2], [Option<Ordering>; 2])
+where
+    A: PartialOrd<B> + ?Sized,
+    B: PartialOrd<A> + ?Sized,
+{
+    let orders = [one.partial_cmp(other), other.partial_cmp(one)];
+    ([one == other, other == one], orders)
+}
+
+/// Compares a rope, and a slice with its text, with another text of each type.
+fn assert_compared(text: &str, other: &str, order: Ordering) {
+    let (rope, other_rope) = (Rope::from(text), Rope::from(other));
+    let around = Rope::from(format!("x{text}é"));
+    let (slice, other_slice) = (around.slice(1..=text.len()).unwrap(), other_rope.slice(..).unwrap());
+    let wanted = ([order.is_eq(); 2], [Some(order), Some(order.reverse())]);
+    assert_eq!(compared(&rope, &other_rope), wanted);
+    assert_eq!(compared(&rope, &other_slice), wanted);
+    assert_eq!(compared(&rope, other), wanted);
+    assert_eq!(compared(&rope, &other), wanted);
+    assert_eq!(compared(&rope, &String::from(other)), wanted);
+    assert_eq!(compared(&rope, &Cow::from(other)), wanted);
+    assert_eq!(compared(&slice, &other_rope), wanted);
+    assert_eq!(compared(&slice, &other_slice), wanted);
+    assert_eq!(compared(&slice, other), wanted);
+    assert_eq!(compared(&slice, &other), wanted);
+    assert_eq!(compared(&slice, &String::from(other)), wanted);
+    assert_eq!(compared(&slice, &Cow::from(other)), wanted);
+    assert_eq!((rope.cmp(&other_rope), slice.cmp(&other_slice)), (order, order));
+}
+
 #[test]
 fn worked_comparisons() {
-    let (one, two) = (Rope::from("one"), Rope::from("two"));
-    let slice = two.slice(..2).unwrap();
-    assert!(one < two && one < *"onf" && "on" < one && slice < two && slice > "tv"[..1] && "two" > slice);
-    assert!(one == "one" && "one" == one && *"one" == one && one == *"one" && one != "two");
-    assert!(String::from("one") == one && one == String::from("one") && Cow::from("one") == one);
-    assert!(slice == "tw" && "tw" == slice && slice == String::from("tw") && slice == Cow::from("tw"));
-    assert!(slice != two && two != slice && slice == Rope::from("tw"));
-    assert!(Rope::new() < one && Rope::from("one") == one && Rope::from("onee") > one);
-    assert_eq!(one.slice(..1).unwrap(), two.slice(2..).unwrap());
+    assert_compared("one", "one", Ordering::Equal);
+    assert_compared("one", "two", Ordering::Less);
+    assert_compared("onf", "one", Ordering::Greater);
+    assert_compared("one", "onee", Ordering::Less);
+    assert_compared("one", "", Ordering::Greater);
+    assert_compared("é", "b", Ordering::Greater);
+    assert_compared(&"one".repeat(2000), &"one".repeat(2000), Ordering::Equal);
+    assert_compared(&"one".repeat(2000), &("one".repeat(1999) + "onf"), Ordering::Less);
+    let one = Rope::from("one two");
+    assert_eq!(one.slice(..1).unwrap(), one.slice(6..).unwrap());
+    assert_ne!(one.slice(..3).unwrap(), one.slice(4..).unwrap());
     let ropes: BTreeSet<Rope> = ["é", "b", "", "a", "ab"].map(Rope::from).into();
     assert!(ropes.iter().eq(["", "a", "ab", "b", "é"].iter()));
     let ropes: HashSet<Rope> = ["a", "b", "a"].map(Rope::from).into();
     assert_eq!(ropes.len(), 2);
+}
+
+/// Texts that are equal and lie in other chunks have one hash; a hasher gets blocks of 256 bytes.
+#[test]
+fn equal_texts_have_one_hash() {
+    let state = RandomState::new();
+    let hash = |text: RopeSlice<'_>| state.hash_one(text);
+    for len in [0, 1, 255, 256, 257, 1000, 5000] {
+        let text = "abcdé".repeat(len)[..len - len % 6].to_owned();
+        let (whole, front) = (Rope::from(&text), Rope::from("x".repeat(700) + &text + "y"));
+        let mut grown = Rope::new();
+        text.chars()
+            .try_for_each(|char| grown.insert_char(grown.len(), char))
+            .unwrap();
+        let slices = [whole.slice(..), grown.slice(..), front.slice(700..700 + text.len())].map(Result::unwrap);
+        assert!(slices
+            .iter()
+            .all(|slice| *slice == text && hash(*slice) == hash(slices[0])));
+        assert_ne!(hash(slices[0]), hash(front.slice(1..).unwrap()));
+    }
 }
 
 #[test]

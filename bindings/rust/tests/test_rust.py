@@ -82,7 +82,7 @@ def test_without_the_wide_half():
 
 def test_others():
     for name in OTHERS:
-        enough_tests(name, cargo(ROOT / name, "test"))
+        enough_tests(name, cargo(ROOT / name, "test", "--all-features"))
 
 
 def install(library, prefix):

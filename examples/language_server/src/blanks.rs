@@ -2,7 +2,7 @@
 use crate::faults::Fault;
 use crate::protocol::Span;
 use std::ops;
-use str_rope::{Encoding, Error, Rope, Scheme};
+use str_rope::{Encoding, Error, LineType, Rope};
 
 /// The most warnings that are sent for a document: a key that moves one sends all of them again.
 const MOST_WARNINGS: usize = 200;
@@ -86,7 +86,7 @@ impl Warnings {
 
 /// How many lines a text has, as the protocol counts them: one more than line breaks.
 pub fn number_of_lines(rope: &Rope) -> usize {
-    rope.count(Scheme::Crlf) + 1
+    rope.len_lines(LineType::LfCr)
 }
 
 /// Where some lines end in blanks: the first of these, at most `most`, and of each the last `longest` bytes. Of the last line
@@ -98,11 +98,11 @@ pub fn blanks_in(
     longest: usize,
     most: usize,
 ) -> Result<Vec<Span>, Fault> {
-    let start_of = |line| rope.to_byte_idx(Scheme::Crlf, line);
+    let start_of = |line| rope.line_to_byte_idx(line, LineType::LfCr);
     let tail_of = |line| {
-        let end = rope.line_end(line);
+        let end = rope.line_end(line, LineType::LfCr);
         let start = end.saturating_sub(longest).max(start_of(line));
-        rope.char_to_byte(rope.byte_to_char(start))..end
+        rope.floor_char_boundary(start)..end
     };
     let mut found = Vec::new();
     if !lines.is_empty() {
@@ -129,21 +129,18 @@ fn find_blanks(
     most: usize,
     found: &mut Vec<ops::Range<usize>>,
 ) -> Result<(), Error> {
-    let end = part.end;
     let mut start = None;
-    for chunk in rope.chunks_in(part)? {
-        for (at, byte) in (chunk.start()..).zip(chunk.bytes()) {
-            match byte {
-                b' ' | b'\t' => start = start.or(Some(at)),
-                b'\r' | b'\n' => found.extend(start.take().map(|start| start..at)),
-                _ => start = None,
-            }
-            if found.len() == most {
-                return Ok(());
-            }
+    for (at, byte) in (part.start..).zip(rope.slice(part.clone())?.bytes()) {
+        match byte {
+            b' ' | b'\t' => start = start.or(Some(at)),
+            b'\r' | b'\n' => found.extend(start.take().map(|start| start..at)),
+            _ => start = None,
+        }
+        if found.len() == most {
+            return Ok(());
         }
     }
-    found.extend(start.map(|start| start..end));
+    found.extend(start.map(|start| start..part.end));
     Ok(())
 }
 
@@ -182,15 +179,15 @@ mod tests {
         for encoding in [Encoding::Utf8, Encoding::Utf16, Encoding::Utf32] {
             let (mut rope, mut kept) = (Rope::new(), Warnings::default());
             for turn in 0..20_000 {
-                let mut bytes = [numbers.below(rope.len_bytes() + 1), numbers.below(rope.len_bytes() + 1)];
+                let mut bytes = [numbers.below(rope.len() + 1), numbers.below(rope.len() + 1)];
                 bytes.sort();
-                let [start, end] = bytes.map(|byte| rope.char_to_byte(rope.byte_to_char(byte)));
+                let [start, end] = bytes.map(|byte| rope.floor_char_boundary(byte));
                 let end = if numbers.below(8) == 0 {
                     end
                 } else {
                     end.min(start + 40)
                 };
-                let end = rope.char_to_byte(rope.byte_to_char(end));
+                let end = rope.floor_char_boundary(end);
                 let line = |byte| rope.position_of(encoding, byte).line;
                 let (lines, before) = (line(start)..line(end) + 1, number_of_lines(&rope));
                 let text = numbers.text(if turn % 100 == 0 { 8_000 } else { 24 });

@@ -5,7 +5,7 @@ use crate::protocol::{self, Change, Changed, Fold, Opened, Place, Span};
 use serde::{Serialize, Serializer};
 use serde_json::{json, Value};
 use std::mem;
-use str_rope::{Encoding, Error, Position, Rope, Scheme};
+use str_rope::{Encoding, Error, LineType, Position, Rope, Scheme};
 
 /// The greatest number of the protocol.
 const GREATEST: u32 = i32::MAX as u32;
@@ -171,14 +171,14 @@ impl Text {
         let lines = number_of_lines(&self.rope);
         let greatest = Position::from_u32(GREATEST, GREATEST);
         if position == greatest || (position.line, position.character) == (lines, 0) {
-            return Some(self.rope.len_bytes());
+            return Some(self.rope.len());
         }
-        let end = self.rope.line_end(position.line);
+        let end = self.rope.line_end(position.line, LineType::LfCr);
         let past_end = position
             .character
             .saturating_sub(self.rope.position_of(self.encoding, end).character);
         if position.line < lines && past_end > 0 && !self.has_lone_return() {
-            let next = self.rope.to_byte_idx(Scheme::Crlf, position.line + 1);
+            let next = self.rope.line_to_byte_idx(position.line + 1, LineType::LfCr);
             return Some(if past_end == 1 && next == end + 2 { end + 1 } else { end });
         }
         self.rope.exact_byte_of(self.encoding, position)
@@ -195,7 +195,7 @@ impl Text {
         let index = |scheme| self.rope.from_byte_idx(scheme, byte);
         let (char, unit, line) = (index(Scheme::Chars), index(Scheme::Utf16), index(Scheme::Crlf));
         let value = format!("byte {byte}\nchar {char}\nUTF-16 code unit {unit}\nline {line}");
-        let range = Span::of(&self.rope, self.encoding, byte..self.rope.char_to_byte(char + 1))?;
+        let range = Span::of(&self.rope, self.encoding, byte..self.rope.char_to_byte_idx(char + 1))?;
         Ok(json!({ "contents": { "kind": "plaintext", "value": value }, "range": range }))
     }
 
