@@ -28,7 +28,7 @@ pub struct RopeBuilder {
 }
 
 impl RopeBuilder {
-    /// A builder with no text, which takes no memory.
+    /// Makes a builder with no text, which takes no memory.
     pub const fn new() -> RopeBuilder {
         RopeBuilder {
             rope: Rope::new(),
@@ -36,10 +36,10 @@ impl RopeBuilder {
         }
     }
 
-    /// Puts a piece at the end of the text. Takes time in the length of the piece, and O(log n) for each part that is full.
+    /// Appends a piece to the text. Takes time in the length of the piece, and O(log n) for each part that is full.
     ///
-    /// It is [`Error::NoMemory`] where memory is refused, and [`Error::TooLong`] where the text would have more than
-    /// `isize::MAX` bytes. The text is then as it was.
+    /// Returns [`Error::NoMemory`] if memory is refused, and [`Error::TooLong`] if the text would have more than `isize::MAX`
+    /// bytes. After an error the text is as it was.
     pub fn append(&mut self, piece: &str) -> Result<(), Error> {
         if piece.len() > PART - self.part.len() {
             self.hand_over()?;
@@ -52,7 +52,7 @@ impl RopeBuilder {
         Ok(())
     }
 
-    /// The rope of the text, or [`Error::NoMemory`] or [`Error::TooLong`], as from [`RopeBuilder::append`].
+    /// Returns the rope of the text, or an error of [`RopeBuilder::append`].
     pub fn finish(mut self) -> Result<Rope, Error> {
         self.hand_over()?;
         Ok(self.rope)

@@ -3,23 +3,22 @@
 /// Methods over `len`, `count`, `from_byte_idx`, `to_byte_idx` and `whole`.
 macro_rules! index_methods {
     () => {
-        /// Whether the text has no byte. O(1).
+        /// Tells whether the text has no byte. Takes O(1).
         pub fn is_empty(&self) -> bool {
             self.len() == 0
         }
 
-        /// How many chars (Unicode scalar values) the text has. O(1) for a rope, O(log n) for a slice.
+        /// Returns how many chars (Unicode scalar values) the text has. Takes O(1) for a rope, O(log n) for a slice.
         pub fn len_chars(&self) -> usize {
             self.count($crate::Scheme::Chars)
         }
 
-        /// How many UTF-16 code units the text has. O(1) for a rope, O(log n) for a slice.
+        /// Returns how many UTF-16 code units the text has. Takes O(1) for a rope, O(log n) for a slice.
         pub fn len_utf16(&self) -> usize {
             self.count($crate::Scheme::Utf16)
         }
 
-        /// From a byte index to a char index: how many chars end at the byte or before it. Past the end it is
-        /// `len_chars()`; a byte inside a char has the index of that char. O(log n).
+        /// Returns the char index of the char that a byte is in; past the end, `len_chars()`. Takes one search, O(log n).
         ///
         /// ```
         /// let rope = str_rope::Rope::from("é🐸b");
@@ -29,7 +28,8 @@ macro_rules! index_methods {
             self.from_byte_idx($crate::Scheme::Chars, byte_idx)
         }
 
-        /// From a char index to the byte index where that char begins. Past the last char it is `len()`. O(log n).
+        /// Returns the byte index where the char of a char index begins; past the last char, `len()`. Takes one search,
+        /// O(log n).
         ///
         /// ```
         /// let rope = str_rope::Rope::from("é🐸b");
@@ -39,8 +39,8 @@ macro_rules! index_methods {
             self.to_byte_idx($crate::Scheme::Chars, char_idx)
         }
 
-        /// From a byte index to an index in UTF-16 code units: how many of them the chars have that end at the byte or
-        /// before it. Past the end it is `len_utf16()`; a byte inside a char has the index of that char. O(log n).
+        /// Returns the index of the UTF-16 code unit with which the char that a byte is in begins; past the end,
+        /// `len_utf16()`. Takes one search, O(log n).
         ///
         /// ```
         /// let rope = str_rope::Rope::from("é🐸b");
@@ -50,8 +50,8 @@ macro_rules! index_methods {
             self.from_byte_idx($crate::Scheme::Utf16, byte_idx)
         }
 
-        /// From an index in UTF-16 code units to the byte index where the char of that unit begins. Past the last unit it
-        /// is `len()`; the second unit of a surrogate pair has the byte of the first. O(log n).
+        /// Returns the byte index where the char of a UTF-16 code unit begins; past the last unit, `len()`. Both units of
+        /// a surrogate pair belong to one char. Takes one search, O(log n).
         ///
         /// ```
         /// let rope = str_rope::Rope::from("é🐸b");
@@ -61,7 +61,8 @@ macro_rules! index_methods {
             self.to_byte_idx($crate::Scheme::Utf16, utf16_idx)
         }
 
-        /// The greatest char boundary at a byte index or before it. Past the end it is `len()`. O(log n), and reads a char.
+        /// Returns the greatest char boundary at a byte index or before it; past the end, `len()`. Takes one search,
+        /// O(log n), and reads a char.
         ///
         /// ```
         /// let rope = str_rope::Rope::from("é🐸b");
@@ -76,7 +77,8 @@ macro_rules! index_methods {
             (start..=byte_idx).rev().find(is_boundary).unwrap_or(start)
         }
 
-        /// The least char boundary at a byte index or after it. Past the end it is `len()`. O(log n), and reads a char.
+        /// Returns the least char boundary at a byte index or after it; past the end, `len()`. Takes one search, O(log n),
+        /// and reads a char.
         ///
         /// ```
         /// let rope = str_rope::Rope::from("é🐸b");
@@ -91,7 +93,7 @@ macro_rules! index_methods {
             (byte_idx..end).find(is_boundary).unwrap_or(end)
         }
 
-        /// The byte at a byte index. From the end on it is `None`. O(log n).
+        /// Returns the byte at a byte index; from the end on, `None`. Takes one search, O(log n).
         ///
         /// ```
         /// let rope = str_rope::Rope::from("ab");
@@ -102,8 +104,8 @@ macro_rules! index_methods {
             text.as_bytes().get(byte_idx - start).copied()
         }
 
-        /// The char that begins at a byte index. From the end on, and inside a char, it is `None`;
-        /// `floor_char_boundary` tells where a char begins. O(log n).
+        /// Returns the char that begins at a byte index; from the end on, and inside a char, `None`.
+        /// `floor_char_boundary` tells where the char that a byte is in begins. Takes one search, O(log n).
         ///
         /// ```
         /// let rope = str_rope::Rope::from("🐸b");
@@ -114,10 +116,10 @@ macro_rules! index_methods {
             text.get(byte_idx - start..)?.chars().next()
         }
 
-        /// The text between two byte indices as one block of memory. O(log n), and the number of bytes.
+        /// Copies the text between two byte indices into one block of memory. Takes O(log n), and O(log n) for each chunk.
         ///
-        /// It is [`Error::NotOrdered`](crate::Error) where the range ends before it starts, `NotBoundary` where a byte is past
-        /// the end or inside a char, and `NoMemory` where memory is refused.
+        /// Returns [`Error::NotOrdered`](crate::Error) if the range ends before it starts, `NotBoundary` if it starts or ends
+        /// past the end or inside a char, and `NoMemory` if memory is refused.
         ///
         /// ```
         /// use str_rope::{Error, Rope};

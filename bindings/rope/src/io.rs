@@ -5,7 +5,7 @@ use alloc::vec::Vec;
 use core::{error, fmt, str};
 use std::io::{self, Read, Write};
 
-/// The bytes that were read are not UTF-8: the error inside the [`io::Error`] of [`Rope::from_reader`].
+/// The bytes that a reader gave are not UTF-8. [`Rope::from_reader`] returns it inside an [`io::Error`].
 #[derive(Clone, Copy, Debug, PartialEq, Eq, Hash)]
 pub struct NotUtf8 {
     /// How many bytes before it are UTF-8, from the first one that was read.
@@ -37,10 +37,10 @@ impl From<Error> for io::Error {
 }
 
 impl Rope {
-    /// Reads a text to its end, in parts of some hundred kilobytes: so the whole text is in memory once.
+    /// Reads a text to its end, in parts of some hundred kilobytes, so that memory has it once. Takes time in its length.
     ///
-    /// It fails where the reader does; with [`io::ErrorKind::InvalidData`] and [`NotUtf8`] where the bytes are not UTF-8; and
-    /// with [`io::ErrorKind::OutOfMemory`] where memory is refused.
+    /// Returns the error of the reader; [`io::ErrorKind::InvalidData`] with [`NotUtf8`] inside if the bytes are not UTF-8; and
+    /// [`io::ErrorKind::OutOfMemory`] if memory is refused.
     ///
     /// ```
     /// use str_rope::{NotUtf8, Rope};
@@ -69,7 +69,7 @@ impl Rope {
         }
     }
 
-    /// Writes the text, chunk by chunk. It fails where the writer does. Each chunk is found by a search in O(log n).
+    /// Writes the text, chunk by chunk. Each chunk takes one search, O(log n). Returns the error of the writer.
     ///
     /// ```
     /// # fn main() -> std::io::Result<()> {

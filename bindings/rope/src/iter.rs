@@ -86,8 +86,8 @@ macro_rules! iterator {
         }
 
         impl<'a> $name<'a> {
-            /// Goes back over the item before the place, and gives it. At the beginning of the text it is `None`. `next` gives
-            /// that item again.
+            /// Goes back over the item before the place, and returns it; at the beginning of the text, `None`. `next` then
+            /// returns that item again.
             #[inline]
             pub fn prev(&mut self) -> Option<$item> {
                 self.walk.prev()
@@ -98,7 +98,7 @@ macro_rules! iterator {
                 self.walk.reverse();
             }
 
-            /// The iterator turned round at its place. `rev`, of `std`, begins at the other end of what remains.
+            /// Returns the iterator turned round at its place. `rev`, of `std`, begins at the other end of what remains.
             #[must_use]
             pub fn reversed(mut self) -> $name<'a> {
                 self.reverse();
@@ -119,7 +119,7 @@ macro_rules! iterator {
             }
         }
 
-        /// It takes off the last item that remains, which `prev` gives no more.
+        /// `next_back` takes the last item that remains off, for good.
         impl<'a> DoubleEndedIterator for $name<'a> {
             #[inline]
             fn next_back(&mut self) -> Option<$item> {
@@ -127,7 +127,7 @@ macro_rules! iterator {
             }
         }
 
-        /// `next` gives no item after `None`, until `prev` has gone back.
+        /// `next` returns `None` again after it did, until `prev` goes back.
         impl FusedIterator for $name<'_> {}
 
         /// Writes the items that remain.
@@ -164,8 +164,8 @@ iterator! {
 
 iterator! {
     /// The chunks of a text, each lent as a `&str` while the rope is borrowed. None is empty, and one after the other they
-    /// are the text. A chunk ends where the tree has it end: ropes of equal text may have other chunks, and a CR may be the last
-    /// char of one where its LF is the first of the next.
+    /// are the text. Nothing says where a chunk ends: ropes of equal text may have other chunks, and the CR and the LF of
+    /// one break may lie in two.
     ///
     /// ```
     /// let rope = str_rope::Rope::from("one two ".repeat(1000));
@@ -193,11 +193,11 @@ iterator! {
     Lines(LineSteps): RopeSlice<'a>
 }
 
-/// What only those have whose places are byte indices.
+/// Methods of the iterators whose places are byte indices.
 macro_rules! byte_iterator {
     ($($name:ident: $steps:expr;)*) => {$(
         impl<'a> $name<'a> {
-            /// The iterator over a slice, at a byte index of it.
+            /// Stands at a byte index of a slice, which is a boundary unless the items are bytes.
             pub(crate) fn new(slice: RopeSlice<'a>, byte_idx: usize) -> $name<'a> {
                 let (bytes, held) = (slice.range(), Held::new(slice.rope()));
                 $name {
@@ -206,7 +206,7 @@ macro_rules! byte_iterator {
                 }
             }
 
-            /// The byte index of the place: where `next` goes on, or from where it goes back once it is turned round.
+            /// Returns the byte index of the place: `next` goes on from there.
             pub fn byte_offset(&self) -> usize {
                 self.walk.at() - self.origin
             }
@@ -222,7 +222,7 @@ byte_iterator! {
 }
 
 impl<'a> Lines<'a> {
-    /// The lines of a slice, at the line of an index, of so many.
+    /// Stands at a line of a slice, which has `end` lines.
     pub(crate) fn new(slice: RopeSlice<'a>, line_type: LineType, line_idx: usize, end: usize) -> Lines<'a> {
         Lines {
             walk: Walk::new(LineSteps::new(slice, line_type), 0, line_idx, end),
@@ -230,7 +230,7 @@ impl<'a> Lines<'a> {
         }
     }
 
-    /// The line index of the place: of the line that `next` gives, or once it is turned round of the one after that.
+    /// Returns the line index of the place: `next` goes on from there.
     pub fn line_idx(&self) -> usize {
         self.walk.at() - self.origin
     }
@@ -243,10 +243,10 @@ impl ExactSizeIterator for Lines<'_> {}
 /// Methods over `whole`, which answer for the lifetime of the text.
 macro_rules! iterator_methods {
     ($life:lifetime) => {
-        /// The part between two byte indices, lent, with no copy. O(log n), two searches.
+        /// Lends the part between two byte indices, with no copy. Takes two searches, O(log n).
         ///
-        /// It is [`Error::NotOrdered`](crate::Error) where the range ends before it starts, and `NotBoundary` where a byte is
-        /// past the end or inside a char.
+        /// Returns [`Error::NotOrdered`](crate::Error) if the range ends before it starts, and `NotBoundary` if it starts or
+        /// ends past the end or inside a char.
         ///
         /// ```
         /// use str_rope::{Error, Rope};
@@ -263,7 +263,8 @@ macro_rules! iterator_methods {
             self.whole().part($crate::slice::bytes_of(range, self.len()))
         }
 
-        /// The text without the white space at its beginning, as `str::trim_start` has it. O(log n), and reads that.
+        /// Returns the text without the white space at its beginning, as `str::trim_start` does. Takes O(log n), and reads
+        /// that white space.
         pub fn trim_start(&self) -> $crate::RopeSlice<$life> {
             let slice = self.whole();
             let first = slice.char_indices().find(|(_, char)| !char.is_whitespace());
@@ -272,7 +273,8 @@ macro_rules! iterator_methods {
             $crate::RopeSlice::new(slice.rope(), start, bytes.end)
         }
 
-        /// The text without the white space at its end, as `str::trim_end` has it. O(log n), and reads that.
+        /// Returns the text without the white space at its end, as `str::trim_end` does. Takes O(log n), and reads that
+        /// white space.
         pub fn trim_end(&self) -> $crate::RopeSlice<$life> {
             let slice = self.whole();
             let last = slice.char_indices().rfind(|(_, char)| !char.is_whitespace());
@@ -281,7 +283,8 @@ macro_rules! iterator_methods {
             $crate::RopeSlice::new(slice.rope(), start, end)
         }
 
-        /// The text without the white space at both ends, as `str::trim` has it. O(log n), and reads that.
+        /// Returns the text without the white space at both ends, as `str::trim` does. Takes O(log n), and reads that white
+        /// space.
         ///
         /// ```
         /// let rope = str_rope::Rope::from("\r\n one two\u{2028}");
@@ -291,7 +294,7 @@ macro_rules! iterator_methods {
             self.trim_start().trim_end()
         }
 
-        /// The whole text as one `&str`, where it lies in one chunk, and else `None`. An empty text has one. O(log n).
+        /// Lends the whole text as one `&str` if it lies in one chunk; else returns `None`. Takes one search, O(log n).
         ///
         /// ```
         /// assert_eq!(str_rope::Rope::from("one").as_str(), Some("one"));
@@ -304,8 +307,8 @@ macro_rules! iterator_methods {
             }
         }
 
-        /// The chunk that a byte is in, lent, and the byte index where it begins. From the end on it is `None`. A slice has of
-        /// its first and last chunk what lies in it. O(log n), one search.
+        /// Lends the chunk that a byte is in, with the byte index where it begins; from the end on, returns `None`. A slice
+        /// lends that part of a chunk that lies in the slice. Takes one search, O(log n).
         ///
         /// ```
         /// let rope = str_rope::Rope::from("a🐸b");
@@ -317,12 +320,13 @@ macro_rules! iterator_methods {
             self.whole().chunk_of(byte_idx)
         }
 
-        /// The chunks in order, each lent as a `&str`. Each is found by a search in O(log n).
+        /// Goes over the chunks in order, each lent as a `&str`. Each takes one search, O(log n).
         pub fn chunks(&self) -> $crate::Chunks<$life> {
             self.chunks_at(0)
         }
 
-        /// The chunks, from the one that a byte is in; `prev` gives those before it. From the end on none remains. O(log n).
+        /// Goes over the chunks from the one that a byte is in; from the end on, over none. `prev` gives the chunks before
+        /// it. Each takes one search, O(log n).
         ///
         /// ```
         /// let rope = str_rope::Rope::from("one two ".repeat(1000));
@@ -335,28 +339,29 @@ macro_rules! iterator_methods {
             $crate::Chunks::new(self.whole(), start)
         }
 
-        /// The bytes in order. Each chunk is found by a search in O(log n).
+        /// Goes over the bytes in order. Each chunk takes one search, O(log n).
         pub fn bytes(&self) -> $crate::Bytes<$life> {
             self.bytes_at(0)
         }
 
-        /// The bytes, from a byte index on; `prev` gives those before it. From the end on none remains. O(1), and a search
-        /// for each chunk.
+        /// Goes over the bytes from a byte index on; from the end on, over none. `prev` gives the bytes before it. Each
+        /// chunk takes one search, O(log n).
         pub fn bytes_at(&self, byte_idx: usize) -> $crate::Bytes<$life> {
             $crate::Bytes::new(self.whole(), byte_idx.min(self.len()))
         }
 
-        /// The chars in order. Each chunk is found by a search in O(log n).
+        /// Goes over the chars in order. Each chunk takes one search, O(log n).
         pub fn chars(&self) -> $crate::Chars<$life> {
             $crate::Chars::new(self.whole(), 0)
         }
 
-        /// The chars, from the one that a byte is in; `prev` gives those before it. From the end on none remains. O(log n).
+        /// Goes over the chars from the one that a byte is in; from the end on, over none. `prev` gives the chars before it.
+        /// Each chunk takes one search, O(log n).
         pub fn chars_at(&self, byte_idx: usize) -> $crate::Chars<$life> {
             $crate::Chars::new(self.whole(), self.floor_char_boundary(byte_idx))
         }
 
-        /// The chars in order, each with the byte index where it begins. Each chunk is found by a search in O(log n).
+        /// Goes over the chars in order, each with the byte index where it begins. Each chunk takes one search, O(log n).
         ///
         /// ```
         /// let rope = str_rope::Rope::from("é🐸b");
@@ -366,8 +371,8 @@ macro_rules! iterator_methods {
             $crate::CharIndices::new(self.whole(), 0)
         }
 
-        /// The chars with their byte indices, from the char that a byte is in; `prev` gives those before it. From the end
-        /// on none remains. O(log n).
+        /// Goes over the chars with their byte indices, from the char that a byte is in; from the end on, over none. `prev`
+        /// gives the chars before it. Each chunk takes one search, O(log n).
         pub fn char_indices_at(&self, byte_idx: usize) -> $crate::CharIndices<$life> {
             $crate::CharIndices::new(self.whole(), self.floor_char_boundary(byte_idx))
         }

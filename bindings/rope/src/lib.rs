@@ -3,13 +3,13 @@
 //! Names and meanings are those of the crate `ropey` 2, whose index is the byte too: [`Rope::insert`], [`Rope::slice`],
 //! [`Rope::lines`]. These things differ, and README.md has a table of all:
 //!
-//! - **Nothing panics on an index.** A change or a slice that cannot be made is refused by an [`Error`], and the text is then
-//!   as it was. `byte`, `char`, `line` and `chunk_at` give `None` where there is none.
-//! - **A question takes any index.** Past the end it answers as at the end: a line past the last one begins at the
-//!   length of the text. The doc of each method says so first.
+//! - **No index makes a call panic.** A change or a slice that cannot be made returns an [`Error`], and leaves the text as it
+//!   was. `byte`, `char`, `line` and `chunk_at` return an `Option`.
+//! - **A conversion takes any index.** Past the end it answers as at the end: a line past the last one begins at the length of
+//!   the text. The first sentence on each method says so.
 //! - **Memory may be refused.** Changes, `parse`, [`Rope::from_str`], [`Rope::try_clone`], [`RopeSlice::to_rope`] and
-//!   [`RopeBuilder`] answer a `Result`. Traits that cannot, as `Clone`, `From` and `FromIterator`, end the program then, as those
-//!   of a `String` do. A removal may be refused too, but not one that takes out all.
+//!   [`RopeBuilder`] return a `Result`. Traits that cannot, as `Clone`, `From` and `FromIterator`, end the program then, as the
+//!   traits of a `String` do. A removal may be refused too, but not one that takes out the whole text.
 //! - [`Rope::append`] takes the other rope by `&mut`, and leaves it empty.
 //! - **`std` is a feature**, off by default, for `from_reader` and `write_to`.
 //!

@@ -1,8 +1,8 @@
 //! The exports of the static library.
 //!
 //! You pass a handle that was zeroed once. Calls that take it as `*const` may run at once, in many threads; one that takes it as
-//! `*mut` runs beside no other. Bytes that you pass must stay where and as they are until the call returns. Those of a `&str`
-//! do, and are UTF-8.
+//! `*mut` runs beside no other. Bytes that you pass must stay where and as they are until the call returns. The bytes of a
+//! `&str` do, and are UTF-8.
 use core::ffi::c_void;
 use core::ptr;
 use str_indices_positions::{Position, Range};

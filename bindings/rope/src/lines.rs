@@ -19,8 +19,8 @@ pub(crate) fn takes_pairs(scheme: Scheme) -> bool {
 /// Methods over `count`, `from_byte_idx`, `to_byte_idx` and `whole`, which answer for the lifetime of the text.
 macro_rules! line_methods {
     ($life:lifetime) => {
-        /// How many lines the text has: one more than its line breaks. A text that ends in a break has an empty last line.
-        /// O(1) for a rope, O(log n) for a slice.
+        /// Returns how many lines the text has: one more than its line breaks. A text that ends in a break has an empty
+        /// last line. Takes O(1) for a rope, O(log n) for a slice.
         ///
         /// ```
         /// use str_rope::{LineType, Rope};
@@ -34,8 +34,8 @@ macro_rules! line_methods {
             self.count($crate::lines::breaks(line_type)) + 1
         }
 
-        /// From a byte index to the index of its line: how many breaks end at the byte or before it. Past the end it is the
-        /// last line; a byte inside a break is on the line that the break ends. O(log n).
+        /// Returns the line index of the line that a byte is on; past the end, that of the last line. A byte inside a break
+        /// is on the line that the break ends. Takes one search, O(log n).
         ///
         /// ```
         /// use str_rope::{LineType, Rope};
@@ -48,7 +48,7 @@ macro_rules! line_methods {
             self.from_byte_idx($crate::lines::breaks(line_type), byte_idx)
         }
 
-        /// From a line index to the byte index where that line begins. Past the last line it is `len()`. O(log n).
+        /// Returns the byte index where a line begins; past the last line, `len()`. Takes one search, O(log n).
         ///
         /// ```
         /// use str_rope::{LineType, Rope};
@@ -61,7 +61,7 @@ macro_rules! line_methods {
             self.to_byte_idx($crate::lines::breaks(line_type), line_idx)
         }
 
-        /// A line, with its break. Past the last line it is `None`. O(log n).
+        /// Returns a line with its break, lent; past the last line, `None`. Takes two searches, O(log n).
         ///
         /// ```
         /// use str_rope::{LineType, Rope};
@@ -74,8 +74,8 @@ macro_rules! line_methods {
             self.lines_at(line_idx, line_type).next()
         }
 
-        /// The byte indices of the content of a line, without its break. Past the last line they are none, at the end of the
-        /// text. O(log n).
+        /// Returns the byte indices of a line without its break; past the last line, an empty range at the end of the text.
+        /// Takes a few searches, O(log n).
         ///
         /// ```
         /// use str_rope::{LineType, Rope};
@@ -91,8 +91,8 @@ macro_rules! line_methods {
             slice.cut(slice.rope().content(before.saturating_add(line_idx), line_type))
         }
 
-        /// The byte index where the content of a line ends, before its break. It is `len()` for the last line, and past it.
-        /// O(log n).
+        /// Returns the byte index where a line ends, before its break; for the last line, and past it, `len()`. Takes a few
+        /// searches, O(log n).
         ///
         /// ```
         /// use str_rope::{LineType, Rope};
@@ -104,8 +104,8 @@ macro_rules! line_methods {
             self.line_content(line_idx, line_type).end
         }
 
-        /// The lines in order, each with its break; the last one has none, and is empty where the text ends in a break.
-        /// Each takes a search in O(log n).
+        /// Goes over the lines in order, each with its break. The last line has none, and is empty if the text ends in a
+        /// break. Each line takes one search, O(log n).
         ///
         /// ```
         /// use str_rope::{LineType, Rope};
@@ -118,8 +118,8 @@ macro_rules! line_methods {
             self.lines_at(0, line_type)
         }
 
-        /// The lines, from a line index on; [`Lines::prev`](crate::Lines::prev) gives those before it. Past the last line
-        /// none remains. O(log n).
+        /// Goes over the lines from a line index on; past the last line, over none.
+        /// [`Lines::prev`](crate::Lines::prev) gives the lines before it. Each line takes one search, O(log n).
         ///
         /// ```
         /// use str_rope::{LineType, Rope};

@@ -109,8 +109,8 @@ impl Rope {
     }
 }
 
-/// Positions by a [`LineType`], for compilers and editors that have other lines than the protocol. These calls end in `_by`, and
-/// take the kind of line first.
+/// Positions by a [`LineType`], for compilers and editors that have other lines than the protocol. These calls end in
+/// `_by`, and take the kind of line first.
 ///
 /// ```
 /// use str_rope::{Encoding, LineType, Position, Rope};

@@ -68,8 +68,8 @@ impl Rope {
         bytes.start..bytes.end
     }
 
-    /// A rope of a text, which is copied, or [`Error::NoMemory`]. It is `parse` of `std` under its name in ropey; `Rope::from`
-    /// ends the program where memory is refused.
+    /// Makes a rope of a text, which it copies. Takes time in the length of the text. Returns [`Error::NoMemory`] if memory is
+    /// refused; `Rope::from` ends the program then.
     ///
     /// ```
     /// # fn main() -> Result<(), str_rope::Error> {
@@ -85,7 +85,8 @@ impl Rope {
         Ok(rope)
     }
 
-    /// Replaces the whole text by another. Both take memory until it is done.
+    /// Replaces the whole text by another. Takes time in the length of both, and memory for both until it is done. Returns
+    /// [`Error::NoMemory`] if memory is refused; the text is then as it was.
     ///
     /// ```
     /// # fn main() -> Result<(), str_rope::Error> {
@@ -100,8 +101,8 @@ impl Rope {
         result_of(unsafe { str_rope_assign(self.handle_mut(), text.as_ptr(), text.len()) })
     }
 
-    /// A rope with the same text, in one step, whatever its length, or [`Error::NoMemory`]. Both share their chunks from then
-    /// on, and a change of either leaves the other.
+    /// Makes a rope with the same text, in one step, whatever its length. Both share their chunks from then on, and a change of
+    /// either leaves the other. Returns [`Error::NoMemory`] if memory is refused; `clone` ends the program then.
     ///
     /// ```
     /// # fn main() -> Result<(), str_rope::Error> {
@@ -119,13 +120,13 @@ impl Rope {
         Ok(copy)
     }
 
-    /// How many bytes the text has. O(1).
+    /// Returns how many bytes the text has. Takes O(1).
     pub fn len(&self) -> usize {
         // SAFETY: as `library` says.
         unsafe { str_rope_len(self.handle()) }
     }
 
-    /// How many chars, UTF-16 code units or line breaks the text has. O(1).
+    /// Counts the chars, UTF-16 code units or line breaks of the text. Takes O(1).
     ///
     /// ```
     /// use str_rope::{Rope, Scheme};
@@ -142,8 +143,8 @@ impl Rope {
         unsafe { str_rope_count(self.handle(), scheme as u32) }
     }
 
-    /// From a byte index to a count: how many chars, UTF-16 code units or line breaks end at the byte or before it. Past the
-    /// end it is all of them. O(log n), one search.
+    /// Counts the chars, UTF-16 code units or line breaks that end at a byte index or before it; past the end, all of them.
+    /// Takes one search, O(log n).
     ///
     /// ```
     /// use str_rope::{Rope, Scheme};
@@ -162,8 +163,8 @@ impl Rope {
         unsafe { str_rope_from_byte_idx(self.handle(), scheme as u32, byte_idx) }
     }
 
-    /// From a count to a byte index: where the char, the char of the UTF-16 code unit, or the line of that index begins. Past
-    /// the last one it is [`Rope::len`]. O(log n), one search.
+    /// Returns the byte index where the char, the char of the UTF-16 code unit, or the line of an index begins; past the last
+    /// one, [`Rope::len`]. Takes one search, O(log n).
     ///
     /// ```
     /// use str_rope::{Rope, Scheme};
@@ -182,17 +183,17 @@ impl Rope {
         unsafe { str_rope_to_byte_idx(self.handle(), scheme as u32, idx) }
     }
 
-    /// Whether a byte index is where a char begins, or the end of the text. Past the end it is false. O(log n), one search.
+    /// Tells whether a char begins at a byte index, or the text ends there; past the end, `false`. Takes one search, O(log n).
     pub fn is_char_boundary(&self, byte_idx: usize) -> bool {
         // SAFETY: as `library` says.
         unsafe { str_rope_is_char_boundary(self.handle(), byte_idx) }
     }
 
-    /// Puts a text in at a byte index. Past the end, or inside a char, it is [`Error::NotBoundary`]. O(log n), and copies
-    /// the text.
+    /// Inserts a text at a byte index; past the end, and inside a char, returns [`Error::NotBoundary`]. Takes O(log n), and
+    /// time in the length of what it inserts.
     ///
-    /// It is [`Error::TooLong`] where the text would have more than `isize::MAX` bytes, and [`Error::NoMemory`] where memory
-    /// is refused. The text is then as it was.
+    /// Returns [`Error::TooLong`] if the text would have more than `isize::MAX` bytes, and [`Error::NoMemory`] if memory is
+    /// refused. After an error the text is as it was.
     ///
     /// ```
     /// use str_rope::{Error, Rope};
@@ -210,7 +211,8 @@ impl Rope {
         result_of(unsafe { str_rope_insert(self.handle_mut(), byte_idx, text.as_ptr(), text.len()) })
     }
 
-    /// Puts a char in at a byte index, as [`Rope::insert`] does.
+    /// Inserts a char at a byte index; past the end, and inside a char, returns [`Error::NotBoundary`]. Takes O(log n), and has
+    /// the other errors of [`Rope::insert`].
     ///
     /// ```
     /// # fn main() -> Result<(), str_rope::Error> {
@@ -224,10 +226,11 @@ impl Rope {
         self.insert(byte_idx, char.encode_utf8(&mut [0; 4]))
     }
 
-    /// Takes out the text between two byte indices. Past the end, or inside a char, it is [`Error::NotBoundary`]. O(log n).
+    /// Removes the text between two byte indices; past the end, and inside a char, returns [`Error::NotBoundary`]. Takes
+    /// O(log n), and a step for each chunk that it frees.
     ///
-    /// It is [`Error::NotOrdered`] where the range ends before it starts, and [`Error::NoMemory`] where memory is refused; to
-    /// take out all of the text needs none. The text is then as it was.
+    /// Returns [`Error::NotOrdered`] if the range ends before it starts, and [`Error::NoMemory`] if memory is refused, which a
+    /// removal of the whole text does not need. After an error the text is as it was.
     ///
     /// ```
     /// # fn main() -> Result<(), str_rope::Error> {
@@ -243,10 +246,9 @@ impl Rope {
         result_of(unsafe { str_rope_remove(self.handle_mut(), bytes.start, bytes.end) })
     }
 
-    /// Replaces the text between two byte indices by another, in one change. Past the end, or inside a char, it is
-    /// [`Error::NotBoundary`]. O(log n), and copies the new text.
-    ///
-    /// It is refused for the reasons of [`Rope::remove`] and of [`Rope::insert`]. The text is then as it was.
+    /// Replaces the text between two byte indices by another, in one change; past the end, and inside a char, returns
+    /// [`Error::NotBoundary`]. Takes the steps of [`Rope::remove`] and of [`Rope::insert`], and has their errors. After one the
+    /// text is as it was.
     ///
     /// ```
     /// # fn main() -> Result<(), str_rope::Error> {
@@ -262,11 +264,11 @@ impl Rope {
         result_of(unsafe { str_rope_replace(self.handle_mut(), bytes.start, bytes.end, text.as_ptr(), text.len()) })
     }
 
-    /// Moves the text of another rope to the end of this one, and leaves the other empty. O(log n), and copies two chunks at
-    /// most.
+    /// Moves the text of another rope to the end of this one, and leaves the other empty. Takes O(log n), and copies a few
+    /// chunks at most.
     ///
-    /// It is [`Error::TooLong`] where the text would have more than `isize::MAX` bytes, and [`Error::NoMemory`] where memory
-    /// is refused. Both are then as they were.
+    /// Returns [`Error::TooLong`] if the text would have more than `isize::MAX` bytes, and [`Error::NoMemory`] if memory is
+    /// refused. After an error both are as they were.
     ///
     /// ```
     /// # fn main() -> Result<(), str_rope::Error> {
@@ -283,10 +285,10 @@ impl Rope {
         result_of(unsafe { str_rope_append(self.handle_mut(), other.handle_mut()) })
     }
 
-    /// Takes off the text from a byte index on, and gives it as a rope. Past the end, or inside a char, it is
-    /// [`Error::NotBoundary`]. O(log n).
+    /// Cuts the text in two at a byte index, and returns the second part; past the end, and inside a char, returns
+    /// [`Error::NotBoundary`]. Takes O(log n).
     ///
-    /// It is [`Error::NoMemory`] where memory is refused. The text is then as it was.
+    /// Returns [`Error::NoMemory`] if memory is refused. After an error the text is as it was.
     ///
     /// ```
     /// # fn main() -> Result<(), str_rope::Error> {
@@ -303,11 +305,11 @@ impl Rope {
         Ok(rest)
     }
 
-    /// Copies the bytes between two byte indices to the beginning of a room, and answers how many they are. Past the end, or
-    /// inside a char, it is [`Error::NotBoundary`]. O(log n), and the number of bytes.
+    /// Copies the bytes between two byte indices to the beginning of a room, and returns how many they are; past the end, and
+    /// inside a char, returns [`Error::NotBoundary`]. Takes O(log n), and time in their number.
     ///
-    /// It is [`Error::NotOrdered`] where the range ends before it starts, and [`Error::TooLong`] where the room is shorter than
-    /// the part. The room is then as it was.
+    /// Returns [`Error::NotOrdered`] if the range ends before it starts, and [`Error::TooLong`] if the room is shorter than the
+    /// part. After an error the room is as it was.
     ///
     /// ```
     /// # fn main() -> Result<(), str_rope::Error> {

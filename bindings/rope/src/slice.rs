@@ -55,7 +55,7 @@ impl<'a> RopeSlice<'a> {
         self.rope
     }
 
-    /// The bytes of the rope's text that the slice has. O(1).
+    /// Returns the byte indices of the rope's text between which the slice lies. Takes O(1).
     ///
     /// ```
     /// # fn main() -> Result<(), str_rope::Error> {
@@ -68,48 +68,48 @@ impl<'a> RopeSlice<'a> {
         self.start..self.end
     }
 
-    /// How many bytes the slice has. O(1).
+    /// Returns how many bytes the slice has. Takes O(1).
     pub fn len(&self) -> usize {
         self.end - self.start
     }
 
-    /// How many chars, UTF-16 code units or line breaks the slice has. O(log n), two searches.
+    /// Counts the chars, UTF-16 code units or line breaks of the slice. Takes two searches, O(log n).
     pub fn count(&self, scheme: Scheme) -> usize {
         self.from_byte_idx(scheme, self.len())
     }
 
-    /// From a byte index to a count: how many chars, UTF-16 code units or line breaks end at the byte or before it. Past the
-    /// end it is all of them. O(log n), two searches.
+    /// Counts the chars, UTF-16 code units or line breaks that end at a byte index or before it; past the end, all of them.
+    /// Takes two searches, O(log n).
     pub fn from_byte_idx(&self, scheme: Scheme, byte_idx: usize) -> usize {
         let byte = self.in_rope(byte_idx);
         let found = self.rope.from_byte_idx(scheme, byte) - self.rope.from_byte_idx(scheme, self.start);
         found + usize::from(byte == self.end && self.ends_inside_break(scheme))
     }
 
-    /// From a count to a byte index: where the char, the char of the UTF-16 code unit, or the line of that index begins. Past
-    /// the last one it is [`RopeSlice::len`]. O(log n), two searches.
+    /// Returns the byte index where the char, the char of the UTF-16 code unit, or the line of an index begins; past the last
+    /// one, [`RopeSlice::len`]. Takes two searches, O(log n).
     pub fn to_byte_idx(&self, scheme: Scheme, idx: usize) -> usize {
         let before = self.rope.from_byte_idx(scheme, self.start);
         let byte = self.rope.to_byte_idx(scheme, before.saturating_add(idx));
         byte.clamp(self.start, self.end) - self.start
     }
 
-    /// Whether a byte index is where a char begins, or the end of the slice. Past the end it is false. O(log n), one search.
+    /// Tells whether a char begins at a byte index, or the slice ends there; past the end, `false`. Takes one search, O(log n).
     pub fn is_char_boundary(&self, byte_idx: usize) -> bool {
         byte_idx <= self.len() && self.rope.is_char_boundary(self.start + byte_idx)
     }
 
-    /// Copies the bytes between two byte indices to the beginning of a room, and answers how many they are. O(log n), and the
-    /// number of bytes.
+    /// Copies the bytes between two byte indices to the beginning of a room, and returns how many they are. Takes O(log n), and
+    /// time in their number.
     ///
-    /// Where it is refused, the room stays as it was: [`Error::NotOrdered`] where the range ends before it starts,
-    /// [`Error::NotBoundary`] where a byte is past the end or inside a char, [`Error::TooLong`] where the room is too short.
+    /// Returns [`Error::NotOrdered`] if the range ends before it starts, [`Error::NotBoundary`] if it starts or ends past the
+    /// end or inside a char, and [`Error::TooLong`] if the room is shorter than the part. The room is then as it was.
     pub fn copy_to(&self, range: impl RangeBounds<usize>, room: &mut [u8]) -> Result<usize, Error> {
         self.rope.copy_to(self.slice(range)?.range(), room)
     }
 
-    /// A rope of this text, which shares the chunks that lie inside the slice and copies a chunk at most at either end.
-    /// O(log n). It is [`Error::NoMemory`] where memory is refused; `Rope::from` ends the program then.
+    /// Makes a rope of this text, which shares the chunks that lie inside the slice, and copies a few at its ends. Takes
+    /// O(log n). Returns [`Error::NoMemory`] if memory is refused; `Rope::from` ends the program then.
     ///
     /// ```
     /// # fn main() -> Result<(), str_rope::Error> {

@@ -1,4 +1,4 @@
-//! The traits of `std` that other crates expect of a text. Those of comparison are in `compare`.
+//! The traits of `std` that other crates expect of a text. `compare` has the ones that compare.
 use crate::{Error, Rope, RopeBuilder, RopeSlice, MAX_CHUNK};
 use alloc::alloc::{handle_alloc_error, Layout};
 use alloc::borrow::Cow;
@@ -6,7 +6,7 @@ use alloc::string::String;
 use core::fmt::{self, Write};
 use core::str::FromStr;
 
-/// What was made; or the end of the program, as a `String` ends it where memory is refused.
+/// Takes what was made, or ends the program if memory was refused, as a `String` does.
 fn made<T>(result: Result<T, Error>) -> T {
     result.unwrap_or_else(|error| match error {
         Error::NoMemory => handle_alloc_error(Layout::new::<[u8; MAX_CHUNK]>()),
@@ -20,15 +20,15 @@ impl Default for Rope {
     }
 }
 
-/// A rope with the same text, in one step. Where memory is refused, it ends the program as a `String` does;
-/// [`Rope::try_clone`] answers the error.
+/// Makes a rope with the same text, in one step. Ends the program if memory is refused, as a `String` does;
+/// [`Rope::try_clone`] returns the error.
 impl Clone for Rope {
     fn clone(&self) -> Rope {
         made(self.try_clone())
     }
 }
 
-/// It fails where memory is refused.
+/// As [`Rope::from_str`]. Returns [`Error::NoMemory`] if memory is refused.
 impl FromStr for Rope {
     type Err = Error;
 
@@ -40,7 +40,7 @@ impl FromStr for Rope {
 /// Makes a rope of what derefs to a `str`.
 macro_rules! from_text {
     ($($text:ty),*) => {$(
-        /// It copies the text. Where memory is refused, it ends the program as a `String` does; `parse` answers the error.
+        /// Copies the text. Ends the program if memory is refused, as a `String` does; `parse` returns the error.
         impl From<$text> for Rope {
             fn from(text: $text) -> Rope {
                 made(Rope::from_str(&text))
@@ -51,15 +51,15 @@ macro_rules! from_text {
 
 from_text!(&str, &String, String, Cow<'_, str>);
 
-/// It shares the chunks that lie inside the slice. Where memory is refused, it ends the program as a `String` does;
-/// [`RopeSlice::to_rope`] answers the error.
+/// Shares the chunks that lie inside the slice. Ends the program if memory is refused, as a `String` does;
+/// [`RopeSlice::to_rope`] returns the error.
 impl From<RopeSlice<'_>> for Rope {
     fn from(slice: RopeSlice<'_>) -> Rope {
         made(slice.to_rope())
     }
 }
 
-/// The text as one block of memory.
+/// Copies the text into one block of memory.
 impl From<RopeSlice<'_>> for String {
     fn from(slice: RopeSlice<'_>) -> String {
         let mut text = String::with_capacity(slice.len());
@@ -68,21 +68,21 @@ impl From<RopeSlice<'_>> for String {
     }
 }
 
-/// The text as one block of memory.
+/// Copies the text into one block of memory.
 impl From<&Rope> for String {
     fn from(rope: &Rope) -> String {
         rope.whole().into()
     }
 }
 
-/// The text as one block of memory.
+/// Copies the text into one block of memory.
 impl From<Rope> for String {
     fn from(rope: Rope) -> String {
         String::from(&rope)
     }
 }
 
-/// The text, lent where it lies in one chunk, and else copied.
+/// Lends the text if it lies in one chunk, and else copies it.
 impl<'a> From<RopeSlice<'a>> for Cow<'a, str> {
     fn from(slice: RopeSlice<'a>) -> Cow<'a, str> {
         match slice.as_str() {
@@ -92,7 +92,7 @@ impl<'a> From<RopeSlice<'a>> for Cow<'a, str> {
     }
 }
 
-/// The text, lent where it lies in one chunk, and else copied.
+/// Lends the text if it lies in one chunk, and else copies it.
 impl<'a> From<&'a Rope> for Cow<'a, str> {
     fn from(rope: &'a Rope) -> Cow<'a, str> {
         rope.whole().into()
@@ -102,7 +102,7 @@ impl<'a> From<&'a Rope> for Cow<'a, str> {
 /// Makes or extends a rope by pieces that deref to a `str`.
 macro_rules! from_pieces {
     ($($piece:ty),*) => {$(
-        /// Where memory is refused, it ends the program as a `String` does.
+        /// Ends the program if memory is refused, as a `String` does.
         impl<'a> FromIterator<$piece> for Rope {
             fn from_iter<I: IntoIterator<Item = $piece>>(pieces: I) -> Rope {
                 let mut rope = Rope::new();
@@ -111,7 +111,7 @@ macro_rules! from_pieces {
             }
         }
 
-        /// Where memory is refused, it ends the program as a `String` does.
+        /// Ends the program if memory is refused, as a `String` does.
         impl<'a> Extend<$piece> for Rope {
             fn extend<I: IntoIterator<Item = $piece>>(&mut self, pieces: I) {
                 let mut builder = RopeBuilder::new();
@@ -124,7 +124,7 @@ macro_rules! from_pieces {
 
 from_pieces!(&'a str, &'a String, String, Cow<'a, str>);
 
-/// Where memory is refused, it ends the program as a `String` does.
+/// Ends the program if memory is refused, as a `String` does.
 impl FromIterator<char> for Rope {
     fn from_iter<I: IntoIterator<Item = char>>(chars: I) -> Rope {
         let mut rope = Rope::new();
@@ -133,7 +133,7 @@ impl FromIterator<char> for Rope {
     }
 }
 
-/// Where memory is refused, it ends the program as a `String` does.
+/// Ends the program if memory is refused, as a `String` does.
 impl Extend<char> for Rope {
     fn extend<I: IntoIterator<Item = char>>(&mut self, chars: I) {
         let mut builder = RopeBuilder::new();
@@ -143,7 +143,7 @@ impl Extend<char> for Rope {
     }
 }
 
-/// Puts text at the end. It fails where [`Rope::insert`] is refused.
+/// Appends text. Returns an error if [`Rope::insert`] does.
 impl fmt::Write for Rope {
     fn write_str(&mut self, text: &str) -> fmt::Result {
         self.insert(self.len(), text).map_err(|_| fmt::Error)

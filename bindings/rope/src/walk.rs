@@ -15,8 +15,8 @@ pub(crate) trait Steps: Clone {
     fn before(&mut self, at: usize, start: usize) -> Option<(Self::Item, usize)>;
 }
 
-/// A part from `start` to `end`, and a place in it. What remains lies from the place to the end, or where the walk is reversed
-/// from the place back to the start.
+/// A part from `start` to `end`, and a place in it. The items that remain lie from the place to the end, or if the walk is
+/// reversed from the place back to the start.
 #[derive(Clone)]
 pub(crate) struct Walk<S> {
     /// Finds items at the place.
@@ -62,7 +62,7 @@ impl<S: Steps> Walk<S> {
         (remaining.div_ceil(S::MOST), Some(remaining))
     }
 
-    /// Turns the walk round: what lay behind remains, and what remained lies behind.
+    /// Turns the walk round: items behind the place remain then, and those that remained lie behind it.
     pub fn reverse(&mut self) {
         self.is_reversed = !self.is_reversed;
     }

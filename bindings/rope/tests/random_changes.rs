@@ -20,7 +20,7 @@ impl Pair {
         }
     }
 
-    /// The same text once more.
+    /// A second pair with this text.
     fn copy(&self) -> Pair {
         Pair {
             rope: self.rope.clone(),

@@ -64,7 +64,7 @@ fn not_utf8(bytes: &[u8]) -> Option<usize> {
 
 /// Texts around a part's length, where a char may lie across its end.
 #[test]
-fn what_is_read_is_the_text() {
+fn reading_gives_the_text() {
     for len in [0, 1, PART - 3, PART - 1, PART, PART + 1, 2 * PART + 5] {
         let text = "a".repeat(len) + "🐸é\r\n" + &"せ".repeat(len / 3);
         assert_eq!(Rope::from_reader(text.as_bytes()).unwrap(), text);
@@ -97,7 +97,7 @@ fn a_reader_that_fails_is_told() {
 }
 
 #[test]
-fn what_is_written_is_the_text() {
+fn writing_gives_the_text() {
     let text = "one\r\n🐸 せかい\n".repeat(5000);
     let rope = Rope::from(&text);
     let mut bytes = Vec::new();

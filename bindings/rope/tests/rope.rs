@@ -1,4 +1,4 @@
-//! What is refused, what other crates expect of a text, and what a rope does with memory.
+//! Refusals, traits that other crates expect of a text, threads, and memory.
 mod model;
 use model::{joined, Numbers, ENCODINGS};
 use std::error::Error as _;
