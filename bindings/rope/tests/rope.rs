@@ -226,6 +226,13 @@ fn threads_walk_slices_of_one_rope() {
     }
     let text = TEXT.repeat(2000);
     let rope = shared(Rope::from(&text));
+    shared((
+        rope.bytes(),
+        rope.chars(),
+        rope.char_indices(),
+        rope.chunks(),
+        rope.lines(LineType::All),
+    ));
     thread::scope(|scope| {
         for nth in 0..4 {
             let (rope, text) = (&rope, &text);

@@ -327,7 +327,10 @@ fn equal_texts_have_one_hash() {
             .iter()
             .all(|slice| *slice == text && hash(*slice) == hash(slices[0])));
         assert_ne!(hash(slices[0]), hash(front.slice(1..).unwrap()));
+        assert_eq!(state.hash_one(&whole), hash(slices[0]));
     }
+    let [a, b, ab, empty] = ["a", "b", "ab", ""].map(Rope::from);
+    assert_ne!(state.hash_one((&a, &b)), state.hash_one((&ab, &empty)));
 }
 
 #[test]
