@@ -38,12 +38,20 @@ impl Steps for CharSteps<'_> {
 
     #[inline]
     fn after(&mut self, at: usize, _end: usize) -> Option<(char, usize)> {
+        let first = *self.0.after(at).first()?;
+        if first.is_ascii() {
+            return Some((char::from(first), at + 1));
+        }
         let char = self.0.text_after(at).chars().next()?;
         Some((char, at + char.len_utf8()))
     }
 
     #[inline]
     fn before(&mut self, at: usize, _start: usize) -> Option<(char, usize)> {
+        let last = *self.0.before(at).last()?;
+        if last.is_ascii() {
+            return Some((char::from(last), at - 1));
+        }
         let char = self.0.text_before(at).chars().next_back()?;
         Some((char, at - char.len_utf8()))
     }
