@@ -9,7 +9,7 @@ use str_indices_positions::{Encoding, LineType, Position, Range};
 const NONE: usize = usize::MAX;
 
 /// Positions of the Language Server Protocol 3.17, whose lines end in LF, CR or CR LF. The answers are those of the crate
-/// `str_indices_positions` for the whole text.
+/// `str_indices_positions` for the whole text. Each takes at most eight searches, O(log n).
 ///
 /// ```
 /// use str_rope::{Encoding, Position, Range, Rope};
@@ -28,26 +28,24 @@ const NONE: usize = usize::MAX;
 /// # }
 /// ```
 impl Rope {
-    /// The position of a byte: its line, and the units from that line's beginning to the byte.
+    /// Returns the position of a byte: its line, and the units from that line's beginning to the byte; past the end, the
+    /// position of the text's end.
     ///
-    /// A byte inside a char has the position where the char begins, the byte between CR and LF that of the line's end,
-    /// and a byte past the end that of the text's end.
+    /// A byte inside a char has the position where the char begins, and the byte between CR and LF that of the line's end.
     pub fn position_of(&self, encoding: Encoding, byte_idx: usize) -> Position {
         // SAFETY: as `library` says.
         unsafe { str_rope_position_of(self.handle(), encoding as u32, byte_idx) }
     }
 
-    /// The byte index where the char at a position begins.
-    ///
-    /// An offset inside a char belongs to its char. An offset past the end of the line gives the line's end, before its
-    /// break, and a line past the last one the length of the text in bytes.
+    /// Returns the byte index where the char at a position begins; past the end of the line, that end, before its break, and
+    /// past the last line, [`Rope::len`]. An offset inside a char belongs to its char.
     pub fn byte_of(&self, encoding: Encoding, position: Position) -> usize {
         // SAFETY: as `library` says.
         unsafe { str_rope_byte_of(self.handle(), encoding as u32, position) }
     }
 
-    /// The byte index of a position that names a place, or `None`: where the text has no such line, the offset is past
-    /// the end of the line, or the unit is inside a char. So a server notices a client that is out of step.
+    /// Returns the byte index of a position that names a place; past the last line, past the end of the line, and inside a
+    /// char, `None`. So a server notices a client that is out of step.
     ///
     /// ```
     /// use str_rope::{Encoding, Position, Rope};
@@ -65,26 +63,28 @@ impl Rope {
         (byte != NONE).then_some(byte)
     }
 
-    /// The byte indices of a range, each as `byte_of` answers it, or `None` where its end is before its start.
+    /// Returns the byte indices of a range, each as `byte_of` does, or `None` if its end is before its start.
     pub fn byte_range(&self, encoding: Encoding, range: Range) -> Option<ops::Range<usize>> {
         // SAFETY: as `library` says.
         let bytes = unsafe { str_rope_byte_range(self.handle(), encoding as u32, range) };
         (bytes.start != NONE).then_some(bytes.start..bytes.end)
     }
 
-    /// Replaces what stands in a range by a text: one entry of the protocol's `contentChanges`. Each entry is meant in
-    /// the text that the one before it left. Where the entry has no range, its text is the whole one: [`Rope::assign`].
+    /// Replaces the text in a range by another: one entry of the protocol's `contentChanges`. Positions past the end of a line
+    /// or of the text are cut as by [`Rope::byte_of`], so it never returns [`Error::NotBoundary`].
     ///
-    /// Positions are cut as by [`Rope::byte_of`], so it is never [`Error::NotBoundary`].
+    /// Each entry is meant in the text that the one before it left. If the entry has no range, its text is the whole one: call
+    /// [`Rope::assign`]. Returns [`Error::NotOrdered`] if the range ends before it starts, and the errors of [`Rope::replace`];
+    /// after an error the text is as it was.
     pub fn change(&mut self, encoding: Encoding, range: Range, text: &str) -> Result<(), Error> {
         let number = encoding as u32;
         // SAFETY: as `library` says.
         result_of(unsafe { str_rope_change(self.handle_mut(), number, range, text.as_ptr(), text.len()) })
     }
 
-    /// Replaces what stands in a range by a text, as [`Rope::change`], where each of its positions names a place.
+    /// Replaces the text in a range by another, as [`Rope::change`], if each of its positions names a place. If one names none,
+    /// as [`Rope::exact_byte_of`] has it, returns [`Error::NotBoundary`], and the text is as it was.
     ///
-    /// Where one names none, as [`Rope::exact_byte_of`] has it, it is [`Error::NotBoundary`], and the text is as it was.
     /// So a server notices a client that is out of step, and asks it for the whole text.
     ///
     /// ```
@@ -110,7 +110,7 @@ impl Rope {
 }
 
 /// Positions by a [`LineType`], for compilers and editors that have other lines than the protocol. These calls end in
-/// `_by`, and take the kind of line first.
+/// `_by`, and take the kind of line first. Each takes at most eight searches, O(log n).
 ///
 /// ```
 /// use str_rope::{Encoding, LineType, Position, Rope};
@@ -123,17 +123,18 @@ impl Rope {
 /// # }
 /// ```
 impl Rope {
-    /// The position of a byte: its line, and the units from that line's beginning to the byte.
+    /// Returns the position of a byte: its line, and the units from that line's beginning to the byte; past the end, the
+    /// position of the text's end.
     ///
-    /// A byte inside a char has the position where the char begins, the byte between the CR and the LF of one break that of
-    /// the line's end, and a byte past the end that of the text's end.
+    /// A byte inside a char has the position where the char begins, and the byte between the CR and the LF of one break that of
+    /// the line's end.
     pub fn position_by(&self, lines: LineType, encoding: Encoding, byte_idx: usize) -> Position {
         // SAFETY: as `library` says.
         unsafe { str_rope_position_by(self.handle(), lines as u32, encoding as u32, byte_idx) }
     }
 
-    /// The position of a byte that is a place on a line, or `None`: where it is inside a char, between the CR and the LF of one
-    /// break, or past the end. So a compiler notices a span that is wrong.
+    /// Returns the position of a byte that is a place on a line; past the end, inside a char, and between the CR and the LF of
+    /// one break, `None`. So a compiler notices a span that is wrong.
     ///
     /// ```
     /// use str_rope::{Encoding, LineType, Position, Rope};
@@ -153,16 +154,14 @@ impl Rope {
         (position.line != NONE).then_some(position)
     }
 
-    /// The byte index where the char at a position begins.
-    ///
-    /// An offset inside a char belongs to its char. An offset past the end of the line gives the line's end, before its
-    /// break, and a line past the last one the length of the text in bytes.
+    /// Returns the byte index where the char at a position begins; past the end of the line, that end, before its break, and
+    /// past the last line, [`Rope::len`]. An offset inside a char belongs to its char.
     pub fn byte_by(&self, lines: LineType, encoding: Encoding, position: Position) -> usize {
         // SAFETY: as `library` says.
         unsafe { str_rope_byte_by(self.handle(), lines as u32, encoding as u32, position) }
     }
 
-    /// The positions of both ends of a span of bytes, each as `position_by` answers it, also where the end is before the start.
+    /// Returns the positions of both ends of a span of bytes, each as `position_by` does, also if the end is before the start.
     pub fn range_by(&self, lines: LineType, encoding: Encoding, span: ops::Range<usize>) -> Range {
         let span = Bytes {
             start: span.start,
