@@ -87,7 +87,7 @@ macro_rules! line_methods {
         /// ```
         pub fn line_content(&self, line_idx: usize, line_type: $crate::LineType) -> core::ops::Range<usize> {
             let slice = self.whole();
-            let before = $crate::lines::line_of_start(slice, line_type);
+            let before = slice.count_before($crate::lines::breaks(line_type));
             slice.cut(slice.rope().content(before.saturating_add(line_idx), line_type))
         }
 
@@ -140,11 +140,6 @@ macro_rules! line_methods {
 
 pub(crate) use line_methods;
 
-/// The line of the rope in which a slice begins.
-pub(crate) fn line_of_start(slice: RopeSlice<'_>, line_type: LineType) -> usize {
-    slice.rope().from_byte_idx(breaks(line_type), slice.range().start)
-}
-
 /// Goes from line to line, by the lines' numbers.
 #[derive(Clone)]
 pub(crate) struct LineSteps<'a> {
@@ -158,10 +153,11 @@ pub(crate) struct LineSteps<'a> {
 
 impl<'a> LineSteps<'a> {
     pub fn new(slice: RopeSlice<'a>, line_type: LineType) -> LineSteps<'a> {
+        let scheme = breaks(line_type);
         LineSteps {
             slice,
-            scheme: breaks(line_type),
-            first: line_of_start(slice, line_type),
+            scheme,
+            first: slice.count_before(scheme),
             known: None,
         }
     }

@@ -82,15 +82,16 @@ impl<'a> RopeSlice<'a> {
     /// Takes two searches, O(log n).
     pub fn from_byte_idx(&self, scheme: Scheme, byte_idx: usize) -> usize {
         let byte = self.in_rope(byte_idx);
-        let found = self.rope.from_byte_idx(scheme, byte) - self.rope.from_byte_idx(scheme, self.start);
+        let found = self.rope.from_byte_idx(scheme, byte) - self.count_before(scheme);
         found + usize::from(byte == self.end && self.ends_inside_break(scheme))
     }
 
     /// Returns the byte index where the char, the char of the UTF-16 code unit, or the line of an index begins; past the last
     /// one, [`RopeSlice::len`]. Takes two searches, O(log n).
     pub fn to_byte_idx(&self, scheme: Scheme, idx: usize) -> usize {
-        let before = self.rope.from_byte_idx(scheme, self.start);
-        let byte = self.rope.to_byte_idx(scheme, before.saturating_add(idx));
+        let byte = self
+            .rope
+            .to_byte_idx(scheme, self.count_before(scheme).saturating_add(idx));
         byte.clamp(self.start, self.end) - self.start
     }
 
@@ -137,6 +138,14 @@ impl<'a> RopeSlice<'a> {
     /// The whole slice, for methods that a rope has too.
     pub(crate) fn whole(&self) -> RopeSlice<'a> {
         *self
+    }
+
+    /// How many chars, UTF-16 code units or line breaks the rope's text has before the slice.
+    pub(crate) fn count_before(&self, scheme: Scheme) -> usize {
+        match self.start {
+            0 => 0,
+            start => self.rope.from_byte_idx(scheme, start),
+        }
     }
 
     /// The byte index of the rope's text that an index of the slice means. Past the slice's end it is that end.
