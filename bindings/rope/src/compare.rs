@@ -7,7 +7,7 @@ use core::hash::{Hash, Hasher};
 use core::{iter, ptr};
 
 /// How many bytes a hasher gets at once.
-const BLOCK: usize = 256;
+const HASHED: usize = 256;
 
 /// Compares two texts by their pieces, none of which is empty but where its text is. A piece that both share is not read.
 fn compare<'a, 'b>(mut one: impl Iterator<Item = &'a str>, mut other: impl Iterator<Item = &'b str>) -> Ordering {
@@ -52,24 +52,24 @@ impl RopeSlice<'_> {
     }
 }
 
-/// Hands the bytes to the hasher in blocks of one length, since equal texts may lie in other chunks. The hash is another one
+/// Hands the bytes to the hasher in parts of one length, since equal texts may lie in other chunks. The hash is another one
 /// than that of a `str`.
 impl Hash for RopeSlice<'_> {
     fn hash<H: Hasher>(&self, state: &mut H) {
-        let (mut block, mut filled) = ([0; BLOCK], 0);
+        let (mut part, mut filled) = ([0; HASHED], 0);
         for chunk in self.chunks() {
             let mut bytes = chunk.as_bytes();
             while !bytes.is_empty() {
-                let (taken, rest) = bytes.split_at(bytes.len().min(BLOCK - filled));
-                block[filled..filled + taken.len()].copy_from_slice(taken);
+                let (taken, rest) = bytes.split_at(bytes.len().min(HASHED - filled));
+                part[filled..filled + taken.len()].copy_from_slice(taken);
                 (bytes, filled) = (rest, filled + taken.len());
-                if filled == BLOCK {
-                    state.write(&block);
+                if filled == HASHED {
+                    state.write(&part);
                     filled = 0;
                 }
             }
         }
-        state.write(&block[..filled]);
+        state.write(&part[..filled]);
         // As `str` does, so that the texts of a tuple do not run together.
         state.write_u8(0xFF);
     }

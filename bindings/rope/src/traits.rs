@@ -6,8 +6,8 @@ use alloc::string::String;
 use core::fmt::{self, Write};
 use core::str::FromStr;
 
-/// Takes what was made, or ends the program if memory was refused, as a `String` does.
-fn made<T>(result: Result<T, Error>) -> T {
+/// Takes the result, or ends the program if memory was refused, as a `String` does.
+fn or_abort<T>(result: Result<T, Error>) -> T {
     result.unwrap_or_else(|error| match error {
         Error::NoMemory => handle_alloc_error(Layout::new::<[u8; MAX_CHUNK]>()),
         _ => panic!("{error}"),
@@ -24,7 +24,7 @@ impl Default for Rope {
 /// [`Rope::try_clone`] returns the error.
 impl Clone for Rope {
     fn clone(&self) -> Rope {
-        made(self.try_clone())
+        or_abort(self.try_clone())
     }
 }
 
@@ -43,7 +43,7 @@ macro_rules! from_text {
         /// Copies the text. Ends the program if memory is refused, as a `String` does; `parse` returns the error.
         impl From<$text> for Rope {
             fn from(text: $text) -> Rope {
-                made(Rope::from_str(&text))
+                or_abort(Rope::from_str(&text))
             }
         }
     )*};
@@ -55,7 +55,7 @@ from_text!(&str, &String, String, Cow<'_, str>);
 /// [`RopeSlice::to_rope`] returns the error.
 impl From<RopeSlice<'_>> for Rope {
     fn from(slice: RopeSlice<'_>) -> Rope {
-        made(slice.to_rope())
+        or_abort(slice.to_rope())
     }
 }
 
@@ -115,8 +115,8 @@ macro_rules! from_pieces {
         impl<'a> Extend<$piece> for Rope {
             fn extend<I: IntoIterator<Item = $piece>>(&mut self, pieces: I) {
                 let mut builder = RopeBuilder::new();
-                pieces.into_iter().for_each(|piece| made(builder.append(&piece)));
-                made(builder.finish().and_then(|mut rest| self.append(&mut rest)));
+                pieces.into_iter().for_each(|piece| or_abort(builder.append(&piece)));
+                or_abort(builder.finish().and_then(|mut rest| self.append(&mut rest)));
             }
         }
     )*};
@@ -137,9 +137,9 @@ impl FromIterator<char> for Rope {
 impl Extend<char> for Rope {
     fn extend<I: IntoIterator<Item = char>>(&mut self, chars: I) {
         let mut builder = RopeBuilder::new();
-        let append = |char: char| made(builder.append(char.encode_utf8(&mut [0; 4])));
+        let append = |char: char| or_abort(builder.append(char.encode_utf8(&mut [0; 4])));
         chars.into_iter().for_each(append);
-        made(builder.finish().and_then(|mut rest| self.append(&mut rest)));
+        or_abort(builder.finish().and_then(|mut rest| self.append(&mut rest)));
     }
 }
 

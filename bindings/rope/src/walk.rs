@@ -48,7 +48,7 @@ impl<S: Steps> Walk<S> {
     }
 
     /// How far it is from the place to the end of what remains.
-    pub fn remaining(&self) -> usize {
+    pub fn distance(&self) -> usize {
         if self.is_reversed {
             self.at - self.start
         } else {
@@ -58,8 +58,8 @@ impl<S: Steps> Walk<S> {
 
     /// The fewest and the most items that remain.
     pub fn size_hint(&self) -> (usize, Option<usize>) {
-        let remaining = self.remaining();
-        (remaining.div_ceil(S::MOST), Some(remaining))
+        let distance = self.distance();
+        (distance.div_ceil(S::MOST), Some(distance))
     }
 
     /// Turns the walk round: items behind the place remain then, and those that remained lie behind it.
@@ -90,7 +90,7 @@ impl<S: Steps> Walk<S> {
     /// Takes off the last item that remains.
     #[inline]
     pub fn next_back(&mut self) -> Option<S::Item> {
-        if self.remaining() == 0 {
+        if self.distance() == 0 {
             return None;
         }
         if self.is_reversed {

@@ -1,4 +1,4 @@
-//! Answers worked out by hand, a row for each method.
+//! Answers worked out by hand, for each method.
 use std::borrow::Cow;
 use std::cmp::Ordering;
 use std::collections::{BTreeSet, HashSet};
@@ -310,7 +310,7 @@ fn worked_comparisons() {
     assert_eq!(ropes.len(), 2);
 }
 
-/// Texts that are equal and lie in other chunks have one hash; a hasher gets blocks of 256 bytes.
+/// Texts that are equal and lie in other chunks have one hash; a hasher gets parts of 256 bytes.
 #[test]
 fn equal_texts_have_one_hash() {
     let state = RandomState::new();

@@ -92,7 +92,8 @@ pub(crate) fn later_line<'a, P: Parts<'a>>(
         return line_in(parts, lines, encoding, later);
     }
     let rest = from_byte(part.text, start.offset);
-    let offset = start.offset + kernels::to_byte_idx::<P::Chunk>(lines.scheme(), rest, later - line);
+    let offset = start.offset
+        + kernels::to_byte_idx::<P::Chunk>(lines.scheme(), rest, later - line);
     Place { part, offset }
 }
 

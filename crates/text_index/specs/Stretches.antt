@@ -41,7 +41,7 @@ pub record StandsRound (text : Text) (byte : ℕ) (stretch : Stretch) : Type 0 w
   pub after : stretch.start.now.byte ≤ byte
   pub before : byte < stretch.end.now.byte
 
--- before the stretch a count is not reached, and after it it is, or the text ends there
+-- before the stretch a count is not reached; after it the count is, or the text ends there
 pub record Answers (s : Scheme) (text : Text) (k : ℕ) (stretch : Stretch) : Type 0 where
   pub is : IsStretch text stretch
   pub past : count_at stretch.start.now s < k
@@ -53,7 +53,7 @@ pub record HasPlace (text : Text) (byte : ℕ) (stretch : Stretch) : Type 0 wher
   pub after : stretch.start.now.byte ≤ byte
   pub before : (byte < stretch.end.now.byte) ⊎ (stretch.end.now.byte ≡ size text)
 
--- before the stretch a count is not reached, or it is the first; and after it the count is, or the text ends there
+-- before the stretch a count is not reached, or it is the first; after it the count is, or the text ends there
 pub record Reaches (s : Scheme) (text : Text) (k : ℕ) (stretch : Stretch) : Type 0 where
   pub is : IsStretch text stretch
   pub past : (count_at stretch.start.now s < k) ⊎ (stretch.start.now.byte ≡ 0)

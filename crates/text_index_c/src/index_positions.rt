@@ -61,7 +61,11 @@ pub extern "C" fn str_index_position_of(
 
 /// The byte index where the char at a position begins; past the end of its line, the line's end.
 #[unsafe(no_mangle)]
-pub extern "C" fn str_index_byte_of(handle: &IndexHandle<'_>, encoding: u32, position: Position) -> usize
+pub extern "C" fn str_index_byte_of(
+    handle: &IndexHandle<'_>,
+    encoding: u32,
+    position: Position,
+) -> usize
     requires { IsIndex handle.now }
     ensures answer { result ≡ byte_at LineType.LfCr (encoding_of encoding) (text_of handle.now) position }
     ensures boundary { IsBoundary (text_of handle.now) result }
@@ -87,7 +91,11 @@ pub extern "C" fn str_index_exact_byte_of(
 
 /// The byte indices of a range; `usize::MAX` twice where its end is before its start.
 #[unsafe(no_mangle)]
-pub extern "C" fn str_index_byte_range(handle: &IndexHandle<'_>, encoding: u32, range: Range) -> Bytes
+pub extern "C" fn str_index_byte_range(
+    handle: &IndexHandle<'_>,
+    encoding: u32,
+    range: Range,
+) -> Bytes
     requires { IsIndex handle.now }
     ensures some { IfSome (byte_range_at LineType.LfCr (encoding_of encoding) (text_of handle.now) range)
         (λ bytes. result ≡ record { start = bytes.start; end = bytes.end }) }

@@ -1,7 +1,7 @@
 //! An index beside a text, for C, as a static library: the questions of `text_index`, by a handle.
 //!
-//! C holds a [`IndexHandle`](handle::IndexHandle) in memory of its own, with the marks of the text, and lends both: nothing here takes
-//! memory. [`index_fill`](making::index_fill) makes a handle, and each other function asks that it was made so, and changes
+//! C holds an [`IndexHandle`](handle::IndexHandle) in memory of its own, with the marks of the text, and lends both: nothing
+//! here takes memory. [`index_fill`](making::index_fill) makes a handle, and each other function asks that it was made so, and changes
 //! nothing. `bindings/c/include/str_index.h`, at the top of the repository, says what a caller in C owes.
 #![tactic(auto)]
 

@@ -190,11 +190,7 @@ fn middle_after<T: ByteChunk>(
 }
 
 /// Compares the kernels for each middle, after `letters` letters.
-fn middles_after<T: ByteChunk>(
-    rt: &impl Abort,
-    alloc: Global,
-    letters: usize,
-) -> Result<(), Fail> {
+fn middles_after<T: ByteChunk>(rt: &impl Abort, alloc: Global, letters: usize) -> Result<(), Fail> {
     for (middle, _) in &MIDDLES {
         middle_after::<T>(rt, alloc, letters, middle)?;
     }

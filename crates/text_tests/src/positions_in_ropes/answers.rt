@@ -299,9 +299,19 @@ fn changes_in_turn_are_all_applied_or_none(rt: HostRuntime) -> Result<(), Fail> 
         (&[frog], true, None, "a🐸c"),
         (&[frog, accent], false, None, "a🐸éc"),
         (&[frog, accent], true, None, "a🐸éc"),
-        (&[frog, accent, backward], false, Some((2, Refusal::NotOrdered)), "abc"),
+        (
+            &[frog, accent, backward],
+            false,
+            Some((2, Refusal::NotOrdered)),
+            "abc",
+        ),
         (&[frog, inside], false, None, "aec"),
-        (&[frog, inside], true, Some((1, Refusal::NotBoundary)), "abc"),
+        (
+            &[frog, inside],
+            true,
+            Some((1, Refusal::NotBoundary)),
+            "abc",
+        ),
     ];
     for (changes, exact, refused, left) in rows {
         let mut rope = Rope::from_str(rt.alloc(), "abc")?;
