@@ -83,12 +83,16 @@ impl Library {
     /// Proves and builds the library in the repository that the crate is part of. The first time takes minutes.
     fn build(&self, repository: &Path) -> Result<(), String> {
         let (file, name) = (self.file(), self.name);
-        let has_rattle = Command::new("rt").arg("version").output().is_ok();
-        if !has_rattle || !repository.join(SCRIPT).is_file() {
+        let missing = format!(
+            "the static library {file} is missing. Let {LIBRARY_FOLDER} name a folder that has it, or install it where \
+             pkg-config finds {name}"
+        );
+        if !repository.join(SCRIPT).is_file() {
+            return Err(missing);
+        }
+        if Command::new("rt").arg("version").output().is_err() {
             return Err(format!(
-                "the static library {file} is missing. Either build it with Rattle's command rt on the path ({SCRIPT} {name} \
-                 in the repository of this crate), or let {LIBRARY_FOLDER} name a folder that has it, or install it where \
-                 pkg-config finds {name}"
+                "{missing}, or build it by {SCRIPT} {name} with Rattle's command rt on the path"
             ));
         }
         match Command::new(repository.join(SCRIPT)).arg(name).status() {

@@ -26,7 +26,7 @@ PAGES = {
     "README.md": ".", "bindings/c/README.md": ".",
     **{f"bindings/{name}/README.md": f"bindings/{name}" for name in ("rust", "positions", "rope", "index")},
 }
-LANGUAGES = {"sh", "c", "toml", "rust", "js", "text"}
+LANGUAGES = {"sh", "c", "cpp", "toml", "rust", "js", "text"}
 # the page whose program in JavaScript test_browser.py runs
 WEB_PAGE = "bindings/web/README.md"
 # the project that an entry goes into; one that replaces the original is for a project that has that

@@ -1,9 +1,9 @@
 #!/usr/bin/env python3
 """Looks that all parts say the one version that the file VERSION has: same_version.py [VERSION]
 
-What says it is listed here by file and pattern. With a version that one is written first, into VERSION and all that says
-it but CHANGELOG.md, which you write. The search is tried on another version too, which each must miss. The last line
-printed is 'N passed, M failed'.
+The places that say it are listed here by file and pattern; the headers for C say it as three numbers too. With a version that
+one is written first, into VERSION and all that says it but CHANGELOG.md, which you write. The search is tried on another
+version too, which each must miss. The last line printed is 'N passed, M failed'.
 """
 import pathlib
 import re
@@ -15,32 +15,41 @@ sys.path.insert(0, str(ROOT / "scripts/lib"))
 from tally import Tally  # noqa: E402
 
 BY_HAND = "CHANGELOG.md"
+LIBRARIES = ["str_indices", "str_rope", "str_index"]
+NUMBERS = ["MAJOR", "MINOR", "PATCH"]
 PLACES = {
-    "Cargo.toml": r'^version = "(.*)"$',
-    "bindings/c/include/str_indices.h": r'^#define STR_INDICES_VERSION "(.*)"$',
-    "bindings/c/include/str_rope.h": r'^#define STR_ROPE_VERSION "(.*)"$',
-    "bindings/c/include/str_index.h": r'^#define STR_INDEX_VERSION "(.*)"$',
-    BY_HAND: r"^## ([0-9.]+)",
+    "Cargo.toml": [r'^version = "(.*)"$'],
+    **{f"bindings/c/include/{name}.h": [rf'^#define {name.upper()}_VERSION "(.*)"$',
+                                        *(rf"^#define {name.upper()}_VERSION_{number} (\d+)$" for number in NUMBERS)]
+       for name in LIBRARIES},
+    BY_HAND: [r"^## ([0-9.]+)"],
 }
+
+
+def wanted(version, patterns):
+    """What each pattern of a file is to find: the version, and where there are more its numbers, one by one."""
+    return [version, *version.split(".")[:len(patterns) - 1]]
 
 
 def write(version):
     """Writes that version wherever it is not written by hand."""
     (ROOT / "VERSION").write_text(f"{version}\n", encoding="utf-8")
-    for name, pattern in PLACES.items():
-        if name != BY_HAND:
-            text = (ROOT / name).read_text(encoding="utf-8")
+    for name, patterns in PLACES.items():
+        text = (ROOT / name).read_text(encoding="utf-8")
+        for pattern, number in zip(patterns, wanted(version, patterns)) if name != BY_HAND else []:
             start, end = re.search(pattern, text, re.MULTILINE).span(1)
-            (ROOT / name).write_text(text[:start] + version + text[end:], encoding="utf-8")
+            text = text[:start] + number + text[end:]
+        (ROOT / name).write_text(text, encoding="utf-8")
 
 
 def differing(version):
     """The files in which what says the version first says another, or nothing does."""
     found = {}
-    for name, pattern in PLACES.items():
-        match = re.search(pattern, (ROOT / name).read_text(encoding="utf-8"), re.MULTILINE)
-        found[name] = match and match[1]
-    return [name for name, said in found.items() if said != version]
+    for name, patterns in PLACES.items():
+        text = (ROOT / name).read_text(encoding="utf-8")
+        matches = [re.search(pattern, text, re.MULTILINE) for pattern in patterns]
+        found[name] = [match and match[1] for match in matches] == wanted(version, patterns)
+    return [name for name, is_right in found.items() if not is_right]
 
 
 def main():

@@ -3,9 +3,10 @@
 
 The archive is built from a commit of a copy, and unpacked into an empty folder. There its README's lines run as they
 stand, in an environment where nothing is set and Rattle's command is not to be found: each language's first program, by
-pkg-config and by CMake, shared and static, and the programs. Then once more where the folder was moved. The sums, the
-manual pages and the page's links are looked at too. Where Cargo does not get the crate that the language server takes, the
-archive is built without the server. With --twice the archive is built in two folders, and has to have the
+pkg-config and by CMake, shared and static, and the programs. Then once more where the folder was moved. The lines of the page
+for C run there too. The sums and the manual pages are looked at, that each page names only what is in the archive, and that
+none speaks of Rattle's command; nor does a crate that finds no library. Where Cargo does not get the crate that the language
+server takes, the archive is built without the server. With --twice the archive is built in two folders, and has to have the
 same bytes. The last line printed is 'N passed, M failed', with what is left out.
 """
 import json
@@ -21,6 +22,8 @@ ROOT = pathlib.Path(__file__).resolve().parents[2]
 sys.path.insert(0, str(ROOT / "scripts/lib"))
 
 from debian_crates import source_flags  # noqa: E402
+from man_pages import PAGES, pages  # noqa: E402
+from packed_pages import astray  # noqa: E402
 from page_lines import blocks, environment, try_lines  # noqa: E402
 from proved import hand_on  # noqa: E402
 from tally import Tally, least  # noqa: E402
@@ -30,6 +33,12 @@ LEFT_OUT = shutil.ignore_patterns(".git", "out", "target", "dist", "__pycache__"
 GATE_OUTPUT = "1 passed, 0 failed\n"
 COMMIT = ["-c", "user.name=test", "-c", "user.email=test", "commit", "-q", "-m", "A copy"]
 WHEN = {"GIT_AUTHOR_DATE": "2026-01-01T00:00:00Z", "GIT_COMMITTER_DATE": "2026-01-01T00:00:00Z"}
+# what pages name that is no file of the archive: requests of a language server, an entry of a package, and what Cargo makes
+NO_FILES = {"pauskern/text", "window/showMessage", "str_indices/inline", "target/release/language_server"}
+# what stands in the repository in the place of what a release says
+UNFILLED = re.compile(rb"@VERSION@|workspace = true|not released yet")
+# Rattle's command, but for a name that ends as it does
+COMMAND = re.compile(r"(?<![\w./-])rt(?![\w:(])")
 
 tally = Tally()
 
@@ -75,24 +84,65 @@ def try_server(top, path):
 
 
 def try_contents(top):
-    """The sums, the manual pages, the page's links, and that one version is said everywhere."""
+    """The sums, the links of the page for a browser, and that one version is said everywhere."""
     summed = subprocess.run(["sha256sum", "--check", "--quiet", "SHA256SUMS"], cwd=top, capture_output=True, text=True)
     listed = {line.split("  ")[1] for line in (top / "SHA256SUMS").read_text(encoding="utf-8").splitlines()}
     files = {str(path.relative_to(top)) for path in top.rglob("*") if path.is_file() and not path.is_symlink()}
     right = summed.returncode == 0 and files - listed == {"SHA256SUMS"}
     tally.result(right, f"the sums of {len(listed)} files are right {summed.stdout}")
-    unfilled = [name for name in sorted(files) if re.search(rb"@VERSION@|workspace = true", (top / name).read_bytes())]
-    tally.result(not unfilled, f"each file has its version {' '.join(unfilled)}")
-    pages = sorted((top / "share/man").rglob("*.[13]"))
-    names = [page.name for page in pages]
-    tally.result(names == ["idx.1", "str_index.3", "str_indices.3", "str_rope.3"], f"the manual pages: {' '.join(names)}")
-    if shutil.which("groff"):
-        warned = [subprocess.run(["groff", "-man", "-Tutf8", "-ww", page], capture_output=True).stderr for page in pages]
-        tally.result(not any(warned), f"groff has no warning about them {b''.join(warned).decode()}")
-    else:
-        tally.leave_out(1, "warnings about manual pages, as groff is not on the path")
+    unfilled = [name for name in sorted(files) if UNFILLED.search((top / name).read_bytes())]
+    tally.result(not unfilled, f"each file has its version, which is released {' '.join(unfilled)}")
     links = re.findall('<a href="([^"]+)"', (top / "web/index.html").read_text(encoding="utf-8"))
     tally.result(bool(links) and all((top / "web" / link).is_file() for link in links), f"{len(links)} links of the page")
+
+
+def try_man_pages(top):
+    """There is a page of each library, function and program, and groff takes all of them."""
+    version = (top / "VERSION").read_text(encoding="utf-8").strip()
+    found = sorted((top / "share/man").rglob("*.[13]"))
+    wanted = {"idx.1", *(name for library in PAGES for name in pages(library, version))}
+    others = " ".join(sorted(wanted ^ {page.name for page in found}))
+    tally.result(not others, f"{len(found)} manual pages, and no other and none missing {others}")
+    if not shutil.which("groff"):
+        tally.leave_out(1, "warnings about manual pages, as groff is not on the path")
+        return
+    command = ["groff", "-I", top / "share/man", "-man", "-Tutf8", "-ww"]
+    warned = [subprocess.run([*command, page], capture_output=True).stderr for page in found]
+    tally.result(not any(warned), f"groff has no warning about them {b''.join(warned).decode()}")
+
+
+def try_pages(top, folder):
+    """Each page names only what is in the archive, and none speaks of Rattle's command; and what is searched for is found."""
+    found = sorted(top.rglob("*.md"))
+    for page in found:
+        wrong = [path for path in astray(top, page) if path not in NO_FILES]
+        tally.result(not wrong, f"{page.relative_to(top)} names only what is there {' '.join(wrong)}")
+    # PROVENANCE.md says by what the archive was built, whatever that calls itself
+    told = [page for page in found if page.name != "PROVENANCE.md"]
+    texts = [*told, *(top / "share/man").rglob("*.[13]"), *(top / "include").iterdir(), top / "web/index.html"]
+    speaking = [path.name for path in texts if COMMAND.search(path.read_text(encoding="utf-8"))]
+    tally.result(not speaking, f"of {len(texts)} pages none speaks of Rattle's command {' '.join(speaking)}")
+    page = folder / "page.md"
+    gone = "[gone](gone.md), [no](#no), `gone/a.c`, `gone.h`"
+    page.write_text(f"{gone}, `str_rope.h`, `docs/C.md`; `rt check`, laws.rt\n", encoding="utf-8")
+    right = astray(top, page) == ["gone.md", "#no", "gone/a.c", "gone.h"]
+    tally.result(right and len(COMMAND.findall(page.read_text(encoding="utf-8"))) == 1, "the searches find what is missing")
+
+
+def try_message(top, folder, path):
+    """A crate without its library says what is missing, and nothing of Rattle's command."""
+    shutil.copytree(top / "bindings", folder / "bindings")
+    done = subprocess.run(["cargo", "build", "--offline"], cwd=folder / "bindings/index", env=environment(folder, path),
+                          capture_output=True, text=True)
+    right = done.returncode != 0 and "STR_INDICES_LIB_DIR" in done.stderr and not COMMAND.search(done.stderr)
+    tally.result(right, "a crate without its library says what is missing", done.stderr)
+
+
+def try_c_page(top, folder, path):
+    """The lines of the page for C, where the folder that it installs into leads to that top."""
+    (folder / "home").mkdir(parents=True)
+    (folder / "home/pauskern").symlink_to(top)
+    try_lines(tally, "docs/C.md", blocks(top / "docs/C.md"), top, folder, path)
 
 
 def try_moved(top, folder, path):
@@ -109,6 +159,9 @@ def use(archive, folder, has_server):
     subprocess.run(command, cwd=folder, env=environment(folder, path), check=True)
     top = folder / archive.name.removesuffix(".tar.gz")
     try_contents(top)
+    try_man_pages(top)
+    try_pages(top, folder)
+    try_message(top, folder / "without", path)
     shutil.copytree(top, folder / "moved", symlinks=True)
     try_moved(top, folder / "first", path)
     if has_server:
@@ -116,6 +169,7 @@ def use(archive, folder, has_server):
     else:
         missing = "Cargo does not get the crate serde_json (Debian's package librust-serde-json-dev)"
         tally.leave_out(1, f"the language server, as {missing}")
+    try_c_page(top, folder / "page", path)
     shutil.rmtree(top)
     try_moved(folder / "moved", folder / "second", path)
 

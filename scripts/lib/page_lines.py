@@ -1,6 +1,6 @@
 """Runs the lines of a page as they stand there, in one shell and with nothing set, and reads what they print.
 
-A block of C is the file that its first line names. Where a line ends in a comment, that is what it prints. What a machine
+A block of C or C++ is the file that its first line names. Where a line ends in a comment, that is what it prints. What a machine
 has no tool for is left out.
 """
 import os
@@ -10,7 +10,7 @@ import shutil
 import subprocess
 
 BLOCK = re.compile(r"^```(\w+)\n(.*?)^```$", re.MULTILINE | re.DOTALL)
-NAME = re.compile(r"/\* (\w+\.c)\b")
+NAME = re.compile(r"(?:/\*|//) (\w+\.c(?:pp)?)\b")
 # what a line may want that not each machine has
 TOOLS = ["pkg-config", "cmake", "cargo", "c++", "node"]
 # what runs the test itself is not run again: it has to be there
@@ -63,12 +63,12 @@ def judge(tally, page, at, line, said):
 
 
 def try_lines(tally, page, found, top, folder, path):
-    """All lines of those blocks of a page, at that top, with the programs that they show; the folder is empty."""
-    for text in [text for language, text in found if language == "c"]:
+    """All lines of those blocks of a page, at that top, with the programs that they show. The folder has at most a home."""
+    for text in [text for language, text in found if language in ("c", "cpp")]:
         (top / NAME.match(text)[1]).write_text(text, encoding="utf-8")
     lines = [LOOKED_FOR.get(line, line) for language, text in found if language == "sh" for line in text.splitlines()]
     home, said = folder / "home", folder / "said"
-    home.mkdir()
+    home.mkdir(exist_ok=True)
     said.mkdir()
     is_static = links_statically(folder)
     reasons = [why_not(line, path, is_static) for line in lines]

@@ -124,7 +124,7 @@ def test_exchanges(library, folder):
     named = dict(os.environ, STR_INDICES_LIB_DIR=str(copy.parent))
     sources = "".join(path.read_text(encoding="utf-8") for path in sorted(ROOT.glob("bindings/*/src/*.rs")))
     taken = {name for name in declared() if re.search(rf"\bfn {name}\(", sources)}
-    missed = [name for name in declared() if name not in taken and not re.search("_is_(utf8|wide)$", name)]
+    missed = [name for name in declared() if name not in taken and not re.search("_(is_utf8|is_wide|version)$", name)]
     tally.result(not missed, f"the crates take each function{''.join(f', but not {name}' for name in missed)}")
     programs = [test_program(BINDINGS, "worked_answers", named), test_program(POSITIONS, "positions", named)]
     if all(programs):
