@@ -30,10 +30,12 @@ if __name__ == "__main__":
     sys.exit(main())
 
 import kept  # noqa: E402
+import man_pages  # noqa: E402
 import parts  # noqa: E402
 import pytest  # noqa: E402
 import refusals  # noqa: E402
 from crate_copies import stands_on, with_all_below  # noqa: E402
+from packed_pages import packed  # noqa: E402
 
 LOAD = "text_probe::Probe::load"
 ADD = "chunks::plain_array::PlainByteChunk::add"
@@ -466,3 +468,60 @@ def test_a_part_that_is_kept_or_cannot_be_run(gate):
     whole = gate.not_run("word_chunks.py", 0, f"kept {MOST}: x", f"{MOST} passed, 0 failed")
     assert whole.kept() == MOST and whole.is_whole()
     assert gate.not_run("word_chunks.py", 1, "FAILED: x", "0 passed, 1 failed").sums() == (0, 1, 0)
+
+
+PLACES = {"bindings/c/README.md": "docs/C.md", "bindings/c/examples": "examples/c", "bindings/c/include": "include",
+          "CHANGELOG.md": "CHANGELOG.md"}
+
+
+@pytest.mark.parametrize("text, wanted", [
+    ("a<!-- repository --> b<!-- end --> c", "a c"),
+    ("a\n<!-- repository -->\nb\n<!-- end -->\nc", "a\nc"),
+    ("a <!-- archive: b\nc --> d", "a b\nc d"),
+    ("[h](include/a.h) [e](examples) [l](../../CHANGELOG.md#x)", "[h](../include/a.h) [e](../examples/c) [l](../CHANGELOG.md#x)"),
+    ("[s](#y) [w](https://a.b/c) [n](tests/d.c)", "[s](#y) [w](https://a.b/c) [n](tests/d.c)"),
+    ("`bindings/c/include/a.h` my/bindings/c/include", "`include/a.h` my/bindings/c/include"),
+    ("bindings/c/examples2 bindings/c/examples/a.c", "bindings/c/examples2 examples/c/a.c"),
+])
+def test_a_page_of_the_archive(text, wanted):
+    assert packed(text, "bindings/c/README.md", PLACES) == wanted
+
+
+HEADER = """/*
+ * Counts `things`:
+ *
+ *   - one, which
+ *     goes on;
+ *   - two.
+ *
+ *     code(1);
+ */
+#ifndef A_H
+#define A_H
+
+/* The version. */
+#define A_VERSION "1"
+
+/* A kind. */
+typedef enum kind {
+    A_ONE, /* one of
+              two */
+} kind;
+
+/* Answers -1. */
+A_CHECKED int a_call(int one,
+                     int two);
+int a_other(void);
+"""
+
+
+@pytest.mark.parametrize("part", [
+    "Counts \\fBthings\\fR:\n", ".IP \\(bu 2\none, which\ngoes on;\n.IP", ".nf\ncode(1);\n.fi\n", ".SH MACROS\n.TP\nA_VERSION\n",
+    ".TP\nA_ONE\none of two\n", ".nf\nint a_call(int one, int two);\nint a_other(void);\n.fi\n", "\nAnswers \\-1.\n",
+])
+def test_a_manual_page(part):
+    assert part in man_pages.man_page("a", "counts", {"a.h": HEADER}, "1.0")
+
+
+def test_the_functions_of_a_header():
+    assert man_pages.functions(HEADER) == ["a_call", "a_other"]
