@@ -32,6 +32,11 @@ bool str_indices_is_wide(size_t len)
     return least != NO_TEXT && len >= least;
 }
 
+const char *str_indices_version(void)
+{
+    return STR_INDICES_VERSION;
+}
+
 #ifdef STR_INDICES_WIDE
 #include <cpuid.h>
 

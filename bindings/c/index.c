@@ -91,3 +91,20 @@ void str_index_free(str_index *index)
 {
     free(index);
 }
+
+const char *str_index_status_text(str_index_status status)
+{
+    switch (status) {
+    case STR_INDEX_OK: return "done";
+    case STR_INDEX_NO_MEMORY: return "memory was refused";
+    case STR_INDEX_NOT_UTF8: return "the bytes are not UTF-8";
+    case STR_INDEX_NO_ROOM: return "the memory handed over has too few bytes";
+    case STR_INDEX_TOO_LONG: return "the text is too long";
+    }
+    return "no status of this version";
+}
+
+const char *str_index_version(void)
+{
+    return STR_INDEX_VERSION;
+}

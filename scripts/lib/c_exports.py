@@ -18,11 +18,11 @@ SAME = "ensures same { rope.new ≡ rope.old }"
 # how C says a type of Rattle's; a struct has its name in C after the library's, and the allocator takes no bytes
 C_TYPES = {
     "&[u8]": "const char *, size_t", "&mut [u8]": "char *, size_t", "usize": "size_t", "bool": "bool", "()": "void",
-    "&mut Slot": "str_rope *", "&Handle<'_>": "const str_index *",
+    "&mut Slot": "str_rope *", "&IndexHandle<'_>": "const str_index *",
 }
 ALLOCATOR = "Global"
-# a number of 32 bits is an enum of the library's: by the parameter's name, and of a result
-ENUMS = {"scheme": "scheme", "encoding": "encoding", "lines": "line_type", "result": "status"}
+# a number of 32 bits is an enum, by the parameter's name; of a result it is the library's status
+ENUMS = {"scheme": "str_indices_scheme", "encoding": "str_indices_encoding", "lines": "str_indices_line_type"}
 
 
 class Function(NamedTuple):
@@ -89,7 +89,7 @@ def declared(library=STR_INDICES):
 def c_type(library, name, rattle):
     """How C says a type of Rattle's, of a parameter of that name or of the result."""
     if rattle == "u32":
-        return f"{library.name}_{ENUMS[name]}"
+        return ENUMS.get(name, f"{library.name}_status")
     return C_TYPES.get(rattle, "str_indices_" + re.sub(r"(?<!^)(?=[A-Z])", "_", rattle).lower())
 
 

@@ -43,8 +43,8 @@ def exchange_file(library):
     lines.append(f"static const struct {{ const char *name; any itself; }} functions[] = {{ {rows} }};")
     lines.append(CHOOSE)
     for at, function in enumerate(functions):
-        types = function.parameters.split(", ")
-        given = ", ".join(f"{word} word_{number}" for number, word in enumerate(types))
+        types = [word for word in function.parameters.split(", ") if word != "void"]
+        given = ", ".join(f"{word} word_{number}" for number, word in enumerate(types)) or "void"
         words = ", ".join(f"word_{number}" for number in range(len(types)))
         lines.append(f"{function.result} {function.name}({given})")
         lines.append(f"{{ return (({function.pointer('')})answers[{at}])({words}); }}")

@@ -52,7 +52,7 @@ ALL_FOR_C = (*FOR_C, "text_index_c")
 FUNCTIONS = tuple(f"bindings/c/{name}" for name in ("build_library", "choose_half.c", "include/*"))
 ROPE = tuple(f"bindings/c/{name}" for name in ("build_library", "rope.c", "include/*"))
 INDEX = tuple(f"bindings/c/{name}" for name in ("build_library", "index.c", "include/*"))
-INSTALL = ("bindings/c/CMakeLists.txt", "bindings/c/*.in", "bindings/c/examples/*")
+INSTALL = ("bindings/c/CMakeLists.txt", "bindings/c/*.in", "bindings/c/*.supp", "bindings/c/examples/*")
 # the workspace of cargo, of which a part needs all members
 CARGO_CRATES = ("Cargo.toml", "bench/Cargo.toml", "bench/build.rs", "bench/src/**/*", "bench/plain/**/*",
                 "bindings/find_library.rs",
@@ -61,8 +61,8 @@ CARGO_CRATES = ("Cargo.toml", "bench/Cargo.toml", "bench/build.rs", "bench/src/*
 RELEASED = (
     "bindings/web/*", "release/examples/**/*", "examples/rust/**/*", "examples/language_server/*",
     "examples/language_server/src/*", "docs/man/*", "VERSION", "LICENSE-*", "NOTICE", "scripts/release",
-    *(f"bindings/{name}/README.md" for name in ("web", "rust", "positions", "rope", "index")),
-    *(f"docs/{name}.md" for name in ("DEFINITIONS", "PROVED")),
+    *(f"bindings/{name}/README.md" for name in ("c", "web", "rust", "positions", "rope", "index")),
+    "examples/language_server/README.md", *(f"docs/{name}.md" for name in ("DEFINITIONS", "PROVED")),
     "release/README.md", "CHANGELOG.md", "SECURITY.md",
 )
 
@@ -71,7 +71,7 @@ PARTS = (
          ("crates/text_rope/tests/*.rt.txt", "crates/text_tests/src/random.rt")),
     Part("crates/idx/tests/test_program.py", 60, ("idx",)),
     Part("crates/idx/tests/failing_calls.py", 60, ("idx",), ("crates/idx/tests/failing_calls.c",)),
-    Part("bindings/c/tests/test_c.py", 60, ALL_FOR_C, ("bindings/c/**/*", "VERSION")),
+    Part("bindings/c/tests/test_c.py", 60, ALL_FOR_C, ("bindings/c/**/*", "bindings/c/README.md", "VERSION")),
     Part("docs/tests/test_pages.py", 60, (*ALL_FOR_C, "idx"),
          (*FUNCTIONS, *ROPE, *INDEX, *INSTALL, *CARGO_CRATES, "examples/rust/**/*", "VERSION", "scripts/test", "README.md",
           *(f"bindings/{name}/README.md" for name in ("c", "rust", "positions", "rope", "index", "web")))),

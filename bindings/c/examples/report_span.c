@@ -25,7 +25,7 @@ static void print(size_t from, size_t to, char mark)
             putchar(mark);
 }
 
-/* What ends a line, by the last word. */
+/* Tells what ends a line, by the last word. */
 static str_indices_line_type line_type(const char *word)
 {
     return strcmp(word, "lf") == 0      ? STR_INDICES_LINE_TYPE_LF

@@ -29,8 +29,9 @@
  *     empty text and the one that str_index_free takes.
  *   - An index that str_index_make has made is freed once, and in no other
  *     call meanwhile or afterwards.
- *     Any number of threads may ask one index at once: a question writes
- *     nothing. An index may be freed by another thread than made it.
+ *   - Any number of threads may ask one index at once: a question writes
+ *     nothing. Whatever frees it, or writes to its memory or its text, runs
+ *     beside no question. Another thread may free an index than made it.
  *   - calloc and free are those of one allocator, and align a block as the C
  *     standard says.
  *   - An index is not made and not freed in a signal handler, or in the forked
@@ -60,14 +61,28 @@
 
 #include <str_indices_positions.h> /* the types of positions */
 
-/* The version of the header; that of the library is at the end of its file. */
+/* The version of the header. str_index_version tells that of the library. The
+ * number is 1000000 times the first, 1000 times the second, and the third. */
 #define STR_INDEX_VERSION "0.4.4"
+#define STR_INDEX_VERSION_MAJOR 0
+#define STR_INDEX_VERSION_MINOR 4
+#define STR_INDEX_VERSION_PATCH 4
+#define STR_INDEX_VERSION_NUMBER \
+    (STR_INDEX_VERSION_MAJOR * 1000000 + STR_INDEX_VERSION_MINOR * 1000 + \
+     STR_INDEX_VERSION_PATCH)
+
+/* A status that nobody looks at is an index that may not be there. */
+#if defined(__GNUC__)
+#define STR_INDEX_CHECKED __attribute__((warn_unused_result))
+#else
+#define STR_INDEX_CHECKED
+#endif
 
 #ifdef __cplusplus
 extern "C" {
 #endif
 
-/* An index. What is in it is the library's own. */
+/* An index. Its contents are the library's own. */
 typedef struct str_index str_index;
 
 /* Whether an index was made. */
@@ -79,6 +94,13 @@ typedef enum str_index_status {
     STR_INDEX_TOO_LONG   /* `len` is above PTRDIFF_MAX */
 } str_index_status;
 
+/* Says in English what a status means, by a text that stays as long as the
+ * program. */
+const char *str_index_status_text(str_index_status status);
+
+/* The version of the library that runs, as STR_INDEX_VERSION has the header's. */
+const char *str_index_version(void);
+
 /*
  * The index.
  */
@@ -87,8 +109,8 @@ typedef enum str_index_status {
  * the status is another than STR_INDEX_OK. Takes time in the length of the
  * text. May answer STR_INDEX_NO_MEMORY, and then nothing is said of the bytes,
  * STR_INDEX_NOT_UTF8, and STR_INDEX_TOO_LONG. */
-str_index_status str_index_make(str_index **index, const char *text,
-                                size_t len);
+STR_INDEX_CHECKED str_index_status str_index_make(str_index **index,
+                                                  const char *text, size_t len);
 
 /* How many bytes the index of a text of `len` bytes takes: 80, and 48 for each
  * 1,024 bytes of the text. 0 where `len` is above PTRDIFF_MAX. */
@@ -99,8 +121,10 @@ size_t str_index_size(size_t len);
  * str_index_size(len). They are aligned as malloc aligns a block, and stay the
  * caller's, who does not free the index. May answer STR_INDEX_NO_ROOM,
  * STR_INDEX_NOT_UTF8, and STR_INDEX_TOO_LONG; never STR_INDEX_NO_MEMORY. */
-str_index_status str_index_make_in(str_index **index, void *room, size_t size,
-                                   const char *text, size_t len);
+STR_INDEX_CHECKED str_index_status str_index_make_in(str_index **index,
+                                                     void *room, size_t size,
+                                                     const char *text,
+                                                     size_t len);
 
 /* Frees an index, and leaves its text. For NULL it does nothing. */
 void str_index_free(str_index *index);

@@ -28,6 +28,9 @@
  *     of unknown origin is asked for with str_indices_is_utf8 first. A zero
  *     byte is a char as any other and ends nothing.
  *
+ * Any number of threads may be in these functions at once, with one text or
+ * with several.
+ *
  * Where one of these is broken, the answer of a call, and what it does, are
  * undefined. The library is built for Linux on x86-64 processors from the
  * level x86-64-v2 on (with SSE4.2), and does not ask whether it runs on one.
@@ -40,12 +43,23 @@
 #include <stdbool.h>
 #include <stddef.h>
 
-/* The version of the header; that of the library is at the end of its file. */
+/* The version of the header. str_indices_version tells that of the library. The
+ * number is 1000000 times the first, 1000 times the second, and the third. */
 #define STR_INDICES_VERSION "0.4.4"
+#define STR_INDICES_VERSION_MAJOR 0
+#define STR_INDICES_VERSION_MINOR 4
+#define STR_INDICES_VERSION_PATCH 4
+#define STR_INDICES_VERSION_NUMBER \
+    (STR_INDICES_VERSION_MAJOR * 1000000 + STR_INDICES_VERSION_MINOR * 1000 + \
+     STR_INDICES_VERSION_PATCH)
 
 #ifdef __cplusplus
 extern "C" {
 #endif
+
+/* The version of the library that runs, as STR_INDICES_VERSION has the
+ * header's. */
+const char *str_indices_version(void);
 
 /* Whether the bytes are UTF-8. All else that the caller owes is owed here
  * too. */
@@ -105,8 +119,8 @@ size_t str_indices_utf16_to_byte_idx(const char *text, size_t len,
  *   lines_lf    LF alone (U+000A)
  *   lines_crlf  LF, CR (U+000D), and CR LF, which is one break
  *   lines       as lines_crlf, and VT (U+000B), FF (U+000C), NEL (U+0085),
- *               LS (U+2028) and PS (U+2029): the mandatory breaks of Unicode
- *               Standard Annex 14
+ *               LS (U+2028) and PS (U+2029): the mandatory breaks of
+ *               Unicode Standard Annex 14
  */
 
 /* How many line breaks the text has. */

@@ -17,8 +17,8 @@
  * a function has no answer it gives SIZE_MAX, which is past every text.
  *
  * The functions are in the library of str_indices.h, and each is proved to
- * answer by a definition of lines and positions. What is said there of a text
- * and of what the caller owes holds here too.
+ * answer by a definition of lines and positions. The rules there for texts and
+ * callers hold here too.
  */
 #ifndef STR_INDICES_POSITIONS_H
 #define STR_INDICES_POSITIONS_H

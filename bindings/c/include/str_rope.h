@@ -72,11 +72,15 @@
 
 #include <str_indices_positions.h> /* the types of positions */
 
-/* The version of the header. str_rope_version tells that of the library. */
+/* The version of the header. str_rope_version tells that of the library. The
+ * number is 1000000 times the first, 1000 times the second, and the third. */
 #define STR_ROPE_VERSION "0.4.4"
 #define STR_ROPE_VERSION_MAJOR 0
 #define STR_ROPE_VERSION_MINOR 4
 #define STR_ROPE_VERSION_PATCH 4
+#define STR_ROPE_VERSION_NUMBER \
+    (STR_ROPE_VERSION_MAJOR * 1000000 + STR_ROPE_VERSION_MINOR * 1000 + \
+     STR_ROPE_VERSION_PATCH)
 
 /* A status that nobody looks at is a change that may not have been made. */
 #if defined(__GNUC__)
@@ -89,7 +93,7 @@
 extern "C" {
 #endif
 
-/* A text. What is in it is the library's own. */
+/* A text. Its contents are the library's own. */
 typedef struct str_rope {
     void *hidden;
 } str_rope;
@@ -127,7 +131,8 @@ typedef enum str_rope_status {
     STR_ROPE_SAME_HANDLE   /* two handles that should differ are one */
 } str_rope_status;
 
-/* What a status says, in English: a text that stays as long as the program. */
+/* Says in English what a status means, by a text that stays as long as the
+ * program. */
 const char *str_rope_status_text(str_rope_status status);
 
 /* The version of the library that runs, as STR_ROPE_VERSION has the header's. */

@@ -8,14 +8,19 @@ from halves import ASKED, missing
 from tally import least, sums_of
 
 TESTS = ROOT / "bindings/c/tests"
-COMPILER = ["cc", "-std=c99", "-Wall", "-Wextra", "-Werror", "-pedantic", "-O2"]
+WARNINGS = ["-Wall", "-Wextra", "-Werror", "-pedantic", "-O2"]
+COMPILER = ["cc", "-std=c99", *WARNINGS]
+COMPILER_OF_CLASSES = ["c++", "-std=c++17", *WARNINGS]
 # how CTest names a test by the half that is asked for
 HALVES = {"usual": "", "narrow": "narrow", "wide": "wide"}
 # programs that do less where each access to memory is watched, and how they are watched
 DO_LESS = ["rope_changes", "indexes", "shared_indexes"]
 WATCHED = ["sanitized", "valgrind", "helgrind"]
-# tests that end in no sum: CTest compares what they print
-WITHOUT_SUM = ["long_text_cpp", "shared_indexes_c.race"]
+# what a test wants that is left out where that is missing, by how CTest names the test
+LACKS = {"sanitized": "the compiler has no sanitizers",
+         **dict.fromkeys(["threads", "threads_race"], "the compiler has no sanitizer of threads")}
+# programs and tests that end in no sum: CTest compares what they print
+WITHOUT_SUM = ["long_text_cpp", "editor_cpp", "shared_indexes_c.race", "own_snapshots_c.race", "own_snapshots_c.threads_race"]
 
 
 def run(tally, command, what, **options):
@@ -43,7 +48,8 @@ def compiles(tally, source, archive, program):
 def is_enough(program, how, said, why):
     """Whether a program's own sum has no failure and as many answers as there should be, by the half that should answer."""
     passed, failed, _ = sums_of(said) or (0, 1, 0)
-    wanted = 1 if program in DO_LESS and how in WATCHED else least(f"{program}.c")
+    [source] = TESTS.glob(f"{program}.c*")
+    wanted = 1 if program in DO_LESS and how in WATCHED else least(source.name)
     texts = "no text" if why else ASKED[HALVES.get(how, "")]
     tells = how in HALVES and program != "positions"
     return failed == 0 and passed >= wanted and (not tells or f"the wide half answers for {texts}\n" in said)
@@ -59,11 +65,10 @@ def try_tests(tally, folder, archive):
         name, status, said = case.get("name"), case.get("status"), case.findtext("system-out") or ""
         program, _, how = name.partition(".")
         if status == "disabled":
-            lacks = "the compiler has no sanitizers" if how == "sanitized" else "valgrind is not on the path"
-            tally.leave_out(1, f"{name}, as {lacks}")
+            tally.leave_out(1, f"{name}, as {LACKS.get(how, 'valgrind is not on the path')}")
         elif why and how in HALVES and how != "wide":
             tally.leave_out(1, f"{name}, as {why}")
         else:
-            enough = name in WITHOUT_SUM or is_enough(program.rpartition("_")[0], how, said, why)
+            enough = name in WITHOUT_SUM or program in WITHOUT_SUM or is_enough(program.rpartition("_")[0], how, said, why)
             if not tally.result(status == "run" and enough, f"{name}: {said.splitlines()[-1:]}"):
                 print(status, said)

@@ -411,6 +411,21 @@ static void no_text_and_a_long_one(void)
     }
 }
 
+/* Each status has words of its own, and the library its header's version, as a text and as numbers. */
+static void words_and_version(void)
+{
+    char numbers[64];
+    for (int status = STR_INDEX_OK; status <= STR_INDEX_TOO_LONG + 1; status++)
+        for (int other = STR_INDEX_OK; other < status; other++)
+            same(strcmp(str_index_status_text((str_index_status)status),
+                        str_index_status_text((str_index_status)other)) != 0,
+                 "status_text", (size_t)status, (size_t)other);
+    same(strcmp(str_index_version(), STR_INDEX_VERSION) == 0, "version", 0, 0);
+    snprintf(numbers, sizeof numbers, "%d.%d.%d", STR_INDEX_VERSION_NUMBER / 1000000,
+             STR_INDEX_VERSION_NUMBER / 1000 % 1000, STR_INDEX_VERSION_NUMBER % 1000);
+    same(strcmp(numbers, STR_INDEX_VERSION) == 0, "version by its number", 0, 0);
+}
+
 /*
  * Worked answers, of the library and of the model.
  */
@@ -594,6 +609,7 @@ int main(int number, char **words)
     worked_kinds();
     refused_bytes();
     no_text_and_a_long_one();
+    words_and_version();
     for (size_t i = 0; i < NUMBER_OF(across); i++)
         try_across(across[i]);
     for (size_t i = 0; i < NUMBER_OF(lens); i++) {

@@ -483,14 +483,19 @@ static void one_handle(void)
     str_rope_free(&rope);
 }
 
-static void words_of_statuses(void)
+/* Each status has words of its own, and the library its header's version, as a text and as numbers. */
+static void words_and_version(void)
 {
+    char numbers[64];
     for (int status = STR_ROPE_OK; status <= STR_ROPE_SAME_HANDLE + 1; status++)
         for (int other = STR_ROPE_OK; other < status; other++)
             same(strcmp(str_rope_status_text((str_rope_status)status), str_rope_status_text((str_rope_status)other)) !=
                      0,
                  "status_text", (size_t)status, (size_t)other);
     same(strcmp(str_rope_version(), STR_ROPE_VERSION) == 0, "version", 0, 0);
+    snprintf(numbers, sizeof numbers, "%d.%d.%d", STR_ROPE_VERSION_NUMBER / 1000000,
+             STR_ROPE_VERSION_NUMBER / 1000 % 1000, STR_ROPE_VERSION_NUMBER % 1000);
+    same(strcmp(numbers, STR_ROPE_VERSION) == 0, "version by its number", 0, 0);
 }
 
 int main(void)
@@ -515,7 +520,7 @@ int main(void)
     lent_chunks();
     null_texts();
     one_handle();
-    words_of_statuses();
+    words_and_version();
     printf("%d passed, %d failed\n", passed, failed);
     return failed != 0;
 }

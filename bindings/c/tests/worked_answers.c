@@ -148,6 +148,16 @@ static void longer_texts(void)
     SAME_AT(2200, lines_crlf_to_byte_idx, hundred_crlf, 301);
 }
 
+/* The library has its header's version, as a text and as numbers. */
+static void version(void)
+{
+    char numbers[64];
+    same("version", strcmp(str_indices_version(), STR_INDICES_VERSION) == 0, 1);
+    snprintf(numbers, sizeof numbers, "%d.%d.%d", STR_INDICES_VERSION_NUMBER / 1000000,
+             STR_INDICES_VERSION_NUMBER / 1000 % 1000, STR_INDICES_VERSION_NUMBER % 1000);
+    same("version by its number", strcmp(numbers, STR_INDICES_VERSION) == 0, 1);
+}
+
 static const char *answered_by_the_wide_half(void)
 {
     if (str_indices_is_wide(0))
@@ -163,6 +173,7 @@ int main(void)
     the_empty_text();
     long_texts();
     longer_texts();
+    version();
     printf("the wide half answers for %s\n", answered_by_the_wide_half());
     printf("%d passed, %d failed\n", passed, failed);
     return failed != 0;

@@ -1,0 +1,445 @@
+// A UTF-8 text that changes, for C++17 and later: a class over str_rope.h,
+// which says what a rope is, what each call answers and costs, and what may run
+// at once.
+//
+//     pauskern::rope text("one\ntwo\n");
+//     text.insert(text.line(1).start, "and ");
+//     pauskern::rope before = text; // a snapshot, in one step
+//     for (pauskern::bytes line : text.lines())
+//         std::cout << text.text(line) << '\n';
+//
+// A rope owns its text and frees it. Calls that are `const` may run at once in
+// many threads; a call that is not runs beside no other of that rope. A copy is
+// a rope of its own: one thread may save it while another one types into the
+// first.
+//
+// A refused call throws one of the types that str_indices_positions.hpp lists,
+// and leaves the rope as it was.
+#ifndef STR_ROPE_HPP
+#define STR_ROPE_HPP
+
+#include <algorithm>
+#include <new>
+#include <optional>
+#include <ostream>
+#include <string>
+#include <string_view>
+#include <utility>
+
+#include <str_indices_positions.hpp>
+#include <str_rope.h>
+
+namespace pauskern {
+
+namespace detail {
+
+// Throws what a status says, if it is a refusal.
+inline void check(str_rope_status status)
+{
+    switch (status) {
+    case STR_ROPE_OK: return;
+    case STR_ROPE_NOT_ORDERED: throw not_ordered(str_rope_status_text(status));
+    case STR_ROPE_NOT_BOUNDARY:
+        throw not_boundary(str_rope_status_text(status));
+    case STR_ROPE_TOO_LONG: throw too_long(str_rope_status_text(status));
+    case STR_ROPE_NO_MEMORY: throw std::bad_alloc();
+    case STR_ROPE_NOT_UTF8: throw not_utf8(str_rope_status_text(status));
+    case STR_ROPE_SAME_HANDLE: throw same_rope(str_rope_status_text(status));
+    }
+    throw std::invalid_argument(str_rope_status_text(status));
+}
+
+} // namespace detail
+
+// The chunks of a rope in order, each lent as a std::string_view of 1 to
+// STR_ROPE_MAX_CHUNK bytes, which begins and ends at a boundary. A step takes
+// one call of str_rope_chunk_at. Ranges, iterators and what they lend are used
+// until the rope is changed, assigned to, moved or destroyed.
+class chunk_range {
+public:
+    class iterator {
+    public:
+        using iterator_category = std::bidirectional_iterator_tag;
+        using value_type = std::string_view;
+        using difference_type = std::ptrdiff_t;
+        using pointer = const std::string_view *;
+        using reference = std::string_view;
+
+        iterator() noexcept = default;
+        std::string_view operator*() const noexcept
+        {
+            return {chunk_.text, chunk_.len};
+        }
+        iterator &operator++() noexcept
+        {
+            look(start() + chunk_.len);
+            return *this;
+        }
+        iterator operator++(int) noexcept
+        {
+            iterator before = *this;
+            ++*this;
+            return before;
+        }
+        iterator &operator--() noexcept
+        {
+            look(start() - 1);
+            return *this;
+        }
+        iterator operator--(int) noexcept
+        {
+            iterator before = *this;
+            --*this;
+            return before;
+        }
+        friend bool operator==(const iterator &one,
+                               const iterator &other) noexcept
+        {
+            return one.start() == other.start();
+        }
+        friend bool operator!=(const iterator &one,
+                               const iterator &other) noexcept
+        {
+            return !(one == other);
+        }
+
+        // Returns the byte index where the chunk starts; of the end the text's
+        // length.
+        std::size_t start() const noexcept { return chunk_.start; }
+
+    private:
+        friend class chunk_range;
+        iterator(const str_rope *rope, std::size_t byte_idx) noexcept
+            : rope_(rope)
+        {
+            look(byte_idx);
+        }
+
+        void look(std::size_t byte_idx) noexcept
+        {
+            if (!str_rope_chunk_at(rope_, byte_idx, &chunk_))
+                chunk_.start = str_rope_len(rope_);
+        }
+
+        const str_rope *rope_ = nullptr;
+        str_rope_chunk chunk_ = {"", 0, 0};
+    };
+
+    explicit chunk_range(const str_rope *rope) noexcept : rope_(rope) {}
+
+    iterator begin() const noexcept { return from(0); }
+    iterator end() const noexcept { return from(str_rope_len(rope_)); }
+    // Returns the chunk that a byte is in; the end where the text has no such
+    // byte.
+    iterator from(std::size_t byte_idx) const noexcept
+    {
+        return iterator(rope_, byte_idx);
+    }
+
+private:
+    const str_rope *rope_;
+};
+
+// A text.
+class rope {
+public:
+    // Makes the empty text, and takes no memory.
+    rope() noexcept = default;
+    // Makes a rope of a text. Throws not_utf8 and std::bad_alloc.
+    explicit rope(std::string_view text) { assign(text); }
+    // Makes a snapshot, in one step, whatever the text's length: a change of
+    // either leaves the other. Throws std::bad_alloc.
+    rope(const rope &other)
+    {
+        detail::check(str_rope_snapshot(&other.handle_, &handle_));
+    }
+    // Takes over the other's text, which is then the empty one.
+    rope(rope &&other) noexcept { swap(*this, other); }
+    // Makes this a snapshot of the other one. Throws std::bad_alloc.
+    rope &operator=(const rope &other)
+    {
+        detail::check(str_rope_snapshot(&other.handle_, &handle_));
+        return *this;
+    }
+    // Takes over the other's text, which is then the empty one.
+    rope &operator=(rope &&other) noexcept
+    {
+        rope taken(std::move(other));
+        swap(*this, taken);
+        return *this;
+    }
+    ~rope() { str_rope_free(&handle_); }
+
+    friend void swap(rope &one, rope &other) noexcept
+    {
+        std::swap(one.handle_, other.handle_);
+    }
+
+    // Makes the text another one. Throws not_utf8 and std::bad_alloc.
+    void assign(std::string_view text)
+    {
+        detail::check(str_rope_assign(&handle_, text.data(), text.size()));
+    }
+    // Makes the text the empty one, and gives its memory back.
+    void clear() noexcept { str_rope_free(&handle_); }
+
+    //
+    // Questions, each for every index.
+    //
+
+    // Returns how many bytes the text has.
+    std::size_t size() const noexcept { return str_rope_len(&handle_); }
+    bool empty() const noexcept { return size() == 0; }
+    // Returns how many chars, UTF-16 code units or line breaks the text has.
+    std::size_t count(scheme what) const noexcept
+    {
+        return str_rope_count(&handle_, detail::to_c(what));
+    }
+    // Returns how many of them end at or before a byte.
+    std::size_t from_byte_idx(scheme what, std::size_t byte_idx) const noexcept
+    {
+        return str_rope_from_byte_idx(&handle_, detail::to_c(what), byte_idx);
+    }
+    // Returns the byte where a char, the char of a unit, or a line begins.
+    std::size_t to_byte_idx(scheme what, std::size_t idx) const noexcept
+    {
+        return str_rope_to_byte_idx(&handle_, detail::to_c(what), idx);
+    }
+    // Tells whether a byte index is between two chars, or at the beginning or
+    // the end of the text.
+    bool is_char_boundary(std::size_t byte_idx) const noexcept
+    {
+        return str_rope_is_char_boundary(&handle_, byte_idx);
+    }
+
+    //
+    // Changes.
+    //
+
+    // Puts a text in at a boundary. Throws not_boundary, too_long, not_utf8 and
+    // std::bad_alloc.
+    void insert(std::size_t at, std::string_view text)
+    {
+        detail::check(str_rope_insert(&handle_, at, text.data(), text.size()));
+    }
+    // Takes a part out. Throws not_ordered, not_boundary and std::bad_alloc.
+    void remove(bytes part)
+    {
+        detail::check(str_rope_remove(&handle_, part.start, part.end));
+    }
+    // Replaces a part by a text. Throws not_ordered, not_boundary, too_long,
+    // not_utf8 and std::bad_alloc.
+    void replace(bytes part, std::string_view text)
+    {
+        detail::check(str_rope_replace(&handle_, part.start, part.end,
+                                       text.data(), text.size()));
+    }
+    // Puts a text at the end. Throws too_long, not_utf8 and std::bad_alloc.
+    void append(std::string_view text) { insert(size(), text); }
+    // Moves all of another rope to the end; that one is then the empty text.
+    // Throws too_long, same_rope and std::bad_alloc.
+    void append(rope &&other)
+    {
+        detail::check(str_rope_append(&handle_, &other.handle_));
+    }
+    // Cuts the text in two at a boundary, and returns the second part. Throws
+    // not_boundary and std::bad_alloc.
+    rope split_off(std::size_t at)
+    {
+        rope rest;
+        detail::check(str_rope_split_off(&handle_, at, &rest.handle_));
+        return rest;
+    }
+
+    //
+    // The text's bytes.
+    //
+
+    // Returns the chunks in order, lent.
+    chunk_range chunks() const &noexcept { return chunk_range(&handle_); }
+    chunk_range chunks() const && = delete;
+    // Returns a copy of the text. Throws std::bad_alloc.
+    std::string text() const { return text({0, size()}); }
+    // Returns a copy of a part between two boundaries. Throws not_ordered,
+    // not_boundary and std::bad_alloc.
+    std::string text(bytes part) const
+    {
+        std::string copy;
+        if (part.start <= part.end && part.end <= size())
+            copy.resize(part.size());
+        copy_to(part, copy.data(), copy.size());
+        return copy;
+    }
+    // Writes a part to the `room` bytes from `out` on, all of it or none.
+    // Throws not_ordered, not_boundary and too_long.
+    void copy_to(bytes part, char *out, std::size_t room) const
+    {
+        detail::check(
+            str_rope_copy_to(&handle_, part.start, part.end, out, room));
+    }
+    // Writes the bytes from `at` on, as far as there is room, and returns how
+    // many; the last char may be written in part.
+    std::size_t read(std::size_t at, char *out, std::size_t room) const noexcept
+    {
+        return str_rope_read(&handle_, at, out, room);
+    }
+
+    // Tells whether two texts have the same bytes.
+    friend bool operator==(const rope &one, const rope &other) noexcept
+    {
+        chunk_range::iterator ours = one.chunks().begin(),
+                              theirs = other.chunks().begin();
+        std::string_view left = *ours, right = *theirs;
+        if (one.size() != other.size())
+            return false;
+        while (!left.empty()) {
+            const std::size_t size = std::min(left.size(), right.size());
+            if (std::char_traits<char>::compare(left.data(), right.data(),
+                                                size) != 0)
+                return false;
+            left.remove_prefix(size);
+            right.remove_prefix(size);
+            if (left.empty())
+                left = *++ours;
+            if (right.empty())
+                right = *++theirs;
+        }
+        return true;
+    }
+    friend bool operator==(const rope &one, std::string_view text) noexcept
+    {
+        if (one.size() != text.size())
+            return false;
+        for (std::string_view chunk : one.chunks()) {
+            if (std::char_traits<char>::compare(chunk.data(), text.data(),
+                                                chunk.size()) != 0)
+                return false;
+            text.remove_prefix(chunk.size());
+        }
+        return true;
+    }
+    friend bool operator==(std::string_view text, const rope &one) noexcept
+    {
+        return one == text;
+    }
+    friend bool operator!=(const rope &one, const rope &other) noexcept
+    {
+        return !(one == other);
+    }
+    friend bool operator!=(const rope &one, std::string_view text) noexcept
+    {
+        return !(one == text);
+    }
+    friend bool operator!=(std::string_view text, const rope &one) noexcept
+    {
+        return !(one == text);
+    }
+
+    // Writes the text without a copy of it. Width and fill of the stream are
+    // left as they are.
+    friend std::ostream &operator<<(std::ostream &out, const rope &text)
+    {
+        for (std::string_view chunk : text.chunks())
+            out.write(chunk.data(), static_cast<std::streamsize>(chunk.size()));
+        return out;
+    }
+
+    //
+    // Lines, and positions of a language server. The kind of line is that of a
+    // language server where none is given.
+    //
+
+    // Returns the bytes of a line's content, without its break: past the last
+    // line none, at the end of the text.
+    bytes line(std::size_t number,
+               line_type type = line_type::lf_cr) const noexcept
+    {
+        return detail::from_c(
+            str_rope_line_by(&handle_, detail::to_c(type), number));
+    }
+    // Returns the lines in order.
+    line_range<rope> lines(line_type type = line_type::lf_cr) const &noexcept
+    {
+        return {*this, type};
+    }
+    line_range<rope> lines(line_type type = line_type::lf_cr) const && = delete;
+
+    // Returns the position of a byte: its line, and the units from that line's
+    // beginning to the byte.
+    position position_of(encoding units, std::size_t byte_idx,
+                         line_type type = line_type::lf_cr) const noexcept
+    {
+        return detail::from_c(str_rope_position_by(
+            &handle_, detail::to_c(type), detail::to_c(units), byte_idx));
+    }
+    // Returns the position of a byte that is a place on a line, and else none.
+    std::optional<position>
+    exact_position_of(encoding units, std::size_t byte_idx,
+                      line_type type = line_type::lf_cr) const noexcept
+    {
+        const str_indices_position there = str_rope_exact_position_by(
+            &handle_, detail::to_c(type), detail::to_c(units), byte_idx);
+        return there.line != SIZE_MAX ? std::optional(detail::from_c(there))
+                                      : std::nullopt;
+    }
+    // Returns the positions of both ends of a part.
+    range range_of(encoding units, bytes part,
+                   line_type type = line_type::lf_cr) const noexcept
+    {
+        return detail::from_c(str_rope_range_by(&handle_, detail::to_c(type),
+                                                detail::to_c(units),
+                                                detail::to_c(part)));
+    }
+    // Returns the byte where the char at a position begins, or the end of its
+    // line or of the text where that comes first.
+    std::size_t byte_of(encoding units, position there,
+                        line_type type = line_type::lf_cr) const noexcept
+    {
+        return str_rope_byte_by(&handle_, detail::to_c(type),
+                                detail::to_c(units), detail::to_c(there));
+    }
+    // Returns the byte of a position that names a place on a line, and else
+    // none.
+    std::optional<std::size_t> exact_byte_of(encoding units,
+                                             position there) const noexcept
+    {
+        const std::size_t byte_idx = str_rope_exact_byte_of(
+            &handle_, detail::to_c(units), detail::to_c(there));
+        return byte_idx != SIZE_MAX ? std::optional(byte_idx) : std::nullopt;
+    }
+    // Returns the bytes of a range, and none where its end is before its start.
+    std::optional<bytes> byte_range(encoding units, range part) const noexcept
+    {
+        const str_indices_bytes found = str_rope_byte_range(
+            &handle_, detail::to_c(units), detail::to_c(part));
+        return found.start != SIZE_MAX ? std::optional(detail::from_c(found))
+                                       : std::nullopt;
+    }
+    // Replaces the bytes of a range by a text. Throws not_ordered, too_long,
+    // not_utf8 and std::bad_alloc.
+    void change(encoding units, range part, std::string_view text)
+    {
+        detail::check(str_rope_change(&handle_, detail::to_c(units),
+                                      detail::to_c(part), text.data(),
+                                      text.size()));
+    }
+    // Does so for a range whose positions each name a place. Throws
+    // not_boundary where one does not, and what change() throws.
+    void change_exact(encoding units, range part, std::string_view text)
+    {
+        detail::check(str_rope_change_exact(&handle_, detail::to_c(units),
+                                            detail::to_c(part), text.data(),
+                                            text.size()));
+    }
+
+    // Returns the handle, for the functions of str_rope.h. It stays the rope's.
+    str_rope *get() noexcept { return &handle_; }
+    const str_rope *get() const noexcept { return &handle_; }
+
+private:
+    str_rope handle_ = {nullptr};
+};
+
+} // namespace pauskern
+
+#endif
