@@ -34,8 +34,6 @@ extern "C" {
     pub fn str_index_from_byte_idx(index: *const Opaque, scheme: u32, byte_idx: usize) -> usize;
     pub fn str_index_to_byte_idx(index: *const Opaque, scheme: u32, idx: usize) -> usize;
     pub fn str_index_is_char_boundary(index: *const Opaque, byte_idx: usize) -> bool;
-    pub fn str_index_line_end(index: *const Opaque, line_idx: usize) -> usize;
-    pub fn str_index_line(index: *const Opaque, line_idx: usize) -> Bytes;
     pub fn str_index_position_of(index: *const Opaque, encoding: u32, byte_idx: usize) -> Position;
     pub fn str_index_byte_of(index: *const Opaque, encoding: u32, position: Position) -> usize;
     pub fn str_index_exact_byte_of(index: *const Opaque, encoding: u32, position: Position) -> usize;

@@ -3,10 +3,9 @@
 mod plain;
 
 use plain::{Numbers, ENCODINGS, SCHEMES};
-use std::error::Error as _;
 use std::thread;
 use str_indices::{chars, lines, lines_crlf, lines_lf, utf16};
-use str_indices_index::{Encoding, LineType, NoMemory, Position, Range, Scheme, TextIndex};
+use str_indices_index::{Encoding, LineType, Position, Range, Scheme, TextIndex};
 
 /// 17 bytes: CR LF, a surrogate pair, CR, a char of three bytes, LF and LS.
 const BREAKS: &str = "a\r\n🐸b\rせ\n\u{2028}x";
@@ -21,7 +20,7 @@ const APART: usize = 1024;
 const MOST: usize = usize::MAX;
 
 fn index(text: &str) -> TextIndex<'_> {
-    TextIndex::of(text).unwrap()
+    TextIndex::new(text).unwrap()
 }
 
 #[test]
@@ -113,10 +112,10 @@ fn worked_positions() {
 #[test]
 fn worked_lines_and_ranges() {
     let index = index(LINES);
-    let contents = [0, 1, 2, 3, 4, 5, MOST].map(|line| index.line(line));
+    let contents = [0, 1, 2, 3, 4, 5, MOST].map(|line| &LINES[index.line_content(line, LineType::LfCr)]);
     assert_eq!(contents, ["a", "🐸b", "せ", "", "x", "", ""]);
     assert_eq!(
-        [0, 1, 2, 3, 4, 5, MOST].map(|line| index.line_end(line)),
+        [0, 1, 2, 3, 4, 5, MOST].map(|line| index.line_end(line, LineType::LfCr)),
         [1, 8, 12, 13, 15, 15, 15]
     );
     let (start, end) = (Position { line: 1, character: 1 }, Position { line: 2, character: 2 });
@@ -155,7 +154,10 @@ fn worked_kinds_of_lines() {
         ),
     ] {
         let e = Encoding::Utf16;
-        assert_eq!([0, 1, 2].map(|line| index.line_by(lines, line)), contents);
+        assert_eq!(
+            [0, 1, 2].map(|line| &index.text()[index.line_content(line, lines)]),
+            contents
+        );
         assert_eq!([2, 5, 8, 11].map(|byte| index.position_by(lines, e, byte)), positions);
         assert_eq!(index.exact_position_by(lines, e, 10), middle);
         assert_eq!(
@@ -171,7 +173,7 @@ fn worked_kinds_of_lines() {
     }
 }
 
-/// What the plain functions answer for a scheme: a count, an index of a byte, and a byte of an index.
+/// The answers of the plain functions for a scheme: a count, an index of a byte, and a byte of an index.
 fn plain_answers(scheme: Scheme, text: &str, at: usize) -> (usize, usize, usize) {
     match scheme {
         Scheme::Chars => (
@@ -212,9 +214,10 @@ fn try_number(index: &TextIndex, at: usize) {
         assert_eq!(index.to_byte_idx(scheme, at), to, "{scheme:?} {at}");
     }
     assert_eq!(index.is_char_boundary(at), text.is_char_boundary(at), "{at}");
-    assert_eq!(index.line_end(at), str_indices_positions::line_end(text, at), "{at}");
+    let end = str_indices_positions::line_end(text, at);
+    assert_eq!(index.line_end(at, LineType::LfCr), end, "{at}");
     let (start, end) = plain::line(text, at);
-    assert_eq!(index.line(at), &text[start..end], "{at}");
+    assert_eq!(index.line_content(at, LineType::LfCr), start..end, "{at}");
     for encoding in ENCODINGS {
         try_positions(index, encoding, at);
     }
@@ -324,7 +327,7 @@ fn threads_ask_one_index_and_another_frees_it() {
                 for number in (first..5000).step_by(8) {
                     let line = 4 * number;
                     let start = number * LINES.len();
-                    assert_eq!(index.line(line + 1), "🐸b");
+                    assert_eq!(index.line(line + 1, LineType::LfCr), Some("🐸b\r"));
                     assert_eq!(index.to_byte_idx(Scheme::Crlf, line + 1), start + 3);
                     assert_eq!(index.from_byte_idx(Scheme::Lf, start + 13), 3 * number + 2);
                     let position = index.position_of(Encoding::Utf16, start + 7);
@@ -340,11 +343,4 @@ fn threads_ask_one_index_and_another_frees_it() {
         }
     });
     thread::scope(|scope| scope.spawn(move || drop(index)).join().unwrap());
-}
-
-#[test]
-fn what_it_tells_of_itself() {
-    assert_eq!(format!("{:?}", index("one")), "TextIndex { len: 3, .. }");
-    assert_eq!(NoMemory.to_string(), "memory was refused");
-    assert!(NoMemory.source().is_none());
 }

@@ -1,12 +1,14 @@
-//! A plain text beside a rope or an index: what `std` says of a `str`, line breaks by a walk over its chars, and random
-//! numbers. The tests of those crates take it in.
+//! A plain text beside a rope or an index: what `std` says of a `str`, lines by a walk over its chars, and random numbers.
+//! The tests of those crates take it in.
 // Each file of tests takes what it needs.
 #![allow(dead_code)]
-use str_indices_positions::{Encoding, Position, Scheme};
+use str_indices_positions::{Encoding, LineType, Position, Scheme};
 
 pub const SCHEMES: [Scheme; 5] = [Scheme::Chars, Scheme::Utf16, Scheme::Lf, Scheme::Crlf, Scheme::Lines];
 
 pub const ENCODINGS: [Encoding; 3] = [Encoding::Utf8, Encoding::Utf16, Encoding::Utf32];
+
+pub const LINE_TYPES: [LineType; 3] = [LineType::Lf, LineType::LfCr, LineType::All];
 
 /// Every kind of line break, chars of every length, combining chars, and chars whose bytes look like a break's.
 const CHARS: &str =
@@ -104,9 +106,7 @@ pub fn to_byte_idx(scheme: Scheme, text: &str, index: usize) -> usize {
 
 /// Where a line begins, by the protocol's rules, and where its content ends.
 pub fn line(text: &str, line: usize) -> (usize, usize) {
-    let start = to_byte_idx(Scheme::Crlf, text, line);
-    let content = text[start..].split(['\r', '\n']).next().unwrap();
-    (start, start + content.len())
+    line_by(LineType::LfCr, text, line)
 }
 
 pub fn line_end(text: &str, index: usize) -> usize {
@@ -114,21 +114,74 @@ pub fn line_end(text: &str, index: usize) -> usize {
 }
 
 pub fn position_of(encoding: Encoding, text: &str, byte: usize) -> Position {
-    let index = from_byte_idx(Scheme::Crlf, text, byte);
-    let (start, end) = line(text, index);
-    let character = units(encoding, &text[start..floor(text, byte).min(end)]);
-    Position { line: index, character }
+    position_by(LineType::LfCr, encoding, text, byte)
 }
 
 pub fn byte_of(encoding: Encoding, text: &str, position: Position) -> usize {
-    if position.line > count(Scheme::Crlf, text) {
-        return text.len();
-    }
-    let (start, end) = line(text, position.line);
-    start + boundary_within(encoding, &text[start..end], position.character)
+    byte_by(LineType::LfCr, encoding, text, position)
 }
 
 pub fn exact_byte_of(encoding: Encoding, text: &str, position: Position) -> Option<usize> {
     let byte = byte_of(encoding, text, position);
     (position_of(encoding, text, byte) == position).then_some(byte)
+}
+
+/// Where a line begins, and where its content ends.
+pub fn line_by(line_type: LineType, text: &str, line: usize) -> (usize, usize) {
+    let [start, end] = [line, line.saturating_add(1)].map(|line| to_byte_idx(breaks(line_type), text, line));
+    (start, start + content(line_type, &text[start..end]).len())
+}
+
+pub fn position_by(line_type: LineType, encoding: Encoding, text: &str, byte: usize) -> Position {
+    let line = from_byte_idx(breaks(line_type), text, byte);
+    let (start, end) = line_by(line_type, text, line);
+    let character = units(encoding, &text[start..floor(text, byte).min(end)]);
+    Position { line, character }
+}
+
+pub fn byte_by(line_type: LineType, encoding: Encoding, text: &str, position: Position) -> usize {
+    if position.line > count(breaks(line_type), text) {
+        return text.len();
+    }
+    let (start, end) = line_by(line_type, text, position.line);
+    start + boundary_within(encoding, &text[start..end], position.character)
+}
+
+pub fn exact_position_by(line_type: LineType, encoding: Encoding, text: &str, byte: usize) -> Option<Position> {
+    let position = position_by(line_type, encoding, text, byte);
+    (byte_by(line_type, encoding, text, position) == byte).then_some(position)
+}
+
+/// The scheme of a line type's breaks.
+pub fn breaks(line_type: LineType) -> Scheme {
+    match line_type {
+        LineType::Lf => Scheme::Lf,
+        LineType::LfCr => Scheme::Crlf,
+        LineType::All => Scheme::Lines,
+    }
+}
+
+/// The lines of a text, each with its break, and where each begins.
+pub fn lines(line_type: LineType, text: &str) -> Vec<(usize, &str)> {
+    let mut start = 0;
+    let ends = ends(breaks(line_type), text).into_iter().chain([text.len()]);
+    ends.map(|end| {
+        let line = (start, &text[start..end]);
+        start = end;
+        line
+    })
+    .collect()
+}
+
+/// A line without its break.
+pub fn content(line_type: LineType, line: &str) -> &str {
+    let last = |line: &str| count(breaks(line_type), &line[floor(line, line.len().saturating_sub(1))..]);
+    match line_type {
+        LineType::Lf => line.strip_suffix('\n').unwrap_or(line),
+        _ if last(line) == 0 => line,
+        _ => {
+            let cut = line.strip_suffix("\r\n");
+            cut.unwrap_or_else(|| &line[..floor(line, line.len() - 1)])
+        }
+    }
 }
