@@ -5,8 +5,9 @@ The tests and the doc examples of bindings/rust, by each half of the library, an
 half, and the message where a library is missing; outside the repository, over installed libraries which pkg-config
 finds; those of bindings/positions, of bindings/rope, of bindings/index, of bindings/original and of the benchmark; each
 function of str_indices exchanged for each other one of its shape, which a worked answer must see; the example of a project
-that uses bindings/rust; a program without std; and the benchmarks, the functions and each buffer that people know beside a
-B-tree, once over small texts, whose times nobody looks at. The original is compared where the environment variable
+that uses bindings/rust; the programs to start from of bindings/rope and bindings/index; a program without std; and the
+benchmarks, the functions and each buffer that people know beside a B-tree, once over small texts, whose times nobody looks
+at. The original is compared where the environment variable
 STR_INDICES_ORIGINAL names its folder. Where cargo is not on the path nothing is tried. The last line printed is 'N passed, M
 failed', with what is left out.
 """
@@ -37,6 +38,20 @@ INDEX = ROOT / "bindings/index"
 
 # each folder with tests of its own, beside that of the library's functions, which has them by each half
 OTHERS = ["bindings/positions", "bindings/rope", "bindings/index", "bindings/original", "bench"]
+
+# a text, and what the program diagnostics prints of a file with it, worked by hand; NAME stands for the file
+CHECKED = "f(a[0);\n\tx  \r\n\n🐸]"
+DIAGNOSTICS = """\
+NAME:1:4: no `]` closes this bracket
+1 | f(a[0);
+  |    ^
+NAME:2:3: white space at the end of the line
+2 |     x\u0020\u0020
+  |      ^^
+NAME:4:2: `]` closes nothing
+4 | 🐸]
+  |  ^
+"""
 
 TEST_RESULT = re.compile(r"^test result: \w+\. (\d+) passed; (\d+) failed", re.MULTILINE)
 COMPARED = re.compile(r"^random texts: .* (\d+) answers, none differs.*", re.MULTILINE)
@@ -148,6 +163,26 @@ def test_example(target):
     check_example(tally, target / "debug/line_and_column", "of examples/rust")
 
 
+def run_program(crate, name, target, word):
+    """An example of a crate, built and run with one word; where it is not built, the run of cargo."""
+    built = cargo(crate, "build", "--example", name)
+    if built.returncode != 0:
+        return built
+    return subprocess.run([target / "debug/examples" / name, word], capture_output=True, text=True)
+
+
+def test_programs(target, folder):
+    """The programs to start from: the editor over a small text, which compares by itself, and the checker of files."""
+    done = run_program(ROPE, "editor", target, "300000")
+    right = done.returncode == 0 and done.stdout.endswith("all right\n")
+    tally.result(right, f"the editor of bindings/rope: {done.stdout.strip()}", done.stderr)
+    checked = folder / "checked"
+    checked.write_bytes(CHECKED.encode())
+    done = run_program(INDEX, "diagnostics", target, checked)
+    right = done.returncode == 0 and done.stdout == DIAGNOSTICS.replace("NAME", str(checked))
+    tally.result(right, "the checker of bindings/index tells what is wrong", done.stdout + done.stderr)
+
+
 def test_no_std(target):
     """A program without std: nothing of the compiler's library is linked, which only std asks for."""
     for profile, words in [("debug", []), ("release", ["--release"])]:
@@ -189,6 +224,7 @@ def test_all(library, rope, index, folder):
     test_outside([library, rope, index], folder)
     test_exchanges(library, folder)
     test_example(folder / "target")
+    test_programs(folder / "target", folder)
     test_no_std(folder / "target")
     test_benchmark()
     for way in ["scintilla", "gtk", "qt"]:
