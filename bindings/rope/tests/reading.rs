@@ -24,7 +24,7 @@ impl Read for Slow<'_> {
     }
 }
 
-/// Fails once so many bytes went through.
+/// Gives as many bytes as the number says, and then fails.
 struct Failing(usize);
 
 impl Read for Failing {
