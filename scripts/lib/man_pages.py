@@ -64,7 +64,7 @@ def paragraphs(text):
 
 
 def declaration(code):
-    """A declaration of functions, of which none is wider than a page."""
+    """Wraps a declaration of functions to the width of a page."""
     lines = []
     for one in " ".join(code.split()).replace("; ", ";\n").splitlines():
         bound = ", ".join(part.replace(" ", "\0") for part in re.sub(r"^\w+_CHECKED ", "", one).split(", "))

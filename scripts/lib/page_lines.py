@@ -1,7 +1,7 @@
 """Runs the lines of a page as they stand there, in one shell and with nothing set, and reads what they print.
 
-A block of C or C++ is the file that its first line names. Where a line ends in a comment, that is what it prints. What a machine
-has no tool for is left out.
+A block of C or C++ is the file that its first line names. A comment at the end of a line is what it prints. A line is left
+out whose tool the machine does not have.
 """
 import os
 import pathlib
