@@ -1,11 +1,28 @@
--- The last chunks of a leaf, in the order of the text.
+-- The chunks of a leaf, in the order of the text.
+--     IsLeafPlace before texts chunks index start     the chunk with number `index` of a leaf starts at byte index `start`
+--     IsLeafAt before texts chunks index start at     the same, where a byte is in it
 --     IsRestFrom before texts chunks start     `chunks` are neighbours in `texts`, and start at byte index `start`
 --     IsRestAt before texts chunks start at    the same, where a byte is in the first of them
 --     IsOnWay texts chunks at end              what holds of each `Chunks`
-use Rattle.std.specs.Prelude.{ℕ, ◌≡◌, ◌≢◌, ◌+◌, ◌<◌, ◌≤◌, List, [], ◌∷◌, ◌++◌}
+use Rattle.std.specs.Prelude.{ℕ, ◌≡◌, ◌≢◌, ◌+◌, ◌<◌, ◌≤◌, List, [], ◌∷◌, ◌++◌, length, take}
 use Rattle.str_indices.specs.Text.{Text, size}
-use Rattle.text_summary.specs.Pieces.{joined, joined_size}
+use Rattle.text_summary.specs.Pieces.{joined, joined_size, piece_at}
 use Rattle.text_rope.specs.Chunks.{IsWithin}
+
+-- `chunks` are neighbours in `texts`, and the one with number `index` starts at byte index `start`, where `before` bytes are
+-- before `texts`
+pub record IsLeafPlace (before : ℕ) (texts chunks : List Text) (index start : ℕ) : Type 0 where
+  pub front : List Text
+  pub back : List Text
+  pub parts : texts ≡ front ++ (chunks ++ back)
+  pub index_is : index < length chunks
+  pub place : before + joined_size front + joined_size (take index chunks) ≡ start
+
+-- the same, where a byte is in that chunk
+pub record IsLeafAt (before : ℕ) (texts chunks : List Text) (index start at : ℕ) : Type 0 where
+  pub leaf : IsLeafPlace before texts chunks index start
+  pub after : start ≤ at
+  pub inside : at < start + size (piece_at chunks index)
 
 -- `chunks` are neighbours in `texts`, and start at byte index `start`, where `before` bytes are before `texts`
 pub record IsRestFrom (before : ℕ) (texts chunks : List Text) (start : ℕ) : Type 0 where

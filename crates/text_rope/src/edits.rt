@@ -11,7 +11,8 @@ ghost use Rattle.text_rope.specs.Work.{WorkState, Costs, TakesLog};
 
 use crate::changes::splice;
 use crate::chunk::{MIN_CHUNK, memory_for};
-use crate::iter::{rest_in, text_between};
+use crate::cursor::leaf_at_in;
+use crate::iter::text_between;
 use crate::loads::{chunks_in, tree_from};
 use crate::tree::{Subtree, Tree};
 use crate::work::Work;
@@ -224,12 +225,11 @@ fn stretch_at<'a>(work: &mut Work, subtree: &'a Subtree, at: usize) -> ChunkSpan
     ensures work { Costs work.old work.new (subtree.now.height + 1) 0 }
 {
     let _short = subtree.summary();
-    let rest = rest_in(work, subtree, 0, at);
-    let chunk = &rest.chunks[0];
-    let text = chunk.text();
+    let place = leaf_at_in(work, subtree, 0, at);
+    let text = place.chunk().text();
     ChunkSpan {
         text,
-        start: rest.start,
-        end: rest.start + text.len(),
+        start: place.start,
+        end: place.start + text.len(),
     }
 }

@@ -1,17 +1,15 @@
 //! A text in order, lent in parts.
-ghost use Rattle.std.specs.Prelude.{◌≡◌, ◌≢◌, ◌+◌, ◌-◌, ◌^◌, ◌<◌, ◌≤◌, ◌↔◌, [], chars, IsNone, IfSome, IfNone};
+ghost use Rattle.std.specs.Prelude.{◌≡◌, ◌≢◌, ◌+◌, ◌-◌, ◌<◌, ◌≤◌, ◌↔◌, [], chars, IsNone, IfSome, IfNone};
 ghost use Rattle.str_indices.specs.Relations.{IsBoundary};
 ghost use Rattle.str_indices.specs.Text.{size};
 ghost use Rattle.text_summary.specs.Pieces.{joined, joined_size};
 ghost use Rattle.text_rope.specs.Chunks.{ChunksState, IsWithin, IsPartAt};
 ghost use Rattle.text_rope.specs.Rests.{IsRestFrom, IsRestAt};
 ghost use Rattle.text_rope.specs.ChunkSizes.{max_chunk};
-ghost use Rattle.text_rope.specs.Work.{WorkState, Costs};
 
 use crate::chunk::Chunk;
-use crate::leaf::chunk_up_to;
-use crate::tree::{Below, Subtree, Tree};
-use crate::work::Work;
+use crate::cursor::leaf_at;
+use crate::tree::Tree;
 use std::marker::Model;
 use text_summary::halves;
 
@@ -153,49 +151,9 @@ fn rest_of<'a>(tree: &'a Tree, chunks: &'a [Chunk], at: usize) -> Rest<'a>
         let _some = chunk.summary();
         return Rest { chunks, start: at };
     }
-    let Some(subtree) = tree.root() else {
-        unreachable!()
-    };
-    let _short = subtree.summary();
-    rest_in(&mut Work::none(), subtree, 0, at)
-}
-
-/// Finds the chunks of a leaf from the one that byte `at` is in, where `before` bytes are before the tree. Reads lengths alone.
-pub(crate) fn rest_in<'a>(
-    work: &mut Work,
-    subtree: &'a Subtree,
-    before: usize,
-    at: usize,
-) -> Rest<'a>
-    requires short { before + joined_size subtree.now.texts < 2 ^ 63 }
-    requires after { before ≤ at }
-    requires inside { at < before + joined_size subtree.now.texts }
-    ensures rest { IsRestAt before subtree.now.texts result.chunks.now result.start at }
-    ensures work { Costs work.old work.new (subtree.now.height + 1) 0 }
-{
-    match work.look(subtree) {
-        Below::Chunks(chunks) => rest_of_chunks(chunks, before, at),
-        Below::Subtrees(left, right) => {
-            let middle = before + left.summary().len;
-            if at < middle {
-                rest_in(work, left, before, at)
-            } else {
-                rest_in(work, right, middle, at)
-            }
-        }
-    }
-}
-
-/// Finds the chunks of one leaf from the one that byte `at` is in.
-fn rest_of_chunks(chunks: &[Chunk], before: usize, at: usize) -> Rest<'_>
-    requires short { before + joined_size chunks.now < 2 ^ 63 }
-    requires after { before ≤ at }
-    requires inside { at < before + joined_size chunks.now }
-    ensures { IsRestAt before chunks.now result.chunks.now result.start at }
-{
-    let place = chunk_up_to(chunks, at - before + 1);
+    let place = leaf_at(tree, at);
     Rest {
-        chunks: &chunks[place.chunk..],
-        start: before + place.start,
+        chunks: &place.chunks[place.index..],
+        start: place.start,
     }
 }

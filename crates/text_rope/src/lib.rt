@@ -2,10 +2,12 @@
 #![tactic(auto)]
 
 mod changes;
+mod chars;
 mod chunk;
 mod chunks;
 mod copies;
 mod counts;
+mod cursor;
 mod edits;
 mod iter;
 mod joins;
@@ -20,10 +22,12 @@ mod shifts;
 mod tree;
 mod work;
 
+pub use chars::{char_at_in, char_before_in};
 pub use chunk::{MAX_CHUNK, MIN_CHUNK};
 pub use chunks::{
     ChunkAt, ChunkAtByte, ChunkAtCount, chunk_at_byte_in, chunk_at_count_in, chunk_in,
 };
+pub use cursor::ChunkCursor;
 pub use iter::Chunks;
 pub use lines::{Line, line_in};
 pub use queries::{count_in, from_in, is_boundary_in, to_in};

@@ -111,7 +111,7 @@ fn is_after_return_in(v: &mut View, chunk: &ChunkAt<'_>, at: usize) -> bool
 }
 
 /// The char before a boundary, none at the beginning.
-fn last_before(text: &str, at: usize) -> Option<char>
+pub(crate) fn last_before(text: &str, at: usize) -> Option<char>
     requires { IsBoundary (chars text.now) at }
     ensures some { IfSome result (λ c. IsEndOf (chars text.now) c at) }
     ensures none { IfNone result (at ≡ 0) }

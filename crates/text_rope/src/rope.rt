@@ -1,6 +1,7 @@
 //! A text that is kept in a balanced tree of its chunks.
 ghost use Rattle.std.specs.Prelude.{◌≡◌, ◌≢◌, ◌+◌, ◌-◌, ◌*◌, ◌^◌, ◌<◌, ◌≤◌, ◌↔◌, ◌⊎◌, [], ◌++◌, chars, length, encode_utf8_all, Err, IsOk, IsErr, IsErrOf, IsTrue, IsOkUnless, IsSome, IfSome, IfOk, OnOk, OnErr};
-ghost use Rattle.str_indices.specs.Relations.{IsBoundary};
+ghost use Rattle.std.specs.Char.{len_utf8};
+ghost use Rattle.str_indices.specs.Relations.{IsBoundary, IsEndOf};
 ghost use Rattle.str_indices.specs.Schemes.{count, from_byte_idx, to_byte_idx};
 ghost use Rattle.str_indices.specs.Text.{size};
 ghost use Rattle.text_summary.specs.Changes.{IsReplaced};
@@ -21,8 +22,8 @@ use crate::loads::tree_from;
 use crate::tree::Tree;
 use crate::work::Work;
 use crate::{
-    ChunkAt, Chunks, Line, Refusal, Scheme, View, chunk_in, count_in, from_in, is_boundary_in,
-    line_in, to_in,
+    ChunkAt, ChunkCursor, Chunks, Line, Refusal, Scheme, View, char_at_in, char_before_in,
+    chunk_in, count_in, from_in, is_boundary_in, line_in, to_in,
 };
 use std::alloc::{AllocError, Global};
 use std::marker::Model;
@@ -173,6 +174,34 @@ impl Rope {
         ensures some { IsSome result ↔ (byte_idx < size self.now) }
     {
         chunk_in(&mut self.view(), byte_idx)
+    }
+
+    /// The chunk that a byte is in, to go on from to the next or the one before; none from the end of the text on.
+    pub fn cursor_at(&self, byte_idx: usize) -> Option<ChunkCursor<'_>>
+        ensures chunk { IfSome result (λ cursor. IsChunkAt self.now cursor.chunk cursor.start byte_idx) }
+        ensures text { IfSome result (λ cursor. cursor.text ≡ self.now) }
+        ensures some { IsSome result ↔ (byte_idx < size self.now) }
+    {
+        if self.len() <= byte_idx {
+            return None;
+        }
+        Some(ChunkCursor::of(&self.tree, byte_idx))
+    }
+
+    /// The char that begins at a byte index; none inside a char, and from the end of the text on.
+    pub fn char_at(&self, byte_idx: usize) -> Option<char>
+        ensures char { IfSome result (λ c. IsEndOf self.now c (byte_idx + len_utf8 c)) }
+        ensures some { IsSome result ↔ (IsBoundary self.now byte_idx × (byte_idx < size self.now)) }
+    {
+        char_at_in(&mut self.view(), byte_idx)
+    }
+
+    /// The char that ends at a byte index; none at the beginning, inside a char, and past the end.
+    pub fn char_before(&self, byte_idx: usize) -> Option<char>
+        ensures char { IfSome result (λ c. IsEndOf self.now c byte_idx) }
+        ensures some { IsSome result ↔ (IsBoundary self.now byte_idx × (0 < byte_idx)) }
+    {
+        char_before_in(&mut self.view(), byte_idx)
     }
 
     /// The text in order, in parts of at most `MAX_CHUNK` bytes; their join is the text.

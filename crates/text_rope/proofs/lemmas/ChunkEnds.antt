@@ -75,7 +75,8 @@ next_end (x ∷ xs) (f ∷ fs) bs (suc i) p split place before =
       omega (arith, inner.1, size-chunk x (take (suc i) xs), size-chunk x (take i xs), before),
     )
 
-next_size : (xs : List Text) (i : ℕ) → i < length xs → joined_size (take (i + 1) xs) ≡ joined_size (take i xs) + size (piece_at xs i)
+-- the bytes up to a chunk's end
+pub next_size : (xs : List Text) (i : ℕ) → i < length xs → joined_size (take (i + 1) xs) ≡ joined_size (take i xs) + size (piece_at xs i)
 next_size xs i inside = ap size (joined-take xs i inside) ∙ size-append (joined (take i xs)) (piece_at xs i)
 
 pub next_chunk : (xs : List Text) (i p : ℕ) → IsChunkEnd xs p → joined_size (take i xs) < p → joined_size (take (i + 1) xs) ≤ p

@@ -1,12 +1,12 @@
 -- The char that ends at a byte index, by the chunk that the index is in or at the end of.
 use Rattle.std.proofs.Math.Utf8.{encode}
-use Rattle.std.proofs.lemmas.List.{reverse-append}
+use Rattle.std.proofs.lemmas.List.{length-drop, reverse-append}
 use Rattle.std.proofs.lemmas.Str.{chars_past_char, length-encode, IsUtf8-drop, IsCharBoundary-past_char}
 use Rattle.std.proofs.Common.{Option, Some, None}
 use Rattle.std.specs.Option.{MatchOption}
-use Rattle.std.specs.Prelude.{IfSome, IsTrue, nat_eq, get_or, reverse}
+use Rattle.std.specs.Prelude.{IfSome, IfNone, IsSome, IsTrue, nat_eq, get_or, reverse}
 use Rattle.str_indices.specs.Relations.{IsEndOf}
-use Rattle.text_rope.proofs.lemmas.Common.{◌≡◌, ℕ, ◌+◌, ◌-◌, ◌<◌, ◌≤◌, List, [], ◌∷◌, ◌++◌, length, take, drop, IsUtf8, chars, chars-append, IsCharBoundary, take-append-drop, length-append, length-take-le, sym, ap, ◌∙◌, inl, inr, arith, append_assoc, cases_lt, subst, eqb-true, eq-eqb, IsUtf8-take, len_utf8, len_utf8_bounds, Text, size, size-cons, size-append, size-chars, IsBoundary, same_cut, boundary_right, boundary_upto}
+use Rattle.text_rope.proofs.lemmas.Common.{◌≡◌, ℕ, ◌+◌, ◌-◌, ◌<◌, ◌≤◌, List, [], ◌∷◌, ◌++◌, length, take, drop, refl, IsUtf8, chars, chars-append, IsCharBoundary, take-append-drop, length-append, length-take-le, sym, ap, ◌∙◌, inl, inr, arith, append_assoc, cases_lt, subst, eqb-true, eq-eqb, IsUtf8-take, len_utf8, len_utf8_bounds, Text, size, size-cons, size-append, size-chars, IsBoundary, same_cut, boundary_right, boundary_upto}
 use Rattle.text_rope.specs.Chunks.{IsChunkAt, IsRound}
 
 -- the place where it ends
@@ -158,3 +158,84 @@ tells_character cs c d p is = (
   λ yes. subst (λ x. IsEndOf cs x p) (eqb-true c d yes) is,
   λ other. eq-eqb c d (same_character cs c d p is other),
 )
+
+-- a boundary of a chunk is one of the text
+pub boundary_from_round : {whole chunk : Text} {start at : ℕ} → IsRound whole chunk start at → IsBoundary chunk (at - start)
+    → IsBoundary whole at
+boundary_from_round is own =
+    let same : is.front ++ ((own.front ++ own.back) ++ is.back) ≡ (is.front ++ own.front) ++ (own.back ++ is.back) =
+    simp append_assoc in
+    record {
+      front = is.front ++ own.front;
+      back = own.back ++ is.back;
+      split = is.parts ∙ ap (λ r. is.front ++ (r ++ is.back)) own.split ∙ same;
+      place = omega (arith, size-append is.front own.front, own.place, is.place, is.after);
+    }
+
+-- the chunk that a byte is in, round it
+pub round_at : {whole chunk : Text} {start at : ℕ} → IsChunkAt whole chunk start at → IsRound whole chunk start at
+round_at is = record {
+  front = is.front;
+  back = is.back;
+  parts = is.parts;
+  place = is.place;
+  after = is.after;
+  within = omega (arith, is.inside);
+}
+
+-- the first char of the bytes from a boundary on, and none at the end
+pub first_of : (bytes : List ℕ) (utf8 : IsUtf8 bytes) (at : ℕ) (part rest : List ℕ) (none : Type 0) → IsCharBoundary bytes at
+    → part ≡ drop at bytes → (r : Option ℕ) → MatchOption r none (λ c. part ≡ encode c ++ rest)
+    → IfSome r (λ c. IsEndOf (chars bytes) c (at + len_utf8 c))
+first_of bytes utf8 at part rest none here part_is None is = tt
+first_of bytes utf8 at part rest none here part_is (Some c) is =
+    let front_utf8 = IsUtf8-take bytes at utf8 here in
+    let front = chars (take at bytes) in
+    let parts : chars bytes ≡ front ++ chars (drop at bytes) =
+    ap chars (sym (take-append-drop at bytes)) ∙ chars-append (take at bytes) (drop at bytes) front_utf8 in
+    let behind : chars (drop at bytes) ≡ c ∷ chars rest =
+    chars_past_char (drop at bytes) rest c (IsUtf8-drop bytes at utf8 here) (sym part_is ∙ is) in
+    record {
+      front = front;
+      back = chars rest;
+      split = parts ∙ ap (λ r. front ++ r) behind ∙ sym (append_assoc front (c ∷ []) (chars rest));
+      place = omega (arith, one_more front c, size-chars (take at bytes) front_utf8, length-take-le at bytes here.0);
+    }
+
+pub none_of_bytes : (bytes : List ℕ) (utf8 : IsUtf8 bytes) (at : ℕ) (part rest : List ℕ) (same : Type 0) → at ≤ length bytes
+    → part ≡ drop at bytes → (r : Option ℕ) → MatchOption r ((length part ≡ 0) × same) (λ c. part ≡ encode c ++ rest)
+    → IfNone r (at ≡ size (chars bytes))
+none_of_bytes bytes utf8 at part rest same within part_is None is =
+    omega (arith, within, is.0, ap length part_is, length-drop at bytes, size-chars bytes utf8)
+none_of_bytes bytes utf8 at part rest same within part_is (Some c) is = tt
+
+-- a char that begins in a chunk begins there in the text, and one does
+pub first_in_chunk : {whole chunk : Text} {start at : ℕ} (r : Option ℕ) → IsChunkAt whole chunk start at
+    → IfSome r (λ c. IsEndOf chunk c (at - start + len_utf8 c)) → IfSome r (λ c. IsEndOf whole c (at + len_utf8 c))
+first_in_chunk None is own = tt
+first_in_chunk {whole = whole} {chunk = chunk} {start = start} {at = at} (Some c) is own =
+    let end : at + len_utf8 c - start ≡ at - start + len_utf8 c = omega (arith, is.after) in
+    let round : IsRound whole chunk start (at + len_utf8 c) = record {
+      front = is.front;
+      back = is.back;
+      parts = is.parts;
+      place = is.place;
+      after = omega (arith, is.after);
+      within = omega (arith, end_within chunk c (at - start + len_utf8 c) own, is.after);
+    } in
+    end_in_round round c (subst (IsEndOf chunk c) (sym end) own)
+
+pub first_some : {whole chunk : Text} {start at : ℕ} (r : Option ℕ) → IsChunkAt whole chunk start at
+    → IfNone r (at - start ≡ size chunk) → IsSome r
+first_some None is none = absurd (omega (arith, is.after, is.inside, none))
+first_some (Some c) is none = refl
+
+-- so does one that ends there, but at the beginning
+pub last_in_chunk : {whole chunk : Text} {start at : ℕ} (r : Option ℕ) → IsRound whole chunk start at
+    → IfSome r (λ c. IsEndOf chunk c (at - start)) → IfSome r (λ c. IsEndOf whole c at)
+last_in_chunk None is own = tt
+last_in_chunk (Some c) is own = end_in_round is c own
+
+pub last_some : {start at : ℕ} (r : Option ℕ) → start < at → IfNone r (at - start ≡ 0) → IsSome r
+last_some None after none = absurd (omega (arith, after, none))
+last_some (Some c) after none = refl

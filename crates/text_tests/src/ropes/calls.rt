@@ -5,7 +5,9 @@ use std::process::Abort;
 use std::test::Fail;
 use text_rope::Refusal::{NotBoundary, NotOrdered, TooLong};
 use text_rope::Scheme::{self, Chars, Crlf, Lf, Lines, Utf16};
-use text_rope::{ChunkAt, Chunks, Refusal, Rope, count_in, from_in, is_boundary_in, to_in};
+use text_rope::{
+    ChunkAt, ChunkCursor, Chunks, Refusal, Rope, count_in, from_in, is_boundary_in, to_in,
+};
 
 /// A scheme with its count, a byte index with its answer, and an index with its byte.
 type Answers = (Scheme, usize, (usize, usize), (usize, usize));
@@ -217,6 +219,77 @@ fn pieces_of_a_text(rt: HostRuntime) -> Result<(), Fail> {
     let len = text.len();
     for part in [(0, 0), (0, len), (5, 6), (1, len / 60 * 59), (len, len)] {
         assert_part(&rt, rt.alloc(), &rope, &text, part)?;
+    }
+    Ok(())
+}
+
+/// Up to `most` chunks in one text, from a cursor's on.
+fn forwards(alloc: Global, mut cursor: ChunkCursor<'_>, most: usize) -> Result<String, AllocError> {
+    let mut whole = String::new(alloc);
+    for _ in 0..most {
+        whole.push_str(cursor.chunk().text)?;
+        if !cursor.next() {
+            break;
+        }
+    }
+    Ok(whole)
+}
+
+/// The bytes of up to `most` chunks, from a cursor's back.
+fn backwards(mut cursor: ChunkCursor<'_>, most: usize) -> usize {
+    let mut bytes = 0_usize;
+    for _ in 0..most {
+        bytes = bytes.saturating_add(cursor.chunk().text.len());
+        if !cursor.prev() {
+            break;
+        }
+    }
+    bytes
+}
+
+fn assert_moved(rt: &impl Abort, cursor: &mut ChunkCursor<'_>, text: &str, byte_idx: usize) {
+    let moved = cursor.move_to(byte_idx);
+    let is_right = !moved || is_part(text, byte_idx, cursor.chunk());
+    assert_eq!(rt; moved, byte_idx < text.len(), "{byte_idx}");
+    assert!(rt; is_right, "{byte_idx}");
+}
+
+#[test]
+fn chunks_by_a_cursor(rt: HostRuntime) -> Result<(), Fail> {
+    let text = lines(rt.alloc(), 4000)?;
+    let len = text.len();
+    let rope = Rope::from_str(rt.alloc(), &text)?;
+    assert!(rt; Rope::new(rt.alloc()).cursor_at(0).is_none());
+    assert!(rt; rope.cursor_at(0).is_some());
+    if let Some(first) = rope.cursor_at(0) {
+        let whole = forwards(rt.alloc(), first, len)?;
+        assert!(rt; whole.as_str() == text.as_str());
+    }
+    if let Some(last) = rope.cursor_at(len.saturating_sub(1)) {
+        assert_eq!(rt; backwards(last, len), len);
+    }
+    if let Some(mut cursor) = rope.cursor_at(0) {
+        for byte_idx in 0..len.min(3000) {
+            assert_moved(&rt, &mut cursor, &text, byte_idx);
+        }
+        for byte_idx in [len, 0, len.saturating_sub(1), len / 2, len + 1] {
+            assert_moved(&rt, &mut cursor, &text, byte_idx);
+        }
+    }
+    Ok(())
+}
+
+#[test]
+fn chars_round_a_byte(rt: HostRuntime) -> Result<(), Fail> {
+    let text = lines(rt.alloc(), 60)?;
+    let rope = Rope::from_str(rt.alloc(), &text)?;
+    for byte_idx in 0..text.len() + 2 {
+        let after = text.get(byte_idx..).and_then(|rest| rest.chars().next());
+        let before = text
+            .get(..byte_idx)
+            .and_then(|front| front.chars().next_back());
+        assert_eq!(rt; rope.char_at(byte_idx), after, "{byte_idx}");
+        assert_eq!(rt; rope.char_before(byte_idx), before, "{byte_idx}");
     }
     Ok(())
 }

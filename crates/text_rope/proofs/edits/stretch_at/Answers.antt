@@ -1,12 +1,13 @@
-use Rattle.text_rope.proofs.lemmas.{◌≡◌, ◌∙◌, ◌++◌, ap, arith, size, chars}
-use Rattle.std.proofs.Common.{get_or}
+use Rattle.text_rope.proofs.lemmas.{◌≡◌, ◌∙◌, ◌++◌, ap, arith, chars, drop, refl, rest_chunk, rest_of_leaf, size, sym}
+use Rattle.text_rope.specs.Rests.{IsRestAt}
 use Rattle.text_rope.proofs.edits.stretch_at.Goals as goal
 
 pub returns-clause-chunk : goal.returns-clause-chunk
 returns-clause-chunk c =
-    let rest = c.rest_in-rest.ensures.rest in
-    let chunk : chars c.text-text.result.now ≡ rest.chunk =
-    c.text-text.ensures.text ∙ ap (λ chunks. get_or chunks 0 c.index-rest-0.result) rest.chunks_are in
+    let place = c.leaf_at_in-place.result in
+    let is = c.leaf_at_in-place.ensures.place in
+    let rest : IsRestAt 0 c.args.subtree.now.texts (drop place.index place.chunks.now) place.start c.args.at = rest_of_leaf is refl in
+    let chunk : chars c.text-text.result.now ≡ rest.chunk = c.text-text.ensures.text ∙ c.chunk.ensures ∙ sym (rest_chunk is rest) in
     record {
       front = rest.front;
       back = rest.others ++ rest.back;
@@ -16,8 +17,9 @@ returns-clause-chunk c =
     }
 
 pub returns-clause-inside : goal.returns-clause-inside
-returns-clause-inside c =
-    let rest = c.rest_in-rest.ensures.rest in
-    let chunk : chars c.text-text.result.now ≡ rest.chunk =
-    c.text-text.ensures.text ∙ ap (λ chunks. get_or chunks 0 c.index-rest-0.result) rest.chunks_are in
-    omega (arith, rest.inside, c.text-text.ensures.len, ap size c.text-text.ensures.text, ap size chunk)
+returns-clause-inside c = omega (
+  arith,
+  c.leaf_at_in-place.ensures.place.inside,
+  c.text-text.ensures.len,
+  ap size c.chunk.ensures,
+)
