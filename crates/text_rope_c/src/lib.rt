@@ -6,6 +6,7 @@
 //! owes.
 #![tactic(auto)]
 
+mod change_lists;
 mod changes;
 mod exact_changes;
 mod handles;
