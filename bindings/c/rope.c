@@ -70,6 +70,8 @@ size_t rope_read(str_rope *rope, size_t at, char *out, size_t room);
 uint32_t rope_copy_to(str_rope *rope, size_t from, size_t to, char *out, size_t room);
 uint32_t rope_change(str_rope *rope, uint32_t encoding, str_indices_range range, const char *text, size_t len);
 uint32_t rope_change_exact(str_rope *rope, uint32_t encoding, str_indices_range range, const char *text, size_t len);
+uint32_t rope_change_all(str_rope *rope, bool exact, uint32_t encoding, const str_rope_content_change *changes,
+                         size_t count, size_t *refused);
 
 /* A text that may be null where its length is 0. */
 static const char *text_of(const char *text)
@@ -152,6 +154,28 @@ str_rope_status str_rope_change_exact(str_rope *rope, str_indices_encoding encod
                                       const char *text, size_t len)
 {
     return (str_rope_status)rope_change_exact(rope, encoding, range, text_of(text), len);
+}
+
+/* The list may be null where it is empty, and so may the place for an index. */
+static str_rope_status change_all(str_rope *rope, bool exact, str_indices_encoding encoding,
+                                  const str_rope_content_change *changes, size_t count, size_t *refused)
+{
+    static const str_rope_content_change nothing;
+    size_t index = 0;
+    return (str_rope_status)rope_change_all(rope, exact, encoding, changes != NULL ? changes : &nothing, count,
+                                            refused != NULL ? refused : &index);
+}
+
+str_rope_status str_rope_change_all(str_rope *rope, str_indices_encoding encoding,
+                                    const str_rope_content_change *changes, size_t count, size_t *refused)
+{
+    return change_all(rope, false, encoding, changes, count, refused);
+}
+
+str_rope_status str_rope_change_all_exact(str_rope *rope, str_indices_encoding encoding,
+                                          const str_rope_content_change *changes, size_t count, size_t *refused)
+{
+    return change_all(rope, true, encoding, changes, count, refused);
 }
 
 const char *str_rope_status_text(str_rope_status status)

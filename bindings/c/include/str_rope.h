@@ -319,6 +319,47 @@ STR_ROPE_CHECKED str_rope_status
 str_rope_change_exact(str_rope *rope, str_indices_encoding encoding,
                       str_indices_range range, const char *text, size_t len);
 
+/* A change, one of some in turn: a text in the place of a range, or of the
+ * whole text. */
+typedef struct str_rope_content_change {
+    str_indices_range range;
+    const char *text; /* not NULL, also where `len` is 0 */
+    size_t len;
+    bool whole; /* whether it replaces the whole text, whatever `range` is */
+} str_rope_content_change;
+
+/* Makes `count` changes in turn, each as str_rope_change does in the text that
+ * the one before it left: all of them, or none. They are the `contentChanges`
+ * of a message:
+ *
+ *     str_rope_content_change changes[] = {
+ *         {.range = {{0, 4}, {0, 9}}, .text = "line", .len = 4},
+ *         {.text = text, .len = len, .whole = true},
+ *     };
+ *     size_t refused;
+ *     if (str_rope_change_all(&rope, encoding, changes, 2, &refused) !=
+ *         STR_ROPE_OK) ...
+ *
+ * Where one is refused, the text is as before the first of them, `*refused` is
+ * the index of that change, and the status is what str_rope_change answers to
+ * it. But the texts of all of them are looked at first: STR_ROPE_NOT_UTF8 is of
+ * the first that is not UTF-8. Where all are made, `*refused` stays as it is;
+ * `refused` may be NULL.
+ *
+ * One change costs what it costs alone. Before more of them a text that is not
+ * empty takes a snapshot, which is freed in the end, so the nodes that change
+ * are copied. Where memory for that is refused, STR_ROPE_NO_MEMORY is of the
+ * first change. */
+STR_ROPE_CHECKED str_rope_status str_rope_change_all(
+    str_rope *rope, str_indices_encoding encoding,
+    const str_rope_content_change *changes, size_t count, size_t *refused);
+
+/* As str_rope_change_all, each change as str_rope_change_exact makes it: one
+ * with a position that names no place is STR_ROPE_NOT_BOUNDARY. */
+STR_ROPE_CHECKED str_rope_status str_rope_change_all_exact(
+    str_rope *rope, str_indices_encoding encoding,
+    const str_rope_content_change *changes, size_t count, size_t *refused);
+
 /*
  * Lines and positions by what ends a line. With STR_INDICES_LINE_TYPE_LF_CR the end
  * of a line, a position and its byte are those of str_rope_line_end,

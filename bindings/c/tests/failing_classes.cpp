@@ -57,6 +57,10 @@ void refused_ropes()
     same(is_refused_memory([&] { text.split_off(2000); }), "split_off");
     same(is_refused_memory([&] { text.change(encoding::utf16, {{0, 1}, {0, 2}}, "b"); }), "change");
     same(is_refused_memory([&] { text.change_exact(encoding::utf16, {{0, 1}, {0, 2}}, "b"); }), "change_exact");
+    same(is_refused_memory([&] {
+             text.change_all(encoding::utf8, {pauskern::change_of({}, "b"), pauskern::change_of("c")});
+         }),
+         "change_all");
     same(text == whole && copy == whole, "the text after refusals");
 }
 
