@@ -48,6 +48,7 @@ extern crate alloc;
 extern crate std;
 
 mod builder;
+mod change_lists;
 mod chunks;
 mod compare;
 mod errors;
@@ -64,6 +65,7 @@ mod traits;
 mod walk;
 
 pub use builder::RopeBuilder;
+pub use change_lists::{Change, RefusedChange};
 pub use chunks::MAX_CHUNK;
 pub use errors::Error;
 #[cfg(feature = "std")]

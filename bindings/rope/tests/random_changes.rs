@@ -4,7 +4,8 @@ use model::answers::{of_rope, of_slice};
 use model::*;
 use std::collections::hash_map::DefaultHasher;
 use std::hash::{Hash, Hasher};
-use str_rope::{Encoding, Error, LineType, Position, Range, Rope, RopeBuilder, Scheme};
+use std::ops;
+use str_rope::{Change, Encoding, Error, LineType, Position, Range, RefusedChange, Rope, RopeBuilder, Scheme};
 
 /// A rope, and the text that it should have.
 struct Pair {
@@ -30,7 +31,7 @@ impl Pair {
 
     /// Makes a random change of both.
     fn change(&mut self, numbers: &mut Numbers) {
-        match numbers.below(10) {
+        match numbers.below(12) {
             0 | 1 => self.insert(numbers),
             2 => self.remove(numbers),
             3 => self.replace(numbers),
@@ -38,6 +39,7 @@ impl Pair {
             5 => self.split_off(numbers),
             6 => self.insert_char(numbers),
             7 => self.extend(numbers),
+            8 | 9 => self.change_in_turn(numbers),
             _ => self.change_by_positions(numbers),
         }
     }
@@ -133,6 +135,30 @@ impl Pair {
         self.text.replace_range(bytes, &text);
     }
 
+    /// Makes some changes in turn: where the plain text refuses one, the rope refuses all of them.
+    fn change_in_turn(&mut self, numbers: &mut Numbers) {
+        let (encoding, is_exact) = (ENCODINGS[numbers.below(3)], numbers.below(2) == 0);
+        let texts: Vec<String> = (0..numbers.below(5)).map(|_| numbers.text(60)).collect();
+        let (mut after, mut wanted, mut changes) = (self.text.clone(), Ok(()), Vec::new());
+        for (index, text) in texts.iter().enumerate() {
+            let range = random_range(encoding, &after, numbers);
+            changes.push(Change::new(range, text));
+            if wanted.is_ok() {
+                wanted = part_of(encoding, is_exact, &after, range)
+                    .map(|part| after.replace_range(part, text))
+                    .map_err(|error| RefusedChange { index, error });
+            }
+        }
+        let made = match is_exact {
+            true => self.rope.change_all_exact(encoding, &changes),
+            false => self.rope.change_all(encoding, &changes),
+        };
+        assert_eq!(made, wanted);
+        if wanted.is_ok() {
+            self.text = after;
+        }
+    }
+
     fn assert_text(&self) {
         assert_eq!(self.rope.len(), self.text.len());
         assert_eq!(joined(&self.rope), self.text);
@@ -212,6 +238,41 @@ impl Pair {
     }
 }
 
+/// Draws the range of a change: mostly a part of the text by its places, else what may be cut or go back, or the whole text.
+fn random_range(encoding: Encoding, text: &str, numbers: &mut Numbers) -> Option<Range> {
+    let from = numbers.boundary(text);
+    let to = floor(text, text.len().min(from + numbers.below(40)));
+    let (start, end) = (position_of(encoding, text, from), position_of(encoding, text, to));
+    let further = |position: Position, more| Position {
+        character: position.character + more,
+        ..position
+    };
+    match numbers.below(24) {
+        0 => None,
+        1 => Some(Range { start: end, end: start }),
+        2..=4 => Some(Range {
+            start,
+            end: further(end, numbers.below(20)),
+        }),
+        _ => Some(Range { start, end }),
+    }
+}
+
+/// The bytes that a change replaces in a plain text, or why it is refused.
+fn part_of(encoding: Encoding, is_exact: bool, text: &str, range: Option<Range>) -> Result<ops::Range<usize>, Error> {
+    let Some(Range { start, end }) = range else {
+        return Ok(0..text.len());
+    };
+    if end < start {
+        return Err(Error::NotOrdered);
+    }
+    let byte = |position| match is_exact {
+        true => exact_byte_of(encoding, text, position).ok_or(Error::NotBoundary),
+        false => Ok(byte_of(encoding, text, position)),
+    };
+    Ok(byte(start)?..byte(end)?)
+}
+
 fn hash(text: impl Hash) -> u64 {
     let mut hasher = DefaultHasher::new();
     text.hash(&mut hasher);
@@ -252,6 +313,19 @@ fn look_back(kept: &mut Vec<Pair>, pair: &Pair, numbers: &mut Numbers) {
     if let Some(one) = kept.last_mut().filter(|_| numbers.below(3) == 0) {
         one.change(numbers);
         one.assert_text();
+    }
+}
+
+/// Lists of changes, of an empty text, a short one and one of several chunks.
+#[test]
+fn changes_in_turn_are_all_made_or_none() {
+    let mut numbers = Numbers(9);
+    for round in 0..300 {
+        let mut pair = Pair::of(numbers.text([1, 10, 3000][round % 3]));
+        for _ in 0..5 {
+            pair.change_in_turn(&mut numbers);
+            pair.assert_text();
+        }
     }
 }
 
