@@ -2,3 +2,4 @@
 pub use Rattle.text_rope.proofs.lemmas.Counts.{count-replaced, count-inserted, count-removed}
 pub use Rattle.text_rope.proofs.lemmas.Asking.{none_asked, asked_after, asked_within}
 pub use Rattle.text_rope.proofs.lemmas.Lending.{asks}
+pub use Rattle.text_rope.proofs.lemmas.Sending.{rope_send}
