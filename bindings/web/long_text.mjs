@@ -163,8 +163,7 @@ export class LongText {
   }
 
   #block(string) {
-    // bytes and not the string, which would keep the whole text that it was cut from
-    const text = this.#indices.text(new TextEncoder().encode(string));
+    const text = this.#indices.text(string);
     const counts = COUNTS.map(([module, count]) => [module, text[module][count]()]);
     return { text, own: { bytes: text.length, pairs: text.utf16.countSurrogates(), ...Object.fromEntries(counts) } };
   }

@@ -10,13 +10,19 @@ export interface Position {
   readonly character: number;
 }
 
-/** The same as an argument, where each number may be any index. */
+/** A part of a text as a language server names it, from its start up to its end. */
+export interface Range {
+  readonly start: Position;
+  readonly end: Position;
+}
+
+/** A position as an argument, where each number may be any index. */
 export interface Place {
   readonly line: Index;
   readonly character: Index;
 }
 
-/** A part of a text as a language server names it, from its start up to its end. */
+/** A range as an argument, where each number may be any index. */
 export interface Places {
   readonly start: Place;
   readonly end: Place;
@@ -26,6 +32,12 @@ export interface Places {
 export interface Bytes {
   readonly start: number;
   readonly end: number;
+}
+
+/** The same as an argument, where each number may be any index. */
+export interface Span {
+  readonly start: Index;
+  readonly end: Index;
 }
 
 /** What each function takes first: the text, or nothing on a text that is known. */
@@ -89,8 +101,30 @@ export interface Functions<Text extends First> {
   readonly positions: Positions<Text>;
 }
 
-/** A text that is encoded once, for many questions. */
+export interface KnownLines extends Lines<[]> {
+  /** The bytes of a line without its break; past the last line none, at the end of the text. */
+  readonly lineContent: (line: Index) => Bytes;
+}
+
+export interface KnownEncoding extends Encoding<[]> {
+  /** The position of a byte that is a place on a line; `null` inside a char, between CR and LF, and past the end. */
+  readonly exactPositionOf: (byteIndex: Index) => Position | null;
+  /** The positions of both ends of a span of bytes, each as `positionOf` answers it. */
+  readonly rangeOf: (bytes: Span) => Range;
+}
+
+export interface KnownPositions extends Positions<[]> {
+  readonly utf8: KnownEncoding;
+  readonly utf16: KnownEncoding;
+  readonly utf32: KnownEncoding;
+}
+
+/** A text with its index, for many questions, none of which goes over the text. */
 export interface KnownText extends Functions<[]> {
+  readonly linesLf: KnownLines;
+  readonly linesCrlf: KnownLines;
+  readonly lines: KnownLines;
+  readonly positions: KnownPositions;
   /** How many bytes the text takes in UTF-8. */
   readonly length: number;
   /** These bytes, as an array of the caller's own. */
@@ -98,7 +132,7 @@ export interface KnownText extends Functions<[]> {
 }
 
 export interface Indices extends Functions<[text: Source]> {
-  /** Keeps a text, for many questions. */
+  /** Keeps a text and makes its index, for many questions. */
   text(source: Source): KnownText;
 }
 

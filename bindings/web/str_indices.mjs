@@ -1,30 +1,38 @@
 // Counts the chars, UTF-16 code units and line breaks of a text, converts between those indices and byte indices of its
-// UTF-8 form, and maps byte indices to and from positions of a language server, by the proved functions of `str_indices`
-// and `positions` as WebAssembly.
+// UTF-8 form, and maps byte indices to and from positions of a language server, by the proved functions of `str_indices`,
+// `positions` and `text_index` as WebAssembly.
 //
 //     import { load } from "./str_indices.mjs";
 //
 //     const indices = await load();                   // reads str_indices_web.wasm from beside this file
 //     indices.utf16.toByteIdx("a🐸b", 3);             // 5
-//     const text = indices.text("one\r\ntwo");        // encoded once, for many questions
+//     const text = indices.text("one\r\ntwo");        // gets an index, for many questions
 //     text.linesCrlf.toByteIdx(1);                    // 5
 //     text.positions.utf16.positionOf(6);             // { line: 1, character: 1 }
 //
 // A text is a string, or its bytes as a `Uint8Array`. A string is encoded as UTF-8, where a lone surrogate becomes
 // U+FFFD; bytes that are not UTF-8 are a `TypeError`. An index is a number or a BigInt from 0 on, or `Infinity`, and
-// anything else a `RangeError`; each index past the end has an answer. Answers are numbers; `exactByteOf` and `byteRange`
-// answer `null` where there is none.
+// anything else a `RangeError`; each index past the end has an answer. Answers are numbers; `exactByteOf`, `byteRange` and
+// `exactPositionOf` answer `null` where there is none.
 
 const GREATEST = 2n ** 64n - 1n;
 
 // a position is two numbers of 64 bits
 const POSITION_SIZE = 16;
-// the place for what is not the text: a range, which is two positions, and after it an answer
-const ANSWER = 2 * POSITION_SIZE;
-const PLACE_SIZE = ANSWER + POSITION_SIZE;
+// the place for what is not the text: what is asked at its beginning, and what is answered at its end, which are a range of
+// two positions, and a position or two bytes
+const PLACE_SIZE = 3 * POSITION_SIZE;
+
+// what the export that makes an index answers where it has made one
+const FILLED = 0;
 
 // a module that has one page of memory with 64-bit addresses
 const WIDE_MEMORY = new Uint8Array([0, 0x61, 0x73, 0x6d, 1, 0, 0, 0, 5, 3, 1, 4, 1]);
+
+// the numbers by which the exports over an index know what is counted, and in which units
+const SCHEME_NUMBERS = { chars: 0, utf16: 1, linesLf: 2, linesCrlf: 3, lines: 4 };
+const ENCODING_NUMBERS = { utf8: 5, utf16: 1, utf32: 0 };
+const LINES = ["linesLf", "linesCrlf", "lines"];
 
 // each function by its name here, its name in the exports, and what it takes beside the text
 const FUNCTIONS = [
@@ -57,6 +65,26 @@ const FUNCTIONS = [
   ["positions.utf32.byteOf", "utf32_byte_of", askByteOf],
   ["positions.utf32.exactByteOf", "utf32_exact_byte_of", askExactByteOf],
   ["positions.utf32.byteRange", "utf32_byte_range", askByteRange],
+];
+
+// each function over a text that is known: the same, with the numbers that its export over an index takes after that
+const KNOWN_FUNCTIONS = [
+  ...Object.entries(SCHEME_NUMBERS).flatMap(([module, scheme]) => [
+    [`${module}.${LINES.includes(module) ? "countBreaks" : "count"}`, "count", askKnownCount, scheme],
+    [`${module}.fromByteIdx`, "from_byte_idx", askIndex, scheme],
+    [`${module}.toByteIdx`, "to_byte_idx", askIndex, scheme],
+  ]),
+  ["utf16.countSurrogates", "count", askKnownSurrogates],
+  ...LINES.map((module) => [`${module}.lineContent`, "line_by", askBytes, SCHEME_NUMBERS[module]]),
+  ["positions.lineEnd", "line_end", askIndex],
+  ...Object.entries(ENCODING_NUMBERS).flatMap(([encoding, number]) => [
+    [`positions.${encoding}.positionOf`, "position_of", askPositionOf, number],
+    [`positions.${encoding}.exactPositionOf`, "exact_position_by", askExactPositionOf, SCHEME_NUMBERS.linesCrlf, number],
+    [`positions.${encoding}.rangeOf`, "range_by", askRangeOf, SCHEME_NUMBERS.linesCrlf, number],
+    [`positions.${encoding}.byteOf`, "byte_of", askByteOf, number],
+    [`positions.${encoding}.exactByteOf`, "exact_byte_of", askExactByteOf, number],
+    [`positions.${encoding}.byteRange`, "byte_range", askByteRange, number],
+  ]),
 ];
 
 /** Whether this engine has WebAssembly with 64-bit memory, which the functions want. */
@@ -110,19 +138,31 @@ async function read(source) {
   }
 }
 
-/** The bytes of a text that is no string: they lie in the memory, or were saved when another text took their place. */
+/** A text that is known: it lies in the memory with its index, or both were saved when another text took their place. */
 class Kept {
   saved = null;
+
+  constructor(length) {
+    this.length = length;
+  }
 }
 
-/** The exports, and their memory: a place for what is asked and answered, and after it one text at a time. */
+/**
+ * The exports, and their memory: a place for what is asked and answered, and after it one text at a time. A text that is
+ * known has its index after it: a handle, and the marks.
+ *
+ * What is asked is the name of an export, and the numbers that it takes after the text.
+ */
 class Machine {
   #exports;
   #memory;
   #place;
   #view;
   #start;
-  // the string or the kept bytes that lie in the memory now, where they are one of these, and how many bytes lie there
+  // how many bytes a text may have, and a text with its index
+  #most;
+  #mostKept;
+  // the string or the text that is known that lies in the memory now, where it is one of these, and how many bytes lie there
   #held = null;
   #length = 0;
 
@@ -131,7 +171,9 @@ class Machine {
     this.#place = Number(exports.__heap_base.value);
     this.#start = this.#place + PLACE_SIZE;
     this.#memory = new Uint8Array(exports.memory.buffer);
-    this.#view = new DataView(exports.memory.buffer, this.#place, PLACE_SIZE);
+    this.#view = new DataView(exports.memory.buffer);
+    this.#most = this.#memory.length - this.#start;
+    this.#mostKept = greatest(this.#most, (length) => this.#endOf(length) <= this.#memory.length);
   }
 
   /** Sees to it that the text lies in the memory, where it is checked; answers how many bytes it takes. */
@@ -139,127 +181,202 @@ class Machine {
     if (text === this.#held) {
       return this.#length;
     }
-    if (this.#held instanceof Kept) {
-      this.#held.saved ??= this.bytes();
-    }
-    this.#held = null;
-    if (typeof text === "string") {
-      this.#length = this.#encode(text);
-      this.#held = text;
-    } else if (text instanceof Kept) {
-      this.#length = this.#copy(text.saved);
+    this.#save();
+    if (text instanceof Kept) {
+      this.#memory.set(text.saved, this.#start);
+      this.#length = text.length;
       this.#held = text;
     } else {
-      this.#length = this.#check(text);
+      this.#length = this.#take(text, this.#most);
+      if (typeof text === "string") {
+        this.#held = text;
+      } else if (!this.#exports.str_indices_is_utf8(BigInt(this.#start), BigInt(this.#length))) {
+        throw notUtf8();
+      }
     }
     return this.#length;
   }
 
-  /** Puts the text into the memory, for many questions; answers by what it is found again. */
+  /** Puts the text into the memory with its index, for many questions; answers by what it is found again. */
   keep(text) {
-    this.put(text);
-    this.#held ??= new Kept();
+    this.#save();
+    const length = this.#take(text, this.#mostKept);
+    const start = BigInt(this.#start);
+    const handle = BigInt(this.#handleOf(length));
+    const marks = handle + this.#exports.str_index_size(0n);
+    // a handle has to be one before it is filled: of the empty text, without marks
+    this.#write(Number(handle), [start, 0n, marks, 0n]);
+    const size = BigInt(length);
+    if (this.#exports.index_fill(start, size, marks, this.#exports.index_marks(size), handle) !== FILLED) {
+      throw notUtf8();
+    }
+    this.#length = length;
+    this.#held = new Kept(length);
     return this.#held;
   }
 
-  /** The bytes that lie in the memory, as an array of the caller's own. */
+  /** The bytes of the text that lies in the memory, as an array of the caller's own. */
   bytes() {
     return this.#memory.slice(this.#start, this.#start + this.#length);
   }
 
-  /** The number that the export answers for a text, and what it takes beside that. */
-  number(name, text, ...more) {
-    return narrow(this.#call(name, text, ...more));
+  /** The number that the export answers. */
+  number(asked, text, ...more) {
+    return narrow(this.#call([], asked, text, more));
   }
 
   /** The number that the export answers, or `null` for the greatest one, by which the exports say none. */
-  numberOrNull(name, text, ...more) {
-    const number = BigInt.asUintN(64, this.#call(name, text, ...more));
+  numberOrNull(asked, text, ...more) {
+    const number = BigInt.asUintN(64, this.#call([], asked, text, more));
     return number === GREATEST ? null : Number(number);
   }
 
-  /** The two numbers that the export answers for a text, by their address, and what it takes beside that. */
-  pair(name, text, ...more) {
-    const length = this.put(text);
-    const answer = BigInt(this.#place + ANSWER);
-    this.#exports[`str_indices_${name}`](answer, BigInt(this.#start), BigInt(length), ...more);
-    return [this.#view.getBigUint64(ANSWER, true), this.#view.getBigUint64(ANSWER + 8, true)];
+  /** So many numbers that the export answers by their address. */
+  numbers(count, asked, text, ...more) {
+    const address = this.#start - 8 * count;
+    this.#call([BigInt(address)], asked, text, more);
+    const numbers = [];
+    for (let at = address; at < this.#start; at += 8) numbers.push(this.#view.getBigUint64(at, true));
+    return numbers;
   }
 
   /** Puts numbers into the place; answers their address. */
   write(numbers) {
-    numbers.forEach((number, i) => this.#view.setBigUint64(8 * i, number, true));
+    this.#write(this.#place, numbers);
     return BigInt(this.#place);
   }
 
-  #call(name, text, ...more) {
+  #call(answer, { name, numbers }, text, more) {
     const length = this.put(text);
-    return this.#exports[`str_indices_${name}`](BigInt(this.#start), BigInt(length), ...more);
+    const place = text instanceof Kept ? [BigInt(this.#handleOf(length))] : [BigInt(this.#start), BigInt(length)];
+    return this.#exports[name](...answer, ...place, ...numbers, ...more);
   }
 
-  #encode(string) {
-    const { read, written } = new TextEncoder().encodeInto(string, this.#memory.subarray(this.#start));
-    if (read < string.length) {
-      throw this.#tooLong();
+  #write(address, numbers) {
+    numbers.forEach((number, i) => this.#view.setBigUint64(address + 8 * i, number, true));
+  }
+
+  /** Where the handle of a text of this length lies: after the text, where a number of 64 bits may. */
+  #handleOf(length) {
+    return Math.ceil((this.#start + length) / 8) * 8;
+  }
+
+  /** Where the index of a text of this length ends. */
+  #endOf(length) {
+    return this.#handleOf(length) + Number(this.#exports.str_index_size(BigInt(length)));
+  }
+
+  /** Makes room for another text: one that is known is saved with its index. */
+  #save() {
+    if (this.#held instanceof Kept) {
+      this.#held.saved ??= this.#memory.slice(this.#start, this.#endOf(this.#length));
     }
-    return written;
+    this.#held = null;
   }
 
-  #copy(bytes) {
-    // one view for both, since an array over a buffer that grows may become longer at any time
-    const view = bytes.subarray(0, bytes.length);
-    if (view.length > this.#memory.length - this.#start) {
-      throw this.#tooLong();
+  /** Takes a text of at most so many bytes into the memory; answers how many it has. */
+  #take(text, most) {
+    const room = this.#memory.subarray(this.#start, this.#start + most);
+    if (typeof text === "string") {
+      const { read, written } = new TextEncoder().encodeInto(text, room);
+      if (read < text.length) {
+        throw tooLong(most);
+      }
+      return written;
     }
-    this.#memory.set(view, this.#start);
-    return view.length;
-  }
-
-  /** Copies bytes that may be no UTF-8, or that others may change meanwhile: the copy is what is checked. */
-  #check(bytes) {
-    if (!(bytes instanceof Uint8Array)) {
+    if (!(text instanceof Uint8Array)) {
       throw new TypeError("a text is a string or a Uint8Array");
     }
-    const length = this.#copy(bytes);
-    if (!this.#exports.str_indices_is_utf8(BigInt(this.#start), BigInt(length))) {
-      throw new TypeError("the bytes are not UTF-8");
+    // one view for both, since an array over a buffer that grows may become longer at any time; and others may change the
+    // bytes meanwhile, so the copy is what is checked
+    const view = text.subarray(0, text.length);
+    if (view.length > most) {
+      throw tooLong(most);
     }
-    return length;
-  }
-
-  #tooLong() {
-    return new RangeError(`the text does not fit the memory: at most ${this.#memory.length - this.#start} bytes do`);
+    room.set(view);
+    return view.length;
   }
 }
 
-function askCount(machine, name, text) {
-  return machine.number(name, text);
+const notUtf8 = () => new TypeError("the bytes are not UTF-8");
+
+const tooLong = (most) => new RangeError(`the text does not fit the memory: at most ${most} bytes do`);
+
+/** The greatest number up to `most` that fits, where all below one that fits do. */
+function greatest(most, fits) {
+  let [low, high] = [0, most + 1];
+  while (high - low > 1) {
+    const middle = Math.floor((low + high) / 2);
+    if (fits(middle)) low = middle;
+    else high = middle;
+  }
+  return low;
 }
 
-function askIndex(machine, name, text, index) {
-  return machine.number(name, text, wideIndex(index));
+function askCount(machine, asked, text) {
+  return machine.number(asked, text);
 }
 
-function askPositionOf(machine, name, text, byte) {
-  const [line, character] = machine.pair(name, text, wideIndex(byte));
-  return { line: Number(line), character: Number(character) };
+/** A count of a text that is known: another text would be left out of it in silence. */
+function askKnownCount(machine, asked, text, argument) {
+  if (argument !== undefined) {
+    throw new TypeError("a text that is known is counted by itself: the call takes no argument");
+  }
+  return machine.number(asked, text);
 }
 
-function askByteOf(machine, name, text, position) {
-  return machine.number(name, text, machine.write(numbersOf(position)));
+function askKnownSurrogates(machine, asked, text, argument) {
+  const countOf = (scheme) => askKnownCount(machine, { ...asked, numbers: [scheme] }, text, argument);
+  return countOf(SCHEME_NUMBERS.utf16) - countOf(SCHEME_NUMBERS.chars);
 }
 
-function askExactByteOf(machine, name, text, position) {
-  return machine.numberOrNull(name, text, machine.write(numbersOf(position)));
+function askIndex(machine, asked, text, index) {
+  return machine.number(asked, text, wideIndex(index));
 }
 
-function askByteRange(machine, name, text, range) {
+function askBytes(machine, asked, text, index) {
+  return bytesOf(machine.numbers(2, asked, text, wideIndex(index)));
+}
+
+function askPositionOf(machine, asked, text, byte) {
+  return positionOf(machine.numbers(2, asked, text, wideIndex(byte)));
+}
+
+function askExactPositionOf(machine, asked, text, byte) {
+  const numbers = machine.numbers(2, asked, text, wideIndex(byte));
+  return numbers[0] === GREATEST ? null : positionOf(numbers);
+}
+
+function askRangeOf(machine, asked, text, bytes) {
+  const { start, end } = rangeFrom(bytes);
+  const span = machine.write([wideIndex(start, "start"), wideIndex(end, "end")]);
+  const numbers = machine.numbers(4, asked, text, span);
+  return { start: positionOf(numbers.slice(0, 2)), end: positionOf(numbers.slice(2)) };
+}
+
+function askByteOf(machine, asked, text, position) {
+  return machine.number(asked, text, machine.write(numbersOf(position)));
+}
+
+function askExactByteOf(machine, asked, text, position) {
+  return machine.numberOrNull(asked, text, machine.write(numbersOf(position)));
+}
+
+function askByteRange(machine, asked, text, range) {
+  const { start, end } = rangeFrom(range);
+  const numbers = machine.numbers(2, asked, text, machine.write([...numbersOf(start), ...numbersOf(end)]));
+  return numbers[0] === GREATEST ? null : bytesOf(numbers);
+}
+
+const positionOf = ([line, character]) => ({ line: Number(line), character: Number(character) });
+
+const bytesOf = ([start, end]) => ({ start: Number(start), end: Number(end) });
+
+function rangeFrom(range) {
   if (typeof range !== "object" || range === null) {
     throw new TypeError("a range is an object with a start and an end");
   }
-  const numbers = [...numbersOf(range.start), ...numbersOf(range.end)];
-  const [start, end] = machine.pair(name, text, machine.write(numbers));
-  return start === GREATEST ? null : { start: Number(start), end: Number(end) };
+  return range;
 }
 
 /** The line and the character of a position, as the exports take them. */
@@ -270,16 +387,16 @@ function numbersOf(position) {
   return [wideIndex(position.line, "line"), wideIndex(position.character, "character")];
 }
 
-/** A text that keeps its bytes, for many questions. */
+/** A text that is known, with its index, for many questions. */
 class Text {
   #machine;
   #kept;
 
-  constructor(machine, source) {
+  constructor(machine, functions, source) {
     this.#machine = machine;
     this.#kept = machine.keep(source);
-    this.length = machine.put(this.#kept);
-    Object.assign(this, functionsBy((ask, name, argument) => ask(machine, name, this.#kept, argument), false));
+    this.length = this.#kept.length;
+    Object.assign(this, boundTo(this.#kept, functions));
     Object.freeze(this);
   }
 
@@ -291,20 +408,20 @@ class Text {
 }
 
 function indicesOver(machine) {
-  const functions = functionsBy((ask, name, text, argument) => ask(machine, name, text, argument), true);
-  return Object.freeze({ text: (source) => new Text(machine, source), ...functions });
+  const known = functionsBy(KNOWN_FUNCTIONS, "str_index", machine);
+  const text = (source) => new Text(machine, known, source);
+  return Object.freeze({ text, ...functionsBy(FUNCTIONS, "str_indices", machine) });
 }
 
-/** The functions by their names: over a text that is their first argument, or over one that is known. */
-function functionsBy(call, takesText) {
+/** The functions of a table by their names, each over a text that is its first argument. */
+function functionsBy(table, library, machine) {
   const all = {};
-  for (const [path, exported, ask] of FUNCTIONS) {
+  for (const [path, exported, ask, ...numbers] of table) {
     const names = path.split(".");
     const last = names.pop();
     const place = names.reduce((place, name) => (place[name] ??= {}), all);
-    place[last] = takesText
-      ? (text, argument) => call(ask, exported, text, argument)
-      : (argument) => call(ask, exported, argument);
+    const asked = { name: `${library}_${exported}`, numbers };
+    place[last] = (text, argument) => ask(machine, asked, text, argument);
   }
   return frozen(all);
 }
@@ -314,6 +431,15 @@ function frozen(functions) {
     if (typeof inner === "object") frozen(inner);
   }
   return Object.freeze(functions);
+}
+
+/** The same functions over this text, without that argument. */
+function boundTo(text, functions) {
+  const bound = {};
+  for (const [name, inner] of Object.entries(functions)) {
+    bound[name] = typeof inner === "object" ? boundTo(text, inner) : (argument) => inner(text, argument);
+  }
+  return Object.freeze(bound);
 }
 
 const narrow = (number) => Number(BigInt.asUintN(64, number));

@@ -80,7 +80,7 @@ PARTS = (
     Part("bindings/rust/tests/test_rust.py", 60, ALL_FOR_C,
          (*FUNCTIONS, *ROPE, *INDEX, *CARGO_CRATES, "VERSION", "examples/rust/**/*", "bench/run", "bench/picture.py",
           "bench/rope", "bench/peers/*")),
-    Part("bindings/web/tests/test_browser.py", 60, ("str_indices_c", "positions"),
+    Part("bindings/web/tests/test_browser.py", 60, ("str_indices_c", "text_index_c"),
          ("bindings/web/**/*", "bindings/web/README.md", "VERSION")),
     Part("bindings/c/tests/test_positions.py", 30, ("str_indices_c", "str_indices_c_wide"), FUNCTIONS),
     Part("crates/rope_positions/tests/position_changes.py", 30, ("rope_positions",),

@@ -73,14 +73,42 @@ const WORKED = [
   ["positions.utf16.byteRange", "ab\r\nc", places(1, 0, 0, 9), null],
 ];
 
+// the same for what only a text that is known answers
+const WORKED_BY_INDEX = [
+  ["linesLf.lineContent", "a\r\nb\u2028c", 0, "0..2"],
+  ["linesLf.lineContent", "a\r\nb\u2028c", 1, "3..8"],
+  ["linesCrlf.lineContent", "a\r\nb\u2028c", 0, "0..1"],
+  ["linesCrlf.lineContent", "a\r\nb\u2028c", 1, "3..8"],
+  ["linesCrlf.lineContent", "a\r\nb\u2028c", 2, "8..8"],
+  ["lines.lineContent", "a\r\nb\u2028c", 1, "3..4"],
+  ["lines.lineContent", "a\r\nb\u2028c", 2n, "7..8"],
+  ["lines.lineContent", "a\r\nb\u2028c", Infinity, "8..8"],
+  ["positions.utf8.exactPositionOf", "a\ré🐸b", 8, "1:6"],
+  ["positions.utf16.exactPositionOf", "a\ré🐸b", 8, "1:3"],
+  ["positions.utf32.exactPositionOf", "a\ré🐸b", 8, "1:2"],
+  ["positions.utf16.exactPositionOf", "a\ré🐸b", 5, null],
+  ["positions.utf16.exactPositionOf", "a\r\nb", 2, null],
+  ["positions.utf16.exactPositionOf", "a\r\nb", 4, "1:1"],
+  ["positions.utf16.exactPositionOf", "a\r\nb", 5, null],
+  ["positions.utf8.rangeOf", "a\ré🐸b", { start: 2, end: 8 }, "1:0-1:6"],
+  ["positions.utf16.rangeOf", "a\ré🐸b", { start: 2, end: 8 }, "1:0-1:3"],
+  ["positions.utf32.rangeOf", "a\ré🐸b", { start: 2, end: 8 }, "1:0-1:2"],
+  ["positions.utf16.rangeOf", "a\r\nb", { start: Infinity, end: 2 }, "1:1-0:1"],
+];
+
 /** A range from a line and a character to another. */
 function places(line, character, endLine, endCharacter) {
   return { start: { line, character }, end: { line: endLine, character: endCharacter } };
 }
 
 const CHARACTERS = ["a", "b", " ", "é", "せ", "🐸", "\n", "\r", "\r\n", "\v", "\f", "\u0085", "\u2028", "\u2029", "\u0084", "\u2027", "\ud83d"];
+// how far apart marks stand
+const STRETCH = 1024;
+// how many bytes a text may have, and one with an index
+const LONGEST = 300941088;
+const LONGEST_KNOWN = 287466064;
 const TEXTS = 250;
-const LONGEST = 60;
+const LONGEST_RANDOM = 60;
 const LONG_SIZES = [255, 1535, 1537, 5000, 65536, 1048576];
 
 const BREAKS = {
@@ -102,7 +130,8 @@ let told = [];
 /** An answer as the table says it. */
 function shownAnswer(found) {
   if (typeof found !== "object" || found === null) return found;
-  return "line" in found ? `${found.line}:${found.character}` : `${found.start}..${found.end}`;
+  if ("line" in found) return `${found.line}:${found.character}`;
+  return typeof found.start === "object" ? `${shownAnswer(found.start)}-${shownAnswer(found.end)}` : `${found.start}..${found.end}`;
 }
 
 function same(answer, expected, what) {
@@ -208,20 +237,25 @@ function comparePositions(indices, string) {
   }
 }
 
+/** The function of that name, of all or of a text. */
+const named = (functions, path) => path.split(".").reduce((place, name) => place[name], functions);
+
 function compareWorked(indices) {
   for (const [path, text, argument, answer] of WORKED) {
-    const call = path.split(".").reduce((place, name) => place[name], indices);
-    const known = path.split(".").reduce((place, name) => place[name], indices.text(text));
-    for (const found of argument === null ? [call(text), known()] : [call(text, argument), known(argument)]) {
-      same(shownAnswer(found), answer, `${path} of ${JSON.stringify(text)}`);
-    }
+    const call = named(indices, path);
+    same(shownAnswer(argument === null ? call(text) : call(text, argument)), answer, `${path} of ${JSON.stringify(text)}`);
+  }
+  for (const [path, text, argument, answer] of [...WORKED, ...WORKED_BY_INDEX]) {
+    const known = named(indices.text(text), path);
+    const found = argument === null ? known() : known(argument);
+    same(shownAnswer(found), answer, `${path} of ${JSON.stringify(text)} that is known`);
   }
 }
 
 function compareTexts(indices) {
   const next = numbersFrom(20111);
   for (let i = 0; i < TEXTS; i++) {
-    const string = randomText(next, LONGEST).toWellFormed();
+    const string = randomText(next, LONGEST_RANDOM).toWellFormed();
     compareText(indices, string, (size) => Array.from({ length: size + 3 }, (_, place) => place));
     comparePositions(indices, string);
   }
@@ -230,6 +264,93 @@ function compareTexts(indices) {
     let string = part;
     while (sizeOf(string) < size) string += string.length < size / 8 ? string : part;
     compareText(indices, string, (bytes) => Array.from({ length: 6 }, () => next(bytes + 2)));
+  }
+}
+
+/** Texts with a char or a break over the places where marks stand, and with one mark, none and many. */
+function awkwardTexts(next) {
+  const over = ["\r\n", "🐸", "é", "\u2028", "\r", "\n"];
+  const filled = (part) => {
+    let string = "";
+    for (let edge = STRETCH; edge <= 4 * STRETCH; edge += STRETCH) {
+      const short = edge - 1 - next(sizeOf(part)) - sizeOf(string);
+      string += Array.from({ length: short }, () => "ab\n"[next(40) ? next(2) : 2]).join("") + part;
+    }
+    return string;
+  };
+  const random = [1023, 1024, 1025, 2048, 9000].map((size) => {
+    let string = "";
+    while (string.length < size) string += randomText(next, 100).toWellFormed();
+    return string;
+  });
+  return ["", "a".repeat(1024), "a".repeat(5000), "é🐸".repeat(1500), "\r\n".repeat(1500), "\n".repeat(2048), ...over.map(filled), ...random];
+}
+
+/** A text that is known answers as the functions that go over the text, at the places round its marks and at any. */
+function compareIndex(indices) {
+  const next = numbersFrom(1024);
+  for (const string of awkwardTexts(next)) {
+    const text = indices.text(string);
+    const what = (call) => `${call} of ${JSON.stringify(string.slice(0, 20))} (${text.length} bytes) by its index`;
+    const edges = Array.from({ length: 5 * 9 }, (_, i) => Math.floor(i / 9) * STRETCH + (i % 9) - 4).filter((byte) => byte >= 0);
+    const bytes = [...edges, text.length - 1, text.length, text.length + 1, Infinity, ...Array.from({ length: 20 }, () => next(text.length + 2))].filter((byte) => byte >= 0);
+    for (const module of MODULES) {
+      same(text[module][countOf(module)](), indices[module][countOf(module)](string), what(`${module} count`));
+      for (const byte of bytes) {
+        const index = indices[module].fromByteIdx(string, byte);
+        same(text[module].fromByteIdx(byte), index, what(`${module} from ${byte}`));
+        for (const near of [index, index + 1]) {
+          same(text[module].toByteIdx(near), indices[module].toByteIdx(string, near), what(`${module} to ${near}`));
+        }
+      }
+    }
+    for (const encoding of Object.keys(ENCODINGS)) {
+      for (const byte of bytes) comparePlace(indices.positions, text.positions, string, encoding, byte, what);
+    }
+    compareLines(text, string, what);
+  }
+}
+
+/** The position of a byte, and the bytes of positions near it. */
+function comparePlace(plain, known, string, encoding, byte, what) {
+  const position = plain[encoding].positionOf(string, byte);
+  const past = { line: position.line, character: position.character + 3 };
+  const range = { start: position, end: past };
+  same(shownAnswer(known[encoding].positionOf(byte)), shownAnswer(position), what(`${encoding} position of ${byte}`));
+  for (const near of [position, past, { line: position.line + 1, character: 0 }]) {
+    same(known[encoding].byteOf(near), plain[encoding].byteOf(string, near), what(`${encoding} byte of ${shownAnswer(near)}`));
+    same(known[encoding].exactByteOf(near), plain[encoding].exactByteOf(string, near), what(`${encoding} exact byte of ${shownAnswer(near)}`));
+  }
+  same(shownAnswer(known[encoding].byteRange(range)), shownAnswer(plain[encoding].byteRange(string, range)), what(`${encoding} bytes of ${shownAnswer(range)}`));
+  const isPlace = plain[encoding].exactByteOf(string, position) === byte;
+  same(shownAnswer(known[encoding].exactPositionOf(byte)), isPlace ? shownAnswer(position) : null, what(`${encoding} exact position of ${byte}`));
+  same(shownAnswer(known[encoding].rangeOf({ start: byte, end: 0 })), `${shownAnswer(position)}-0:0`, what(`${encoding} range of ${byte}`));
+}
+
+/** Each line's content, as the engine splits the text. */
+function compareLines(text, string, what) {
+  for (const [module, breaks] of Object.entries(BREAKS)) {
+    let byte = 0;
+    string.split(breaks).forEach((content, line) => {
+      byte = text[module].toByteIdx(line);
+      same(shownAnswer(text[module].lineContent(line)), `${byte}..${byte + sizeOf(content)}`, what(`${module} content of line ${line}`));
+    });
+    same(shownAnswer(text[module].lineContent(text[module].countBreaks() + 1)), `${text.length}..${text.length}`, what(`${module} content past the last line`));
+  }
+}
+
+/** The longest text with an index, whose marks lie at the memory's end, beside another one. */
+function compareLongest(indices) {
+  const bytes = new Uint8Array(LONGEST_KNOWN).fill(0x61);
+  bytes.set(encoder.encode("é\n"), LONGEST_KNOWN - 3);
+  const long = indices.text(bytes);
+  const other = indices.text("b\n".repeat(3000));
+  for (let round = 0; round < 2; round++) {
+    same(long.chars.count(), LONGEST_KNOWN - 1, "chars of the longest text with an index");
+    same(long.chars.toByteIdx(LONGEST_KNOWN - 3), LONGEST_KNOWN - 3, "the byte of its last but one char");
+    same(long.linesLf.toByteIdx(1), LONGEST_KNOWN, "where its last line begins");
+    same(shownAnswer(long.positions.utf16.positionOf(LONGEST_KNOWN - 1)), `0:${LONGEST_KNOWN - 2}`, "the position of its break");
+    same(other.linesLf.toByteIdx(2000), 4000, "a line of another text");
   }
 }
 
@@ -251,8 +372,14 @@ async function compareRefusals(indices) {
     [RangeError, /^undefined is no index/, () => indices.chars.toByteIdx("a")],
     [RangeError, /^the string "1" is no line/, () => indices.positions.utf8.byteOf("a", { line: "1", character: 0 })],
     [RangeError, /^undefined is no character/, () => indices.positions.utf8.byteOf("a", { line: 1 })],
-    [RangeError, /does not fit the memory: at most 267386704 bytes/, () => indices.chars.count(new Uint8Array(267386705))],
-    [RangeError, /does not fit the memory/, () => indices.chars.count("é".repeat(133693353))],
+    [RangeError, new RegExp(`does not fit the memory: at most ${LONGEST} bytes`), () => indices.chars.count(new Uint8Array(LONGEST + 1))],
+    [RangeError, /does not fit the memory/, () => indices.chars.count("é".repeat(LONGEST / 2 + 1))],
+    [RangeError, new RegExp(`does not fit the memory: at most ${LONGEST_KNOWN} bytes`), () => indices.text(new Uint8Array(LONGEST_KNOWN + 1))],
+    [RangeError, /does not fit the memory/, () => indices.text("é".repeat(LONGEST_KNOWN / 2 + 1))],
+    [TypeError, /takes no argument/, () => indices.text("a").chars.count("other")],
+    [TypeError, /takes no argument/, () => indices.text("a").utf16.countSurrogates("other")],
+    [TypeError, /a start and an end/, () => indices.text("a").positions.utf16.rangeOf(1)],
+    [RangeError, /^undefined is no end/, () => indices.text("a").positions.utf16.rangeOf({ start: 0 })],
     [Error, /missing\.wasm cannot be read/, missing],
     [Error, /compare\.mjs is not the WebAssembly of str_indices/, () => load(new URL("compare.mjs", import.meta.url))],
     [Error, /handed over is not the WebAssembly/, () => load(new Uint8Array(8))],
@@ -266,7 +393,7 @@ async function compareRefusals(indices) {
     }
     same(thrown instanceof kind && message.test(thrown.message), true, `${call} throws ${kind.name}, ${thrown}`);
   }
-  same(indices.chars.count(new Uint8Array(267386704)), 267386704, "the longest text");
+  same(indices.chars.count(new Uint8Array(LONGEST)), LONGEST, "the longest text");
   same(indices.chars.count("a"), 1, "after what was refused");
 }
 
@@ -278,10 +405,13 @@ function compareKept(indices) {
   same(text.chars.count(), 2, "a text keeps its own bytes");
   same(indices.chars.count(bytes), 6, "bytes that changed are read anew");
   const texts = ["せか", "abcdef", "ab\ncd\n"].map((string, i) => indices.text(i % 2 ? string : encoder.encode(string)));
+  const long = ["せ\n", "abc\n"].map((string) => indices.text(string.repeat(1000)));
   for (let round = 0; round < 3; round++) {
     same(texts.map((one) => one.chars.count()).join(), "2,6,6", "texts of one length in turn");
     same(texts.map((one) => one.linesLf.countBreaks()).join(), "0,0,2", "lines of these");
     same(indices.utf16.count("🐸"), 2, "a string between them");
+    same(long.map((one) => one.chars.toByteIdx(1999)).join(), "3999,1999", "chars of texts with marks in turn");
+    same(long.map((one) => one.linesLf.fromByteIdx(2048)).join(), "512,512", "lines of these, with marks");
   }
   same(new TextDecoder().decode(texts[0].bytes()), "せか", "the bytes of a text");
   texts[0].bytes().fill(0);
@@ -352,7 +482,9 @@ export async function compareAll() {
   const indices = await load();
   compareWorked(indices);
   compareTexts(indices);
+  compareIndex(indices);
   compareKept(indices);
+  compareLongest(indices);
   compareLongText(indices);
   compareShown();
   await compareRefusals(indices);
