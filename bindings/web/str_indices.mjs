@@ -97,7 +97,7 @@ export function isSupported() {
  *
  * @param {URL | string | ArrayBuffer | Uint8Array} [source]
  */
-export async function load(source = new URL("str_indices_web.wasm", import.meta.url)) {
+export async function load(source = besideModule()) {
   if (!isSupported()) {
     throw new Error(unsupported());
   }
@@ -112,13 +112,23 @@ export async function load(source = new URL("str_indices_web.wasm", import.meta.
   }
 }
 
+/** Where the WebAssembly lies beside this module, which a bundle as CommonJS or as a script has no word for. */
+function besideModule() {
+  if (import.meta.url === undefined) {
+    throw new Error("this bundle is no module, and does not know its place: hand load the path, the URL or the bytes of " +
+      "str_indices_web.wasm, or import str_indices/inline");
+  }
+  return new URL("str_indices_web.wasm", import.meta.url);
+}
+
 const nodeVersion = () => globalThis.process?.versions?.node;
 
 function unsupported() {
   const missing = "this engine has no 64-bit WebAssembly memory";
   return nodeVersion() === undefined
     ? `${missing}; Chromium has it from 133 on, Firefox from 134 on`
-    : `${missing}; Node ${nodeVersion()} has it behind a flag or not at all: try node --experimental-wasm-memory64`;
+    : `${missing}; Node ${nodeVersion()} has it behind a flag or not at all: try node --experimental-wasm-memory64, ` +
+      'or before load setFlagsFromString("--experimental-wasm-memory64") of node:v8';
 }
 
 /** The bytes at a URL, or in Node those of a file, which `fetch` does not read there. */

@@ -10,6 +10,7 @@ is 'N passed, M failed', with what is left out.
 import functools
 import http.server
 import json
+import os
 import pathlib
 import re
 import shutil
@@ -29,7 +30,7 @@ from web_package import BUNDLERS, OF_BUNDLER, try_bundles, try_types  # noqa: E4
 
 NAMES = ["chromium", "chromium-browser", "google-chrome"]
 # how many results there are of what Node and of what a Chromium is asked
-IN_NODE = 7 + OF_BUNDLER * len(BUNDLERS)
+IN_NODE = 10 + OF_BUNDLER * len(BUNDLERS)
 IN_BROWSER = 106
 # no time is judged: an engine that hangs ends the script, also on a slow machine
 SECONDS = 600
@@ -127,6 +128,7 @@ def compare_in_node(folder, built):
     flags = [] if without.startswith("true") else [FLAG]
     done = node_answer(folder / "project", use, *flags)
     tally.result(done.stdout == "true 1\n", f"a package of Node's: {done.stdout.strip()}{done.stderr[-200:]}")
+    try_flags(folder / "project")
     try_bundles(tally, built, folder / "project", ["node", *flags])
     try_program(built, flags)
     done = node_answer(folder, f"console.log(await {COMPARE})", *flags)
@@ -136,6 +138,24 @@ def compare_in_node(folder, built):
     by_path = 'import { load } from "str_indices"; try { await load("/nowhere/a.wasm"); } catch (e) { console.log(e.message); }'
     done = node_answer(folder / "project", by_path, *flags)
     tally.result("/nowhere/a.wasm cannot be read" in done.stdout, f"a file that is missing: {done.stdout.strip()}")
+
+
+# the package by require, and the call by which a program sets the flag for itself and its workers
+USE = 'require("str_indices").load().then(({ chars }) => console.log(chars.count("é")));'
+SET = f'require("node:v8").setFlagsFromString("{FLAG}");'
+
+
+def try_flags(folder):
+    """The package by require, where a program sets the flag, a worker, or a file that NODE_OPTIONS names."""
+    (folder / "flag.cjs").write_text(SET)
+    worker = f"new (require('node:worker_threads').Worker)({json.dumps(SET + USE)}, {{ eval: true }});"
+    programs = {"a program": (SET + USE, ""), "a worker": (worker, ""), "a file": (USE, "--require ./flag.cjs")}
+    for where, (program, options) in programs.items():
+        done = subprocess.run(["node", "-e", program], cwd=folder, env=dict(os.environ, NODE_OPTIONS=options),
+                              capture_output=True, text=True, timeout=SECONDS)
+        # a Node that has no require for modules says so
+        right = done.stdout == "1\n" or "ERR_REQUIRE_ESM" in done.stderr
+        tally.result(right, f"{where} sets the flag: {done.stdout.strip()}{done.stderr[-200:]}")
 
 
 def check_types():

@@ -1,7 +1,7 @@
 """Tries the module for JavaScript as a package: its types by a compiler of TypeScript, and what bundlers make of it.
 
-A bundle runs in Node in a folder of its own, with nothing beside it but what the page says: the entry that has the
-functions inside needs nothing, and the other one wants the WebAssembly beside the bundle.
+A bundle, as a module and as CommonJS, runs in Node in a folder of its own, with nothing beside it but what the page says: the
+entry that has the functions inside needs nothing, and the other one wants the WebAssembly beside the bundle.
 """
 import pathlib
 import shutil
@@ -14,17 +14,26 @@ TYPES = ROOT / "bindings/web/tests/types.mts"
 # how a project finds modules, by the compiler's names
 RESOLUTIONS = {"node16": "node16", "node": "esnext"}
 BUNDLERS = {
-    "esbuild": ["esbuild", "app.mjs", "--bundle", "--format=esm", "--log-level=error", "--outfile=bundle/app.mjs"],
-    "rollup": ["rollup", "app.mjs", "--format", "es", "--silent", "--file", "bundle/app.mjs"],
+    "esbuild": ["esbuild", "app.mjs", "--bundle", "--format={format}", "--log-level=error", "--outfile=bundle/{program}"],
+    "rollup": ["rollup", "app.mjs", "--format", "{format}", "--silent", "--file", "bundle/{program}"],
 }
-ENTRIES = {"str_indices_inline.mjs": [], "str_indices.mjs": ["str_indices_web.wasm"]}
+# the formats of a bundle, each with its file
+FORMATS = {"esm": "app.mjs", "cjs": "app.cjs"}
+WASM = "str_indices_web.wasm"
+RIGHT = "5 null"
+# each entry with what its load is handed, what has to lie beside the bundle, and what that prints
+ENTRIES = [("str_indices_inline.mjs", "", []), ("str_indices.mjs", "", [WASM]), ("str_indices.mjs", f'"{WASM}"', [WASM])]
+# a bundle of this kind does not know where it lies, and says what to do
+LOST = ("esbuild", "cjs", ENTRIES[1])
+HELP = "hand load the path"
 # how many results there are of the compiler, and of each bundler
 OF_TYPES = 2 * len(RESOLUTIONS) + 1
-OF_BUNDLER = len(ENTRIES)
+OF_BUNDLER = len(ENTRIES) * len(FORMATS)
 
 APP = """import { load } from "./%s";
-const { linesCrlf, positions } = await load();
-console.log(linesCrlf.toByteIdx("one\\r\\ntwo", 1), positions.utf16.exactByteOf("one\\r\\ntwo", { line: 0, character: 4 }));
+load(%s).then(({ linesCrlf, positions }) => {
+  console.log(linesCrlf.toByteIdx("one\\r\\ntwo", 1), positions.utf16.exactByteOf("one\\r\\ntwo", { line: 0, character: 4 }));
+}, (error) => console.log(error.message));
 """
 
 
@@ -68,11 +77,13 @@ def compile_types(tally, built, folder):
     tally.result(found == marked > 0, f"of {marked} lines that are wrong the compiler finds {found}")
 
 
-def bundled(bundler, entry, beside, built, folder, node):
+def bundled(bundler, form, entry, built, folder, node):
     """What the bundle prints, alone in a folder with the files beside it."""
+    module, source, beside = entry
     shutil.copytree(built, folder)
-    (folder / "app.mjs").write_text(APP % entry, encoding="utf-8")
-    made = subprocess.run(BUNDLERS[bundler], cwd=folder, capture_output=True, text=True)
+    (folder / "app.mjs").write_text(APP % (module, source), encoding="utf-8")
+    command = [word.format(format=form, program=FORMATS[form]) for word in BUNDLERS[bundler]]
+    made = subprocess.run(command, cwd=folder, capture_output=True, text=True)
     if made.returncode != 0:
         return made.stdout + made.stderr
     (folder / "bundle").rename(folder / "site")
@@ -80,8 +91,8 @@ def bundled(bundler, entry, beside, built, folder, node):
         shutil.move(folder / name, folder / "site")
     for path in built.iterdir():
         (folder / path.name).unlink(missing_ok=True)
-    done = subprocess.run([*node, "app.mjs"], cwd=folder / "site", capture_output=True, text=True)
-    return done.stdout + done.stderr[-500:]
+    done = subprocess.run([*node, FORMATS[form]], cwd=folder / "site", capture_output=True, text=True)
+    return done.stdout.strip() + done.stderr[-500:]
 
 
 def try_bundles(tally, built, folder, node):
@@ -90,7 +101,10 @@ def try_bundles(tally, built, folder, node):
         if not shutil.which(bundler):
             tally.leave_out(OF_BUNDLER, f"bundles, as {bundler} is not on the path (Debian's package {bundler})")
             continue
-        for entry, beside in ENTRIES.items():
-            printed = bundled(bundler, entry, beside, built, folder / f"{bundler}_{entry}", node)
-            told = f" beside {' and '.join(beside)}" if beside else ""
-            tally.result(printed == "5 null\n", f"a bundle of {entry} by {bundler} runs{told}: {printed.strip()}")
+        for form in FORMATS:
+            for i, entry in enumerate(ENTRIES):
+                printed = bundled(bundler, form, entry, built, folder / f"{bundler}_{form}_{i}", node)
+                right = HELP in printed if (bundler, form, entry) == LOST else printed == RIGHT
+                module, source, beside = entry
+                where = f" beside {' and '.join(beside)}" if beside else ""
+                tally.result(right, f"a bundle by {bundler}, {form}, of load({source}) of {module}{where}: {printed}")
