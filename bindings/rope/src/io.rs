@@ -28,11 +28,11 @@ impl From<NotUtf8> for io::Error {
 
 impl From<Error> for io::Error {
     fn from(error: Error) -> io::Error {
-        let kind = match error {
-            Error::NoMemory => io::ErrorKind::OutOfMemory,
-            _ => io::ErrorKind::InvalidInput,
-        };
-        io::Error::new(kind, error)
+        match error {
+            // Nothing is inside this one, for which there might be no memory either.
+            Error::NoMemory => io::ErrorKind::OutOfMemory.into(),
+            _ => io::Error::new(io::ErrorKind::InvalidInput, error),
+        }
     }
 }
 

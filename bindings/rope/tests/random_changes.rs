@@ -1,4 +1,4 @@
-//! Random changes of a rope and of a `String`: every question answers as `std` or a plain walk does.
+//! Random programs over ropes and `String`s: every question answers as `std` or a plain walk does.
 mod model;
 use model::answers::{of_rope, of_slice};
 use model::*;
@@ -6,6 +6,10 @@ use std::collections::hash_map::DefaultHasher;
 use std::hash::{Hash, Hasher};
 use std::ops;
 use str_rope::{Change, Encoding, Error, LineType, Position, Range, RefusedChange, Rope, RopeBuilder, Scheme};
+
+/// How many programs are run, and of how many steps.
+const PROGRAMS: u64 = 12;
+const STEPS: usize = 300;
 
 /// A rope, and the text that it should have.
 struct Pair {
@@ -159,6 +163,44 @@ impl Pair {
         }
     }
 
+    /// Tries a change or a copy at any two indices, which is made or refused as it should be.
+    fn change_anywhere(&mut self, numbers: &mut Numbers) {
+        let (from, to) = (numbers.anywhere(&self.text), numbers.anywhere(&self.text));
+        let wanted = wanted(&self.text, from, to);
+        let text = numbers.text(20);
+        match numbers.below(4) {
+            0 => assert_eq!(self.rope.replace(from..to, &text), wanted),
+            1 => assert_eq!(self.rope.remove(from..to), wanted),
+            2 => return self.assert_copies(from, to),
+            _ => return self.assert_split(from),
+        }
+        // the text that was put in is the part that is as long as the rope is longer than what remains
+        if wanted.is_ok() {
+            let put = self.rope.len() - (self.text.len() - (to - from));
+            self.text.replace_range(from..to, &text[..put]);
+        }
+    }
+
+    fn assert_copies(&self, from: usize, to: usize) {
+        let wanted = wanted(&self.text, from, to);
+        let part = wanted.map(|()| &self.text[from..to]);
+        assert_eq!(self.rope.slice(from..to).map(String::from).as_deref(), part.as_deref());
+        assert_eq!(self.rope.text_in(from..to).as_deref(), part.as_deref());
+        let mut room = vec![0; part.map_or(9, str::len)];
+        assert_eq!(self.rope.copy_to(from..to, &mut room), part.map(str::len));
+        assert!(part.is_err() || part.map(str::as_bytes) == Ok(&room));
+    }
+
+    /// Cuts the text in two and puts it together, if the index is a boundary.
+    fn assert_split(&mut self, at: usize) {
+        let (rest, right) = (self.rope.split_off(at), wanted(&self.text, at, at));
+        assert_eq!(rest.as_ref().map(drop), right.as_ref().map(drop));
+        if let Ok(mut rest) = rest {
+            assert!(rest == self.text[at..] && self.rope == self.text[..at]);
+            self.rope.append(&mut rest).unwrap();
+        }
+    }
+
     fn assert_text(&self) {
         assert_eq!(self.rope.len(), self.text.len());
         assert_eq!(joined(&self.rope), self.text);
@@ -201,6 +243,16 @@ impl Pair {
             exact_byte_of(encoding, text, position),
             "{position:?}"
         );
+        for lines in LINE_TYPES {
+            let here = position_by(lines, encoding, text, number);
+            assert_eq!(rope.position_by(lines, encoding, number), here);
+            let exact = rope.exact_position_by(lines, encoding, number);
+            assert_eq!(exact, exact_position_by(lines, encoding, text, number));
+            let byte = rope.byte_by(lines, encoding, position);
+            assert_eq!(byte, byte_by(lines, encoding, text, position), "{position:?}");
+            let end = position_by(lines, encoding, text, byte);
+            assert_eq!(rope.range_by(lines, encoding, number..byte), Range { start: here, end });
+        }
     }
 
     /// Compares a part with another text, by slices, ropes and plain texts.
@@ -279,40 +331,96 @@ fn hash(text: impl Hash) -> u64 {
     hasher.finish()
 }
 
-#[test]
-fn every_answer_is_that_of_the_plain_text() {
-    let mut numbers = Numbers(1);
-    for _ in 0..6 {
-        let mut pair = Pair::of(numbers.text(3000));
-        let mut kept = Vec::new();
-        for _ in 0..40 {
-            look_back(&mut kept, &pair, &mut numbers);
-            pair.change(&mut numbers);
-            pair.assert_text();
-            for _ in 0..5 {
-                let index = numbers.below(pair.text.len() + 3);
-                pair.assert_answers(index);
-            }
-            pair.assert_answers(usize::MAX);
-            pair.assert_order(&mut numbers);
-            pair.assert_built(&mut numbers);
-        }
-        kept.iter().for_each(Pair::assert_text);
+/// What a change of a part returns.
+fn wanted(text: &str, from: usize, to: usize) -> Result<(), Error> {
+    if to < from {
+        Err(Error::NotOrdered)
+    } else if text.is_char_boundary(from) && text.is_char_boundary(to) {
+        Ok(())
+    } else {
+        Err(Error::NotBoundary)
     }
 }
 
-/// Keeps a clone, and changes an older one or lets it go: each keeps its own text.
-fn look_back(kept: &mut Vec<Pair>, pair: &Pair, numbers: &mut Numbers) {
-    if numbers.below(3) == 0 {
-        kept.push(pair.copy());
+/// A few texts, which are changed, copied, cut, joined and dropped in any order.
+struct Program {
+    numbers: Numbers,
+    pairs: Vec<Pair>,
+}
+
+/// From how many bytes on a text is cut, and from how many on it is asked seldom.
+const LONGEST: usize = 60_000;
+const LONG: usize = 1500;
+
+impl Program {
+    fn new(seed: u64) -> Program {
+        let mut numbers = Numbers(seed);
+        let pairs = (0..5).map(|_| Pair::of(numbers.text_about_an_edge())).collect();
+        Program { numbers, pairs }
     }
-    if kept.len() > 5 {
-        let at = numbers.below(kept.len());
-        kept.swap_remove(at).assert_text();
+
+    /// Takes a text out at random.
+    fn take(&mut self) -> Pair {
+        self.pairs.swap_remove(self.numbers.below(self.pairs.len()))
     }
-    if let Some(one) = kept.last_mut().filter(|_| numbers.below(3) == 0) {
-        one.change(numbers);
-        one.assert_text();
+
+    /// Changes a text, while another one lends a chunk, a slice and an iterator.
+    fn step(&mut self) {
+        let held = self.take();
+        let (from, to) = self.numbers.part(&held.text);
+        let slice = held.rope.slice(from..to).unwrap();
+        let mut chunks = slice.chunks_at(self.numbers.below(slice.len() + 1));
+        let lent = chunks.next();
+        let mut one = self.take();
+        self.change(&mut one);
+        let again = lent.and_then(|_| chunks.prev());
+        assert_eq!(again.map(str::as_ptr), lent.map(str::as_ptr));
+        assert!(again == lent && slice == held.text[from..to] && held.rope == held.text);
+        assert!(one.rope == one.text);
+        if one.text.len() < LONG || self.numbers.below(10) == 0 {
+            one.assert_text();
+            let index = self.numbers.below(one.text.len() + 3);
+            one.assert_answers(index);
+            one.assert_answers(usize::MAX);
+            one.assert_order(&mut self.numbers);
+        }
+        self.pairs.extend([held, one]);
+    }
+
+    fn change(&mut self, one: &mut Pair) {
+        if one.text.len() > LONGEST {
+            one.rope.remove(floor(&one.text, LONG)..).unwrap();
+            one.text.truncate(floor(&one.text, LONG));
+        }
+        let mut other = self.take();
+        match self.numbers.below(16) {
+            0 | 1 => *one = other.copy(),
+            2 => *one = Pair::of(self.numbers.text_about_an_edge()),
+            3 => {
+                one.rope.append(&mut other.rope).unwrap();
+                one.text += &std::mem::take(&mut other.text);
+            }
+            4 => {
+                let at = self.numbers.boundary(&one.text);
+                other.rope = one.rope.split_off(at).unwrap();
+                other.text = one.text.split_off(at);
+            }
+            5 => one.assert_built(&mut self.numbers),
+            6 => std::mem::swap(one, &mut other),
+            7..=9 => one.change_anywhere(&mut self.numbers),
+            _ => one.change(&mut self.numbers),
+        }
+        assert!(other.rope == other.text);
+        self.pairs.push(other);
+    }
+}
+
+#[test]
+fn random_programs() {
+    for seed in 0..PROGRAMS {
+        let mut program = Program::new(seed);
+        (0..STEPS).for_each(|_| program.step());
+        program.pairs.iter().for_each(Pair::assert_text);
     }
 }
 

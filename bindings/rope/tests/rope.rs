@@ -1,11 +1,10 @@
-//! Refusals, traits that other crates expect of a text, threads, and memory.
+//! Refusals, traits that other crates expect of a text, and memory.
 mod model;
 use model::{joined, Numbers, ENCODINGS};
 use std::error::Error as _;
 use std::fs;
 use std::ops;
-use std::thread;
-use str_rope::{Encoding, Error, LineType, Position, Range, Rope, Scheme, MAX_CHUNK};
+use str_rope::{Encoding, Error, LineType, Position, Range, Rope, MAX_CHUNK};
 
 /// Nine bytes: a break of two, and a char of four.
 const TEXT: &str = "a\r\n🐸bc";
@@ -173,105 +172,6 @@ fn a_slice_as_a_rope_shares_chunks() {
     let places: Vec<_> = rope.chunks().map(str::as_ptr).collect();
     let own = part.chunks().filter(|chunk| !places.contains(&chunk.as_ptr())).count();
     assert!(own <= 4, "{own} of {} chunks are copies", places.len());
-}
-
-#[test]
-fn a_rope_goes_to_other_threads() {
-    let mut rope: Rope = TEXT.repeat(1000).parse().unwrap();
-    for _ in 0..20 {
-        let change = move || {
-            rope.insert(1, "b").unwrap();
-            rope
-        };
-        rope = thread::spawn(change).join().unwrap();
-    }
-    thread::spawn(move || assert_eq!(rope.text_in(..21).as_deref(), Ok("abbbbbbbbbbbbbbbbbbbb")))
-        .join()
-        .unwrap();
-}
-
-/// Threads ask one rope at once, each all questions about each byte of a part.
-#[test]
-fn threads_ask_one_rope() {
-    let text = TEXT.repeat(2000);
-    let rope: Rope = text.parse().unwrap();
-    let ask = |byte: usize| {
-        let position = rope.position_of(Encoding::Utf16, byte);
-        let chars = rope.from_byte_idx(Scheme::Chars, byte);
-        let chunk = rope.chunk_at(byte);
-        (
-            position,
-            rope.byte_of(Encoding::Utf16, position),
-            chars,
-            chunk,
-            rope.is_char_boundary(byte),
-        )
-    };
-    let wanted: Vec<_> = (0..text.len()).step_by(7).map(ask).collect();
-    thread::scope(|scope| {
-        for _ in 0..4 {
-            scope.spawn(|| {
-                let found: Vec<_> = (0..text.len()).step_by(7).map(ask).collect();
-                assert!(found == wanted);
-            });
-        }
-    });
-}
-
-/// Threads walk slices of one rope, which they share as `&Rope`, both ways.
-#[test]
-fn threads_walk_slices_of_one_rope() {
-    fn shared<T: Send + Sync>(one: T) -> T {
-        one
-    }
-    let text = TEXT.repeat(2000);
-    let rope = shared(Rope::from(&text));
-    shared((
-        rope.bytes(),
-        rope.chars(),
-        rope.char_indices(),
-        rope.chunks(),
-        rope.lines(LineType::All),
-    ));
-    thread::scope(|scope| {
-        for nth in 0..4 {
-            let (rope, text) = (&rope, &text);
-            scope.spawn(move || {
-                let bytes = nth * 9..text.len() - nth * 9;
-                let (slice, part) = (shared(rope.slice(bytes.clone()).unwrap()), &text[bytes]);
-                assert!(slice.chars().eq(part.chars()) && slice.chars().rev().eq(part.chars().rev()));
-                assert!(slice.bytes().eq(part.bytes()) && slice.bytes().rev().eq(part.bytes().rev()));
-                let lines = slice.lines(LineType::Lf).map(|line| line.len());
-                assert!(lines.eq(part.split_inclusive('\n').map(str::len)));
-                assert_eq!(slice, *part);
-            });
-        }
-    });
-}
-
-/// Each thread changes and clones its own clone, while all of them share chunks.
-#[test]
-fn clones_of_a_rope_are_changed_by_other_threads() {
-    let text = TEXT.repeat(2000);
-    let rope: Rope = text.parse().unwrap();
-    let change = |mut own: Rope, at: usize| {
-        move || {
-            for _ in 0..500 {
-                let before = own.clone();
-                own.insert(at, "b").unwrap();
-                assert_eq!(own.len(), before.len() + 1);
-            }
-            own
-        }
-    };
-    let threads: Vec<_> = (0..4)
-        .map(|i| thread::spawn(change(rope.clone(), i * 4 * TEXT.len())))
-        .collect();
-    for (i, thread) in threads.into_iter().enumerate() {
-        let (front, back) = text.split_at(i * 4 * TEXT.len());
-        assert_eq!(thread.join().unwrap(), front.to_owned() + &"b".repeat(500) + back);
-    }
-    assert_eq!(rope, text);
 }
 
 /// The crate for whole texts links another library beside the rope's.

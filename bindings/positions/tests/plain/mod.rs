@@ -33,6 +33,26 @@ impl Numbers {
         (0..self.below(limit)).map(|_| chars[self.below(chars.len())]).collect()
     }
 
+    /// A text that is short, or about as long as a chunk of a rope, as two, or as a leaf of its tree.
+    pub fn text_about_an_edge(&mut self) -> String {
+        let edge = [512, 1024, 2048, 32 * 1024][self.below(4)] - 6 + self.below(13);
+        let len = if self.below(8) == 0 { edge } else { self.below(40) };
+        let mut text = String::new();
+        while text.len() + 4 < len {
+            text += &self.text(60);
+        }
+        text.truncate(floor(&text, len));
+        text
+    }
+
+    /// An index of a text that may be inside a char, or past the end.
+    pub fn anywhere(&mut self, text: &str) -> usize {
+        if self.below(20) == 0 {
+            return usize::MAX - self.below(2);
+        }
+        self.below(text.len() + 4)
+    }
+
     /// A place in a text: a boundary.
     pub fn boundary(&mut self, text: &str) -> usize {
         floor(text, self.below(text.len() + 1))
