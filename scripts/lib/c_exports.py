@@ -116,11 +116,11 @@ def exported(library=STR_INDICES):
 
 
 def symbols(archive, library=STR_INDICES):
-    """The names that a library gives to a linker, but for those of its two halves."""
-    prefix = library.name
+    """All names that a library gives to a linker, but for those of the two halves of str_indices: choose_half.o calls these in
+    two other objects, in whose place a test links stand-ins."""
     told = subprocess.run(["nm", "-g", "--defined-only", archive], capture_output=True, text=True, check=True).stdout
-    names = {line.split()[-1] for line in told.splitlines() if " T " in line}
-    return {name for name in names if name.startswith(prefix) and not re.match(f"{prefix}_(narrow|wide)_", name)}
+    names = {line.split()[-1] for line in told.splitlines() if len(line.split()) == 3}
+    return {name for name in names if not re.match(f"{PREFIX}(narrow|wide)_", name)}
 
 
 def pairs(library=STR_INDICES):

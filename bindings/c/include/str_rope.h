@@ -117,8 +117,8 @@ typedef struct str_rope_chunk {
 #define STR_ROPE_MAX_CHUNK 1024
 
 /* Whether a call did what it was asked. Where two reasons hold, the status is
- * the one that stands first here; but STR_ROPE_NOT_UTF8 comes before all
- * others. */
+ * the one that stands first here; but STR_ROPE_NOT_UTF8 and
+ * STR_ROPE_SAME_HANDLE come before all others. */
 typedef enum str_rope_status {
     STR_ROPE_OK,           /* it is done */
     STR_ROPE_NOT_ORDERED,  /* the end of a part is before its start */

@@ -104,7 +104,8 @@ def try_headers(tally, archives):
     for library, archive in archives.items():
         functions, in_headers = exported(library), declared(library)
         names = set(functions)
-        same = set(in_headers) == names == symbols(archive, library)
-        tally.result(same, f"headers, exports and {library.name} have the same {len(names)} functions")
+        tally.result(set(in_headers) == names, f"headers and exports of {library.name} have the same {len(names)} functions")
+        others = " ".join(sorted(names ^ symbols(archive, library)))
+        tally.result(not others, f"the archive of {library.name} has these functions and no other name {others}")
         for language in COMPILERS:
             try_types(tally, language, functions)

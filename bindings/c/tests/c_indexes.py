@@ -1,12 +1,10 @@
-"""Compares what index.c declares for itself with Rattle's, and what its archive shows a linker.
+"""Compares what index.c declares for itself with Rattle's.
 
-The structs and the two functions of index.c are those of Rattle's, and one with another field or parameter is seen. The
-archive gives a linker no name but the functions'.
+The structs and the two functions of index.c are those of Rattle's, and one with another field or parameter is seen.
 """
 import re
-import subprocess
 
-from c_exports import ROOT, STR_INDEX, declared
+from c_exports import ROOT
 
 # where Rattle has the structs and functions of index.c
 GLUE = ROOT / "bindings/c/index.c"
@@ -59,11 +57,3 @@ def try_glue(tally):
         edited = glue.replace(old, new, 1)
         seen = edited != glue and any(own != other for _, own, other in shapes(edited, proved))
         tally.result(seen, f"index.c with {new} in the place of {old} is refused")
-
-
-def try_names(tally, archive):
-    """What is seen of the archive by a linker."""
-    told = subprocess.run(["nm", "-g", "--defined-only", archive], capture_output=True, text=True, check=True).stdout
-    names = {line.split()[-1] for line in told.splitlines() if len(line.split()) == 3}
-    others = " ".join(sorted(names ^ set(declared(STR_INDEX))))
-    tally.result(not others, f"the archive has the {len(names)} functions of the header and no other name {others}")

@@ -14,8 +14,8 @@ COMPILER_OF_CLASSES = ["c++", "-std=c++17", *WARNINGS]
 # how CTest names a test by the half that is asked for
 HALVES = {"usual": "", "narrow": "narrow", "wide": "wide"}
 # programs that do less where each access to memory is watched, and how they are watched
-DO_LESS = ["rope_changes", "indexes", "shared_indexes"]
-WATCHED = ["sanitized", "valgrind", "helgrind"]
+DO_LESS = ["random_ropes", "indexes", "shared_indexes", "shared_ropes"]
+WATCHED = ["sanitized", "valgrind", "helgrind", "threads"]
 # what a test wants that is left out where that is missing, by how CTest names the test
 LACKS = {"sanitized": "the compiler has no sanitizers",
          **dict.fromkeys(["threads", "threads_race"], "the compiler has no sanitizer of threads")}

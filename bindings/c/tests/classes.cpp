@@ -1,11 +1,10 @@
-// The classes of str_rope.hpp and str_index.hpp, with each public member called: worked answers of the rows for C, a plain
-// string beside a rope that changes, each refusal by its type, copies and moves. The last line printed is 'N passed, M failed'.
+// The classes of str_rope.hpp and str_index.hpp, with each public member called: worked answers of the rows for C, each
+// refusal by its type, copies and moves. The last line printed is 'N passed, M failed'.
 #include <cstdio>
 #include <cstring>
 #include <iterator>
 #include <list>
 #include <new>
-#include <random>
 #include <sstream>
 #include <string>
 #include <type_traits>
@@ -312,34 +311,6 @@ void copies_and_moves()
     same(str_rope_is_char_boundary(one.get(), 3), "get");
 }
 
-// A rope and a plain string that change alike.
-void changes()
-{
-    static const char *const pieces[] = {"", "a", "\r\n", FROG, "\n", "\r", "more text than before", "\342\200\250"};
-    std::mt19937 random(20261129);
-    std::string plain = long_text(200);
-    rope text(plain);
-    const auto draw = [&](std::size_t most) { return static_cast<std::size_t>(random() % (most + 1)); };
-    for (std::size_t round = 0; round < 2000; round++) {
-        const std::string piece = pieces[draw(NUMBER_OF(pieces) - 1)];
-        std::size_t from = draw(plain.size()), to = std::min(plain.size(), from + draw(60));
-        while (!text.is_char_boundary(from))
-            from--;
-        while (!text.is_char_boundary(to))
-            to++;
-        if (round % 3 == 0)
-            text.insert(from, piece), plain.insert(from, piece);
-        else if (round % 3 == 1)
-            text.remove({from, to}), plain.erase(from, to - from);
-        else
-            text.replace({from, to}, piece), plain.replace(from, to - from, piece);
-        same(text.size() == plain.size(), "a changed text's size", round);
-        if (round % 20 == 0)
-            same(text == plain && text.text() == plain, "a changed text", round);
-    }
-    same(text == plain, "the changed text");
-}
-
 void changes_by_positions()
 {
     rope text(of_lines);
@@ -431,7 +402,6 @@ int main()
     reading();
     comparisons();
     copies_and_moves();
-    changes();
     changes_by_positions();
     changes_in_turn();
     indexes();

@@ -1,8 +1,9 @@
 /*
- * Ropes in several threads: one whose memory may not be written, that all ask at
- * once; and one that a thread types into while another one saves what it was by
- * snapshots. The memory is of one block, so that it can be closed for writing.
- * `shared_ropes ROUNDS` says how often each thread asks or saves. The last line
+ * Ropes in several threads: one whose memory may not be written, with its handle,
+ * that all ask at once; and one that a thread types into and takes back while
+ * another one saves what it was by snapshots, and changes these. The memory is of
+ * one block, so that it can be closed for writing. `shared_ropes ROUNDS CHANGES`
+ * says how often each thread asks, and how many changes there are. The last line
  * printed is 'N passed, M failed'.
  */
 #define _DEFAULT_SOURCE
@@ -15,14 +16,14 @@
 
 #include <str_rope.h>
 
-enum { THREADS = 4, LINE = 20, LINES = 20000, ROUNDS = 20000, ALIGN = 16 };
+enum { THREADS = 4, LINE = 20, LINES = 20000, ROUNDS = 20000, CHANGES = 1000000, ALIGN = 16 };
 
 static const char line[LINE + 1] = "line of text \360\237\220\270b\r\n";
 enum { CHARS = 17, UNITS = 18, FROG = 13, AFTER_FROG = 17, CONTENT = 18 };
 
 static char text[LINE * LINES];
-static str_rope shared = {NULL};
-static size_t rounds = ROUNDS;
+static const str_rope *shared;
+static size_t rounds = ROUNDS, changes = CHANGES;
 
 /* While `arena` is not null, memory is taken from it and none is given back. */
 static char *arena;
@@ -112,115 +113,169 @@ static void *ask_often(void *given)
 {
     struct found *found = (struct found *)given;
     for (size_t round = 0; round < rounds; round++)
-        ask(found, &shared, (found->first + round * 7919) % LINES);
+        ask(found, shared, (found->first + round * 7919) % LINES);
     return NULL;
 }
 
-/* A rope whose memory may not be written, with the handle in it, asked by all threads at once. */
+/* A text whose handle and memory are of the arena, which is closed for writing. */
+static int make_closed(void)
+{
+    str_rope *rope;
+    arena = (char *)mmap(NULL, arena_size, PROT_READ | PROT_WRITE, MAP_PRIVATE | MAP_ANONYMOUS, -1, 0);
+    if (arena == (char *)MAP_FAILED)
+        return 0;
+    rope = (str_rope *)take(sizeof *rope);
+    memset(rope, 0, sizeof *rope);
+    shared = rope;
+    return str_rope_assign(rope, text, sizeof text) == STR_ROPE_OK && mprotect(arena, arena_size, PROT_READ) == 0;
+}
+
+/* The closed text, asked by all threads at once. */
 static int ask_what_may_not_be_written(struct found *all)
 {
     pthread_t threads[THREADS];
     struct found found[THREADS];
-    size_t number;
-    arena = (char *)mmap(NULL, arena_size, PROT_READ | PROT_WRITE, MAP_PRIVATE | MAP_ANONYMOUS, -1, 0);
-    if (arena == (char *)MAP_FAILED || str_rope_assign(&shared, text, sizeof text) != STR_ROPE_OK ||
-        mprotect(arena, arena_size, PROT_READ) != 0)
+    char *closed;
+    if (!make_closed())
         return 0;
     /* what is taken from here on is none of the rope's */
-    char *closed = arena;
+    closed = arena;
     arena = NULL;
-    for (number = 0; number < THREADS; number++) {
+    for (size_t number = 0; number < THREADS; number++) {
         memset(&found[number], 0, sizeof found[number]);
         found[number].first = number * LINES / THREADS;
         if (pthread_create(&threads[number], NULL, ask_often, &found[number]) != 0)
             return 0;
     }
-    for (number = 0; number < THREADS; number++) {
+    for (size_t number = 0; number < THREADS; number++) {
         if (pthread_join(threads[number], NULL) != 0)
             return 0;
         all->passed += found[number].passed;
         all->failed += found[number].failed;
     }
-    memset(&shared, 0, sizeof shared);
     return munmap(closed, arena_size) == 0;
 }
 
-/* What is handed from the thread that types to the one that saves: a snapshot, and its letters. */
+/*
+ * Marks are typed at one line after the other, and some are taken out again. After a number of
+ * changes all are taken back. A text without its marks is the text from before.
+ */
+enum { MARK = '#', AT_A_LINE = 8, INSERTS = 5, UNTIL_UNDONE = 1000 };
+
+static str_rope typed = {NULL};
+
+/* What is handed from the thread that types to the one that saves: a snapshot, and how many marks it has. */
 static pthread_mutex_t lock = PTHREAD_MUTEX_INITIALIZER;
 static pthread_cond_t is_handed = PTHREAD_COND_INITIALIZER;
 static str_rope handed = {NULL};
-static size_t letters;
+static size_t marks;
 static int has_handed, is_over;
 
-/* Whether a snapshot has the text and that number of letters after it. */
-static int has_letters(const str_rope *rope, size_t number)
+/* Whether a rope has the text and that number of marks in it. */
+static int has_marks(const str_rope *rope, size_t number)
 {
     str_rope_chunk chunk;
-    size_t at = 0, typed = 0;
+    size_t at = 0, found = 0, other = 0;
     for (; str_rope_chunk_at(rope, at, &chunk); at += chunk.len)
         for (size_t i = 0; i < chunk.len; i++) {
-            if (chunk.start + i < sizeof text && chunk.text[i] != text[chunk.start + i])
+            if (chunk.text[i] == MARK)
+                found++;
+            else if (other == sizeof text || chunk.text[i] != text[other++])
                 return 0;
-            typed += chunk.start + i >= sizeof text && chunk.text[i] == 'x';
         }
-    return at == sizeof text + number && typed == number;
+    return found == number && other == sizeof text;
+}
+
+/* A change of a snapshot that the other thread has too. */
+static int changes_alone(str_rope *own)
+{
+    size_t len = str_rope_len(own), at = str_rope_to_byte_idx(own, STR_INDICES_CRLF, LINES / 2);
+    return str_rope_replace(own, at, at + LINE, "one\ntwo", 7) == STR_ROPE_OK && str_rope_len(own) == len - LINE + 7;
+}
+
+/* Takes the snapshot that was handed on, once there is one; whether one came before it was over. */
+static int take_handed(str_rope *own, size_t *number)
+{
+    int came;
+    pthread_mutex_lock(&lock);
+    while (!has_handed && !is_over)
+        pthread_cond_wait(&is_handed, &lock);
+    came = has_handed;
+    *own = handed;
+    *number = marks;
+    has_handed = 0;
+    pthread_mutex_unlock(&lock);
+    return came;
 }
 
 static void *save(void *given)
 {
     struct found *found = (struct found *)given;
-    for (;;) {
-        str_rope own;
-        size_t number;
-        pthread_mutex_lock(&lock);
-        while (!has_handed && !is_over)
-            pthread_cond_wait(&is_handed, &lock);
-        if (!has_handed) {
-            pthread_mutex_unlock(&lock);
-            return NULL;
-        }
-        own = handed;
-        number = letters;
-        has_handed = 0;
-        pthread_mutex_unlock(&lock);
-        same(found, has_letters(&own, number));
+    str_rope own;
+    size_t number;
+    while (take_handed(&own, &number)) {
+        same(found, has_marks(&own, number));
+        same(found, changes_alone(&own));
         str_rope_free(&own);
     }
+    return NULL;
 }
 
-/* Types a letter at the end, and hands a snapshot on where the last one is taken. */
-static void type(struct found *found)
+/* Hands a snapshot on where the last one is taken, or says that it is over. */
+static void hand_on(struct found *found, size_t number, int ends)
 {
-    for (size_t number = 1; number <= rounds; number++) {
-        same(found, str_rope_insert(&shared, sizeof text + number - 1, "x", 1) == STR_ROPE_OK);
-        pthread_mutex_lock(&lock);
-        if (!has_handed) {
-            memset(&handed, 0, sizeof handed);
-            same(found, str_rope_snapshot(&shared, &handed) == STR_ROPE_OK);
-            letters = number;
-            has_handed = 1;
-            pthread_cond_signal(&is_handed);
-        }
-        pthread_mutex_unlock(&lock);
-    }
     pthread_mutex_lock(&lock);
-    is_over = 1;
+    if (!has_handed && !ends) {
+        memset(&handed, 0, sizeof handed);
+        same(found, str_rope_snapshot(&typed, &handed) == STR_ROPE_OK);
+        marks = number;
+        has_handed = 1;
+    }
+    is_over = ends;
     pthread_cond_signal(&is_handed);
     pthread_mutex_unlock(&lock);
+}
+
+static void type(struct found *found)
+{
+    static const char mark[1] = {MARK};
+    str_rope before = STR_ROPE_EMPTY;
+    size_t number = 0, at = 0;
+    same(found, str_rope_snapshot(&typed, &before) == STR_ROPE_OK);
+    for (size_t change = 0; change < changes; change++) {
+        if (change % AT_A_LINE == 0)
+            at = str_rope_to_byte_idx(&typed, STR_INDICES_CRLF, change * 7919 % LINES);
+        if (change % UNTIL_UNDONE == UNTIL_UNDONE - 1) {
+            same(found, str_rope_snapshot(&before, &typed) == STR_ROPE_OK);
+            number = 0;
+        } else if (change % AT_A_LINE < INSERTS) {
+            same(found, str_rope_insert(&typed, at++, mark, 1) == STR_ROPE_OK);
+            number++;
+        } else {
+            same(found, str_rope_remove(&typed, at - 1, at) == STR_ROPE_OK);
+            at--;
+            number--;
+        }
+        hand_on(found, number, 0);
+    }
+    same(found, has_marks(&typed, number) && has_marks(&before, 0));
+    str_rope_free(&before);
+    hand_on(found, 0, 1);
 }
 
 static int save_while_typing(struct found *all)
 {
     pthread_t saver;
     struct found found = {0, 0, 0};
-    if (str_rope_assign(&shared, text, sizeof text) != STR_ROPE_OK || pthread_create(&saver, NULL, save, &found) != 0)
+    if (str_rope_assign(&typed, text, sizeof text) != STR_ROPE_OK || pthread_create(&saver, NULL, save, &found) != 0)
         return 0;
     type(all);
     if (pthread_join(saver, NULL) != 0)
         return 0;
-    str_rope_free(&shared);
+    str_rope_free(&typed);
     all->passed += found.passed;
     all->failed += found.failed;
+    printf("%zu changes, %zu snapshots saved\n", changes, found.passed / 2);
     return found.passed != 0;
 }
 
@@ -229,6 +284,8 @@ int main(int number, char **words)
     struct found all = {0, 0, 0};
     if (number > 1)
         rounds = strtoul(words[1], NULL, 10);
+    if (number > 2)
+        changes = strtoul(words[2], NULL, 10);
     for (size_t at = 0; at < LINES; at++)
         memcpy(text + at * LINE, line, LINE);
     if (!ask_what_may_not_be_written(&all) || !save_while_typing(&all)) {

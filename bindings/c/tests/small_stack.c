@@ -2,7 +2,8 @@
  * What a call needs of the stack does not grow with the text. A long text is
  * made by small inserts and taken out again until nothing is left, at random
  * places. Then a rope is appended to itself by its snapshots, until its tree
- * has some fifty levels, and cut, joined and changed. small_stack BYTES says
+ * has some fifty levels, and cut, joined and changed, and in the end as long as
+ * may be, where more is refused. small_stack BYTES says
  * how long the first text becomes; CTest runs it with a stack of 96 KiB.
  * The last line printed is 'N passed, M failed'.
  */
@@ -115,6 +116,27 @@ static void double_up(str_rope *rope)
     checkpoint(rope, WORD * words_in);
 }
 
+/* A text that is as long as may be, which stays as it is where more would come. */
+static void refuse_more(str_rope *rope)
+{
+    str_indices_range range = {{0, 0}, {0, 0}};
+    str_rope rest = STR_ROPE_EMPTY;
+    size_t len;
+    append_to_itself(rope);
+    len = str_rope_len(rope);
+    same(str_rope_snapshot(rope, &rest) == STR_ROPE_OK, "snapshot", len);
+    same(str_rope_append(rope, &rest) == STR_ROPE_TOO_LONG && str_rope_len(&rest) == len, "append", len);
+    same(str_rope_remove(&rest, (size_t)PTRDIFF_MAX - len, len) == STR_ROPE_OK, "remove", len);
+    same(str_rope_append(rope, &rest) == STR_ROPE_OK && str_rope_len(&rest) == 0, "append", len);
+    checkpoint(rope, (size_t)PTRDIFF_MAX);
+    same(str_rope_insert(rope, len, word, 1) == STR_ROPE_TOO_LONG, "insert", len);
+    same(str_rope_replace(rope, 0, 1, word, 2) == STR_ROPE_TOO_LONG, "replace", len);
+    same(str_rope_change(rope, STR_INDICES_ENCODING_UTF8, range, word, 1) == STR_ROPE_TOO_LONG, "change", len);
+    same(str_rope_insert(rope, len, word, 0) == STR_ROPE_OK, "insert nothing", len);
+    same(str_rope_replace(rope, 0, WORD, word, WORD) == STR_ROPE_OK, "replace", len);
+    checkpoint(rope, (size_t)PTRDIFF_MAX);
+}
+
 int main(int number, char **words)
 {
     size_t bytes = number > 1 ? (size_t)atoll(words[1]) : 1000000;
@@ -122,6 +144,7 @@ int main(int number, char **words)
     make(&rope, bytes);
     take(&rope, bytes);
     double_up(&rope);
+    refuse_more(&rope);
     str_rope_free(&rope);
     printf("%d passed, %d failed\n", passed, failed);
     return failed != 0;

@@ -19,12 +19,12 @@ sys.path.insert(0, str(ROOT / "scripts/lib"))
 from c_exports import LIBRARIES, STR_INDEX, STR_INDICES, STR_ROPE, pairs  # noqa: E402
 from c_halves import copy_for_builds, try_builds, try_halves  # noqa: E402
 from c_headers import try_headers  # noqa: E402
-from c_indexes import try_glue, try_names  # noqa: E402
+from c_indexes import try_glue  # noqa: E402
 from c_install import try_install  # noqa: E402
 from c_programs import TESTS, build, compiles, try_tests  # noqa: E402
 from exchanges import exchanging_library, try_exchanges  # noqa: E402
 from halves import missing  # noqa: E402
-from line_and_column import check_example  # noqa: E402
+from line_and_column import ROWS, check_example  # noqa: E402
 from report_span import check_reports  # noqa: E402
 from tally import Tally, least  # noqa: E402
 
@@ -40,9 +40,12 @@ tally = Tally()
 
 def try_examples(programs):
     """What the examples print, and a read past a text, which must end the program."""
-    for language in ["c", "cpp"]:
-        check_example(tally, programs / f"line_and_column_{language}", f"as {language}")
-        check_reports(tally, [programs / f"report_span_{language}"], f"as {language}")
+    for how in [f"{language}{watched}" for language in ["c", "cpp"] for watched in ["", "_sanitized", "_threads"]]:
+        if not (programs / f"line_and_column_{how}").exists():
+            tally.leave_out(len(ROWS) + 2, f"examples as {how}, as the compiler has no such sanitizers")
+            continue
+        check_example(tally, programs / f"line_and_column_{how}", f"as {how}")
+        check_reports(tally, [programs / f"report_span_{how}"], f"as {how}")
     done = subprocess.run([programs / "guarded_texts_c", "past"], capture_output=True)
     tally.result(done.returncode == -signal.SIGSEGV, f"a read past a text ends guarded_texts: {done.returncode}")
 
@@ -73,7 +76,6 @@ def run_all(built, archives, folder):
     (folder / "builds").mkdir()
     try_builds(tally, folder / "builds", copy_for_builds(folder / "builds"))
     try_glue(tally)
-    try_names(tally, archives[STR_INDEX])
     for each, archive in archives.items():
         run_exchanged(each, archive, folder)
 
