@@ -152,8 +152,9 @@ async function read(source) {
 class Kept {
   saved = null;
 
-  constructor(length) {
+  constructor(length, handle) {
     this.length = length;
+    this.handle = handle;
   }
 }
 
@@ -161,7 +162,7 @@ class Kept {
  * The exports, and their memory: a place for what is asked and answered, and after it one text at a time. A text that is
  * known has its index after it: a handle, and the marks.
  *
- * What is asked is the name of an export, and the numbers that it takes after the text.
+ * What is asked is an export, and the numbers that it takes after a text that is known.
  */
 class Machine {
   #exports;
@@ -169,6 +170,7 @@ class Machine {
   #place;
   #view;
   #start;
+  #wideStart;
   // how many bytes a text may have, and a text with its index
   #most;
   #mostKept;
@@ -180,10 +182,16 @@ class Machine {
     this.#exports = exports;
     this.#place = Number(exports.__heap_base.value);
     this.#start = this.#place + PLACE_SIZE;
+    this.#wideStart = BigInt(this.#start);
     this.#memory = new Uint8Array(exports.memory.buffer);
     this.#view = new DataView(exports.memory.buffer);
     this.#most = this.#memory.length - this.#start;
     this.#mostKept = greatest(this.#most, (length) => this.#endOf(length) <= this.#memory.length);
+  }
+
+  /** What is asked by an export of this name, with the numbers that it takes after a text that is known. */
+  asked(name, numbers) {
+    return { exported: this.#exports[name], numbers };
   }
 
   /** Sees to it that the text lies in the memory, where it is checked; answers how many bytes it takes. */
@@ -200,7 +208,7 @@ class Machine {
       this.#length = this.#take(text, this.#most);
       if (typeof text === "string") {
         this.#held = text;
-      } else if (!this.#exports.str_indices_is_utf8(BigInt(this.#start), BigInt(this.#length))) {
+      } else if (!this.#exports.str_indices_is_utf8(this.#wideStart, BigInt(this.#length))) {
         throw notUtf8();
       }
     }
@@ -211,17 +219,16 @@ class Machine {
   keep(text) {
     this.#save();
     const length = this.#take(text, this.#mostKept);
-    const start = BigInt(this.#start);
     const handle = BigInt(this.#handleOf(length));
     const marks = handle + this.#exports.str_index_size(0n);
     // a handle has to be one before it is filled: of the empty text, without marks
-    this.#write(Number(handle), [start, 0n, marks, 0n]);
+    this.#write(Number(handle), [this.#wideStart, 0n, marks, 0n]);
     const size = BigInt(length);
-    if (this.#exports.index_fill(start, size, marks, this.#exports.index_marks(size), handle) !== FILLED) {
+    if (this.#exports.index_fill(this.#wideStart, size, marks, this.#exports.index_marks(size), handle) !== FILLED) {
       throw notUtf8();
     }
     this.#length = length;
-    this.#held = new Kept(length);
+    this.#held = new Kept(length, handle);
     return this.#held;
   }
 
@@ -232,22 +239,24 @@ class Machine {
 
   /** The number that the export answers. */
   number(asked, text, ...more) {
-    return narrow(this.#call([], asked, text, more));
+    return narrow(this.#call(asked, text, more));
   }
 
   /** The number that the export answers, or `null` for the greatest one, by which the exports say none. */
   numberOrNull(asked, text, ...more) {
-    const number = BigInt.asUintN(64, this.#call([], asked, text, more));
+    const number = BigInt.asUintN(64, this.#call(asked, text, more));
     return number === GREATEST ? null : Number(number);
   }
 
-  /** So many numbers that the export answers by their address. */
-  numbers(count, asked, text, ...more) {
+  /** The `count` numbers that the export answers by their address. */
+  numbers(count, { exported, numbers }, text, ...more) {
     const address = this.#start - 8 * count;
-    this.#call([BigInt(address)], asked, text, more);
-    const numbers = [];
-    for (let at = address; at < this.#start; at += 8) numbers.push(this.#view.getBigUint64(at, true));
-    return numbers;
+    const length = this.put(text);
+    if (text instanceof Kept) exported(BigInt(address), text.handle, ...numbers, ...more);
+    else exported(BigInt(address), this.#wideStart, BigInt(length), ...more);
+    const answers = [];
+    for (let at = address; at < this.#start; at += 8) answers.push(this.#view.getBigUint64(at, true));
+    return answers;
   }
 
   /** Puts numbers into the place; answers their address. */
@@ -256,10 +265,11 @@ class Machine {
     return BigInt(this.#place);
   }
 
-  #call(answer, { name, numbers }, text, more) {
+  #call({ exported, numbers }, text, more) {
     const length = this.put(text);
-    const place = text instanceof Kept ? [BigInt(this.#handleOf(length))] : [BigInt(this.#start), BigInt(length)];
-    return this.#exports[name](...answer, ...place, ...numbers, ...more);
+    return text instanceof Kept
+      ? exported(text.handle, ...numbers, ...more)
+      : exported(this.#wideStart, BigInt(length), ...more);
   }
 
   #write(address, numbers) {
@@ -284,7 +294,7 @@ class Machine {
     this.#held = null;
   }
 
-  /** Takes a text of at most so many bytes into the memory; answers how many it has. */
+  /** Takes a text of at most `most` bytes into the memory; answers how many it has. */
   #take(text, most) {
     const room = this.#memory.subarray(this.#start, this.#start + most);
     if (typeof text === "string") {
@@ -430,7 +440,7 @@ function functionsBy(table, library, machine) {
     const names = path.split(".");
     const last = names.pop();
     const place = names.reduce((place, name) => (place[name] ??= {}), all);
-    const asked = { name: `${library}_${exported}`, numbers };
+    const asked = machine.asked(`${library}_${exported}`, numbers);
     place[last] = (text, argument) => ask(machine, asked, text, argument);
   }
   return frozen(all);

@@ -34,7 +34,7 @@ async function ofTexts(exports) {
     .map(([one, other]) => [`${one} by ${other}`, { [one]: exports[other] }]);
 }
 
-/** The same of functions over an index, and of their numbers. */
+/** Exchanges of a function over an index for another one, and of a number that it takes. */
 function ofIndex(exports) {
   return BY_INDEX.flatMap(({ names, numbers, behind }) => {
     const all = names.map((name) => `str_index_${name}`);
