@@ -56,7 +56,7 @@ void same(bool right, const char *call, long number = 0)
 
 const std::string whole(40000, 'a'), longer(60000, 'b');
 
-// What a call is made with, and what it leaves. The ropes before it are `whole` and "other".
+// The texts that a call changes or makes. The ropes before it are `whole` and "other".
 struct state {
     rope text = rope(whole), other = rope("other");
     std::string copy;

@@ -54,7 +54,7 @@ bool same(bool right, const char *call)
 // What is random.
 //
 
-// A leaf of the tree has at most so many chunks.
+// How many chunks a leaf of the tree has at most.
 constexpr std::size_t chunks_of_leaf = 32;
 // The sizes about which a text is cut into chunks and leaves in another way.
 constexpr std::size_t edges[] = {STR_ROPE_MAX_CHUNK / 2, STR_ROPE_MAX_CHUNK, 2 * STR_ROPE_MAX_CHUNK,

@@ -331,7 +331,7 @@ fn hash(text: impl Hash) -> u64 {
     hasher.finish()
 }
 
-/// What a change of a part returns.
+/// The answer to a change of the part between two indices.
 fn wanted(text: &str, from: usize, to: usize) -> Result<(), Error> {
     if to < from {
         Err(Error::NotOrdered)

@@ -19,7 +19,7 @@ struct Texts {
     much: String,
 }
 
-/// What a call is made with, and what it leaves.
+/// The texts that a call changes or makes.
 struct State {
     rope: Rope,
     other: Rope,
@@ -63,7 +63,7 @@ fn replaced(whole: &str, from: usize, to: usize, text: &str) -> String {
     whole[..from].to_owned() + text + &whole[to..]
 }
 
-/// What a call leaves that changes the rope alone.
+/// The four texts after a call that changes the rope alone.
 fn of_rope(text: String) -> [String; 4] {
     [text, "other".into(), "built".into(), String::new()]
 }
@@ -73,7 +73,7 @@ fn lines(from: usize, to: usize) -> Range {
     Range { start, end }
 }
 
-/// What a call leaves that changes the builder alone.
+/// The four texts after a call that changes the builder alone.
 fn of_builder(texts: &Texts, put: &str) -> [String; 4] {
     [
         texts.whole.clone(),
@@ -83,7 +83,7 @@ fn of_builder(texts: &Texts, put: &str) -> [String; 4] {
     ]
 }
 
-/// What a call leaves that makes a second rope, of the whole or of a part of it.
+/// The four texts after a call that makes a second rope, of the whole text or of a part.
 fn of_both(one: &str, other: &str) -> [String; 4] {
     [one.into(), other.into(), "built".into(), String::new()]
 }

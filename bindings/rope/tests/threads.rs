@@ -52,7 +52,7 @@ fn has_marks(rope: &Rope, text: &str, marks: usize) -> bool {
     rope.len() == text.len() + marks && other.eq(text.bytes())
 }
 
-/// What is typed: five marks at a line, of which three go again, at one line after the other.
+/// Types five marks at one line after the other, and takes three of them back.
 struct Typing {
     rope: Rope,
     at: usize,

@@ -1,6 +1,6 @@
-//! Memory that is refused when a test says so, and counted. The functions of the C library by which a program takes memory
-//! stand here in the place of glibc's, for the library in C and for Rust alike. What is refused and counted is what the thread
-//! that asks for it takes.
+//! Memory that is refused when a test says so, and counted. This file defines the functions of the C library by which a program
+//! takes memory, so that the library in C and Rust both call them, and not glibc's. They refuse and count only the memory that
+//! the test's own thread takes.
 use std::cell::{Cell, RefCell};
 use std::ffi::c_void;
 use std::ops::Range;
@@ -22,7 +22,7 @@ thread_local! {
     static LIVING: Cell<isize> = const { Cell::new(0) };
 }
 
-/// What a call returns where these of its allocations are refused, and how many it tried.
+/// Makes a call, and refuses the allocations in a range; returns its answer, and how many it tried.
 pub fn refusing<T>(refused: Range<usize>, call: impl FnOnce() -> T) -> (T, usize) {
     TRIED.set(0);
     REFUSED.set(refused);
