@@ -141,7 +141,7 @@ def try_message(top, folder, path):
 def try_c_page(top, folder, path):
     """The lines of the page for C, where the folder that it installs into leads to that top."""
     (folder / "home").mkdir(parents=True)
-    (folder / "home/pauskern").symlink_to(top)
+    (folder / "home/pauskern-c").symlink_to(top)
     try_lines(tally, "docs/C.md", blocks(top / "docs/C.md"), top, folder, path)
 
 

@@ -1,7 +1,7 @@
 """Runs the lines of a page as they stand there, in one shell and with nothing set, and reads what they print.
 
-A block of C or C++ is the file that its first line names. A comment at the end of a line is what it prints. A line is left
-out whose tool the machine does not have.
+A block of C or C++ is the file that its first line names, in the home folder or below. A comment at the end of a line is what
+it prints. A line is left out whose tool the machine does not have.
 """
 import os
 import pathlib
@@ -10,7 +10,7 @@ import shutil
 import subprocess
 
 BLOCK = re.compile(r"^```(\w+)\n(.*?)^```$", re.MULTILINE | re.DOTALL)
-NAME = re.compile(r"(?:/\*|//) (\w+\.c(?:pp)?)\b")
+NAME = re.compile(r"(?:/\*|//) ~/([\w/-]+\.c(?:pp)?)\b")
 # what a line may want that not each machine has
 TOOLS = ["pkg-config", "cmake", "cargo", "c++", "node"]
 # what runs the test itself is not run again: it has to be there
@@ -62,14 +62,21 @@ def judge(tally, page, at, line, said):
         print(status, printed[-2000:], errors[-2000:])
 
 
+def write_programs(found, home):
+    """The programs that a page shows, each where its first line says."""
+    for text in [text for language, text in found if language in ("c", "cpp")]:
+        program = home / NAME.match(text)[1]
+        program.parent.mkdir(exist_ok=True)
+        program.write_text(text, encoding="utf-8")
+
+
 def try_lines(tally, page, found, top, folder, path):
     """All lines of those blocks of a page, at that top, with the programs that they show. The folder has at most a home."""
-    for text in [text for language, text in found if language in ("c", "cpp")]:
-        (top / NAME.match(text)[1]).write_text(text, encoding="utf-8")
     lines = [LOOKED_FOR.get(line, line) for language, text in found if language == "sh" for line in text.splitlines()]
     home, said = folder / "home", folder / "said"
     home.mkdir(exist_ok=True)
     said.mkdir()
+    write_programs(found, home)
     is_static = links_statically(folder)
     reasons = [why_not(line, path, is_static) for line in lines]
     run_lines(["true" if why else line for line, why in zip(lines, reasons)], top, said, environment(home, path))
