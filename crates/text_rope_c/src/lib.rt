@@ -8,6 +8,7 @@
 
 mod change_lists;
 mod changes;
+mod chunk_lists;
 mod exact_changes;
 mod handles;
 mod loose;
