@@ -66,6 +66,8 @@ uint32_t rope_replace(str_rope *rope, size_t from, size_t to, const char *text, 
 uint32_t rope_append(str_rope *rope, str_rope *other);
 uint32_t rope_split_off(str_rope *rope, size_t at, str_rope *rest);
 bool rope_chunk_at(str_rope *rope, size_t byte_idx, str_rope_chunk *chunk);
+size_t rope_chunks_at(str_rope *rope, size_t byte_idx, str_rope_chunk *chunks, size_t room);
+size_t rope_chunks_before(str_rope *rope, size_t byte_idx, str_rope_chunk *chunks, size_t room);
 size_t rope_read(str_rope *rope, size_t at, char *out, size_t room);
 uint32_t rope_copy_to(str_rope *rope, size_t from, size_t to, char *out, size_t room);
 uint32_t rope_change(str_rope *rope, uint32_t encoding, str_indices_range range, const char *text, size_t len);
@@ -123,13 +125,32 @@ str_rope_status str_rope_split_off(str_rope *rope, size_t at, str_rope *rest)
     return rope == rest ? STR_ROPE_SAME_HANDLE : (str_rope_status)rope_split_off(rope, at, rest);
 }
 
+/* A room of chunks, each of no bytes before it is lent. It may be null where it has none. */
+static str_rope_chunk *chunks_of(str_rope_chunk *chunks, size_t room)
+{
+    static const str_rope_chunk none = {"", 0, 0};
+    static str_rope_chunk nothing;
+    for (size_t i = 0; i < room; ++i)
+        chunks[i] = none;
+    return chunks != NULL ? chunks : &nothing;
+}
+
 bool str_rope_chunk_at(const str_rope *rope, size_t byte_idx, str_rope_chunk *chunk)
 {
     str_rope own = *rope;
-    chunk->text = "";
-    chunk->len = 0;
-    chunk->start = 0;
-    return rope_chunk_at(&own, byte_idx, chunk);
+    return rope_chunk_at(&own, byte_idx, chunks_of(chunk, 1));
+}
+
+size_t str_rope_chunks_at(const str_rope *rope, size_t byte_idx, str_rope_chunk *chunks, size_t room)
+{
+    str_rope own = *rope;
+    return rope_chunks_at(&own, byte_idx, chunks_of(chunks, room), room);
+}
+
+size_t str_rope_chunks_before(const str_rope *rope, size_t byte_idx, str_rope_chunk *chunks, size_t room)
+{
+    str_rope own = *rope;
+    return rope_chunks_before(&own, byte_idx, chunks_of(chunks, room), room);
 }
 
 size_t str_rope_read(const str_rope *rope, size_t at, char *out, size_t room)

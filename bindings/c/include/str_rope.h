@@ -36,12 +36,13 @@
  *     `const` runs beside no other. Two handles may be in two calls at once,
  *     also where their texts share chunks: so one thread saves a snapshot while
  *     another one types.
- *   - No pointer is null, but `text` and `out` where the length after them is 0,
- *     and what str_rope_free takes. The `len` bytes from `text` on may be read,
- *     and no thread writes to them during the call; the `room` bytes from `out`
- *     on may be written, and no thread reads them during the call. They do not
- *     overlap with each other or with a handle. `len` and `room` are at most
- *     PTRDIFF_MAX. That the bytes are UTF-8 is checked.
+ *   - No pointer is null, but `text`, `out` and `chunks` where the number after
+ *     them is 0, and what str_rope_free takes. The `len` bytes from `text` on may
+ *     be read, and no thread writes to them during the call; the `room` bytes
+ *     from `out` on, or chunks from `chunks` on, may be written, and no thread
+ *     reads them during the call. They do not overlap with each other or with a
+ *     handle, and have at most PTRDIFF_MAX bytes. That those of a text are UTF-8
+ *     is checked.
  *   - malloc, realloc and free are those of one allocator, and align each
  *     block to every power of two up to 16 that divides its size.
  *   - No function is called from a signal handler, or in the forked child of a
@@ -55,13 +56,13 @@
  * STR_ROPE_MAX_CHUNK bytes, and of 509 or more where there are several: a
  * question looks at no more nodes of the tree than twice the logarithm to base
  * 2 of n + 1, and reads the text of one chunk at most; one about positions asks
- * up to 8 such questions. A read goes down the tree once for each block of up
- * to 32 chunks. A change takes a number of steps of that order too, and more
- * with the length of what is put in. It copies the text that is put in, and
- * three chunks at most that stand round it, a cut as many for each part. Where
- * one chunk has no room for it, or the text shares its chunks with a snapshot,
- * it makes the way to them anew as well. To take out all of a text takes no
- * memory.
+ * up to 8 such questions. A read, or a list of chunks, goes down the tree once
+ * for each block of up to 32 chunks. A change takes a number of steps of that
+ * order too, and more with the length of what is put in. It copies the text
+ * that is put in, and three chunks at most that stand round it, a cut as many
+ * for each part. Where one chunk has no room for it, or the text shares its
+ * chunks with a snapshot, it makes the way to them anew as well. To take out
+ * all of a text takes no memory.
  */
 #ifndef STR_ROPE_H
 #define STR_ROPE_H
@@ -238,6 +239,37 @@ STR_ROPE_CHECKED str_rope_status str_rope_split_off(str_rope *rope, size_t at,
  *         fwrite(chunk.text, 1, chunk.len, stdout); */
 bool str_rope_chunk_at(const str_rope *rope, size_t byte_idx,
                        str_rope_chunk *chunk);
+
+/* Lends the chunk that a byte is in and those after it, in the order of the
+ * text, each as str_rope_chunk_at does. Answers how many: fewer than `room`
+ * only where the text ends, and none where it has no such byte. The rest of the
+ * room is chunks of no bytes. This reads a text in order, and asks less often:
+ *
+ *     str_rope_chunk chunks[8];
+ *     size_t at = 0, n;
+ *     while ((n = str_rope_chunks_at(&rope, at, chunks, 8)) != 0) {
+ *         for (size_t i = 0; i < n; ++i)
+ *             fwrite(chunks[i].text, 1, chunks[i].len, stdout);
+ *         at = chunks[n - 1].start + chunks[n - 1].len;
+ *     } */
+size_t str_rope_chunks_at(const str_rope *rope, size_t byte_idx,
+                          str_rope_chunk *chunks, size_t room);
+
+/* Lends the chunk that the byte before an index is in and those before it, the
+ * last one first, each as str_rope_chunk_at does. An index past the end is that
+ * of the end. Answers how many: fewer than `room` only where the text begins.
+ * The rest of the room is chunks of no bytes. This reads a text backwards, chunk
+ * by chunk:
+ *
+ *     str_rope_chunk chunks[8];
+ *     size_t at = str_rope_len(&rope), n;
+ *     while ((n = str_rope_chunks_before(&rope, at, chunks, 8)) != 0) {
+ *         for (size_t i = 0; i < n; ++i)
+ *             look_for_a_word_in(chunks[i].text, chunks[i].len);
+ *         at = chunks[n - 1].start;
+ *     } */
+size_t str_rope_chunks_before(const str_rope *rope, size_t byte_idx,
+                              str_rope_chunk *chunks, size_t room);
 
 /* Writes to `out` the bytes from `at` on, as far as there is room for them, and
  * answers how many: fewer than `room` only where the text ends, and none from

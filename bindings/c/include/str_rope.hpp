@@ -107,9 +107,10 @@ inline void check_change(str_rope_status status, std::size_t index)
 } // namespace detail
 
 // The chunks of a rope in order, each lent as a std::string_view of 1 to
-// STR_ROPE_MAX_CHUNK bytes, which begins and ends at a boundary. A step takes
-// one call of str_rope_chunk_at. Ranges, iterators and what they lend are used
-// until the rope is changed, assigned to, moved or destroyed.
+// STR_ROPE_MAX_CHUNK bytes, which begins and ends at a boundary. An iterator is
+// lent up to 16 at a time, so most steps call nothing. Ranges, iterators and
+// what they lend are used until the rope is changed, assigned to, moved or
+// destroyed.
 class chunk_range {
 public:
     class iterator {
@@ -120,14 +121,26 @@ public:
         using pointer = const std::string_view *;
         using reference = std::string_view;
 
-        iterator() noexcept = default;
+        iterator() noexcept { stop(0); }
+        iterator(const iterator &other) noexcept { *this = other; }
+        iterator &operator=(const iterator &other) noexcept
+        {
+            rope_ = other.rope_;
+            count_ = other.count_;
+            at_ = other.at_;
+            is_back_ = other.is_back_;
+            std::copy_n(other.lent_, std::max<std::size_t>(count_, 1), lent_);
+            return *this;
+        }
         std::string_view operator*() const noexcept
         {
-            return {chunk_.text, chunk_.len};
+            return {lent_[at_].text, lent_[at_].len};
         }
         iterator &operator++() noexcept
         {
-            look(start() + chunk_.len);
+            const std::size_t next = start() + lent_[at_].len;
+            if (!step(!is_back_))
+                look_from(next);
             return *this;
         }
         iterator operator++(int) noexcept
@@ -138,7 +151,8 @@ public:
         }
         iterator &operator--() noexcept
         {
-            look(start() - 1);
+            if (!step(is_back_))
+                look_before(start());
             return *this;
         }
         iterator operator--(int) noexcept
@@ -160,35 +174,81 @@ public:
 
         // Returns the byte index where the chunk starts; of the end the text's
         // length.
-        std::size_t start() const noexcept { return chunk_.start; }
+        std::size_t start() const noexcept { return lent_[at_].start; }
 
     private:
         friend class chunk_range;
-        iterator(const str_rope *rope, std::size_t byte_idx) noexcept
-            : rope_(rope)
+        static constexpr std::size_t most = 16;
+
+        explicit iterator(const str_rope *rope) noexcept : rope_(rope)
         {
-            look(byte_idx);
+            stop(0);
         }
 
-        void look(std::size_t byte_idx) noexcept
+        // Stands at the end of a text of so many bytes.
+        void stop(std::size_t size) noexcept
         {
-            if (!str_rope_chunk_at(rope_, byte_idx, &chunk_))
-                chunk_.start = str_rope_len(rope_);
+            lent_[0] = {"", 0, size};
+            count_ = at_ = 0;
+        }
+        // Goes on or back in what is lent. Returns false at its end.
+        bool step(bool is_on) noexcept
+        {
+            if (is_on ? at_ + 1 >= count_ : at_ == 0)
+                return false;
+            at_ += is_on ? 1 : -1;
+            return true;
+        }
+        // Asks for one chunk, since most ways are short.
+        void look_at(std::size_t byte_idx) noexcept
+        {
+            if (str_rope_chunk_at(rope_, byte_idx, lent_))
+                count_ = 1;
+            else
+                stop(str_rope_len(rope_));
+        }
+        // Asks for chunks from where the last one ends.
+        void look_from(std::size_t byte_idx) noexcept
+        {
+            if (byte_idx == str_rope_len(rope_))
+                return stop(byte_idx);
+            count_ = str_rope_chunks_at(rope_, byte_idx, lent_, most);
+            at_ = 0;
+            is_back_ = false;
+        }
+        void look_before(std::size_t byte_idx) noexcept
+        {
+            count_ = str_rope_chunks_before(rope_, byte_idx, lent_, most);
+            at_ = 0;
+            is_back_ = true;
         }
 
         const str_rope *rope_ = nullptr;
-        str_rope_chunk chunk_ = {"", 0, 0};
+        // Chunks that follow each other, in order or backwards, and which of
+        // them the iterator is at. At the end of the text there is none, and
+        // the first place tells where it is.
+        str_rope_chunk lent_[most];
+        std::size_t count_;
+        std::size_t at_;
+        bool is_back_ = false;
     };
 
     explicit chunk_range(const str_rope *rope) noexcept : rope_(rope) {}
 
     iterator begin() const noexcept { return from(0); }
-    iterator end() const noexcept { return from(str_rope_len(rope_)); }
+    iterator end() const noexcept
+    {
+        iterator place(rope_);
+        place.stop(str_rope_len(rope_));
+        return place;
+    }
     // Returns the chunk that a byte is in; the end where the text has no such
     // byte.
     iterator from(std::size_t byte_idx) const noexcept
     {
-        return iterator(rope_, byte_idx);
+        iterator place(rope_);
+        place.look_at(byte_idx);
+        return place;
     }
 
 private:

@@ -25,6 +25,8 @@
 namespace {
 
 using pauskern::bytes;
+using pauskern::change_of;
+using pauskern::content_change;
 using pauskern::encoding;
 using pauskern::line_type;
 using pauskern::owned_index;
@@ -359,7 +361,8 @@ void walk_chunks(const rope &text, std::string_view plain, numbers &draw)
     constexpr std::size_t least = STR_ROPE_MAX_CHUNK / 2 - 3;
     const pauskern::chunk_range chunks = text.chunks();
     auto chunk = chunks.from(draw.below(plain.size() + 1));
-    for (std::size_t turns = 0; turns < 12; turns++) {
+    bool is_on = true;
+    for (std::size_t turns = 0; turns < 30; turns++) {
         const std::size_t start = chunk.start(), end = start + (*chunk).size();
         same(*chunk == plain.substr(start, (*chunk).size()), "a chunk");
         same(plain::is_boundary(plain, start) && plain::is_boundary(plain, end), "the ends of a chunk");
@@ -367,11 +370,42 @@ void walk_chunks(const rope &text, std::string_view plain, numbers &draw)
         same((*chunk).size() <= STR_ROPE_MAX_CHUNK &&
                  ((*chunk).size() >= least || (*chunk).size() == plain.size() || start == plain.size()),
              "the size of a chunk");
-        if (draw.once_in(2) && chunk != chunks.end())
+        if (draw.once_in(8) || (is_on ? chunk == chunks.end() : start == 0))
+            is_on = !is_on;
+        if (is_on && chunk != chunks.end())
             draw.once_in(2) ? ++chunk : chunk++, same(chunk.start() == end, "the next chunk");
         else if (chunk != chunks.begin())
-            same((--chunk).start() + (*chunk).size() == start, "the chunk before");
+            draw.once_in(2) ? --chunk : chunk--, same(chunk.start() + (*chunk).size() == start, "the chunk before");
     }
+}
+
+// Whether a chunk that the functions for C lend has the bytes that stand where it starts.
+bool is_lent(const str_rope_chunk &chunk, std::string_view plain)
+{
+    return chunk.len > 0 && std::string_view(chunk.text, chunk.len) == plain.substr(chunk.start, chunk.len);
+}
+
+// Lists of chunks from anywhere on and back.
+void read_chunks(const rope &text, std::string_view plain, numbers &draw)
+{
+    std::vector<str_rope_chunk> chunks(draw.below(2 * chunks_of_leaf));
+    const std::size_t at = draw.once_in(20) ? most : draw.below(plain.size() + 3);
+    const std::size_t after = str_rope_chunks_at(text.get(), at, chunks.data(), chunks.size());
+    std::size_t end = at, start = std::min(at, plain.size());
+    for (std::size_t i = 0; i < after; i++) {
+        const str_rope_chunk &chunk = chunks[i];
+        same(is_lent(chunk, plain) && (i > 0 ? chunk.start == end : at - chunk.start < chunk.len), "a chunk after");
+        end = chunk.start + chunk.len;
+    }
+    same(after == chunks.size() || end >= plain.size(), "how many chunks after");
+    const std::size_t before = str_rope_chunks_before(text.get(), at, chunks.data(), chunks.size());
+    for (std::size_t i = 0; i < before; i++) {
+        const str_rope_chunk &chunk = chunks[i];
+        const std::size_t left = start - chunk.start;
+        same(is_lent(chunk, plain) && (i > 0 ? left == chunk.len : 0 < left && left <= chunk.len), "a chunk before");
+        start = chunk.start;
+    }
+    same(before == chunks.size() || start == 0, "how many chunks before");
 }
 
 void read_part(const document &one, numbers &draw)
@@ -469,6 +503,7 @@ private:
         const plain::text model(one.plain);
         ask(one.text, model, draw_);
         walk_chunks(one.text, one.plain, draw_);
+        read_chunks(one.text, one.plain, draw_);
         read_part(one, draw_);
         if (draw_.once_in(4))
             ask_indexes(one.plain, model, draw_);
@@ -478,7 +513,7 @@ private:
 
     void change(document &one, document &other)
     {
-        switch (draw_.below(16)) {
+        switch (draw_.below(17)) {
         case 0:
         case 1:
         case 2: return insert(one);
@@ -494,6 +529,7 @@ private:
         case 12: return move(one, other);
         case 13: return assign(one);
         case 14: return load(one, draw_.size());
+        case 15: return change_in_turn(one);
         default: return append_text(one);
         }
     }
@@ -540,24 +576,99 @@ private:
         settle(one, found, wanted(one.plain, part, put.is_utf8), part, put.text, "replace");
     }
 
-    // A change as a client of a language server sends it, cut to what there is or refused.
-    void change_by_positions(document &one)
+    // A change as a client of a language server sends it: a range, which bytes it means, and what is to be answered.
+    struct sent {
+        range part;
+        bytes meant;
+        str_rope_status right;
+    };
+
+    // Returns a change of a text, cut to what there is or refused.
+    sent send(std::string_view plain, encoding units, bool is_exact)
     {
-        const plain::text model(one.plain);
-        const encoding units = draw_.one_of(encodings);
-        const piece put = draw_.put();
-        const bool is_exact = draw_.once_in(2);
+        const plain::text model(plain);
         range part = {draw_.place(model, units, line_type::lf_cr), draw_.place(model, units, line_type::lf_cr)};
         if (part.end < part.start && draw_.below(8) != 0)
             std::swap(part.start, part.end);
         const bytes meant = model.byte_range(units, part).value_or(bytes{1, 0});
-        str_rope_status right = wanted(one.plain, meant, put.is_utf8);
+        str_rope_status right = wanted(plain, meant);
         if (right == STR_ROPE_OK && is_exact &&
             !(model.exact_byte_of(units, part.start) && model.exact_byte_of(units, part.end)))
             right = STR_ROPE_NOT_BOUNDARY;
-        const str_rope_status found = status_of(
-            [&] { is_exact ? one.text.change_exact(units, part, put.text) : one.text.change(units, part, put.text); });
-        settle(one, found, right, meant, put.text, is_exact ? "change_exact" : "change");
+        return {part, meant, right};
+    }
+
+    void change_by_positions(document &one)
+    {
+        const encoding units = draw_.one_of(encodings);
+        const piece put = draw_.put();
+        const bool is_exact = draw_.once_in(2);
+        const sent made = send(one.plain, units, is_exact);
+        const str_rope_status found = status_of([&] {
+            is_exact ? one.text.change_exact(units, made.part, put.text) : one.text.change(units, made.part, put.text);
+        });
+        settle(one, found, put.is_utf8 ? made.right : STR_ROPE_NOT_UTF8, made.meant, put.text,
+               is_exact ? "change_exact" : "change");
+    }
+
+    // Changes of a message, and what they are to do: the text after them, or why which of them is refused.
+    struct message {
+        std::vector<piece> puts;
+        std::vector<content_change> changes;
+        std::string after;
+        str_rope_status right = STR_ROPE_OK;
+        std::size_t refused = most;
+    };
+
+    // Puts a change at the end of a message. Of those that are refused the first counts, but bytes that are no UTF-8 come
+    // before all.
+    void add_change(message &all, encoding units, bool is_exact)
+    {
+        const piece &put = all.puts[all.changes.size()];
+        const bool is_whole = draw_.once_in(5);
+        const sent made = is_whole ? sent{{}, {0, all.after.size()}, STR_ROPE_OK} : send(all.after, units, is_exact);
+        const str_rope_status right = put.is_utf8 ? made.right : STR_ROPE_NOT_UTF8;
+        if (right != STR_ROPE_OK && (all.right == STR_ROPE_OK || (!put.is_utf8 && all.right != STR_ROPE_NOT_UTF8))) {
+            all.right = right;
+            all.refused = all.changes.size();
+        } else if (all.right == STR_ROPE_OK) {
+            all.after.replace(made.meant.start, made.meant.size(), put.text);
+        }
+        all.changes.push_back(is_whole ? change_of(put.text) : change_of(made.part, put.text));
+    }
+
+    // Makes changes in turn by a class or a function for C, and tells which was refused.
+    str_rope_status make_all(rope &text, encoding units, bool is_exact, const message &all, std::size_t &refused)
+    {
+        if (draw_.once_in(2)) {
+            const auto in_c = is_exact ? str_rope_change_all_exact : str_rope_change_all;
+            return in_c(text.get(), pauskern::detail::to_c(units), all.changes.data(), all.changes.size(), &refused);
+        }
+        return status_of([&] {
+            try {
+                is_exact ? text.change_all_exact(units, all.changes) : text.change_all(units, all.changes);
+            } catch (const pauskern::refused_change &why) {
+                refused = why.index;
+                throw;
+            }
+        });
+    }
+
+    void change_in_turn(document &one)
+    {
+        const encoding units = draw_.one_of(encodings);
+        const bool is_exact = draw_.once_in(2);
+        message all;
+        all.after = one.plain;
+        for (std::size_t left = draw_.below(5); left > 0; left--)
+            all.puts.push_back(draw_.put());
+        while (all.changes.size() < all.puts.size())
+            add_change(all, units, is_exact);
+        std::size_t refused = most;
+        const str_rope_status found = make_all(one.text, units, is_exact, all, refused);
+        const char *const call = is_exact ? "change_all_exact" : "change_all";
+        if (same(found == all.right && refused == all.refused, call) && found == STR_ROPE_OK)
+            one.plain = all.after;
     }
 
     // Moves one text to the end of another, which may be the same.

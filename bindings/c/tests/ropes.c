@@ -555,6 +555,81 @@ static void lent_chunks(void)
     str_rope_free(&rope);
 }
 
+static size_t end_of(str_rope_chunk chunk)
+{
+    return chunk.start + chunk.len;
+}
+
+static int is_lent(str_rope_chunk chunk, const char *text)
+{
+    return 0 < chunk.len && chunk.len <= STR_ROPE_MAX_CHUNK && memcmp(chunk.text, text + chunk.start, chunk.len) == 0;
+}
+
+/* A list of chunks in order from a byte on: `count` of a room for SOME, of which the others have no byte. */
+enum { SOME = 5, CHUNKS = 70 };
+
+static void chunks_on(const str_rope *rope, const char *text, size_t len)
+{
+    str_rope_chunk chunks[SOME];
+    size_t at = 0, count, i;
+    while ((count = str_rope_chunks_at(rope, at, chunks, SOME)) != 0) {
+        for (i = 0; i < SOME; i++) {
+            same(i < count ? is_lent(chunks[i], text) && chunks[i].start == at : chunks[i].len == 0, "chunks_at", at,
+                 i);
+            at = i < count ? end_of(chunks[i]) : at;
+        }
+        same(count == SOME || at == len, "chunks_at, how many", at, count);
+    }
+    same(at == len, "chunks_at, the end", at, len);
+}
+
+/* The same backwards. */
+static void chunks_back(const str_rope *rope, const char *text, size_t len)
+{
+    str_rope_chunk chunks[SOME];
+    size_t at = len, count, i;
+    while ((count = str_rope_chunks_before(rope, at, chunks, SOME)) != 0) {
+        for (i = 0; i < SOME; i++) {
+            same(i < count ? is_lent(chunks[i], text) && end_of(chunks[i]) == at : chunks[i].len == 0, "chunks_before",
+                 at, i);
+            at = i < count ? chunks[i].start : at;
+        }
+        same(count == SOME || at == 0, "chunks_before, how many", at, count);
+    }
+    same(at == 0, "chunks_before, the beginning", at, len);
+}
+
+/* Lists of chunks from a byte inside one of them, past the end, without room, and of no text. */
+static void chunks_round(const str_rope *rope, const char *text, size_t len)
+{
+    str_rope_chunk chunks[SOME], last;
+    same(str_rope_chunk_at(rope, len - 1, &last), "the last chunk", len, 0);
+    same(str_rope_chunks_at(rope, len - 1, chunks, SOME) == 1 && chunks[0].start == last.start, "the last", len - 1, 0);
+    same(str_rope_chunks_at(rope, len, chunks, SOME) == 0 && chunks[0].len == 0, "chunks_at the end", len, 0);
+    same(str_rope_chunks_at(rope, MOST, chunks, SOME) == 0 && chunks[4].len == 0, "chunks_at", MOST, 0);
+    same(str_rope_chunks_before(rope, 1, chunks, SOME) == 1 && is_lent(chunks[0], text), "chunks_before", 1, 0);
+    same(str_rope_chunks_before(rope, 0, chunks, SOME) == 0 && chunks[0].len == 0, "chunks_before", 0, 0);
+    same(str_rope_chunks_before(rope, MOST, chunks, 1) == 1 && end_of(chunks[0]) == len, "chunks_before", MOST, 1);
+    same(str_rope_chunks_at(rope, 0, NULL, 0) == 0 && str_rope_chunks_before(rope, len, NULL, 0) == 0, "no room", 0, 0);
+}
+
+static void lists_of_chunks(void)
+{
+    static char text[CHUNKS * STR_ROPE_MAX_CHUNK];
+    str_rope_chunk chunks[SOME];
+    str_rope rope = STR_ROPE_EMPTY;
+    same(str_rope_chunks_at(&rope, 0, chunks, SOME) == 0 && chunks[0].len == 0 && chunks[4].len == 0, "no text", 0, 0);
+    same(str_rope_chunks_before(&rope, 0, chunks, SOME) == 0 && chunks[4].len == 0, "before no text", 0, 0);
+    same(str_rope_chunks_before(&rope, MOST, chunks, SOME) == 0 && chunks[0].start == 0, "before no text", MOST, 0);
+    for (size_t i = 0; i < sizeof text; i++)
+        text[i] = (char)('a' + i / 7 % 26);
+    rope = with(text, sizeof text);
+    chunks_on(&rope, text, sizeof text);
+    chunks_back(&rope, text, sizeof text);
+    chunks_round(&rope, text, sizeof text);
+    str_rope_free(&rope);
+}
+
 /* A null pointer with no byte behind it is the empty text, or a room for none. */
 static void null_texts(void)
 {
@@ -624,6 +699,7 @@ int main(void)
     refusals_by_positions();
     lists_of_changes();
     lent_chunks();
+    lists_of_chunks();
     null_texts();
     one_handle();
     words_and_version();

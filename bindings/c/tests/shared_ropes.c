@@ -88,7 +88,7 @@ static void ask(struct found *found, const str_rope *rope, size_t at)
 {
     char copy[LINE];
     size_t start = at * LINE;
-    str_rope_chunk chunk;
+    str_rope_chunk chunk, chunks[2];
     str_indices_position frog = {at, FROG}, after = {at, FROG + 2}, there;
     str_indices_bytes bytes = str_rope_line_by(rope, STR_INDICES_LINE_TYPE_LF_CR, at);
     same(found, bytes.start == start && bytes.end == start + CONTENT);
@@ -107,6 +107,10 @@ static void ask(struct found *found, const str_rope *rope, size_t at)
          str_rope_copy_to(rope, start, start + LINE, copy, LINE) == STR_ROPE_OK && memcmp(copy, line, LINE) == 0);
     same(found, str_rope_chunk_at(rope, start, &chunk) && chunk.start <= start && start < chunk.start + chunk.len &&
                     chunk.text[start - chunk.start] == line[0]);
+    same(found, str_rope_chunks_at(rope, start, chunks, 2) > 0 && chunks[0].text == chunk.text &&
+                    chunks[1].start == (chunks[1].len > 0 ? chunk.start + chunk.len : 0));
+    same(found, str_rope_chunks_before(rope, start + 1, chunks, 2) > 0 && chunks[0].text == chunk.text &&
+                    chunks[1].start + chunks[1].len == (chunks[1].len > 0 ? chunk.start : 0));
 }
 
 static void *ask_often(void *given)
