@@ -22,12 +22,22 @@ impl Handle {
 }
 
 /// A chunk that the library lends. Its bytes stay until the handle is in a call that takes it as `*mut`.
+#[derive(Clone, Copy)]
 #[repr(C)]
 pub struct LentChunk {
     pub text: *const u8,
     pub len: usize,
     /// The byte index where it starts in the text.
     pub start: usize,
+}
+
+impl LentChunk {
+    /// No chunk, before one is lent.
+    pub const NONE: LentChunk = LentChunk {
+        text: ptr::null(),
+        len: 0,
+        start: 0,
+    };
 }
 
 /// The byte indices of a part, as the library has them.
@@ -54,6 +64,8 @@ extern "C" {
     pub fn str_rope_split_off(rope: *mut Handle, at: usize, rest: *mut Handle) -> u32;
 
     pub fn str_rope_chunk_at(rope: *const Handle, byte_idx: usize, chunk: *mut LentChunk) -> bool;
+    pub fn str_rope_chunks_at(rope: *const Handle, byte_idx: usize, chunks: *mut LentChunk, room: usize) -> usize;
+    pub fn str_rope_chunks_before(rope: *const Handle, byte_idx: usize, chunks: *mut LentChunk, room: usize) -> usize;
     pub fn str_rope_copy_to(rope: *const Handle, from: usize, to: usize, out: *mut u8, room: usize) -> u32;
 
     pub fn str_rope_position_of(rope: *const Handle, encoding: u32, byte_idx: usize) -> Position;

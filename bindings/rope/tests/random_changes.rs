@@ -1,11 +1,14 @@
 //! Random programs over ropes and `String`s: every question answers as `std` or a plain walk does.
 mod model;
 use model::answers::{of_rope, of_slice};
+use model::walks::{assert_both_ways, assert_walk};
 use model::*;
 use std::collections::hash_map::DefaultHasher;
 use std::hash::{Hash, Hasher};
 use std::ops;
-use str_rope::{Change, Encoding, Error, LineType, Position, Range, RefusedChange, Rope, RopeBuilder, Scheme};
+use str_rope::{
+    Change, Encoding, Error, LineType, Position, Range, RefusedChange, Rope, RopeBuilder, Scheme, MAX_CHUNK,
+};
 
 /// How many programs are run, and of how many steps.
 const PROGRAMS: u64 = 12;
@@ -445,6 +448,27 @@ fn a_short_text_at_every_index() {
         pair.assert_text();
         for index in 0..pair.text.len() + 3 {
             pair.assert_answers(index);
+        }
+    }
+}
+
+/// The chunks of a text that has many, from a byte on, to and fro, and from both ends.
+#[test]
+fn chunks_of_a_long_text() {
+    let mut numbers = Numbers(10);
+    for _ in 0..10 {
+        let mut text = String::new();
+        while text.len() < 50 * MAX_CHUNK {
+            text.push_str(&numbers.text(300));
+        }
+        let pair = Pair::of(text);
+        let chunks: Vec<&str> = pair.rope.chunks().collect();
+        assert_eq!(chunks.concat(), pair.text);
+        assert_both_ways(pair.rope.chunks(), &chunks);
+        for _ in 0..100 {
+            let at = numbers.below(chunks.len() + 1);
+            let start = chunks[..at].iter().map(|chunk| chunk.len()).sum();
+            assert_walk(pair.rope.chunks_at(start), &chunks, at, &mut numbers);
         }
     }
 }

@@ -69,7 +69,7 @@ impl<T: Clone> Listed<'_, T> {
     }
 }
 
-/// Goes over the items in random directions, from a place among them.
+/// Goes over the items in random directions, one of them more often than others, from a place among them.
 pub fn assert_walk<W>(mut walk: W, items: &[W::Item], at: usize, numbers: &mut Numbers)
 where
     W: Turning,
@@ -82,8 +82,10 @@ where
         end: items.len(),
         is_turned: false,
     };
+    let often = numbers.below(9);
     for _ in 0..40 {
-        let (found, wanted) = match numbers.below(9) {
+        let step = if numbers.below(2) == 0 { often } else { numbers.below(9) };
+        let (found, wanted) = match step {
             0..=3 => (walk.next(), listed.go(!listed.is_turned)),
             4 | 5 => (walk.back(), listed.go(listed.is_turned)),
             6 | 7 => (walk.next_back(), listed.take_last()),
