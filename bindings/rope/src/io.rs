@@ -69,7 +69,7 @@ impl Rope {
         }
     }
 
-    /// Writes the text, chunk by chunk. Each chunk takes one search, O(log n). Returns the error of the writer.
+    /// Writes the text, chunk by chunk. Each chunk takes O(log n) at most. Returns the error of the writer.
     ///
     /// ```
     /// # fn main() -> std::io::Result<()> {

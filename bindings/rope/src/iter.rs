@@ -328,13 +328,13 @@ macro_rules! iterator_methods {
             self.whole().chunk_of(byte_idx)
         }
 
-        /// Goes over the chunks in order, each lent as a `&str`. Each takes one search, O(log n).
+        /// Goes over the chunks in order, each lent as a `&str`. Each takes O(log n) at most.
         pub fn chunks(&self) -> $crate::Chunks<$life> {
             self.chunks_at(0)
         }
 
         /// Goes over the chunks from the one that a byte is in; from the end on, over none. `prev` gives the chunks before
-        /// it. Each takes one search, O(log n).
+        /// it. Each takes O(log n) at most.
         ///
         /// ```
         /// let rope = str_rope::Rope::from("one two ".repeat(1000));
@@ -347,29 +347,29 @@ macro_rules! iterator_methods {
             $crate::Chunks::new(self.whole(), start)
         }
 
-        /// Goes over the bytes in order. Each chunk takes one search, O(log n).
+        /// Goes over the bytes in order. Each chunk takes O(log n) at most.
         pub fn bytes(&self) -> $crate::Bytes<$life> {
             self.bytes_at(0)
         }
 
         /// Goes over the bytes from a byte index on; from the end on, over none. `prev` gives the bytes before it. Each
-        /// chunk takes one search, O(log n).
+        /// chunk takes O(log n) at most.
         pub fn bytes_at(&self, byte_idx: usize) -> $crate::Bytes<$life> {
             $crate::Bytes::new(self.whole(), byte_idx.min(self.len()))
         }
 
-        /// Goes over the chars in order. Each chunk takes one search, O(log n).
+        /// Goes over the chars in order. Each chunk takes O(log n) at most.
         pub fn chars(&self) -> $crate::Chars<$life> {
             $crate::Chars::new(self.whole(), 0)
         }
 
         /// Goes over the chars from the one that a byte is in; from the end on, over none. `prev` gives the chars before it.
-        /// Each chunk takes one search, O(log n).
+        /// Each chunk takes O(log n) at most.
         pub fn chars_at(&self, byte_idx: usize) -> $crate::Chars<$life> {
             $crate::Chars::new(self.whole(), self.floor_char_boundary(byte_idx))
         }
 
-        /// Goes over the chars in order, each with the byte index where it begins. Each chunk takes one search, O(log n).
+        /// Goes over the chars in order, each with the byte index where it begins. Each chunk takes O(log n) at most.
         ///
         /// ```
         /// let rope = str_rope::Rope::from("é🐸b");
@@ -380,7 +380,7 @@ macro_rules! iterator_methods {
         }
 
         /// Goes over the chars with their byte indices, from the char that a byte is in; from the end on, over none. `prev`
-        /// gives the chars before it. Each chunk takes one search, O(log n).
+        /// gives the chars before it. Each chunk takes O(log n) at most.
         pub fn char_indices_at(&self, byte_idx: usize) -> $crate::CharIndices<$life> {
             $crate::CharIndices::new(self.whole(), self.floor_char_boundary(byte_idx))
         }
