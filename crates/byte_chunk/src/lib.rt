@@ -8,11 +8,13 @@ ghost use Rattle.std.specs.Prelude.{◌≡◌, ℕ, ◌+◌, ◌-◌, ◌/◌, �
 ghost use Rattle.std.specs.Simd.Lanes.{zip2, Each1, Each2};
 ghost use Rattle.byte_chunk.specs.Lanes.{is_byte, is_between, IsLawful};
 
+mod byte_probe;
 mod chunks;
 mod counters;
 mod text_probe;
 pub mod vectors;
 
+pub use byte_probe::ByteProbe;
 pub use chunks::plain_array::Plain;
 pub use counters::Counter;
 pub use text_probe::Probe;
