@@ -4,6 +4,8 @@ pub mod ByScheme
 pub mod Relations
 pub mod Examples
 pub mod Bytes
+pub mod Utf8
+pub mod Utf8Lanes
 pub mod Reads
 pub mod Breaks
 pub mod Lanes

@@ -24,9 +24,14 @@ mod places;
 mod rest;
 mod schemes;
 pub mod utf16;
+pub mod utf8;
+mod utf8_faults;
+mod utf8_lanes;
 mod weights;
 
 pub use all_counts::counts;
 pub use by_scheme::Counts;
 pub use byte_chunk;
 pub use schemes::Scheme;
+pub use utf8::{from_utf8, is_utf8, valid_up_to};
+pub use utf8_lanes::Utf8Chunk;

@@ -5,19 +5,19 @@ use Rattle.std.proofs.Math.Seq.{take-append-add}
 use Rattle.std.proofs.lemmas.Slice.{drop-append-drop}
 use Rattle.str_indices.proofs.lemmas.lanes.EachLane.{Each1-lanes, sum_below-chunk}
 
--- a table of `most` zeros and then `most` bytes 0xFF, from the last `out` zeros on
-pub left_out_and_kept : (table : List ℕ) (most out kept size : ℕ) → table ≡ replicate most 0 ++ replicate most 0xFF
+-- a table of `most` bytes x and then `most` bytes y, from the last `out` bytes x on
+pub left_out_and_kept : (x y : ℕ) (table : List ℕ) (most out kept size : ℕ) → table ≡ replicate most x ++ replicate most y
     → out + kept ≡ size → size ≤ most → take size (take (length table - (most - out)) (drop (most - out) table))
-    ≡ replicate out 0 ++ replicate kept 0xFF
-left_out_and_kept table most out kept size is whole few =
-    let zeros : ◌≡◌ {A = List ℕ} (drop (most - out) (replicate most 0)) (replicate out 0) =
-    drop-replicate (most - out) most 0 ∙ ap (λ n. replicate n 0) (omega arith) in
-    let split = drop-append-le {A = ℕ} (most - out) (replicate most 0) (replicate most 0xFF)
-    (omega (arith, length-replicate {A = ℕ} most 0)) in
-    let front = take-append-add {A = ℕ} (replicate out 0) (replicate most 0xFF) kept in
-    let front' = rw (length-replicate {A = ℕ} out 0, whole) at front in
-    rw (take_rest table (most - out), is, split, zeros)
-    (front' ∙ ap (λ rest. replicate out 0 ++ rest) (take-replicate kept most 0xFF (omega arith)))
+    ≡ replicate out x ++ replicate kept y
+left_out_and_kept x y table most out kept size is whole few =
+    let front : ◌≡◌ {A = List ℕ} (drop (most - out) (replicate most x)) (replicate out x) =
+    drop-replicate (most - out) most x ∙ ap (λ n. replicate n x) (omega arith) in
+    let split = drop-append-le {A = ℕ} (most - out) (replicate most x) (replicate most y)
+    (omega (arith, length-replicate {A = ℕ} most x)) in
+    let taken = take-append-add {A = ℕ} (replicate out x) (replicate most y) kept in
+    let taken' = rw (length-replicate {A = ℕ} out x, whole) at taken in
+    rw (take_rest table (most - out), is, split, front)
+    (taken' ∙ ap (λ rest. replicate out x ++ rest) (take-replicate kept most y (omega arith)))
 
 -- a small number shares all its bits with a byte that has them all
 small_bits : (lane : ℕ) → lane ≤ 2 → bit_and lane 0xFF ≡ lane

@@ -15,7 +15,7 @@ returns-clause-lanes g c =
     let small = kept_small (g.C.PlaceCounts.counted_at c.args.end text) c.args.to c.args.from.byte size c.requires.long
     c.requires.near later first 2 (λ n. omega (arith, bounded.1, bounded.2 c.args.end text n)) in
     let table : c.as_flattened.result.now ≡ replicate 64 0 ++ replicate 64 0xFF = c.as_flattened.ensures.value in
-    let kept = left_out_and_kept c.as_flattened.result.now 64 (size - n) n size table (omega (arith, c.requires.near))
+    let kept = left_out_and_kept 0 0xFF c.as_flattened.result.now 64 (size - n) n size table (omega (arith, c.requires.near))
     g.met.T.ByteChunk.lawful.most in
     let loaded = rw c.SIZE-2.ensures at c.load-kept.ensures in
     let lanes = g.T.ByteChunk.lanes c.count_lanes-counted.result.lanes in

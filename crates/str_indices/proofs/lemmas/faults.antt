@@ -1,0 +1,10 @@
+pub mod Follow
+pub mod Windows
+pub mod Masks
+pub mod Chunks
+pub mod Ascii
+pub use Follow.*
+pub use Windows.*
+pub use Masks.*
+pub use Chunks.*
+pub use Ascii.*

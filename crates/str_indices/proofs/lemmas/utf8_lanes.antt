@@ -1,0 +1,10 @@
+pub mod Marks
+pub mod Pairs
+pub mod Due
+pub mod Vectors
+pub mod Tables
+pub use Marks.*
+pub use Pairs.*
+pub use Due.*
+pub use Vectors.*
+pub use Tables.*

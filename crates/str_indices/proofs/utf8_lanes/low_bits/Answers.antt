@@ -1,0 +1,5 @@
+use Rattle.str_indices.proofs.lemmas.utf8_lanes.{low_nibbles}
+use Rattle.str_indices.proofs.utf8_lanes.low_bits.Goals as goal
+
+pub returns : goal.returns
+returns g c = low_nibbles c.args.bytes c.fits-bytes
