@@ -40,7 +40,7 @@ pub fn run<R: Read, W: Write>(
 {
     let request = Request::from_words(words).ok_or(Fault::Usage)?;
     let bytes = read_all(alloc, input)?;
-    let text = str::from_utf8(&bytes).map_err(|_| Fault::NotUtf8)?;
+    let text = str_indices::from_utf8(&bytes).ok_or(Fault::NotUtf8)?;
     let mut buffer = [0; LINE_LEN];
     write_text(output, decimal_line(request.answer(text), &mut buffer))
 }

@@ -7,6 +7,7 @@ ghost use Rattle.text_index_c.specs.Numbers.{done, no_room, not_utf8};
 use crate::handle::IndexHandle;
 use crate::numbers::{DONE, NO_ROOM, NOT_UTF8};
 use std::mem::size_of;
+use str_indices::from_utf8;
 use text_index::{Mark, fill, marks_for};
 
 /// How many bytes a handle takes, and a mark.
@@ -53,8 +54,8 @@ pub extern "C" fn index_fill<'a>(
         ↔ (IsUtf8 text.now × (length room.old ≢ length text.now / stretch_size)) }
     ensures known { (result ≡ done) ⊎ ((result ≡ not_utf8) ⊎ (result ≡ no_room)) }
 {
-    match str::from_utf8(text) {
-        Ok(text) => {
+    match from_utf8(text) {
+        Some(text) => {
             if room.len() != marks_for(text.len()) {
                 return NO_ROOM;
             }
@@ -66,6 +67,6 @@ pub extern "C" fn index_fill<'a>(
             };
             DONE
         }
-        Err(_) => NOT_UTF8,
+        None => NOT_UTF8,
     }
 }

@@ -12,6 +12,7 @@ use crate::slot::Slot;
 use positions::{Encoding, Range};
 use rope_positions::{Change, RefusedChange, apply, apply_exact};
 use std::alloc::Global;
+use str_indices::is_utf8;
 use text_rope::{Refusal, Rope};
 
 /// A change of a text: the range that is replaced, or the whole text, and the bytes of the text that comes in.
@@ -66,7 +67,7 @@ fn first_not_utf8(changes: &[ContentChange<'_>]) -> Option<usize>
     ensures none { IfNone result (All has_utf8 changes.now) }
 {
     for (index, change) in changes.iter().enumerate() {
-        if let Err(_) = str::from_utf8(change.text) {
+        if !is_utf8(change.text) {
             return Some(index);
         }
     }

@@ -14,6 +14,7 @@ use crate::slot::Slot;
 use positions::{Encoding, Range};
 use rope_positions::{Change, apply_exact};
 use std::alloc::Global;
+use str_indices::from_utf8;
 use text_rope::{Refusal, Rope};
 
 /// Replaces a range by a text, as a client of a language server tells it, if each of its positions names a place.
@@ -45,9 +46,9 @@ pub extern "C" fn rope_change_exact(
         (chars text.now ≢ []) ⊎ ((part.start < part.end) × (part.end - part.start < size rope.old.text))) }
     ensures known { result ≤ not_utf8 }
 {
-    match str::from_utf8(text) {
-        Ok(text) => status_at(apply_change(alloc, rope, encoding_at(encoding), range, text)),
-        Err(_) => NOT_UTF8,
+    match from_utf8(text) {
+        Some(text) => status_at(apply_change(alloc, rope, encoding_at(encoding), range, text)),
+        None => NOT_UTF8,
     }
 }
 

@@ -11,18 +11,18 @@ use Rattle.text_rope_c.proofs.Refused.{is_no_memory, is_no_place, is_too_long, o
 use Rattle.text_rope_c.proofs.exact_changes.rope_change_exact.Goals as goal
 use Rattle.positions.specs.declared.line_type.LineType.TheVariants.{LfCr}
 
-pub returns-in-Ok-clause-done : goal.returns-in-Ok-clause-done
-returns-in-Ok-clause-done c = λ is.
+pub returns-in-Some-clause-done : goal.returns-in-Some-clause-done
+returns-in-Some-clause-done c = λ is.
     let old = c.args.rope.now.text in
     let new = c.apply_change.new.rope.text in
-    let same : c.in-Ok.text.now ≡ c.args.text.now = search rules in
+    let same : c.in-Some.text.now ≡ c.args.text.now = search rules in
     let replaced = λ (e : Encoding) (bytes : List ℕ). IfSome (exact_part_at e old (Some c.args.range))
     (λ part. IsReplaced old new part.start part.end (chars bytes)) in
     subst (λ e. replaced e c.args.text.now) c.encoding_at.ensures (subst (λ bytes. replaced c.encoding_at.result bytes) same
     (on_done c.apply_change.result (sym c.status_at.ensures ∙ is) c.apply_change.ensures.ok))
 
-pub returns-in-Ok-clause-not_boundary : goal.returns-in-Ok-clause-not_boundary
-returns-in-Ok-clause-not_boundary c =
+pub returns-in-Some-clause-not_boundary : goal.returns-in-Some-clause-not_boundary
+returns-in-Some-clause-not_boundary c =
     let old = c.args.rope.now.text in
     let r = c.apply_change.result in
     let utf8 : IsUtf8 c.args.text.now = search rules in
@@ -31,11 +31,11 @@ returns-in-Ok-clause-not_boundary c =
     let iff = subst refused c.encoding_at.ensures c.apply_change.ensures.not_boundary in
     (λ is. (utf8, iff.0 (is_no_place r (sym c.status_at.ensures ∙ is))), λ both. c.status_at.ensures ∙ ap status_of (iff.1 both.1))
 
-pub returns-in-Ok-clause-too_long : goal.returns-in-Ok-clause-too_long
-returns-in-Ok-clause-too_long c =
+pub returns-in-Some-clause-too_long : goal.returns-in-Some-clause-too_long
+returns-in-Some-clause-too_long c =
     let old = c.args.rope.now.text in
     let r = c.apply_change.result in
-    let same : c.in-Ok.text.now ≡ c.args.text.now = search rules in
+    let same : c.in-Some.text.now ≡ c.args.text.now = search rules in
     let utf8 : IsUtf8 c.args.text.now = search rules in
     let refused = λ (e : Encoding) (len : ℕ). IsErrOf r TooLong ↔ IsSomeAnd (exact_part_at e old (Some c.args.range))
     (λ part. 2 ^ 63 + (part.end - part.start) ≤ size old + len) in
@@ -43,11 +43,11 @@ returns-in-Ok-clause-too_long c =
     (subst (λ bytes. refused c.encoding_at.result (length bytes)) same c.apply_change.ensures.too_long) in
     (λ is. (utf8, iff.0 (is_too_long r (sym c.status_at.ensures ∙ is))), λ both. c.status_at.ensures ∙ ap status_of (iff.1 both.1))
 
-pub returns-in-Ok-clause-no_memory : goal.returns-in-Ok-clause-no_memory
-returns-in-Ok-clause-no_memory c = λ is.
+pub returns-in-Some-clause-no_memory : goal.returns-in-Some-clause-no_memory
+returns-in-Some-clause-no_memory c = λ is.
     let old = c.args.rope.now.text in
     let r = c.apply_change.result in
-    let same : c.in-Ok.text.now ≡ c.args.text.now = search rules in
+    let same : c.in-Some.text.now ≡ c.args.text.now = search rules in
     let refused = λ (e : Encoding) (bytes : List ℕ). IsErrOf r NoMemory → IsSomeAnd (exact_part_at e old (Some c.args.range))
     (λ part. (chars bytes ≢ []) ⊎ ((part.start < part.end) × (part.end - part.start < size old))) in
     subst (λ e. refused e c.args.text.now) c.encoding_at.ensures
