@@ -9,3 +9,5 @@ mod chunks;
 #[cfg(test)]
 mod indices;
 pub mod slices;
+#[cfg(test)]
+mod utf8;

@@ -4,6 +4,7 @@ ghost use Rattle.std.proofs.Common.{lit≤};
 ghost use Rattle.byte_chunk.specs.Lanes.{word_lanes};
 
 use byte_chunk::ByteChunk;
+use str_indices::Utf8Chunk;
 
 /// 1 in each lane.
 const ONES: u32 = 0x0101_0101;
@@ -115,3 +116,5 @@ impl ByteChunk for HalfWord {
 
     ghost lawful = { record { least = lit≤ tt; most = lit≤ tt; room = lit≤ tt; fits = lit≤ tt } };
 }
+
+impl Utf8Chunk for HalfWord {}

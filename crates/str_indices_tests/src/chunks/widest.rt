@@ -6,6 +6,7 @@ use super::{chunks_of, has_digit, numbers_are, numbers_of};
 use byte_chunk::{ByteChunk, vectors};
 use std::process::Abort;
 use std::simd::prelude::*;
+use str_indices::Utf8Chunk;
 
 /// Sixty-four bytes, one in each lane of a vector.
 #[derive(Clone, Copy)]
@@ -144,6 +145,8 @@ impl ByteChunk for Widest {
 
     ghost lawful = { record { least = lit≤ tt; most = lit≤ tt; room = lit≤ tt; fits = lit≤ tt } };
 }
+
+impl Utf8Chunk for Widest {}
 
 fn lanes_are(rt: &impl Abort, chunk: Widest, lanes: &[u8; 64]) {
     let found = chunk.0.to_array();
