@@ -2,6 +2,9 @@
 //!
 //! The original is that of the folder which the environment variable `STR_INDICES_ORIGINAL` names. Without it nothing
 //! is compared, and nothing judged. It is told for which texts the wide half of the library answers.
+mod numbers;
+
+use numbers::Numbers;
 use original::Function;
 use std::process::exit;
 
@@ -14,18 +17,7 @@ const MOST_CHARS: u64 = 120;
 const CHARS: &str = "ab \n\n\r\r\u{B}\u{C}\u{85}\u{2028}\u{2029}é\u{84}\u{C5}\u{1028}\u{2027}\u{202A}\u{2068}\
                      せ\u{FFFD}🐸\u{10FFFF}\0";
 
-/// A small generator of numbers (splitmix64), so that each run compares the same texts.
-struct Numbers(u64);
-
 impl Numbers {
-    fn below(&mut self, limit: u64) -> u64 {
-        self.0 = self.0.wrapping_add(0x9E37_79B9_7F4A_7C15);
-        let mut mixed = self.0;
-        mixed = (mixed ^ (mixed >> 30)).wrapping_mul(0xBF58_476D_1CE4_E5B9);
-        mixed = (mixed ^ (mixed >> 27)).wrapping_mul(0x94D0_49BB_1331_11EB);
-        (mixed ^ (mixed >> 31)) % limit
-    }
-
     /// A text over a few of the chars, so that it has runs of alike ones.
     fn text(&mut self) -> String {
         let some = 1 + self.below(4);

@@ -55,6 +55,7 @@ NAME:4:2: `]` closes nothing
 
 TEST_RESULT = re.compile(r"^test result: \w+\. (\d+) passed; (\d+) failed", re.MULTILINE)
 COMPARED = re.compile(r"^random texts: .* (\d+) answers, none differs.*", re.MULTILINE)
+BYTES_COMPARED = re.compile(r"^random bytes: (\d+) inputs, .* none differs.*", re.MULTILINE)
 NOT_COMPARED = "STR_INDICES_ORIGINAL names no folder"
 NO_PACKAGE = re.compile(r"\w+ needs Debian's package .*")
 
@@ -80,6 +81,12 @@ def compare_with_original(output):
     tally.enough("answers of random_texts.rs", int(compared[1]) if compared else 0, "answers compared with the original's")
 
 
+def compare_with_rust(output):
+    """The comparison of what is UTF-8 with Rust's own library on random bytes."""
+    compared = BYTES_COMPARED.search(output)
+    tally.enough("inputs of random_bytes.rs", int(compared[1]) if compared else 0, "inputs, UTF-8 or not as for Rust's library")
+
+
 def test_bindings(environment, texts):
     """The tests, where the wide half is to answer for those texts."""
     done = cargo(BINDINGS, "test", env=environment)
@@ -87,6 +94,7 @@ def test_bindings(environment, texts):
     told = f"random texts: the wide half answers for {texts}" in done.stdout
     tally.result(told, f"the wide half answers for {texts}")
     compare_with_original(done.stdout)
+    compare_with_rust(done.stdout)
 
 
 def test_without_the_wide_half():
