@@ -1,9 +1,10 @@
 #!/usr/bin/env python3
 """Shows by their texts that what is said once more is the same: clauses, and what the benchmark calls.
 
-A wrong body is tried at one implementation of a call of `ByteChunk` and at one half of the C library. That stands for the
-others where these have the same clauses. So no implementation of the trait may state a clause of its own, which would
-take the place of the trait's; and the exports of the wide half must have those of the narrow half, which the browser's are.
+A wrong body is tried at one implementation of a call of `ByteChunk` or `Utf8Chunk` and at one half of the C library. That
+stands for the others where these have the same clauses. So no implementation of these traits may state a clause of its own,
+which would take the place of the trait's; and the exports of the wide half must have those of the narrow half, which the
+browser's are.
 
 The workloads are timed over the sources of the start too, which docs/PERF.md names, with another file in the place of the
 one that has all of the libraries' names. So each name in that file must be public there, and no workload may call what is
@@ -37,7 +38,9 @@ WORKLOADS = ROOT / "crates/workloads/src"
 LIBRARY = WORKLOADS / "library.rt"
 LIBRARY_AT_START = ROOT / "bench/start.rt.txt"
 
-IMPL = re.compile(r"^impl ByteChunk for .*?^\}", re.MULTILINE | re.DOTALL)
+IMPL = re.compile(r"^impl (?:ByteChunk|Utf8Chunk) for [^\n]*\{\n.*?^\}", re.MULTILINE | re.DOTALL)
+# the head of a call that each of these has
+HEAD = re.compile(r"^    fn (?:zero|faults)\(.*\) -> Self(?= \{$)", re.MULTILINE)
 CLAUSE = re.compile(r"^\s+(requires|ensures)\b", re.MULTILINE)
 NAMED = re.compile(r"^pub\(crate\) use (\w+)::([^;]+);", re.MULTILINE)
 PUBLIC = re.compile(r"^ *pub (?:use|fn|mod|enum|struct|type|const|trait) ([^;({]+(?:\{[\w, \n]*\};)?)", re.MULTILINE)
@@ -57,7 +60,7 @@ def sources(folder="*"):
 
 
 def own_clauses(text):
-    """How many clauses the implementations of the trait in the text state."""
+    """How many clauses the implementations of the traits in the text state."""
     return sum(len(CLAUSE.findall(block)) for block in IMPL.findall(text))
 
 
@@ -68,10 +71,10 @@ def exports(text):
 
 def try_chunks(tally):
     texts = {path.relative_to(ROOT): read(path) for path in sources() if IMPL.search(read(path))}
-    tally.result(len(texts) > 5, f"{len(texts)} files implement ByteChunk")
+    tally.result(len(texts) > 5, f"{len(texts)} files implement ByteChunk or Utf8Chunk")
     for name, text in texts.items():
         tally.result(own_clauses(text) == 0, f"{name} states no clause of a call")
-        edited = text.replace("    fn zero() -> Self {\n", "    fn zero() -> Self\n        ensures { result ≡ result }\n    {\n")
+        edited = HEAD.sub(r"\g<0>\n        ensures { result ≡ result }\n   ", text)
         tally.result(own_clauses(edited) > 0, f"{name} with a clause is refused")
 
 
