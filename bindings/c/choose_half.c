@@ -119,8 +119,12 @@ __attribute__((constructor)) static void choose_half(void)
         return str_indices_narrow_##name arguments; \
     }
 
+#define TELL(name) HAND_ON(bool, 1, name, (const char *text, size_t len), (text, len))
 #define COUNT(name) HAND_ON(size_t, 1, name, (const char *text, size_t len), (text, len))
 #define CONVERT(name) HAND_ON(size_t, 1, name, (const char *text, size_t len, size_t index), (text, len, index))
+
+TELL(is_utf8)
+COUNT(valid_up_to)
 
 COUNT(chars_count)
 CONVERT(chars_from_byte_idx)

@@ -7,15 +7,15 @@
  * else: they write no memory, allocate none, keep nothing, and answer for
  * every text and every index.
  *
- * The library has each count and each conversion twice, proved twice: over
- * vectors of sixteen bytes, its narrow half, and over vectors of thirty-two,
- * its wide half. Which one answers is chosen once, before main runs: for texts
- * from 256 bytes on the wide half, where the processor has what x86-64-v3 asks
- * for (AVX2 and more), and else the narrow half. The positions of
- * str_indices_positions.h go to the wide half from 1,536 bytes on. The
- * environment variable STR_INDICES_HALF, set to "narrow", leaves all texts to
- * the narrow half, and set to "wide" gives all of them to the wide half where
- * the processor has it. The answers are the same.
+ * The library has each count, each conversion and the check of UTF-8 twice,
+ * proved twice: over vectors of sixteen bytes, its narrow half, and over
+ * vectors of thirty-two, its wide half. Which one answers is chosen once,
+ * before main runs: for texts from 256 bytes on the wide half, where the
+ * processor has what x86-64-v3 asks for (AVX2 and more), and else the narrow
+ * half. The positions of str_indices_positions.h go to the wide half from 1,536
+ * bytes on. The environment variable STR_INDICES_HALF, set to "narrow", leaves
+ * all texts to the narrow half, and set to "wide" gives all of them to the wide
+ * half where the processor has it. The answers are the same.
  *
  * A text is handed over as the address of its first byte and its length in
  * bytes. In every call the caller owes the following, which nothing checks:
@@ -61,13 +61,19 @@ extern "C" {
  * header's. */
 const char *str_indices_version(void);
 
+/* Whether the functions below answer for a text of `len` bytes by the wide
+ * half. A library that was built without it answers false. */
+bool str_indices_is_wide(size_t len);
+
 /* Whether the bytes are UTF-8. All else that the caller owes is owed here
  * too. */
 bool str_indices_is_utf8(const char *text, size_t len);
 
-/* Whether the functions below answer for a text of `len` bytes by the wide
- * half. A library that was built without it answers false. */
-bool str_indices_is_wide(size_t len);
+/* How many bytes there are before the first char that is wrong or that ends
+ * too soon: the index of the byte where that char begins. If all bytes are
+ * UTF-8, the answer is `len`. All else that the caller owes is owed here
+ * too. */
+size_t str_indices_valid_up_to(const char *text, size_t len);
 
 /*
  * Chars: Unicode scalar values.

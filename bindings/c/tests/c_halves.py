@@ -24,8 +24,8 @@ WORTH_WIDE = 256
 WORTH_WIDE_LATER = 1536
 LATER = re.compile(r".*(position_of|byte_of|byte_range|line_end)")
 
-# what has no half: the choice itself, what is asked once for a text, and the version
-WITHOUT = {f"{PREFIX}{name}" for name in ["is_wide", "is_utf8", "version"]}
+# what has no half: the choice itself, and the version
+WITHOUT = {f"{PREFIX}{name}" for name in ["is_wide", "version"]}
 # the first field of a struct that is answered; both its fields are numbers
 FIRST = {"str_indices_position": ".line", "str_indices_bytes": ".start"}
 

@@ -219,6 +219,7 @@ static void convert(size_t row, const char *text, size_t len, size_t byte, size_
 static void compare(const char *text, size_t len)
 {
     same("is_utf8", len, 0, str_indices_is_utf8(text, len), 1);
+    same("valid_up_to", len, 0, str_indices_valid_up_to(text, len), len);
     for (size_t row = 0; row < sizeof counts / sizeof counts[0]; row++)
         same(counts[row].name, len, 0, counts[row].call(text, len), total(counts[row].kind));
     for (size_t row = 0; row < sizeof conversions / sizeof conversions[0]; row++) {
@@ -236,6 +237,21 @@ static void compare(const char *text, size_t len)
     place(text, len, len);
     place(text, len, below(len + 1));
     place(text, len, SIZE_MAX);
+}
+
+/* A text that is cut off at some byte, or has one there that no text has: it is
+ * UTF-8 up to the char of that byte. */
+static void spoil(char *text, size_t len)
+{
+    size_t at = below(len), char_start = to_byte(CHARS, len, from_byte(CHARS, at));
+    char taken_out = text[at];
+
+    same("is_utf8 cut off", len, at, str_indices_is_utf8(text, at), at == char_start);
+    same("valid_up_to cut off", len, at, str_indices_valid_up_to(text, at), char_start);
+    text[at] = '\377';
+    same("is_utf8 spoilt", len, at, str_indices_is_utf8(text, len), 0);
+    same("valid_up_to spoilt", len, at, str_indices_valid_up_to(text, len), char_start);
+    text[at] = taken_out;
 }
 
 /* Memory between two pages that may not be read; the answer is its first byte. */
@@ -259,8 +275,12 @@ static void compare_at_both(char *memory, size_t size, size_t len, const size_t 
     make(text, len, pool, others);
     walk(text, len);
     compare(text, len);
+    if (len > 0)
+        spoil(text, len);
     memmove(memory, text, len);
     compare(memory, len);
+    if (len > 0)
+        spoil(memory, len);
 }
 
 static void compare_random(char *memory, size_t size, size_t len)

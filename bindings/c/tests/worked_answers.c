@@ -46,14 +46,27 @@ static void same(const char *call, size_t answer, size_t expected)
 #define SAME_AT(expected, name, text, index) \
     same(#name " of " #text " at " #index, str_indices_##name(text, sizeof text - 1, index), expected)
 
-static void is_utf8(void)
+/* How many of the bytes are UTF-8, and whether all are. */
+#define UTF8_UP_TO(expected, text) \
+    SAME((expected) == sizeof text - 1, is_utf8, text); \
+    SAME(expected, valid_up_to, text)
+
+/* Whole texts, and then: a trailing byte alone, overlong forms, a surrogate,
+ * what is past U+10FFFF, a byte that no text has, a char that ends too soon
+ * inside and at the end. */
+static void utf8(void)
 {
-    SAME(1, is_utf8, frogs);
-    SAME(1, is_utf8, "");
-    SAME(1, is_utf8, "a\0b");
-    SAME(0, is_utf8, "\343\201");
-    SAME(0, is_utf8, "\300\200");
-    SAME(0, is_utf8, "\355\240\200");
+    UTF8_UP_TO(45, frogs);
+    UTF8_UP_TO(0, "");
+    UTF8_UP_TO(3, "a\0b");
+    UTF8_UP_TO(2, "ab\200");
+    UTF8_UP_TO(0, "\300\200");
+    UTF8_UP_TO(1, "a\340\237\277");
+    UTF8_UP_TO(3, "abc\355\240\200");
+    UTF8_UP_TO(1, "a\364\220\200\200");
+    UTF8_UP_TO(4, "\360\237\220\270\377");
+    UTF8_UP_TO(1, "a\343\201b");
+    UTF8_UP_TO(3, "\343\201\223\343\201");
 }
 
 static void chars_and_utf16(void)
@@ -112,7 +125,6 @@ static void repeat(char *text, size_t size, const char *part, size_t len)
 static void long_texts(void)
 {
     repeat(ten_frogs, sizeof ten_frogs, frogs, sizeof frogs - 1);
-    SAME(1, is_utf8, ten_frogs);
     SAME(230, chars_count, ten_frogs);
     SAME_AT(230, chars_from_byte_idx, ten_frogs, 450);
     SAME_AT(449, chars_to_byte_idx, ten_frogs, 229);
@@ -120,6 +132,11 @@ static void long_texts(void)
     SAME(40, utf16_count_surrogates, ten_frogs);
     SAME_AT(262, utf16_from_byte_idx, ten_frogs, 432);
     SAME_AT(428, utf16_to_byte_idx, ten_frogs, 261);
+    UTF8_UP_TO(450, ten_frogs);
+    ten_frogs[449] = '\360';
+    UTF8_UP_TO(449, ten_frogs);
+    ten_frogs[301] = 'x';
+    UTF8_UP_TO(300, ten_frogs);
 
     repeat(twelve_crlf, sizeof twelve_crlf, crlf, sizeof crlf - 1);
     SAME(36, lines_lf_count_breaks, twelve_crlf);
@@ -167,7 +184,7 @@ static const char *answered_by_the_wide_half(void)
 
 int main(void)
 {
-    is_utf8();
+    utf8();
     chars_and_utf16();
     line_breaks();
     the_empty_text();

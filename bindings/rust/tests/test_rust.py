@@ -147,12 +147,13 @@ def test_exchanges(library, folder):
     named = dict(os.environ, STR_INDICES_LIB_DIR=str(copy.parent))
     sources = "".join(path.read_text(encoding="utf-8") for path in sorted(ROOT.glob("bindings/*/src/*.rs")))
     taken = {name for name in declared() if re.search(rf"\bfn {name}\(", sources)}
-    missed = [name for name in declared() if name not in taken and not re.search("_(is_utf8|is_wide|version)$", name)]
+    untaken = [name for name in declared() if name not in taken]
+    missed = [name for name in untaken if not re.search("_(is_utf8|valid_up_to|is_wide|version)$", name)]
     tally.result(not missed, f"the crates take each function{''.join(f', but not {name}' for name in missed)}")
     programs = [test_program(BINDINGS, "worked_answers", named), test_program(POSITIONS, "positions", named)]
     if all(programs):
         of_both = [(one, other) for one, other in pairs() if {one.name, other.name} <= taken]
-        try_exchanges(tally, programs, of_both, "", "the Cargo crates")
+        try_exchanges(tally, programs, of_both, "", "the Cargo crates", "exchanges of the Cargo crates")
 
 
 def test_missing_library(crate, folder, missed):

@@ -1,5 +1,5 @@
-//! The functions of `str_indices` for C, as a static library: one export for each of them, and one that tells whether
-//! bytes are UTF-8; and, in the module `text_positions`, positions and the ends of lines.
+//! The functions of `str_indices` for C, as a static library: one export for each of them; and, in the module
+//! `text_positions`, positions and the ends of lines.
 //!
 //! C hands a text over as the address of its first byte and the number of its bytes.
 //! `bindings/c/include/str_indices.h`, at the top of the repository, says what a caller owes. It declares the exports
@@ -8,19 +8,28 @@
 #![tactic(auto)]
 
 ghost use Rattle.std.specs.Prelude.{◌≡◌, ◌↔◌, IsCharBoundary, IsTrue, IsUtf8, chars};
+ghost use Rattle.std.specs.Str.Lossy.{utf8_valid_len};
 ghost use Rattle.str_indices.specs.Schemes.{count, from_byte_idx, surrogates, to_byte_idx};
 ghost use Rattle.str_indices.specs.declared.Scheme.TheVariants.{Chars, Crlf, Lf, Lines, Utf16};
 
 mod text_positions;
 
-use str_indices::{chars, lines, lines_crlf, lines_lf, utf16};
+use str_indices::{chars, is_utf8, lines, lines_crlf, lines_lf, utf16, valid_up_to};
 
-/// Whether the bytes are UTF-8, which each other export wants of its text.
+/// Whether the bytes are UTF-8, which all exports but this one and the next want of their text.
 #[unsafe(no_mangle)]
-pub extern "C" fn str_indices_is_utf8(text: &[u8]) -> bool
+pub extern "C" fn str_indices_narrow_is_utf8(text: &[u8]) -> bool
     ensures { IsTrue result ↔ IsUtf8 text.now }
 {
-    str::from_utf8(text).is_ok()
+    is_utf8(text)
+}
+
+/// How many bytes there are before the first char that is wrong or that ends too soon.
+#[unsafe(no_mangle)]
+pub extern "C" fn str_indices_narrow_valid_up_to(text: &[u8]) -> usize
+    ensures { result ≡ utf8_valid_len text.now }
+{
+    valid_up_to(text)
 }
 
 /// How many chars the text has.

@@ -6,15 +6,32 @@
 //! repository. `bindings/c/choose_half.c` there hands calls on to these functions where the processor is of that level.
 #![tactic(auto)]
 
-ghost use Rattle.std.specs.Prelude.{◌≡◌, IsCharBoundary, IsUtf8, chars};
+ghost use Rattle.std.specs.Prelude.{◌≡◌, ◌↔◌, IsCharBoundary, IsTrue, IsUtf8, chars};
+ghost use Rattle.std.specs.Str.Lossy.{utf8_valid_len};
 ghost use Rattle.str_indices.specs.Schemes.{count, from_byte_idx, surrogates, to_byte_idx};
 ghost use Rattle.str_indices.specs.declared.Scheme.TheVariants.{Chars, Crlf, Lf, Lines, Utf16};
 
 mod text_positions;
 
-use byte_chunk::Probe;
+use byte_chunk::{ByteProbe, Probe};
 use std::simd::u8x32;
-use str_indices::{chars, lines, lines_crlf, lines_lf, utf16};
+use str_indices::{chars, lines, lines_crlf, lines_lf, utf8, utf16};
+
+/// Whether the bytes are UTF-8, which all exports but this one and the next want of their text.
+#[unsafe(no_mangle)]
+pub extern "C" fn str_indices_wide_is_utf8(text: &[u8]) -> bool
+    ensures { IsTrue result ↔ IsUtf8 text.now }
+{
+    utf8::is_utf8_impl(&mut ByteProbe::<u8x32>::of(text), 0)
+}
+
+/// How many bytes there are before the first char that is wrong or that ends too soon.
+#[unsafe(no_mangle)]
+pub extern "C" fn str_indices_wide_valid_up_to(text: &[u8]) -> usize
+    ensures { result ≡ utf8_valid_len text.now }
+{
+    utf8::valid_up_to_impl(&mut ByteProbe::<u8x32>::of(text), 0)
+}
 
 /// How many chars the text has.
 #[unsafe(no_mangle)]
