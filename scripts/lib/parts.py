@@ -79,7 +79,7 @@ PARTS = (
          (*FUNCTIONS, *ROPE, *INDEX, *INSTALL, *CARGO_CRATES, *RELEASED)),
     Part("bindings/rust/tests/test_rust.py", 60, ALL_FOR_C,
          (*FUNCTIONS, *ROPE, *INDEX, *CARGO_CRATES, "VERSION", "examples/rust/**/*", "bench/run", "bench/picture.py",
-          "bench/rope", "bench/peers/*")),
+          "bench/rope", "bench/peers/*", "bench/pieces", "bench/utf8.rt.txt")),
     Part("bindings/web/tests/test_browser.py", 60, ("str_indices_c", "text_index_c"),
          ("bindings/web/**/*", "bindings/web/README.md", "VERSION")),
     Part("bindings/c/tests/test_positions.py", 30, ("str_indices_c", "str_indices_c_wide"), FUNCTIONS),

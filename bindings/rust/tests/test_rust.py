@@ -6,8 +6,8 @@ half, and the message where a library is missing; outside the repository, over i
 finds; those of bindings/positions, of bindings/rope, of bindings/index, of bindings/original and of the benchmark; each
 function of str_indices exchanged for each other one of its shape, which a worked answer must see; the example of a project
 that uses bindings/rust; the programs to start from of bindings/rope and bindings/index; a program without std; and the
-benchmarks, the functions and each buffer that people know beside a B-tree, once over small texts, whose times nobody looks
-at. The original is compared where the environment variable
+benchmarks, the functions, checks of UTF-8 and each buffer that people know beside a B-tree, once over small texts, whose
+times nobody looks at. The original is compared where the environment variable
 STR_INDICES_ORIGINAL names its folder. Where cargo is not on the path nothing is tried. The last line printed is 'N passed, M
 failed', with what is left out.
 """
@@ -207,6 +207,12 @@ def test_benchmark():
         print(done.stdout + done.stderr)
 
 
+def test_checks_of_utf8():
+    done = subprocess.run([ROOT / "bench/pieces", "--utf8", "--small"], capture_output=True, text=True)
+    if not tally.result(done.returncode == 0 and "| CJK, " in done.stdout, "bench/pieces, checks of UTF-8"):
+        print(done.stdout + done.stderr)
+
+
 def test_buffer(way):
     """A buffer that people know has the text of a B-tree after the same changes, and its answers where both are in bytes."""
     done = subprocess.run([ROOT / "bench/rope", "--small", "btree", way], capture_output=True, text=True)
@@ -236,6 +242,7 @@ def test_all(library, rope, index, folder):
     test_programs(folder / "target", folder)
     test_no_std(folder / "target")
     test_benchmark()
+    test_checks_of_utf8()
     for way in ["scintilla", "gtk", "qt"]:
         test_buffer(way)
 
