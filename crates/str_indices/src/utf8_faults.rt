@@ -126,21 +126,22 @@ fn check_groups<T: Utf8Chunk>(probe: &mut ByteProbe<'_, T>, from: usize) -> Resu
     let len = probe.len();
     let mut at = from;
     let mut before = bytes_before(probe, from);
-    let mut after_ascii = false;
+    // The last place where ASCII was seen to end. At 0 no char goes on either.
+    let mut ascii_end = 0;
     'groups: while 4 * T::SIZE <= len - at {
+        let after_ascii = at == ascii_end;
         let group = load_group(probe, at);
         if is_ascii(group) {
             if goes_on(probe, at, after_ascii) {
                 return Err(Fault { at });
             }
-            after_ascii = true;
+            ascii_end = at + 4 * T::SIZE;
         } else {
             let before_group = before_or_anew(probe, at, after_ascii, before);
             match check_group(probe, group, at, before_group) {
                 Ok(next) => before = next,
                 Err(fault) => return Err(fault),
             }
-            after_ascii = false;
         }
         at += 4 * T::SIZE;
     }
@@ -162,8 +163,7 @@ fn check_chunks<T: Utf8Chunk>(probe: &mut ByteProbe<'_, T>, from: usize) -> Resu
     let mut at = from;
     'chunks: while T::SIZE <= len - at {
         let chunk = probe.load(at);
-        let before = bytes_before(probe, at);
-        if let Err(fault) = check_chunk(probe, chunk, at, before) {
+        if let Err(fault) = check_alone(probe, chunk, at) {
             return Err(fault);
         }
         at += T::SIZE;
@@ -182,6 +182,25 @@ fn check_rest<T: Utf8Chunk>(probe: &mut ByteProbe<'_, T>) -> Result<(), Fault>
 {
     let at = probe.len() - T::SIZE;
     let chunk = chunk_by_turns(probe, at);
+    check_alone(probe, chunk, at)
+}
+
+/// Checks a chunk that no other chunk was checked before.
+#[inline(always)]
+fn check_alone<T: Utf8Chunk>(probe: &mut ByteProbe<'_, T>, chunk: T, at: usize) -> Result<(), Fault>
+    requires within { at + T.SIZE ≤ length probe.old.text }
+    requires follow { AllFollow probe.old.text 0 at }
+    requires chunk { IsWindow T.SIZE probe.old.text (at + 3) (T.lanes chunk) }
+    ensures ok { OnOk result (AllFollow probe.old.text 0 (at + T.SIZE)) }
+    ensures err { IfErr result (λ fault. IsFault probe.old.text fault.at) }
+    ensures reads { Reads probe.old probe.new 0 0 0 3 }
+{
+    if chunk.is_ascii() {
+        if is_open(probe, at) {
+            return Err(Fault { at });
+        }
+        return Ok(());
+    }
     let before = bytes_before(probe, at);
     check_chunk(probe, chunk, at, before)?;
     Ok(())
@@ -236,7 +255,7 @@ fn is_ascii<T: Utf8Chunk>(group: Group<T>) -> bool
 {
     let front = either(group.first, group.second);
     let back = either(group.third, group.fourth);
-    either(front, back).bitand(T::splat(0x80)).is_zero()
+    either(front, back).is_ascii()
 }
 
 /// Returns the bits that are set in one of the two, lane by lane.

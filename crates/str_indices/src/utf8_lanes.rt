@@ -30,6 +30,15 @@ pub trait Utf8Chunk: ByteChunk {
         let bounds = min_faults(one_back, here).add(max_faults(one_back, here));
         due.add(lead_faults(one_back)).add(bounds)
     }
+
+    /// Whether all lanes are ASCII.
+    #[inline(always)]
+    fn is_ascii(self) -> bool
+        requires { AreBytes Self.SIZE (Self.lanes self) }
+        ensures { IsTrue result → (j : ℕ) → j < Self.SIZE → slice_index (Self.lanes self) j < 128 }
+    {
+        self.bitand(Self::splat(0x80)).is_zero()
+    }
 }
 
 /// Returns 1 in each lane that is `byte` where `mask` has bits, and 0 in the others.
@@ -279,6 +288,11 @@ impl Utf8Chunk for Simd<u8, 16> {
         let pairs = before & look_up_16(AFTER_HIGH, high_bits(here));
         pairs ^ long_bits(three_back, two_back)
     }
+
+    #[inline(always)]
+    fn is_ascii(self) -> bool {
+        self.simd_ge(Self::splat(0x80)).to_bitmask() == 0
+    }
 }
 
 impl Utf8Chunk for Simd<u8, 32> {
@@ -288,5 +302,10 @@ impl Utf8Chunk for Simd<u8, 32> {
             & look_up_32(BEFORE_LOW, low_bits(one_back));
         let pairs = before & look_up_32(AFTER_HIGH, high_bits(here));
         pairs ^ long_bits(three_back, two_back)
+    }
+
+    #[inline(always)]
+    fn is_ascii(self) -> bool {
+        self.simd_ge(Self::splat(0x80)).to_bitmask() == 0
     }
 }

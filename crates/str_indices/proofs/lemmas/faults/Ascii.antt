@@ -46,7 +46,7 @@ module _ (bytes : List ℕ) where
       let e : at + n + 1 ≡ at + suc n = omega arith in
       rw (sym e) (one_follows bytes before.0 one.0, one.1)
 
-  window_ascii : {size at : ℕ} {lanes : List ℕ} → IsWindow size bytes (at + 3) lanes
+  pub window_ascii : {size at : ℕ} {lanes : List ℕ} → IsWindow size bytes (at + 3) lanes
       → ((j : ℕ) → j < size → get_or lanes j 0 < 128) → (i : ℕ) → at ≤ i → i < at + size → get_or bytes i 0 < 128
   window_ascii {size} {at} {lanes} is small i low high =
       let e : at + 3 + (i - at) ≡ i + 3 = omega arith in

@@ -1,11 +1,12 @@
 -- The lanes of vectors: shifts, masks, differences down to 0, and look-ups in tables of sixteen.
 use Rattle.str_indices.proofs.lemmas.Common.{◌≡◌, ℕ, ◌+◌, ◌-◌, ◌*◌, ◌/◌, ◌%◌, ◌^◌, ◌<◌, Bool, true, false, cond, nat_lt, List, [], ◌∷◌, ◌++◌, map, replicate, length, get_or, refl, sym, ap, ap₂, ◌∙◌, inl, inr, arith, bit_and, Each1, zip2, zip2_splat, Each1-weaker, cases_lt, ltb-true, ltb-false, get_or_append_left, get_or-append-add, length-append, flag, HasLanes}
-use Rattle.std.proofs.Common.{Fits, w8}
+use Rattle.std.proofs.Common.{Fits, w8, zero, suc, ◌≤◌, eqb, leb, leb-false, eqb-true}
 use Rattle.std.proofs.lemmas.Nat.{and_le_r}
-use Rattle.std.proofs.lemmas.Simd.{Each1-get_or, SwzOk, SwzOk-from_below, swz_l, length-swz_l, get_or-swz_l_below, pick_l_whole}
+use Rattle.std.proofs.lemmas.List.{length-map}
+use Rattle.std.proofs.lemmas.Simd.{mask_l-mod, length-zip2, length-replicate, Each1-get_or, SwzOk, SwzOk-from_below, swz_l, length-swz_l, get_or-swz_l_below, pick_l_whole}
 use Rattle.std.specs.Int.Bits.{bit_or}
 use Rattle.std.specs.List.{range_with_len}
-use Rattle.std.specs.Simd.Lanes.{sel_l, top, pick_l}
+use Rattle.std.specs.Simd.Lanes.{sel_l, top, pick_l, mask_l}
 use Rattle.str_indices.proofs.lemmas.lanes.{lanes_map, lanes_same, lanes_zip2}
 use Rattle.str_indices.proofs.lemmas.utf8_lanes.Marks.{lanes_filled}
 use Rattle.str_indices.proofs.lemmas.utf8_lanes.Pairs.{long_bit}
@@ -117,3 +118,25 @@ looked_up_twice table at whole long small =
   where
     append_second : (k : ℕ) → get_or (table ++ table) (16 + k) 0 ≡ get_or table k 0
     append_second k = ap (λ i. get_or (table ++ table) (i + k) 0) (sym whole) ∙ get_or-append-add table table k 0
+
+-- ---- the highest bit of each lane
+
+abbrev pub at_least : ℕ → ℕ → ℕ
+at_least a b = cond (leb a b) 255 0
+
+none_high : (xs : List ℕ) → mask_l (map (top 7) (zip2 at_least (replicate (length xs) 128) xs)) ≡ 0 → (j : ℕ) → get_or xs j 0 < 128
+none_high [] e j = omega arith
+none_high (x ∷ xs) e zero = go (leb 128 x) refl (omega arith)
+  where
+    go : (t : Bool) → leb 128 x ≡ t → ◌≡◌ {A = ℕ} (cond (top 7 (cond t 255 0)) 1 0) 0 → x < 128
+    go true p q = absurd (omega arith)
+    go false p q = leb-false _ _ p
+none_high (x ∷ xs) e (suc j) = none_high xs (omega arith) j
+
+-- a vector of which none is set is ASCII
+pub ascii_of_mask : (n : ℕ) (xs : List ℕ) → length xs ≡ n → n ≤ 64
+    → eqb (mask_l (map (top 7) (zip2 at_least (replicate n 128) xs)) % 2 ^ 64) 0 ≡ true → (j : ℕ) → get_or xs j 0 < 128
+ascii_of_mask n xs long few none =
+    let lanes = zip2 at_least (replicate n 128) xs in
+    let same = mask_l-mod (map (top 7) lanes) 64 (omega (arith, few, length-map lanes (top 7), length-zip2 at_least (replicate n 128) xs (length-replicate {A = ℕ} n 128 ∙ sym long), length-replicate {A = ℕ} n 128)) in
+    none_high xs (ap (λ k. mask_l (map (top 7) (zip2 at_least (replicate k 128) xs))) long ∙ sym same ∙ eqb-true _ _ none)

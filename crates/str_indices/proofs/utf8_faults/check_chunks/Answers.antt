@@ -1,13 +1,13 @@
 use Rattle.str_indices.proofs.lemmas.{◌+◌, ◌≤◌, ◌∙◌, length, ap, arith, subst, AllFollow, chunk_made, div-add-le, group_joined, weaken, window_loaded}
 use Rattle.str_indices.proofs.utf8_faults.check_chunks.Goals as goal
 
-pub check_chunk-requires-clause-chunk : goal.check_chunk-requires-clause-chunk
-check_chunk-requires-clause-chunk g c =
+pub check_alone-requires-clause-chunk : goal.check_alone-requires-clause-chunk
+check_alone-requires-clause-chunk g c =
     let so_far = c.chunks.invariant in
     let text = c.args.probe.now.text in
     let loaded = ap (λ p. p.text) c.load-chunk.ensures.state in
     let lanes = rw so_far.reads.text_kept at c.load-chunk.ensures.lanes in
-    rw (c.bytes_before-before.ensures.reads.text_kept, loaded, so_far.reads.text_kept)
+    rw (loaded, so_far.reads.text_kept)
     (window_loaded text c.chunks.at g.T.ByteChunk.SIZE _ c.len-len.ensures.bytes
     (omega (arith, c.chunks-test.true, c.SIZE.ensures, c.len-len.ensures.len, so_far.high)) lanes)
 
@@ -19,7 +19,7 @@ returns-in-Err-clause-reads g c =
     let least = g.met.T.ByteChunk.lawful.least in
     let within : c.chunks.at + size ≤ n = omega (arith, c.chunks-test.true, c.SIZE.ensures, c.len-len.ensures.len, so_far.high) in
     let made = chunk_made c.chunks.at c.chunks.at (omega arith) c.load-chunk.ensures.state
-    (weaken c.bytes_before-before.ensures.reads (omega arith) (omega arith) (omega arith) (omega arith)) in
+    (weaken c.check_alone.ensures.reads (omega arith) (omega arith) (omega arith) (omega arith)) in
     let joined = group_joined {group = 1} {to = c.chunks.at + size} (omega arith) least so_far.low so_far.reads made in
     weaken joined (omega arith) (omega arith)
     (omega (arith, div-add-le size c.args.from (c.chunks.at + size) n least (omega (arith, so_far.low)) within)) (omega arith)
@@ -30,11 +30,11 @@ chunks-preserved g c =
     let size = c.SIZE-at.ensures in
     let loaded = ap (λ p. p.text) c.load-chunk.ensures.state in
     let made = chunk_made c.chunks.at c.chunks.at (omega arith) c.load-chunk.ensures.state
-    (weaken c.bytes_before-before.ensures.reads (omega arith) (omega arith) (omega arith) (omega arith)) in
-    let same = c.bytes_before-before.ensures.reads.text_kept ∙ loaded ∙ so_far.reads.text_kept in
+    (weaken c.check_alone.ensures.reads (omega arith) (omega arith) (omega arith) (omega arith)) in
+    let same = loaded ∙ so_far.reads.text_kept in
     record {
       low = omega (arith, so_far.low);
       high = omega (arith, c.chunks-test.true, c.SIZE.ensures, size, c.len-len.ensures.len, so_far.high);
-      follow = rw size (subst (λ text. AllFollow text 0 (c.chunks.at + g.T.ByteChunk.SIZE)) same c.in_default.ensures.ok.0);
+      follow = rw size (subst (λ text. AllFollow text 0 (c.chunks.at + g.T.ByteChunk.SIZE)) same c.in_default.ensures.ok);
       reads = group_joined {group = 1} (omega (arith, size)) g.met.T.ByteChunk.lawful.least so_far.low so_far.reads made;
     }

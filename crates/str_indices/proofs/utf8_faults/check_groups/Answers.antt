@@ -1,5 +1,6 @@
 use Rattle.str_indices.proofs.lemmas.{◌≡◌, ◌+◌, ◌*◌, ◌≤◌, ◌∙◌, length, sym, ap, subst, arith, true, AllFollow, AreBefore, IsWindow, is_open, ascii_follow, both_follow, group_ascii, group_joined, group_made, group_to_end, open_ascii}
-use Rattle.std.proofs.lemmas.Bool.{false≢true}
+use Rattle.std.proofs.Common.{refl, eqb-true}
+use Rattle.std.proofs.lemmas.Bool.{eqb-false}
 use Rattle.std.specs.Prelude.{IsFalse}
 use Rattle.str_indices.proofs.utf8_faults.check_groups.Goals.{then-is_ascii+else-goes_on, else-is_ascii+in-Ok}
 use Rattle.str_indices.proofs.utf8_faults.check_groups.Goals as goal
@@ -60,24 +61,26 @@ groups-preserved g c =
           let shut : IsFalse (is_open text at) = subst (λ t. IsFalse (is_open t at)) (group.reads.text_kept ∙ kept) (sym w.goes_on.ensures.open ∙ w.if-goes_on.false) in
           let all = ascii_follow text at (4 * size) shut bytes in
           let four = group_made group.reads group.loads group.peeks w.goes_on.ensures.reads in
-          rw (is_size, w.probe-is, w.after_ascii-is) (record {
+          rw (is_size, w.probe-is, w.ascii_end-is, w.SIZE-then-is_ascii.ensures) (record {
             low = omega (arith, so_far.low);
             high = high;
             follow = both_follow text so_far.follow all.0;
-            before = λ no. absurd (false≢true (sym no));
+            behind = omega arith;
+            before = λ no. absurd (eqb-false (at + 4 * size) (at + 4 * size) no refl);
             shut = λ _. all.1;
             reads = group_joined {group = 4} (omega arith) least so_far.low so_far.reads four;
           })
       | else-is_ascii+in-Ok w ↦
           let four = group_made group.reads group.loads group.peeks w.before_or_anew-before_group.ensures.reads in
           let same : w.before_or_anew-before_group.new.probe.text ≡ text = w.before_or_anew-before_group.ensures.reads.text_kept ∙ group.reads.text_kept ∙ kept in
-          rw (is_size, w.probe-is, w.after_ascii-is, w.before-is) (record {
+          rw (is_size, w.probe-is, w.before-is) (record {
             low = omega (arith, so_far.low);
             high = high;
+            behind = omega (arith, so_far.behind);
             follow = subst (λ t. AllFollow t 0 (at + 4 * size)) same w.in-Ok.ensures.ok.0;
             before = λ _. subst (λ t. AreBefore size t (at + 4 * size) (g.T.ByteChunk.lanes w.in-Ok.next.one_back)
                 (g.T.ByteChunk.lanes w.in-Ok.next.two_back) (g.T.ByteChunk.lanes w.in-Ok.next.three_back)) same w.in-Ok.ensures.ok.1;
-            shut = λ yes. absurd (false≢true yes);
+            shut = λ yes. absurd (omega (arith, eqb-true _ _ yes, so_far.behind, least));
             reads = group_joined {group = 4} (omega arith) least so_far.low so_far.reads four;
           })
     ]

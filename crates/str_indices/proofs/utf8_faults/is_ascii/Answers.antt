@@ -1,9 +1,9 @@
-use Rattle.str_indices.proofs.lemmas.{arith, ascii_lanes}
+use Rattle.str_indices.proofs.lemmas.{arith}
 use Rattle.str_indices.proofs.utf8_faults.is_ascii.Goals as goal
 
 pub returns : goal.returns
-returns g c = λ zero j l.
-    let all = ascii_lanes c.either.ensures.bytes c.splat.ensures c.bitand.ensures (c.is_zero.ensures.0 zero) j l in
+returns g c = λ yes j l.
+    let all = c.is_ascii.ensures yes j l in
     let whole = c.either.ensures.lanes j l in
     let front = c.either-front.ensures.lanes j l in
     let back = c.either-back.ensures.lanes j l in (
