@@ -242,7 +242,7 @@ fn load_group<T: Utf8Chunk>(probe: &mut ByteProbe<'_, T>, at: usize) -> Group<T>
     }
 }
 
-/// Whether all lanes are ASCII.
+/// True only if all lanes are ASCII.
 #[inline(always)]
 fn is_ascii<T: Utf8Chunk>(group: Group<T>) -> bool
     requires first { AreBytes T.SIZE (T.lanes group.first) }

@@ -31,7 +31,7 @@ pub trait Utf8Chunk: ByteChunk {
         due.add(lead_faults(one_back)).add(bounds)
     }
 
-    /// Whether all lanes are ASCII.
+    /// True only if all lanes are ASCII. False tells nothing: it sends them to `faults`.
     #[inline(always)]
     fn is_ascii(self) -> bool
         requires { AreBytes Self.SIZE (Self.lanes self) }
