@@ -8,8 +8,8 @@ use crate::utf8_faults::{first_fault, is_open, open_start};
 use crate::utf8_lanes::Utf8Chunk;
 use byte_chunk::{ByteProbe, Chunk};
 
-/// The fewest bytes that are checked by lanes. Below, the standard library's check is as fast.
-const FEWEST: usize = 64;
+/// The fewest bytes that are checked by lanes. Below there is no whole chunk, and the standard library is faster.
+const FEWEST: usize = 16;
 
 /// Whether the bytes are UTF-8: the bytes of some Unicode scalar values one after another. No bytes are.
 ///

@@ -161,10 +161,12 @@ fn check_chunks<T: Utf8Chunk>(probe: &mut ByteProbe<'_, T>, from: usize) -> Resu
 {
     let len = probe.len();
     let mut at = from;
+    let mut after_ascii = false;
     'chunks: while T::SIZE <= len - at {
         let chunk = probe.load(at);
-        if let Err(fault) = check_alone(probe, chunk, at) {
-            return Err(fault);
+        match check_alone(probe, chunk, at, after_ascii) {
+            Ok(is_ascii) => after_ascii = is_ascii,
+            Err(fault) => return Err(fault),
         }
         at += T::SIZE;
     }
@@ -182,28 +184,36 @@ fn check_rest<T: Utf8Chunk>(probe: &mut ByteProbe<'_, T>) -> Result<(), Fault>
 {
     let at = probe.len() - T::SIZE;
     let chunk = chunk_by_turns(probe, at);
-    check_alone(probe, chunk, at)
+    check_alone(probe, chunk, at, false)?;
+    Ok(())
 }
 
-/// Checks a chunk that no other chunk was checked before.
+/// Checks a chunk with no group around it, and returns whether it is ASCII.
 #[inline(always)]
-fn check_alone<T: Utf8Chunk>(probe: &mut ByteProbe<'_, T>, chunk: T, at: usize) -> Result<(), Fault>
+fn check_alone<T: Utf8Chunk>(
+    probe: &mut ByteProbe<'_, T>,
+    chunk: T,
+    at: usize,
+    after_ascii: bool,
+) -> Result<bool, Fault>
     requires within { at + T.SIZE ≤ length probe.old.text }
     requires follow { AllFollow probe.old.text 0 at }
     requires chunk { IsWindow T.SIZE probe.old.text (at + 3) (T.lanes chunk) }
-    ensures ok { OnOk result (AllFollow probe.old.text 0 (at + T.SIZE)) }
+    requires shut { after_ascii ≡ true → IsFalse (is_open probe.old.text at) }
+    ensures ok { IfOk result (λ is_ascii. AllFollow probe.old.text 0 (at + T.SIZE)
+        × (is_ascii ≡ true → IsFalse (is_open probe.old.text (at + T.SIZE)))) }
     ensures err { IfErr result (λ fault. IsFault probe.old.text fault.at) }
     ensures reads { Reads probe.old probe.new 0 0 0 3 }
 {
     if chunk.is_ascii() {
-        if is_open(probe, at) {
+        if goes_on(probe, at, after_ascii) {
             return Err(Fault { at });
         }
-        return Ok(());
+        return Ok(true);
     }
     let before = bytes_before(probe, at);
     check_chunk(probe, chunk, at, before)?;
-    Ok(())
+    Ok(false)
 }
 
 /// Reads the chunk at `at`, with one turn a byte.

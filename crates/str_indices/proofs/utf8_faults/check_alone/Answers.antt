@@ -2,12 +2,12 @@ use Rattle.str_indices.proofs.lemmas.{◌≡◌, arith, sym, ◌∙◌, true, as
 use Rattle.std.specs.Prelude.{IsFalse}
 use Rattle.str_indices.proofs.utf8_faults.check_alone.Goals as goal
 
-pub returns-then-is_open-clause-err : goal.returns-then-is_open-clause-err
-returns-then-is_open-clause-err g c =
+pub returns-then-goes_on-clause-err : goal.returns-then-goes_on-clause-err
+returns-then-goes_on-clause-err g c =
     let text = c.args.probe.now.text in
     let at = c.args.at in
     let some = g.met.T.ByteChunk.lawful.least in
-    let opened : is_open text at ≡ true = sym c.is_open.ensures.open ∙ c.if-is_open.true in
+    let opened : is_open text at ≡ true = sym c.goes_on.ensures.open ∙ c.if-goes_on.true in
     let ascii = window_ascii text c.requires.chunk (c.is_ascii.ensures c.if-is_ascii.true) in
     record {
       within = omega (arith, c.requires.within, some);
@@ -18,6 +18,9 @@ returns-then-is_open-clause-err g c =
 pub returns-then-is_ascii-clause-ok : goal.returns-then-is_ascii-clause-ok
 returns-then-is_ascii-clause-ok g c =
     let text = c.args.probe.now.text in
-    let shut : IsFalse (is_open text c.args.at) = sym c.is_open.ensures.open ∙ c.if-is_open.false in
+    let shut : IsFalse (is_open text c.args.at) = sym c.goes_on.ensures.open ∙ c.if-goes_on.false in
     let ascii = window_ascii text c.requires.chunk (c.is_ascii.ensures c.if-is_ascii.true) in
-    both_follow text c.requires.follow (ascii_follow text c.args.at g.T.ByteChunk.SIZE shut ascii).0
+    let all = ascii_follow text c.args.at g.T.ByteChunk.SIZE shut ascii in (
+      both_follow text c.requires.follow all.0,
+      λ _. all.1,
+    )

@@ -1,4 +1,5 @@
-use Rattle.str_indices.proofs.lemmas.{◌+◌, ◌≤◌, ◌∙◌, length, ap, arith, subst, AllFollow, chunk_made, div-add-le, group_joined, weaken, window_loaded}
+use Rattle.str_indices.proofs.lemmas.{◌≡◌, true, is_open, ◌+◌, ◌≤◌, ◌∙◌, length, ap, arith, subst, AllFollow, chunk_made, div-add-le, group_joined, weaken, window_loaded}
+use Rattle.std.specs.Prelude.{IsFalse}
 use Rattle.str_indices.proofs.utf8_faults.check_chunks.Goals as goal
 
 pub check_alone-requires-clause-chunk : goal.check_alone-requires-clause-chunk
@@ -35,6 +36,7 @@ chunks-preserved g c =
     record {
       low = omega (arith, so_far.low);
       high = omega (arith, c.chunks-test.true, c.SIZE.ensures, size, c.len-len.ensures.len, so_far.high);
-      follow = rw size (subst (λ text. AllFollow text 0 (c.chunks.at + g.T.ByteChunk.SIZE)) same c.in_default.ensures.ok);
+      follow = rw size (subst (λ text. AllFollow text 0 (c.chunks.at + g.T.ByteChunk.SIZE)) same c.in-Ok.ensures.ok.0);
+      shut = rw size (subst (λ text. c.in-Ok.is_ascii ≡ true → IsFalse (is_open text (c.chunks.at + g.T.ByteChunk.SIZE))) same c.in-Ok.ensures.ok.1);
       reads = group_joined {group = 1} (omega (arith, size)) g.met.T.ByteChunk.lawful.least so_far.low so_far.reads made;
     }
