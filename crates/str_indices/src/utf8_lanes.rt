@@ -291,7 +291,7 @@ impl Utf8Chunk for Simd<u8, 16> {
 
     #[inline(always)]
     fn is_ascii(self) -> bool {
-        self.simd_ge(Self::splat(0x80)).to_bitmask() == 0
+        self.simd_ge(u8x16::splat(0x80)).to_bitmask() == 0
     }
 }
 
@@ -306,6 +306,6 @@ impl Utf8Chunk for Simd<u8, 32> {
 
     #[inline(always)]
     fn is_ascii(self) -> bool {
-        self.simd_ge(Self::splat(0x80)).to_bitmask() == 0
+        self.simd_ge(u8x32::splat(0x80)).to_bitmask() == 0
     }
 }
