@@ -193,8 +193,9 @@ static int has_marks(const str_rope *rope, size_t number)
 /* A change of a snapshot that the other thread has too. */
 static int changes_alone(str_rope *own)
 {
-    size_t len = str_rope_len(own), at = str_rope_to_byte_idx(own, STR_INDICES_CRLF, LINES / 2);
-    return str_rope_replace(own, at, at + LINE, "one\ntwo", 7) == STR_ROPE_OK && str_rope_len(own) == len - LINE + 7;
+    size_t len = str_rope_len(own), at = str_rope_to_byte_idx(own, STR_INDICES_CRLF, LINES / 2),
+           end = str_rope_to_byte_idx(own, STR_INDICES_CRLF, LINES / 2 + 1);
+    return str_rope_replace(own, at, end, "one\ntwo", 7) == STR_ROPE_OK && str_rope_len(own) == len - (end - at) + 7;
 }
 
 /* Takes the snapshot that was handed on, once there is one; whether one came before it was over. */
