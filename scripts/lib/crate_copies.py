@@ -60,8 +60,8 @@ def copy_crate(name: str, folder: pathlib.Path, *more_lines: str, **how) -> path
 
 
 def copy_program(name: str, libraries: List[str], source: str, folder: pathlib.Path, **how) -> pathlib.Path:
-    """Puts a program of that name and source beside copies of the libraries that it stands on; answers where it is. What is no
-    crate of the repository is a library of the toolchain."""
+    """Puts a program of that name and source beside copies of the libraries that it stands on; answers where it is. The
+    toolchain has the libraries that are no crates of the repository."""
     copy_crates([library for library in libraries if library in stands_on()], folder, f"{name}: {' '.join(libraries)}\n", **how)
     (folder / "crates" / name / "src").mkdir(parents=True)
     (folder / "crates" / name / "src/main.rt").write_text(source, encoding="utf-8")

@@ -21,7 +21,7 @@ impl Rope {
     /// Returns how many, and the byte index where the first begins; from the end of the text on there is none.
     fn lend_several<'a>(&'a self, byte: usize, way: Way, room: &mut [&'a str; MOST_HELD]) -> (usize, usize) {
         let mut chunks = [LentChunk::NONE; MOST_HELD];
-        // SAFETY: as `library` says, and so many chunks may be written to.
+        // SAFETY: as `library` says, and `chunks` may be written to, as far as `chunks.len()` says.
         let count = unsafe {
             match way {
                 Way::On => str_rope_chunks_at(self.handle(), byte, chunks.as_mut_ptr(), chunks.len()),

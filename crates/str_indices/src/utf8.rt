@@ -11,9 +11,7 @@ use byte_chunk::{ByteProbe, Chunk};
 /// The fewest bytes that are checked by lanes. Below there is no whole chunk, and the standard library is faster.
 const FEWEST: usize = 16;
 
-/// Whether the bytes are UTF-8: the bytes of some Unicode scalar values one after another. No bytes are.
-///
-/// It reads up to the first byte that is wrong.
+/// Whether the bytes are UTF-8: the bytes of some Unicode scalar values one after another. An empty slice is.
 pub fn is_utf8(bytes: &[u8]) -> bool
     ensures { IsTrue result ↔ IsUtf8 bytes.now }
 {

@@ -412,7 +412,7 @@ fn goes_on<T: Utf8Chunk>(probe: &mut ByteProbe<'_, T>, at: usize, after_ascii: b
     is_open(probe, at)
 }
 
-/// What is before a group: `before`, but anew after ASCII.
+/// Returns `before`, or where a group of ASCII came last, reads the three bytes before `at` anew.
 #[inline(always)]
 fn before_or_anew<T: Utf8Chunk>(
     probe: &mut ByteProbe<'_, T>,

@@ -159,7 +159,8 @@ fn kernels_answer<T: Utf8Chunk>(rt: &impl Abort, bytes: &[u8], want: usize) {
     }
 }
 
-/// Compares them for each row after so many letters, where the bytes end there, and where four chunks of letters follow.
+/// Puts `before` letters in front of each row, and compares the answers: once the bytes end with the row, and once four
+/// chunks of letters follow it.
 fn rows_answer_after<T: Utf8Chunk>(
     rt: &impl Abort,
     alloc: Global,

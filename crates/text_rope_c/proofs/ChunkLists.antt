@@ -110,7 +110,7 @@ set_at text at out n now c room are is lent same part =
       next = λ after starts. next_at text at (take n out) after c starts;
     })
 
--- the same of a loop that goes back
+-- a loop that goes back keeps the chunks that it has put into the room
 pub record IsSetBefore (text : Text) (at : ℕ) (lent : List Chunk) (c : Chunk) : Type 0 where
   pub chunks : AreChunksBefore text at lent
   pub start : start_after at lent ≡ c.start
