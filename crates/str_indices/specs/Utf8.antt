@@ -9,10 +9,12 @@
 --     IsFault bytes at                the first byte that may not follow the three before it is at `at`
 --     AreBytes size lanes             there are `size` lanes, and each is a byte
 --     IsWindow size bytes at lanes    the lanes are the `size` bytes of `after_zeros bytes` from `at` on
+--     AreFour size bytes at first second third fourth
+--                                     the four chunks that the bytes have from place `at` on
 --     EndsAt size bytes at lanes      the last lane is the byte of `after_zeros bytes` at `at`
 --     AreBefore size bytes at one two three
 --                                     the last lanes of three chunks are the bytes one, two and three back from place `at`
-use Rattle.std.specs.Prelude.{ℕ, ◌≡◌, ◌+◌, ◌-◌, ◌<◌, ◌≤◌, Bool, not, ◌&&◌, ◌||◌, if◌then◌else◌, List, ◌∷◌, length, nat_le, nat_lt, slice_index, IsTrue, IsFalse}
+use Rattle.std.specs.Prelude.{ℕ, ◌≡◌, ◌+◌, ◌-◌, ◌*◌, ◌<◌, ◌≤◌, Bool, not, ◌&&◌, ◌||◌, if◌then◌else◌, List, ◌∷◌, length, nat_le, nat_lt, slice_index, IsTrue, IsFalse}
 use Rattle.std.specs.Int.{is_in_range}
 use Rattle.std.specs.Simd.Lanes.{Each1}
 use Rattle.std.specs.Str.Lossy.{second_byte_min, second_byte_max}
@@ -63,6 +65,13 @@ pub record IsFault (bytes : List ℕ) (at : ℕ) : Type 0 where
 pub record IsWindow (size : ℕ) (bytes : List ℕ) (at : ℕ) (lanes : List ℕ) : Type 0 where
   pub are : AreBytes size lanes
   pub each : (j : ℕ) → j < size → slice_index lanes j ≡ slice_index (after_zeros bytes) (at + j)
+
+pub record AreFour (size : ℕ) (bytes : List ℕ) (at : ℕ) (first second third fourth : List ℕ) : Type 0 where
+  pub within : at + 4 * size ≤ length bytes
+  pub is_first : IsWindow size bytes (at + 3) first
+  pub is_second : IsWindow size bytes (at + size + 3) second
+  pub is_third : IsWindow size bytes (at + 2 * size + 3) third
+  pub is_fourth : IsWindow size bytes (at + 3 * size + 3) fourth
 
 pub record EndsAt (size : ℕ) (bytes : List ℕ) (at : ℕ) (lanes : List ℕ) : Type 0 where
   pub are : AreBytes size lanes

@@ -1,5 +1,5 @@
 //! Whether bytes are UTF-8, the bytes of a text, and how far they are (the Unicode Standard, chapter 3, table 3-7).
-ghost use Rattle.std.specs.Prelude.{◌≡◌, ◌↔◌, IsTrue, IsSome, IfSome, length};
+ghost use Rattle.std.specs.Prelude.{◌≡◌, ◌+◌, ◌/◌, ◌≤◌, ◌↔◌, IsTrue, IsSome, IfSome, length};
 ghost use Rattle.std.specs.Str.{IsUtf8};
 ghost use Rattle.std.specs.Str.Lossy.{utf8_valid_len};
 ghost use Rattle.str_indices.specs.Prelude.{IsCountingPass, IsFindingPass};
@@ -42,11 +42,13 @@ pub fn from_utf8(bytes: &[u8]) -> Option<&str>
 
 /// Whether the bytes are UTF-8, as [`is_utf8`], over chunks of any type.
 ///
-/// `lead` bytes, or as many of them as there are, are walked one by one before the first chunk.
+/// `lead` bytes, or as many of them as there are, are walked one by one before the first chunk. It loads at most five chunks
+/// more than the beginning that is UTF-8 has.
 pub fn is_utf8_impl<T: Utf8Chunk>(probe: &mut ByteProbe<'_, T>, lead: usize) -> bool
     ensures answer { IsTrue result ↔ IsUtf8 probe.old.text }
     ensures text { probe.new.text ≡ probe.old.text }
     ensures pass { IsCountingPass probe.old probe.new T.SIZE lead (length probe.old.text) 6 }
+    ensures early { probe.new.loads ≤ probe.old.loads + utf8_valid_len probe.old.text / T.SIZE + 5 }
 {
     let len = probe.len();
     match first_fault(probe, lead) {

@@ -2,9 +2,9 @@
 //!
 //! The bytes before a chunk are handed on as the last lanes of three chunks, from which its lanes are shifted: so no
 //! byte is loaded twice, and a chunk of any type will do.
-ghost use Rattle.std.specs.Prelude.{◌≡◌, ℕ, ◌+◌, ◌-◌, ◌*◌, ◌/◌, ◌<◌, ◌≤◌, ◌≢◌, ◌++◌, true, false, IsTrue, IsFalse, IfOk, IfErr, OnOk, length, replicate, slice_index, take, drop};
+ghost use Rattle.std.specs.Prelude.{◌≡◌, ℕ, ◌+◌, ◌-◌, ◌*◌, ◌/◌, ◌<◌, ◌≤◌, ◌≢◌, ◌++◌, true, false, IsTrue, IsFalse, IfSome, IfNone, IfOk, IfErr, OnOk, length, replicate, slice_index, take, drop};
 ghost use Rattle.std.specs.Simd.Lanes.{zip2};
-ghost use Rattle.str_indices.specs.Prelude.{AllFollow, AreBefore, AreBytes, IsFault, IsWindow, Reads, after_zeros, follows, is_open, leading_bytes, may_follow, open_start};
+ghost use Rattle.str_indices.specs.Prelude.{AllFollow, AreBefore, AreBytes, AreFour, IsFault, IsWindow, Reads, after_zeros, follows, is_open, leading_bytes, may_follow, open_start};
 
 use crate::utf8_lanes::Utf8Chunk;
 use byte_chunk::ByteProbe;
@@ -36,6 +36,14 @@ struct Group<T> {
     second: T,
     third: T,
     fourth: T,
+}
+
+/// Four chunks, if as many are left, and what is before them.
+#[derive(Clone, Copy)]
+struct Next<T> {
+    at: usize,
+    group: Option<Group<T>>,
+    before: Before<T>,
 }
 
 /// Finds the first byte that may not follow the three before it.
@@ -126,26 +134,91 @@ fn check_groups<T: Utf8Chunk>(probe: &mut ByteProbe<'_, T>, from: usize) -> Resu
     let len = probe.len();
     let mut at = from;
     let mut before = bytes_before(probe, from);
-    // The last place where ASCII was seen to end. At 0 no char goes on either.
-    let mut ascii_end = 0;
     'groups: while 4 * T::SIZE <= len - at {
-        let after_ascii = at == ascii_end;
+        let next = match next_group(probe, at, before) {
+            Ok(next) => next,
+            Err(fault) => return Err(fault),
+        };
+        let Next {
+            at: start,
+            group,
+            before: before_group,
+        } = next;
+        let Some(group) = group else {
+            return Ok(start);
+        };
+        match check_group(probe, group, start, before_group) {
+            Ok(after) => before = after,
+            Err(fault) => return Err(fault),
+        }
+        at = start + 4 * T::SIZE;
+    }
+    Ok(at)
+}
+
+/// Finds the first group from `at` on that is not ASCII, with what is before it, or where fewer than four chunks are left.
+#[inline(always)]
+fn next_group<T: Utf8Chunk>(
+    probe: &mut ByteProbe<'_, T>,
+    at: usize,
+    before: Before<T>,
+) -> Result<Next<T>, Fault>
+    requires within { at + 4 * T.SIZE ≤ length probe.old.text }
+    requires follow { AllFollow probe.old.text 0 at }
+    requires before { AreBefore T.SIZE probe.old.text at (T.lanes before.one_back) (T.lanes before.two_back)
+        (T.lanes before.three_back) }
+    ensures ok { IfOk result (λ next. (at ≤ next.at) × (next.at ≤ length probe.old.text) × AllFollow probe.old.text 0 next.at) }
+    ensures before { IfOk result (λ next. AreBefore T.SIZE probe.old.text next.at (T.lanes next.before.one_back)
+        (T.lanes next.before.two_back) (T.lanes next.before.three_back)) }
+    ensures some { IfOk result (λ next. IfSome next.group (λ group. AreFour T.SIZE probe.old.text next.at
+        (T.lanes group.first) (T.lanes group.second) (T.lanes group.third) (T.lanes group.fourth)
+        × Reads probe.old probe.new at 0 ((next.at - at) / T.SIZE + 4) 0)) }
+    ensures none { IfOk result (λ next. IfNone next.group (Reads probe.old probe.new at 0 ((next.at - at) / T.SIZE) 0)) }
+    ensures err { IfErr result (λ fault. IsFault probe.old.text fault.at × Reads probe.old probe.new at 0 4 0) }
+{
+    prove!(4 * T::SIZE <= probe.len() - at);
+    let group = load_group(probe, at);
+    if !is_ascii(group) {
+        return Ok(Next {
+            at,
+            group: Some(group),
+            before,
+        });
+    }
+    if is_open(probe, at) {
+        return Err(Fault { at });
+    }
+    let (at, group) = skip_ascii(probe, at + 4 * T::SIZE);
+    Ok(Next {
+        at,
+        group,
+        before: bytes_before(probe, at),
+    })
+}
+
+/// Skips ASCII from `from` on, four chunks at a time, and returns where it stops and the group there, which is not ASCII.
+#[inline(always)]
+fn skip_ascii<T: Utf8Chunk>(probe: &mut ByteProbe<'_, T>, from: usize) -> (usize, Option<Group<T>>)
+    requires within { (4 * T.SIZE ≤ from) × (from ≤ length probe.old.text) }
+    requires follow { AllFollow probe.old.text 0 from }
+    requires shut { IsFalse (is_open probe.old.text from) }
+    ensures within { (from ≤ result.0) × (result.0 ≤ length probe.old.text) }
+    ensures follow { AllFollow probe.old.text 0 result.0 }
+    ensures some { IfSome result.1 (λ group. AreFour T.SIZE probe.old.text result.0 (T.lanes group.first)
+        (T.lanes group.second) (T.lanes group.third) (T.lanes group.fourth)
+        × Reads probe.old probe.new from 0 ((result.0 - from) / T.SIZE + 4) 0) }
+    ensures none { IfNone result.1 (Reads probe.old probe.new from 0 ((result.0 - from) / T.SIZE) 0) }
+{
+    let last = probe.len() - 4 * T::SIZE;
+    let mut at = from;
+    'groups: while at <= last {
         let group = load_group(probe, at);
-        if is_ascii(group) {
-            if goes_on(probe, at, after_ascii) {
-                return Err(Fault { at });
-            }
-            ascii_end = at + 4 * T::SIZE;
-        } else {
-            let before_group = before_or_anew(probe, at, after_ascii, before);
-            match check_group(probe, group, at, before_group) {
-                Ok(next) => before = next,
-                Err(fault) => return Err(fault),
-            }
+        if !is_ascii(group) {
+            return (at, Some(group));
         }
         at += 4 * T::SIZE;
     }
-    Ok(at)
+    (at, None)
 }
 
 /// Checks the bytes from `from` on, chunk by chunk, and returns where less than a chunk is left.
@@ -235,10 +308,8 @@ fn chunk_by_turns<T: Utf8Chunk>(probe: &mut ByteProbe<'_, T>, at: usize) -> T
 #[inline(always)]
 fn load_group<T: Utf8Chunk>(probe: &mut ByteProbe<'_, T>, at: usize) -> Group<T>
     requires { at + 4 * T.SIZE ≤ length probe.old.text }
-    ensures first { IsWindow T.SIZE probe.old.text (at + 3) (T.lanes result.first) }
-    ensures second { IsWindow T.SIZE probe.old.text (at + T.SIZE + 3) (T.lanes result.second) }
-    ensures third { IsWindow T.SIZE probe.old.text (at + 2 * T.SIZE + 3) (T.lanes result.third) }
-    ensures fourth { IsWindow T.SIZE probe.old.text (at + 3 * T.SIZE + 3) (T.lanes result.fourth) }
+    ensures four { AreFour T.SIZE probe.old.text at (T.lanes result.first) (T.lanes result.second)
+        (T.lanes result.third) (T.lanes result.fourth) }
     ensures reads { Reads probe.old probe.new at 0 4 0 }
     ensures loads { probe.new.loads ≡ probe.old.loads + 4 }
     ensures peeks { probe.new.peeks ≡ probe.old.peeks }
@@ -288,12 +359,9 @@ fn check_group<T: Utf8Chunk>(
     at: usize,
     before: Before<T>,
 ) -> Result<Before<T>, Fault>
-    requires within { at + 4 * T.SIZE ≤ length probe.now.text }
     requires follow { AllFollow probe.now.text 0 at }
-    requires first { IsWindow T.SIZE probe.now.text (at + 3) (T.lanes group.first) }
-    requires second { IsWindow T.SIZE probe.now.text (at + T.SIZE + 3) (T.lanes group.second) }
-    requires third { IsWindow T.SIZE probe.now.text (at + 2 * T.SIZE + 3) (T.lanes group.third) }
-    requires fourth { IsWindow T.SIZE probe.now.text (at + 3 * T.SIZE + 3) (T.lanes group.fourth) }
+    requires four { AreFour T.SIZE probe.now.text at (T.lanes group.first) (T.lanes group.second)
+        (T.lanes group.third) (T.lanes group.fourth) }
     requires before { AreBefore T.SIZE probe.now.text at (T.lanes before.one_back) (T.lanes before.two_back)
         (T.lanes before.three_back) }
     ensures ok { IfOk result (λ next. AllFollow probe.now.text 0 (at + 4 * T.SIZE)
@@ -410,27 +478,6 @@ fn goes_on<T: Utf8Chunk>(probe: &mut ByteProbe<'_, T>, at: usize, after_ascii: b
         return false;
     }
     is_open(probe, at)
-}
-
-/// Returns `before`, or where a group of ASCII came last, reads the three bytes before `at` anew.
-#[inline(always)]
-fn before_or_anew<T: Utf8Chunk>(
-    probe: &mut ByteProbe<'_, T>,
-    at: usize,
-    after_ascii: bool,
-    before: Before<T>,
-) -> Before<T>
-    requires within { at ≤ length probe.old.text }
-    requires before { after_ascii ≡ false → AreBefore T.SIZE probe.old.text at (T.lanes before.one_back)
-        (T.lanes before.two_back) (T.lanes before.three_back) }
-    ensures before { AreBefore T.SIZE probe.old.text at (T.lanes result.one_back) (T.lanes result.two_back)
-        (T.lanes result.three_back) }
-    ensures reads { Reads probe.old probe.new 0 0 0 3 }
-{
-    if after_ascii {
-        return bytes_before(probe, at);
-    }
-    before
 }
 
 /// Whether a char goes on at `at`.

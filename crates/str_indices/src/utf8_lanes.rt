@@ -31,11 +31,11 @@ pub trait Utf8Chunk: ByteChunk {
         due.add(lead_faults(one_back)).add(bounds)
     }
 
-    /// True only if all lanes are ASCII. False tells nothing: it sends them to `faults`.
+    /// Whether all lanes are ASCII.
     #[inline(always)]
     fn is_ascii(self) -> bool
         requires { AreBytes Self.SIZE (Self.lanes self) }
-        ensures { IsTrue result → (j : ℕ) → j < Self.SIZE → slice_index (Self.lanes self) j < 128 }
+        ensures { IsTrue result ↔ ((j : ℕ) → j < Self.SIZE → slice_index (Self.lanes self) j < 128) }
     {
         self.bitand(Self::splat(0x80)).is_zero()
     }

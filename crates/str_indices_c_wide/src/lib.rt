@@ -15,13 +15,19 @@ mod text_positions;
 
 use byte_chunk::{ByteProbe, Probe};
 use std::simd::u8x32;
-use str_indices::{chars, lines, lines_crlf, lines_lf, utf8, utf16};
+use str_indices::{chars, is_utf8, lines, lines_crlf, lines_lf, utf8, utf16};
+
+/// The fewest bytes that have a chunk of thirty-two lanes.
+const FEWEST: usize = 32;
 
 /// Whether the bytes are UTF-8, which all exports but this one and the next want of their text.
 #[unsafe(no_mangle)]
 pub extern "C" fn str_indices_wide_is_utf8(text: &[u8]) -> bool
     ensures { IsTrue result ↔ IsUtf8 text.now }
 {
+    if text.len() < FEWEST {
+        return is_utf8(text);
+    }
     utf8::is_utf8_impl(&mut ByteProbe::<u8x32>::of(text), 0)
 }
 

@@ -27,4 +27,4 @@ pub use Rattle.str_indices.specs.Schemes.{break_characters, is_break_end, is_end
 pub use Rattle.str_indices.specs.Starts.{IsGreatestBoundary, IsGreatestEnd, IsSecondUnit, IsInside}
 pub use Rattle.str_indices.specs.Text.{size, Placed, placed, line_feed, carriage_return, is_crlf_middle, cut, weight}
 pub use Rattle.str_indices.specs.TraitLaws.{flag-le, mark-le, break_start-le, break_at-le}
-pub use Rattle.str_indices.specs.Utf8.{AllFollow, AreBefore, AreBytes, EndsAt, IsFault, IsWindow, after_zeros, follows, is_open, leaves_open, may_follow, open_start}
+pub use Rattle.str_indices.specs.Utf8.{AllFollow, AreBefore, AreBytes, AreFour, EndsAt, IsFault, IsWindow, after_zeros, follows, is_open, leaves_open, may_follow, open_start}

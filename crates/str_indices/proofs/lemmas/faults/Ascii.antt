@@ -1,7 +1,7 @@
 -- ASCII follows wherever no char goes on.
 use Rattle.str_indices.proofs.lemmas.Common.{◌≡◌, ℕ, zero, suc, ◌+◌, ◌-◌, ◌*◌, ◌<◌, ◌≤◌, List, get_or, sym, ap, ◌∙◌, subst, arith, inl, inr, cases_lt, add-zero, true, nat_tests}
 use Rattle.std.specs.Prelude.{IsTrue, IsFalse}
-use Rattle.str_indices.specs.Utf8.{AllFollow, IsWindow, after_zeros, follows, is_open, leaves_open, may_follow}
+use Rattle.str_indices.specs.Utf8.{AllFollow, AreFour, IsWindow, after_zeros, follows, is_open, leaves_open, may_follow}
 use Rattle.str_indices.proofs.lemmas.utf8.Steps.{leaves_open-AllClosed, may_follow-first}
 use Rattle.str_indices.proofs.lemmas.faults.Follow.{byte_after_zeros, none_follow, one_follows}
 
@@ -54,19 +54,17 @@ module _ (bytes : List ℕ) where
       subst (λ b. b < 128) lane (small (i - at) (omega arith))
 
   -- four chunks of ASCII
-  pub group_ascii : {size at : ℕ} {first second third fourth : List ℕ} → IsWindow size bytes (at + 3) first
-      → IsWindow size bytes (at + size + 3) second → IsWindow size bytes (at + 2 * size + 3) third
-      → IsWindow size bytes (at + 3 * size + 3) fourth
+  pub group_ascii : {size at : ℕ} {first second third fourth : List ℕ} → AreFour size bytes at first second third fourth
       → ((j : ℕ) → j < size → (get_or first j 0 < 128) × (get_or second j 0 < 128) × (get_or third j 0 < 128) × (get_or fourth j 0 < 128))
       → (i : ℕ) → at ≤ i → i < at + 4 * size → get_or bytes i 0 < 128
-  group_ascii {size} {at} is is' is'' is''' small i low high =
+  group_ascii {size} {at} four small i low high =
       elim (cases_lt i (at + size)) [
-        | inl l ↦ window_ascii is (λ j k. (small j k).0) i low l
+        | inl l ↦ window_ascii four.is_first (λ j k. (small j k).0) i low l
         | inr g ↦ elim (cases_lt i (at + 2 * size)) [
-          | inl l ↦ window_ascii is' (λ j k. (small j k).1) i g (omega arith)
+          | inl l ↦ window_ascii four.is_second (λ j k. (small j k).1) i g (omega arith)
           | inr g ↦ elim (cases_lt i (at + 3 * size)) [
-            | inl l ↦ window_ascii is'' (λ j k. (small j k).2) i g (omega arith)
-            | inr g ↦ window_ascii is''' (λ j k. (small j k).3) i g (omega arith)
+            | inl l ↦ window_ascii four.is_third (λ j k. (small j k).2) i g (omega arith)
+            | inr g ↦ window_ascii four.is_fourth (λ j k. (small j k).3) i g (omega arith)
           ]
         ]
       ]

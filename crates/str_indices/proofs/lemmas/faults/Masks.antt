@@ -1,5 +1,5 @@
 -- Lanes of two chunks taken together, and lanes of which the first are kept.
-use Rattle.str_indices.proofs.lemmas.Common.{◌≡◌, ℕ, suc, ◌+◌, ◌-◌, ◌<◌, ◌≤◌, List, [], ◌∷◌, ◌++◌, length, get_or, replicate, refl, sym, ◌∙◌, arith, inl, inr, cases_lt, bit_and, and_mask, get_or-replicate, get_or-zip2, get_or_append_left, length-append, length-replicate, length-zip2, zip2, Each2}
+use Rattle.str_indices.proofs.lemmas.Common.{◌≡◌, ℕ, suc, ◌+◌, ◌-◌, ◌<◌, ◌≤◌, ◌↔◌, List, [], ◌∷◌, ◌++◌, length, get_or, replicate, refl, sym, ◌∙◌, arith, inl, inr, cases_lt, bit_and, and_mask, get_or-replicate, get_or-zip2, get_or_append_left, length-append, length-replicate, length-zip2, zip2, Each2}
 use Rattle.std.proofs.Common.{w8}
 use Rattle.std.proofs.Math.Facts.{Fits-or}
 use Rattle.std.proofs.lemmas.List.{ext_get_or, get_or-append_right}
@@ -70,21 +70,30 @@ module _ {size : ℕ} {xs ys : List ℕ} (are : AreBytes size xs) (are' : AreByt
           omega (arith, either_lane j l),
         )
 
--- a byte without its highest bit is ASCII
-pub ascii_lanes : {size : ℕ} {lanes mask masked : List ℕ} → AreBytes size lanes → mask ≡ replicate size 0x80
-    → masked ≡ zip2 bit_and lanes mask → masked ≡ replicate size 0 → (j : ℕ) → j < size → get_or lanes j 0 < 128
-ascii_lanes {size} {lanes} {mask} {masked} are filled is zeros j l =
-    let masked_lane : get_or masked j 0 ≡ bit_and (get_or lanes j 0) 0x80 =
-    rw (is, get_or-zip2 bit_and lanes mask j 0 0 0 (omega (arith, are.long)) (rw filled (omega (arith, length-replicate {A = ℕ} size 0x80))), filled, get_or-replicate {A = ℕ} size j 0x80 0 l) refl in
-    let none : get_or masked j 0 ≡ 0 = rw zeros (get_or-replicate {A = ℕ} size j 0 0 l) in
-    omega (arith, masked_lane, none, and_pow (get_or lanes j 0) 7, lane_below are j l)
-
 -- lanes that are all 0
 pub zero_lanes : {size : ℕ} (lanes : List ℕ) → length lanes ≡ size → ((j : ℕ) → j < size → get_or lanes j 0 ≡ 0)
     → lanes ≡ replicate size 0
 zero_lanes {size} lanes long each =
     ext_get_or 0 lanes (replicate size 0) (rw (length-replicate {A = ℕ} size 0) long)
     (λ i l. let l' : i < size = omega (arith, long) in each i l' ∙ sym (get_or-replicate {A = ℕ} size i 0 0 l'))
+
+-- lanes without a highest bit are ASCII
+module _ {size : ℕ} {lanes mask masked : List ℕ} (are : AreBytes size lanes) (filled : mask ≡ replicate size 0x80)
+    (is : masked ≡ zip2 bit_and lanes mask) where
+  long_filled : length mask ≡ size
+  long_filled = rw filled (length-replicate {A = ℕ} size 0x80)
+
+  high_bit : (j : ℕ) → j < size → get_or masked j 0 ≡ bit_and (get_or lanes j 0) 0x80
+  high_bit j l = rw (is, get_or-zip2 bit_and lanes mask j 0 0 0 (omega (arith, are.long)) (omega (arith, long_filled)), filled, get_or-replicate {A = ℕ} size j 0x80 0 l) refl
+
+  pub ascii_lanes : (masked ≡ replicate size 0) ↔ ((j : ℕ) → j < size → get_or lanes j 0 < 128)
+  ascii_lanes = (
+    λ zeros j l.
+        let none : get_or masked j 0 ≡ 0 = rw zeros (get_or-replicate {A = ℕ} size j 0 0 l) in
+        omega (arith, high_bit j l, none, and_pow (get_or lanes j 0) 7, lane_below are j l),
+    λ small. zero_lanes masked (rw is (length-zip2 bit_and lanes mask (are.long ∙ sym long_filled) ∙ are.long))
+        (λ j l. omega (arith, high_bit j l, and_pow (get_or lanes j 0) 7, small j l)),
+  )
 
 module _ {size kept : ℕ} {lanes mask masked : List ℕ} (are : AreBytes size lanes) (few : kept ≤ size)
     (filled : mask ≡ replicate kept 0xFF ++ replicate (size - kept) 0) (is : masked ≡ zip2 bit_and lanes mask) where

@@ -22,6 +22,12 @@ pub group_made : {old loaded new : ProbeState} {at : ℕ} → Reads old loaded a
     → loaded.peeks ≡ old.peeks → Reads loaded new 0 0 0 3 → Reads old new at 0 4 0
 group_made reads four none peeks = grind arith
 
+-- four loads and peeks, more loads, and peeks again
+pub group_and_more : {old loaded opened skipped new : ProbeState} {at to l : ℕ} → at ≤ to → Reads old loaded at 0 4 0
+    → loaded.loads ≡ old.loads + 4 → loaded.peeks ≡ old.peeks → Reads loaded opened 0 0 0 3 → Reads opened skipped to 0 l 0
+    → Reads skipped new 0 0 0 3 → Reads old new at 0 (4 + l) 0
+group_and_more le reads four none peeks more peeks' = grind arith
+
 -- one part after another
 pub then_ : {old seen new : ProbeState} {first t l s t' l' s' : ℕ} → Reads old seen first t l s
     → Reads seen new first t' l' s' → Reads old new first (t + t') (l + l') (s + s')
@@ -50,6 +56,11 @@ module _ {old seen new : ProbeState} {from at : ℕ} where
     -- whole chunks, and then those from where they end
     pub chunks_joined : Reads seen new at 0 ((to - at) / size) 0 → Reads old new from 0 ((to - from) / size) 0
     chunks_joined more = grind (arith, div-add-le size from at to)
+
+  -- and with four more at most
+  pub four_joined : {size to : ℕ} → 4 ≤ size → from ≤ at → at ≤ to → Reads old seen from 0 ((at - from) / size) 0
+      → Reads seen new at 0 ((to - at) / size + 4) 0 → Reads old new from 0 ((to - from) / size + 4) 0
+  four_joined {size} {to} least le le' so_far more = grind (arith, div-add-le size from at to)
 
   -- whole chunks and four more at most, and then those from where the whole ones end and one more at most
   pub loads_to_place : {size to l l' : ℕ} → 4 ≤ size → from ≤ at → at ≤ to → Reads old seen from 0 l 0
@@ -85,6 +96,15 @@ pub turns_joined : {start seen new : ProbeState} {first t l s t' : ℕ} → Read
     → Reads seen new 0 t' 0 0 → Reads start new first (t + t') l s
 turns_joined {first = first} so_far turns =
     weaken (then_ so_far (unloaded first turns)) (omega arith) (omega arith) (omega arith) (omega arith)
+
+-- four chunks before others, and after them
+pub four_more : (from to size : ℕ) → 4 ≤ size → from + 4 * size ≤ to → 4 + (to - (from + 4 * size)) / size ≤ (to - from) / size
+four_more from to size least le =
+    grind (arith, le-div ((to - (from + 4 * size)) / size + 4) (to - from) size, div-mul-le_self, add-mul)
+
+pub four_after : (from to size : ℕ) → 4 ≤ size → from ≤ to → (to - from) / size + 4 ≤ (to + 4 * size - from) / size
+four_after from to size least le =
+    grind (arith, le-div ((to - from) / size + 4) (to + 4 * size - from) size, div-mul-le_self, add-mul)
 
 -- more bytes have no fewer chunks
 pub chunks_rise : (bytes more size : ℕ) → 4 ≤ size → bytes ≤ more → bytes / size ≤ more / size

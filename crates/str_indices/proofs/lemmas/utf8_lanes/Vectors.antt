@@ -1,6 +1,7 @@
 -- The lanes of vectors: shifts, masks, differences down to 0, and look-ups in tables of sixteen.
-use Rattle.str_indices.proofs.lemmas.Common.{◌≡◌, ℕ, ◌+◌, ◌-◌, ◌*◌, ◌/◌, ◌%◌, ◌^◌, ◌<◌, Bool, true, false, cond, nat_lt, List, [], ◌∷◌, ◌++◌, map, replicate, length, get_or, refl, sym, ap, ap₂, ◌∙◌, inl, inr, arith, bit_and, Each1, zip2, zip2_splat, Each1-weaker, cases_lt, ltb-true, ltb-false, get_or_append_left, get_or-append-add, length-append, flag, HasLanes}
+use Rattle.str_indices.proofs.lemmas.Common.{◌≡◌, ◌↔◌, ℕ, ◌+◌, ◌-◌, ◌*◌, ◌/◌, ◌%◌, ◌^◌, ◌<◌, Bool, true, false, cond, nat_lt, List, [], ◌∷◌, ◌++◌, map, replicate, length, get_or, refl, sym, ap, ap₂, ◌∙◌, inl, inr, arith, bit_and, Each1, zip2, zip2_splat, Each1-weaker, cases_lt, ltb-true, ltb-false, get_or_append_left, get_or-append-add, length-append, flag, HasLanes}
 use Rattle.std.proofs.Common.{Fits, w8, zero, suc, ◌≤◌, eqb, leb, leb-false, eqb-true}
+use Rattle.std.proofs.lemmas.Bool.{lt-leb}
 use Rattle.std.proofs.lemmas.Nat.{and_le_r}
 use Rattle.std.proofs.lemmas.List.{length-map}
 use Rattle.std.proofs.lemmas.Simd.{mask_l-mod, length-zip2, length-replicate, Each1-get_or, SwzOk, SwzOk-from_below, swz_l, length-swz_l, get_or-swz_l_below, pick_l_whole}
@@ -133,10 +134,21 @@ none_high (x ∷ xs) e zero = go (leb 128 x) refl (omega arith)
     go false p q = leb-false _ _ p
 none_high (x ∷ xs) e (suc j) = none_high xs (omega arith) j
 
+all_low : (xs : List ℕ) → ((j : ℕ) → j < length xs → get_or xs j 0 < 128)
+    → mask_l (map (top 7) (zip2 at_least (replicate (length xs) 128) xs)) ≡ 0
+all_low [] each = refl
+all_low (x ∷ xs) each =
+    let rest = all_low xs (λ j l. each (suc j) (omega arith)) in
+    rw (lt-leb 128 x (each 0 (omega arith))) (omega (arith, rest))
+
 -- a vector of which none is set is ASCII
 pub ascii_of_mask : (n : ℕ) (xs : List ℕ) → length xs ≡ n → n ≤ 64
-    → eqb (mask_l (map (top 7) (zip2 at_least (replicate n 128) xs)) % 2 ^ 64) 0 ≡ true → (j : ℕ) → get_or xs j 0 < 128
-ascii_of_mask n xs long few none =
+    → (eqb (mask_l (map (top 7) (zip2 at_least (replicate n 128) xs)) % 2 ^ 64) 0 ≡ true)
+    ↔ ((j : ℕ) → j < n → get_or xs j 0 < 128)
+ascii_of_mask n xs long few =
     let lanes = zip2 at_least (replicate n 128) xs in
     let same = mask_l-mod (map (top 7) lanes) 64 (omega (arith, few, length-map lanes (top 7), length-zip2 at_least (replicate n 128) xs (length-replicate {A = ℕ} n 128 ∙ sym long), length-replicate {A = ℕ} n 128)) in
-    none_high xs (ap (λ k. mask_l (map (top 7) (zip2 at_least (replicate k 128) xs))) long ∙ sym same ∙ eqb-true _ _ none)
+    let there = ap (λ k. mask_l (map (top 7) (zip2 at_least (replicate k 128) xs))) long in (
+      λ none j l. none_high xs (there ∙ sym same ∙ eqb-true _ _ none) j,
+      λ small. rw (same ∙ sym there ∙ all_low xs (λ j l. small j (omega (arith, long)))) refl,
+    )

@@ -8,7 +8,7 @@ returns-then-goes_on-clause-err g c =
     let at = c.args.at in
     let some = g.met.T.ByteChunk.lawful.least in
     let opened : is_open text at ≡ true = sym c.goes_on.ensures.open ∙ c.if-goes_on.true in
-    let ascii = window_ascii text c.requires.chunk (c.is_ascii.ensures c.if-is_ascii.true) in
+    let ascii = window_ascii text c.requires.chunk (c.is_ascii.ensures.0 c.if-is_ascii.true) in
     record {
       within = omega (arith, c.requires.within, some);
       follow = c.requires.follow;
@@ -19,7 +19,7 @@ pub returns-then-is_ascii-clause-ok : goal.returns-then-is_ascii-clause-ok
 returns-then-is_ascii-clause-ok g c =
     let text = c.args.probe.now.text in
     let shut : IsFalse (is_open text c.args.at) = sym c.goes_on.ensures.open ∙ c.if-goes_on.false in
-    let ascii = window_ascii text c.requires.chunk (c.is_ascii.ensures c.if-is_ascii.true) in
+    let ascii = window_ascii text c.requires.chunk (c.is_ascii.ensures.0 c.if-is_ascii.true) in
     let all = ascii_follow text c.args.at g.T.ByteChunk.SIZE shut ascii in (
       both_follow text c.requires.follow all.0,
       λ _. all.1,

@@ -1,5 +1,4 @@
-use Rattle.str_indices.proofs.lemmas.{◌≡◌, ◌-◌, ◌/◌, ◌≤◌, length, true, false, AllFollow, AreBefore, Reads, is_open}
-use Rattle.std.specs.Prelude.{IsFalse, nat_eq}
+use Rattle.str_indices.proofs.lemmas.{◌-◌, ◌/◌, ◌≤◌, length, AllFollow, AreBefore, Reads}
 use Rattle.str_indices.proofs.utf8_faults.check_groups.Given as goal
 
 abbrev pub invariant-groups : goal.invariant-groups
@@ -10,10 +9,7 @@ invariant-groups g l =
       low : l.from ≤ l.at;
       high : l.at ≤ length text;
       follow : AllFollow text 0 l.at;
-      behind : l.ascii_end ≤ l.at;
-      before : nat_eq l.at l.ascii_end ≡ false
-          → AreBefore g.T.ByteChunk.SIZE text l.at (lanes l.before.one_back) (lanes l.before.two_back) (lanes l.before.three_back);
-      shut : nat_eq l.at l.ascii_end ≡ true → IsFalse (is_open text l.at);
+      before : AreBefore g.T.ByteChunk.SIZE text l.at (lanes l.before.one_back) (lanes l.before.two_back) (lanes l.before.three_back);
       reads : Reads l.initial.probe l.probe l.from 0 ((l.at - l.from) / g.T.ByteChunk.SIZE) 0;
     }
 

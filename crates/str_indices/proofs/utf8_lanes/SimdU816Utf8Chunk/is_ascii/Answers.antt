@@ -3,4 +3,4 @@ use Rattle.str_indices.proofs.lemmas.utf8_lanes.{ascii_of_mask}
 use Rattle.str_indices.proofs.utf8_lanes.SimdU816Utf8Chunk.is_ascii.Goals as goal
 
 pub returns : goal.returns
-returns c = λ none j l. ascii_of_mask 16 c.args.self c.fits-self.0 (omega arith) none j
+returns c = ascii_of_mask 16 c.args.self c.fits-self.0 (omega arith)
