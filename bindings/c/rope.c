@@ -60,9 +60,12 @@ void rattle_dealloc(void *block)
  * not null and handles that differ. */
 void rope_free(str_rope *rope);
 uint32_t rope_assign(str_rope *rope, const char *text, size_t len);
+uint32_t rope_assign_utf8(str_rope *rope, const char *text, size_t len);
 uint32_t rope_snapshot(str_rope *rope, str_rope *copy);
 uint32_t rope_insert(str_rope *rope, size_t at, const char *text, size_t len);
+uint32_t rope_insert_utf8(str_rope *rope, size_t at, const char *text, size_t len);
 uint32_t rope_replace(str_rope *rope, size_t from, size_t to, const char *text, size_t len);
+uint32_t rope_replace_utf8(str_rope *rope, size_t from, size_t to, const char *text, size_t len);
 uint32_t rope_append(str_rope *rope, str_rope *other);
 uint32_t rope_split_off(str_rope *rope, size_t at, str_rope *rest);
 bool rope_chunk_at(str_rope *rope, size_t byte_idx, str_rope_chunk *chunk);
@@ -71,6 +74,7 @@ size_t rope_chunks_before(str_rope *rope, size_t byte_idx, str_rope_chunk *chunk
 size_t rope_read(str_rope *rope, size_t at, char *out, size_t room);
 uint32_t rope_copy_to(str_rope *rope, size_t from, size_t to, char *out, size_t room);
 uint32_t rope_change(str_rope *rope, uint32_t encoding, str_indices_range range, const char *text, size_t len);
+uint32_t rope_change_utf8(str_rope *rope, uint32_t encoding, str_indices_range range, const char *text, size_t len);
 uint32_t rope_change_exact(str_rope *rope, uint32_t encoding, str_indices_range range, const char *text, size_t len);
 uint32_t rope_change_all(str_rope *rope, bool exact, uint32_t encoding, const str_rope_content_change *changes,
                          size_t count, size_t *refused);
@@ -99,6 +103,11 @@ str_rope_status str_rope_assign(str_rope *rope, const char *text, size_t len)
     return (str_rope_status)rope_assign(rope, text_of(text), len);
 }
 
+str_rope_status str_rope_assign_utf8(str_rope *rope, const char *text, size_t len)
+{
+    return (str_rope_status)rope_assign_utf8(rope, text_of(text), len);
+}
+
 str_rope_status str_rope_snapshot(const str_rope *rope, str_rope *copy)
 {
     str_rope own = *rope;
@@ -110,9 +119,19 @@ str_rope_status str_rope_insert(str_rope *rope, size_t at, const char *text, siz
     return (str_rope_status)rope_insert(rope, at, text_of(text), len);
 }
 
+str_rope_status str_rope_insert_utf8(str_rope *rope, size_t at, const char *text, size_t len)
+{
+    return (str_rope_status)rope_insert_utf8(rope, at, text_of(text), len);
+}
+
 str_rope_status str_rope_replace(str_rope *rope, size_t from, size_t to, const char *text, size_t len)
 {
     return (str_rope_status)rope_replace(rope, from, to, text_of(text), len);
+}
+
+str_rope_status str_rope_replace_utf8(str_rope *rope, size_t from, size_t to, const char *text, size_t len)
+{
+    return (str_rope_status)rope_replace_utf8(rope, from, to, text_of(text), len);
 }
 
 str_rope_status str_rope_append(str_rope *rope, str_rope *other)
@@ -169,6 +188,12 @@ str_rope_status str_rope_change(str_rope *rope, str_indices_encoding encoding, s
                                 const char *text, size_t len)
 {
     return (str_rope_status)rope_change(rope, encoding, range, text_of(text), len);
+}
+
+str_rope_status str_rope_change_utf8(str_rope *rope, str_indices_encoding encoding, str_indices_range range,
+                                     const char *text, size_t len)
+{
+    return (str_rope_status)rope_change_utf8(rope, encoding, range, text_of(text), len);
 }
 
 str_rope_status str_rope_change_exact(str_rope *rope, str_indices_encoding encoding, str_indices_range range,

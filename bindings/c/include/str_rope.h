@@ -42,7 +42,7 @@
  *     from `out` on, or chunks from `chunks` on, may be written, and no thread
  *     reads them during the call. They do not overlap with each other or with a
  *     handle, and have at most PTRDIFF_MAX bytes. That those of a text are UTF-8
- *     is checked.
+ *     is checked, unless the function's name ends in _utf8.
  *   - malloc, realloc and free are those of one allocator, and align each
  *     block to every power of two up to 16 that divides its size.
  *   - No function is called from a signal handler, or in the forked child of a
@@ -435,6 +435,29 @@ str_indices_range str_rope_range_by(const str_rope *rope,
                                     str_indices_line_type lines,
                                     str_indices_encoding encoding,
                                     str_indices_bytes span);
+
+/*
+ * Texts that are known to be UTF-8.
+ */
+
+/* Each does what the function named without _utf8 does, but does not check the
+ * bytes: it goes over the text once less, and never answers STR_ROPE_NOT_UTF8.
+ * Where they are not UTF-8, what it and each later call with that text does is
+ * undefined. They are for bindings of languages whose strings are UTF-8; in C
+ * you should call the others. */
+STR_ROPE_CHECKED str_rope_status str_rope_assign_utf8(str_rope *rope,
+                                                      const char *text,
+                                                      size_t len);
+STR_ROPE_CHECKED str_rope_status str_rope_insert_utf8(str_rope *rope, size_t at,
+                                                      const char *text,
+                                                      size_t len);
+STR_ROPE_CHECKED str_rope_status str_rope_replace_utf8(str_rope *rope,
+                                                       size_t from, size_t to,
+                                                       const char *text,
+                                                       size_t len);
+STR_ROPE_CHECKED str_rope_status
+str_rope_change_utf8(str_rope *rope, str_indices_encoding encoding,
+                     str_indices_range range, const char *text, size_t len);
 
 #ifdef __cplusplus
 }

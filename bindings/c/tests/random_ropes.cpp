@@ -546,9 +546,9 @@ private:
     {
         const std::size_t at = draw_.byte(one.plain);
         const piece put = draw_.put();
-        const str_rope_status found = draw_.once_in(2)
-                                          ? status_of([&] { one.text.insert(at, put.text); })
-                                          : str_rope_insert(one.text.get(), at, put.text.data(), put.text.size());
+        const auto in_c = put.is_utf8 && draw_.once_in(2) ? str_rope_insert_utf8 : str_rope_insert;
+        const str_rope_status found = draw_.once_in(2) ? status_of([&] { one.text.insert(at, put.text); })
+                                                       : in_c(one.text.get(), at, put.text.data(), put.text.size());
         settle(one, found, wanted(one.plain, {at, at}, put.is_utf8), {at, at}, put.text, "insert");
     }
 
@@ -570,9 +570,10 @@ private:
     void replace(document &one, bytes part)
     {
         const piece put = draw_.put();
+        const auto in_c = put.is_utf8 && draw_.once_in(2) ? str_rope_replace_utf8 : str_rope_replace;
         const str_rope_status found =
             draw_.once_in(2) ? status_of([&] { one.text.replace(part, put.text); })
-                             : str_rope_replace(one.text.get(), part.start, part.end, put.text.data(), put.text.size());
+                             : in_c(one.text.get(), part.start, part.end, put.text.data(), put.text.size());
         settle(one, found, wanted(one.plain, part, put.is_utf8), part, put.text, "replace");
     }
 
@@ -736,9 +737,9 @@ private:
             one.text.clear();
             return settle(one, STR_ROPE_OK, STR_ROPE_OK, all, "", "clear");
         }
-        const str_rope_status found = draw_.once_in(2)
-                                          ? status_of([&] { one.text.assign(put.text); })
-                                          : str_rope_assign(one.text.get(), put.text.data(), put.text.size());
+        const auto in_c = put.is_utf8 && draw_.once_in(2) ? str_rope_assign_utf8 : str_rope_assign;
+        const str_rope_status found = draw_.once_in(2) ? status_of([&] { one.text.assign(put.text); })
+                                                       : in_c(one.text.get(), put.text.data(), put.text.size());
         settle(one, found, wanted(one.plain, all, put.is_utf8), all, put.text, "assign");
     }
 

@@ -175,6 +175,10 @@ static void changes(void)
     HAS(&rope, "\314\201", "split_off into a text");
     same(str_rope_assign(&rope, "new", 3) == STR_ROPE_OK, "assign", 3, 0);
     HAS(&rope, "new", "assign");
+    same(str_rope_assign_utf8(&rope, "ab", 2) == STR_ROPE_OK, "assign_utf8", 2, 0);
+    same(str_rope_insert_utf8(&rope, 1, "\303\251", 2) == STR_ROPE_OK, "insert_utf8", 1, 2);
+    same(str_rope_replace_utf8(&rope, 3, 4, "\r\n", 2) == STR_ROPE_OK, "replace_utf8", 3, 4);
+    HAS(&rope, "a\303\251\r\n", "text that is known to be UTF-8");
     str_rope_free(&rope);
     str_rope_free(&rest);
 }
@@ -208,6 +212,7 @@ static void refusals_of_changes(void)
     same(str_rope_insert(&rope, 2, "x", 1) == STR_ROPE_NOT_BOUNDARY, "insert", 2, 1);
     same(str_rope_insert(&rope, 2, "", 0) == STR_ROPE_NOT_BOUNDARY, "insert of nothing", 2, 0);
     same(str_rope_insert(&rope, 7, "x", 1) == STR_ROPE_NOT_BOUNDARY, "insert", 7, 1);
+    same(str_rope_insert_utf8(&rope, 2, "x", 1) == STR_ROPE_NOT_BOUNDARY, "insert_utf8", 2, 1);
     same(str_rope_remove(&rope, 3, 2) == STR_ROPE_NOT_ORDERED, "remove", 3, 2);
     same(str_rope_remove(&rope, 3, 5) == STR_ROPE_NOT_BOUNDARY, "remove", 3, 5);
     same(str_rope_remove(&rope, 1, 7) == STR_ROPE_NOT_BOUNDARY, "remove", 1, 7);
@@ -216,6 +221,7 @@ static void refusals_of_changes(void)
     same(str_rope_replace(&rope, MOST, 2, "x", 1) == STR_ROPE_NOT_ORDERED, "replace", MOST, 2);
     same(str_rope_replace(&rope, 1, 4, "x", 1) == STR_ROPE_NOT_BOUNDARY, "replace", 1, 4);
     same(str_rope_replace(&rope, 0, MOST, "x", 1) == STR_ROPE_NOT_BOUNDARY, "replace", 0, MOST);
+    same(str_rope_replace_utf8(&rope, MOST, 2, "x", 1) == STR_ROPE_NOT_ORDERED, "replace_utf8", MOST, 2);
     same(str_rope_split_off(&rope, 4, &rest) == STR_ROPE_NOT_BOUNDARY, "split_off", 4, 0);
     same(str_rope_split_off(&rope, 7, &rest) == STR_ROPE_NOT_BOUNDARY, "split_off", 7, 0);
     HAS(&rope, text, "what refusals leave");
@@ -379,11 +385,15 @@ static void changes_by_positions(void)
     for (size_t i = 0; i < NUMBER_OF(rows); i++)
         for (size_t encoding = 0; encoding <= ENCODINGS; encoding++) {
             const char *put = rows[i].text, *left = rows[i].left[encoding];
-            str_rope rope = WITH(text);
+            str_rope rope = WITH(text), known = WITH(text);
             same(str_rope_change(&rope, encodings[encoding], rows[i].range, put, strlen(put)) == STR_ROPE_OK, "change",
                  encoding, i);
             has(&rope, left, strlen(left), "change");
+            same(str_rope_change_utf8(&known, encodings[encoding], rows[i].range, put, strlen(put)) == STR_ROPE_OK,
+                 "change_utf8", encoding, i);
+            has(&known, left, strlen(left), "change_utf8");
             str_rope_free(&rope);
+            str_rope_free(&known);
         }
 }
 
@@ -421,6 +431,8 @@ static void refusals_by_positions(void)
     str_rope rope = WITH(lines);
     same(str_rope_change(&rope, STR_INDICES_ENCODING_UTF16, back, "\200", 1) == STR_ROPE_NOT_UTF8, "change", 1, 0);
     same(str_rope_change(&rope, STR_INDICES_ENCODING_UTF8, back, "x", 1) == STR_ROPE_NOT_ORDERED, "change", 1, 0);
+    same(str_rope_change_utf8(&rope, STR_INDICES_ENCODING_UTF8, back, "x", 1) == STR_ROPE_NOT_ORDERED, "change_utf8", 1,
+         0);
     same(str_rope_change(&rope, STR_INDICES_ENCODING_UTF32, forth, "\343\201", 2) == STR_ROPE_NOT_UTF8, "change", 0, 1);
     same(str_rope_change_exact(&rope, STR_INDICES_ENCODING_UTF16, back, "\200", 1) == STR_ROPE_NOT_UTF8, "change_exact",
          1, 0);
@@ -637,6 +649,7 @@ static void null_texts(void)
     str_indices_range range = {{0, 1}, {0, 2}};
     str_rope rope = WITH(text);
     same(str_rope_insert(&rope, 1, NULL, 0) == STR_ROPE_OK, "insert null", 1, 0);
+    same(str_rope_insert_utf8(&rope, 1, NULL, 0) == STR_ROPE_OK, "insert_utf8 null", 1, 0);
     same(str_rope_read(&rope, 0, NULL, 0) == 0, "read into null", 0, 0);
     same(str_rope_copy_to(&rope, 1, 1, NULL, 0) == STR_ROPE_OK, "copy_to null", 1, 1);
     same(str_rope_copy_to(&rope, 0, 1, NULL, 0) == STR_ROPE_TOO_LONG, "copy_to null", 0, 1);
@@ -645,8 +658,13 @@ static void null_texts(void)
     HAS(&rope, "a", "change to null");
     same(str_rope_change_exact(&rope, STR_INDICES_ENCODING_UTF8, range, NULL, 0) == STR_ROPE_NOT_BOUNDARY,
          "change_exact to null", 1, 2);
+    same(str_rope_change_utf8(&rope, STR_INDICES_ENCODING_UTF16, range, NULL, 0) == STR_ROPE_OK, "change_utf8 to null",
+         1, 2);
+    same(str_rope_replace_utf8(&rope, 1, 1, NULL, 0) == STR_ROPE_OK, "replace_utf8 by null", 1, 1);
+    HAS(&rope, "a", "replace_utf8 by null");
     same(str_rope_replace(&rope, 0, 1, NULL, 0) == STR_ROPE_OK, "replace by null", 0, 1);
     same(str_rope_assign(&rope, NULL, 0) == STR_ROPE_OK, "assign null", 0, 0);
+    same(str_rope_assign_utf8(&rope, NULL, 0) == STR_ROPE_OK, "assign_utf8 null", 0, 0);
     HAS(&rope, "", "assign null");
     str_rope_free(&rope);
     str_rope_free(NULL);

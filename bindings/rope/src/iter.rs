@@ -330,7 +330,7 @@ macro_rules! iterator_methods {
 
         /// Goes over the chunks in order, each lent as a `&str`. Each takes O(log n) at most.
         pub fn chunks(&self) -> $crate::Chunks<$life> {
-            self.chunks_at(0)
+            $crate::Chunks::new(self.whole(), 0)
         }
 
         /// Goes over the chunks from the one that a byte is in; from the end on, over none. `prev` gives the chunks before
@@ -349,7 +349,7 @@ macro_rules! iterator_methods {
 
         /// Goes over the bytes in order. Each chunk takes O(log n) at most.
         pub fn bytes(&self) -> $crate::Bytes<$life> {
-            self.bytes_at(0)
+            $crate::Bytes::new(self.whole(), 0)
         }
 
         /// Goes over the bytes from a byte index on; from the end on, over none. `prev` gives the bytes before it. Each

@@ -2,7 +2,7 @@
 //!
 //! You pass a handle that was zeroed once. Calls that take it as `*const` may run at once, in many threads; one that takes it as
 //! `*mut` runs beside no other. Bytes that you pass must stay where and as they are until the call returns. The bytes of a
-//! `&str` do, and are UTF-8.
+//! `&str` do, and are UTF-8, which an export named `.._utf8` does not check.
 use crate::Change;
 use core::ffi::c_void;
 use core::ptr;
@@ -49,7 +49,7 @@ pub struct Bytes {
 
 extern "C" {
     pub fn str_rope_free(rope: *mut Handle);
-    pub fn str_rope_assign(rope: *mut Handle, text: *const u8, len: usize) -> u32;
+    pub fn str_rope_assign_utf8(rope: *mut Handle, text: *const u8, len: usize) -> u32;
     pub fn str_rope_snapshot(rope: *const Handle, copy: *mut Handle) -> u32;
     pub fn str_rope_len(rope: *const Handle) -> usize;
     pub fn str_rope_count(rope: *const Handle, scheme: u32) -> usize;
@@ -57,9 +57,9 @@ extern "C" {
     pub fn str_rope_to_byte_idx(rope: *const Handle, scheme: u32, idx: usize) -> usize;
     pub fn str_rope_is_char_boundary(rope: *const Handle, byte_idx: usize) -> bool;
 
-    pub fn str_rope_insert(rope: *mut Handle, at: usize, text: *const u8, len: usize) -> u32;
+    pub fn str_rope_insert_utf8(rope: *mut Handle, at: usize, text: *const u8, len: usize) -> u32;
     pub fn str_rope_remove(rope: *mut Handle, from: usize, to: usize) -> u32;
-    pub fn str_rope_replace(rope: *mut Handle, from: usize, to: usize, text: *const u8, len: usize) -> u32;
+    pub fn str_rope_replace_utf8(rope: *mut Handle, from: usize, to: usize, text: *const u8, len: usize) -> u32;
     pub fn str_rope_append(rope: *mut Handle, other: *mut Handle) -> u32;
     pub fn str_rope_split_off(rope: *mut Handle, at: usize, rest: *mut Handle) -> u32;
 
@@ -77,7 +77,7 @@ extern "C" {
     pub fn str_rope_exact_position_by(rope: *const Handle, lines: u32, encoding: u32, byte_idx: usize) -> Position;
     pub fn str_rope_byte_by(rope: *const Handle, lines: u32, encoding: u32, position: Position) -> usize;
     pub fn str_rope_range_by(rope: *const Handle, lines: u32, encoding: u32, span: Bytes) -> Range;
-    pub fn str_rope_change(rope: *mut Handle, encoding: u32, range: Range, text: *const u8, len: usize) -> u32;
+    pub fn str_rope_change_utf8(rope: *mut Handle, encoding: u32, range: Range, text: *const u8, len: usize) -> u32;
     pub fn str_rope_change_exact(rope: *mut Handle, encoding: u32, range: Range, text: *const u8, len: usize) -> u32;
     pub fn str_rope_change_all(
         rope: *mut Handle,

@@ -79,7 +79,7 @@ impl Rope {
     pub fn change(&mut self, encoding: Encoding, range: Range, text: &str) -> Result<(), Error> {
         let number = encoding as u32;
         // SAFETY: as `library` says.
-        result_of(unsafe { str_rope_change(self.handle_mut(), number, range, text.as_ptr(), text.len()) })
+        result_of(unsafe { str_rope_change_utf8(self.handle_mut(), number, range, text.as_ptr(), text.len()) })
     }
 
     /// Replaces the text in a range by another, as [`Rope::change`], if each of its positions names a place. If one names none,

@@ -98,7 +98,7 @@ impl Rope {
     /// ```
     pub fn assign(&mut self, text: &str) -> Result<(), Error> {
         // SAFETY: as `library` says.
-        result_of(unsafe { str_rope_assign(self.handle_mut(), text.as_ptr(), text.len()) })
+        result_of(unsafe { str_rope_assign_utf8(self.handle_mut(), text.as_ptr(), text.len()) })
     }
 
     /// Makes a rope with the same text, in one step, whatever its length. Both share their chunks from then on, and a change of
@@ -208,7 +208,7 @@ impl Rope {
     /// ```
     pub fn insert(&mut self, byte_idx: usize, text: &str) -> Result<(), Error> {
         // SAFETY: as `library` says.
-        result_of(unsafe { str_rope_insert(self.handle_mut(), byte_idx, text.as_ptr(), text.len()) })
+        result_of(unsafe { str_rope_insert_utf8(self.handle_mut(), byte_idx, text.as_ptr(), text.len()) })
     }
 
     /// Inserts a char at a byte index; past the end, and inside a char, returns [`Error::NotBoundary`]. Takes O(log n), and has
@@ -261,7 +261,9 @@ impl Rope {
     pub fn replace(&mut self, range: impl RangeBounds<usize>, text: &str) -> Result<(), Error> {
         let bytes = bytes_of(range, self.len());
         // SAFETY: as `library` says.
-        result_of(unsafe { str_rope_replace(self.handle_mut(), bytes.start, bytes.end, text.as_ptr(), text.len()) })
+        result_of(unsafe {
+            str_rope_replace_utf8(self.handle_mut(), bytes.start, bytes.end, text.as_ptr(), text.len())
+        })
     }
 
     /// Moves the text of another rope to the end of this one, and leaves the other empty. Takes O(log n), and copies a few

@@ -1,9 +1,9 @@
 //! A text that changes, for C, as a static library: the functions of `text_rope` and `rope_positions`, by a handle.
 //!
 //! C holds a [`Slot`](slot::Slot), which is one pointer. Null is the empty text, so a handle begins as null and takes
-//! no memory. Each function takes the rope out of the handle, calls it, and puts it back. None asks anything of its
-//! arguments beyond their types: `bindings/c/include/str_rope.h`, at the top of the repository, says what a caller in C
-//! owes.
+//! no memory. Each function takes the rope out of the handle, calls it, and puts it back. Those named `.._utf8` ask
+//! for UTF-8, and none asks anything else of its arguments beyond their types: `bindings/c/include/str_rope.h`, at the top of
+//! the repository, says what a caller in C owes.
 #![tactic(auto)]
 
 mod change_lists;
