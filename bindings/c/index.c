@@ -5,9 +5,9 @@
  * The proved functions read and write these structs, so each is as Rattle declares it:
  * struct counts as Counts in `crates/str_indices`, struct mark as Mark in
  * `crates/text_index`, struct str_index as IndexHandle in `crates/text_index_c`, where a slice
- * is an address and a number. Each question has one condition, that index_fill has made
- * the index and that its text and marks are as they were then. So no other function makes
- * one, and none changes one. This file is read and not proved.
+ * is an address and a number. Each question has one condition, that index_fill or
+ * index_fill_utf8 has made the index and that its text and marks are as they were then. So
+ * no other function makes one, and none changes one. This file is read and not proved.
  */
 #include <stdint.h>
 #include <stdlib.h>
@@ -42,9 +42,14 @@ size_t index_marks(size_t len);
  * be a value before, with addresses that are not null. */
 uint32_t index_fill(const char *text, size_t len, struct mark *room, size_t many, struct str_index *index);
 
+/* The same for bytes that are UTF-8, which it does not check. */
+uint32_t index_fill_utf8(const char *text, size_t len, struct mark *room, size_t many, struct str_index *index);
+
+typedef uint32_t filling(const char *text, size_t len, struct mark *room, size_t many, struct str_index *index);
+
 /* The block is zeroed, so that a value is handed on. Where there is no mark, the room for
  * them is the end of the block, which is not null either. */
-static str_index_status filled(str_index **index, struct str_index *block, const char *text, size_t len)
+static str_index_status filled(str_index **index, struct str_index *block, const char *text, size_t len, filling *fill)
 {
     struct mark *room = (struct mark *)(block + 1);
     str_index_status status;
@@ -52,13 +57,13 @@ static str_index_status filled(str_index **index, struct str_index *block, const
         text = "";
     block->text = text;
     block->marks = room;
-    status = (str_index_status)index_fill(text, len, room, index_marks(len), block);
+    status = (str_index_status)fill(text, len, room, index_marks(len), block);
     if (status == STR_INDEX_OK)
         *index = block;
     return status;
 }
 
-str_index_status str_index_make(str_index **index, const char *text, size_t len)
+static str_index_status made(str_index **index, const char *text, size_t len, filling *fill)
 {
     size_t size = str_index_size(len);
     struct str_index *block;
@@ -69,10 +74,20 @@ str_index_status str_index_make(str_index **index, const char *text, size_t len)
     block = calloc(1, size);
     if (block == NULL)
         return STR_INDEX_NO_MEMORY;
-    status = filled(index, block, text, len);
+    status = filled(index, block, text, len, fill);
     if (status != STR_INDEX_OK)
         free(block);
     return status;
+}
+
+str_index_status str_index_make(str_index **index, const char *text, size_t len)
+{
+    return made(index, text, len, index_fill);
+}
+
+str_index_status str_index_make_utf8(str_index **index, const char *text, size_t len)
+{
+    return made(index, text, len, index_fill_utf8);
 }
 
 str_index_status str_index_make_in(str_index **index, void *room, size_t size, const char *text, size_t len)
@@ -84,7 +99,7 @@ str_index_status str_index_make_in(str_index **index, void *room, size_t size, c
     if (size < taken)
         return STR_INDEX_NO_ROOM;
     memset(room, 0, taken);
-    return filled(index, room, text, len);
+    return filled(index, room, text, len, index_fill);
 }
 
 void str_index_free(str_index *index)

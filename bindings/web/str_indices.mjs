@@ -224,7 +224,9 @@ class Machine {
     // a handle has to be one before it is filled: of the empty text, without marks
     this.#write(Number(handle), [this.#wideStart, 0n, marks, 0n]);
     const size = BigInt(length);
-    if (this.#exports.index_fill(this.#wideStart, size, marks, this.#exports.index_marks(size), handle) !== FILLED) {
+    // a string was written as UTF-8, and bytes are checked
+    const fill = typeof text === "string" ? this.#exports.index_fill_utf8 : this.#exports.index_fill;
+    if (fill(this.#wideStart, size, marks, this.#exports.index_marks(size), handle) !== FILLED) {
       throw notUtf8();
     }
     this.#length = length;

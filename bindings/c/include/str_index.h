@@ -21,14 +21,15 @@
  *   - An index keeps the address of its text, and no copy. The `len` bytes from
  *     `text` on may be read, and no thread writes to them, from the call that
  *     makes the index until it is freed. A `text` that is null is the empty
- *     text, and then `len` is 0. That the bytes are UTF-8 is checked.
- *   - An index that is handed over was made by str_index_make or
- *     str_index_make_in, which answered STR_INDEX_OK, and was not freed since.
- *     One that was made in memory of the caller's is there while that is, and
- *     nothing else is written to it. No pointer is null, but for that of an
- *     empty text and the one that str_index_free takes.
- *   - An index that str_index_make has made is freed once, and in no other
- *     call meanwhile or afterwards.
+ *     text, and then `len` is 0. That the bytes are UTF-8 is checked, but not
+ *     by str_index_make_utf8.
+ *   - An index that is handed over was made by a function whose name begins
+ *     with str_index_make, which answered STR_INDEX_OK, and was not freed
+ *     since. One that was made in memory of the caller's is there while that
+ *     is, and nothing else is written to it. No pointer is null, but for that
+ *     of an empty text and the one that str_index_free takes.
+ *   - An index that str_index_make or str_index_make_utf8 has made is freed
+ *     once, and in no other call meanwhile or afterwards.
  *   - Any number of threads may ask one index at once: a question writes
  *     nothing. Whatever frees it, or writes to its memory or its text, runs
  *     beside no question. Another thread may free an index than made it.
@@ -43,12 +44,12 @@
  *
  * The cost of a call: marks stand in the text, one for each 1,024 bytes, with
  * the counts of what is before them. Making an index goes over the text twice,
- * once for whether it is UTF-8. A count takes one step. A conversion from a
- * byte looks at two marks, and one to a byte halves the marks; each reads at
- * most 1,028 bytes of the text. At most, the end of a line takes one such
- * conversion; a line, the position of a byte, and that of one that is a place
- * two; the byte of a position three; an exact byte, and the positions of a
- * span four; the bytes of a range six.
+ * once for whether it is UTF-8, if that is checked. A count takes one step. A
+ * conversion from a byte looks at two marks, and one to a byte halves the
+ * marks; each reads at most 1,028 bytes of the text. At most, the end of a line
+ * takes one such conversion; a line, the position of a byte, and that of one
+ * that is a place two; the byte of a position three; an exact byte, and the
+ * positions of a span four; the bytes of a range six.
  *
  * An index is one block of memory: 48 bytes for each mark, and 80 besides.
  */
@@ -111,6 +112,15 @@ const char *str_index_version(void);
  * STR_INDEX_NOT_UTF8, and STR_INDEX_TOO_LONG. */
 STR_INDEX_CHECKED str_index_status str_index_make(str_index **index,
                                                   const char *text, size_t len);
+
+/* Makes the index of a text as str_index_make does, but does not check the
+ * bytes: it goes over the text once, and never answers STR_INDEX_NOT_UTF8. If
+ * they are not UTF-8, what it and each later call with that index does is
+ * undefined. It is for bindings of languages whose strings are UTF-8; in C you
+ * should call str_index_make. */
+STR_INDEX_CHECKED str_index_status str_index_make_utf8(str_index **index,
+                                                       const char *text,
+                                                       size_t len);
 
 /* How many bytes the index of a text of `len` bytes takes: 80, and 48 for each
  * 1,024 bytes of the text. 0 where `len` is above PTRDIFF_MAX. */

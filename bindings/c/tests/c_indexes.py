@@ -1,6 +1,6 @@
 """Compares what index.c declares for itself with Rattle's.
 
-The structs and the two functions of index.c are those of Rattle's, and one with another field or parameter is seen.
+The structs and the three functions of index.c are those of Rattle's, and one with another field or parameter is seen.
 """
 import re
 
@@ -12,7 +12,7 @@ PROVED = [ROOT / "crates" / path
           for path in ["str_indices/src/by_scheme.rt", "text_index/src/mark.rt", "text_index_c/src/handle.rt",
                        "text_index_c/src/making.rt"]]
 STRUCTS = {"counts": "Counts", "mark": "Mark", "str_index": "IndexHandle"}
-FUNCTIONS = ["index_marks", "index_fill"]
+FUNCTIONS = ["index_marks", "index_fill", "index_fill_utf8"]
 C_TYPES = {
     "usize": ["size_t"], "u32": ["uint32_t"], "[usize; 5]": ["size_t[5]"], "Counts": ["struct counts"],
     "Mark": ["struct mark"], "&mut IndexHandle": ["struct str_index *"],

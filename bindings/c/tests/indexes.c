@@ -380,6 +380,18 @@ static void try_in_room(const char *text, size_t len)
     free(room);
 }
 
+/* An index of a text that is known to be UTF-8. */
+static void try_known(const char *text, size_t len)
+{
+    str_index *index = NULL;
+    same(str_index_make_utf8(&index, text, len) == STR_INDEX_OK && index != NULL, "make_utf8", len, 0);
+    for (size_t scheme = 0; index != NULL && scheme <= SCHEMES; scheme++) {
+        try_index(index, scheme, len / 2);
+        try_index(index, scheme, MOST);
+    }
+    str_index_free(index);
+}
+
 static void try_text(const char *text, size_t len)
 {
     char *copy;
@@ -388,6 +400,7 @@ static void try_text(const char *text, size_t len)
     try_questions(index);
     try_lines_by(index);
     try_in_room(copy, len);
+    try_known(copy, len);
     str_index_free(index);
     free(copy);
 }

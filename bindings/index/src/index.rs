@@ -73,7 +73,7 @@ impl Drop for Handle<'_> {
 }
 
 impl<'a> TextIndex<'a> {
-    /// Makes the index of a text. Goes over the text twice, once because the library checks by itself that it is UTF-8.
+    /// Makes the index of a text. Goes over the text once.
     ///
     /// Returns [`NoMemory`] if memory for the index is refused. Its clones share a count of some 40 bytes, in an `Arc`, which
     /// ends the program if memory for it is refused.
@@ -88,13 +88,13 @@ impl<'a> TextIndex<'a> {
     pub fn new(text: &'a str) -> Result<TextIndex<'a>, NoMemory> {
         let mut made = ptr::null_mut();
         // SAFETY: a `str` is all that the library wants of a text, and it is lent for as long as the index lives.
-        let status = unsafe { str_index_make(&mut made, text.as_ptr(), text.len()) };
+        let status = unsafe { str_index_make_utf8(&mut made, text.as_ptr(), text.len()) };
         match (status, NonNull::new(made)) {
             (OK, Some(index)) => Ok(TextIndex {
                 handle: Arc::new(Handle { index, text }),
             }),
             (NO_MEMORY, None) => Err(NoMemory),
-            _ => unreachable!("a `str` is UTF-8, and there is no other status: {status}"),
+            _ => unreachable!("a `str` is not too long, and there is no other status: {status}"),
         }
     }
 

@@ -1,7 +1,7 @@
 //! The exports of the static library.
 //!
 //! You pass an index that was made and is not freed yet. Its text must stay where and as it is. A `&str` that is borrowed
-//! does, and is UTF-8.
+//! does, and is UTF-8, which nothing here checks.
 use core::marker::{PhantomData, PhantomPinned};
 use str_indices_positions::{Position, Range};
 
@@ -27,7 +27,7 @@ pub const OK: u32 = 0;
 pub const NO_MEMORY: u32 = 1;
 
 extern "C" {
-    pub fn str_index_make(index: *mut *mut Opaque, text: *const u8, len: usize) -> u32;
+    pub fn str_index_make_utf8(index: *mut *mut Opaque, text: *const u8, len: usize) -> u32;
     pub fn str_index_free(index: *mut Opaque);
     pub fn str_index_len(index: *const Opaque) -> usize;
     pub fn str_index_count(index: *const Opaque, scheme: u32) -> usize;

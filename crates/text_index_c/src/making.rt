@@ -4,10 +4,10 @@ ghost use Rattle.text_index.specs.Marks.{stretch_size};
 ghost use Rattle.text_index_c.specs.Handles.{IsIndex, text_of};
 ghost use Rattle.text_index_c.specs.Numbers.{done, no_room, not_utf8};
 
-use crate::handle::IndexHandle;
+use crate::handle::{IndexHandle, utf8_of};
 use crate::numbers::{DONE, NO_ROOM, NOT_UTF8};
 use std::mem::size_of;
-use str_indices::from_utf8;
+use str_indices::is_utf8;
 use text_index::{Mark, fill, marks_for};
 
 /// How many bytes a handle takes, and a mark.
@@ -54,19 +54,34 @@ pub extern "C" fn index_fill<'a>(
         ↔ (IsUtf8 text.now × (length room.old ≢ length text.now / stretch_size)) }
     ensures known { (result ≡ done) ⊎ ((result ≡ not_utf8) ⊎ (result ≡ no_room)) }
 {
-    match from_utf8(text) {
-        Some(text) => {
-            if room.len() != marks_for(text.len()) {
-                return NO_ROOM;
-            }
-            let whole = fill(text, room);
-            *handle = IndexHandle {
-                text: text.as_bytes(),
-                marks: room,
-                whole,
-            };
-            DONE
-        }
-        None => NOT_UTF8,
+    if !is_utf8(text) {
+        return NOT_UTF8;
     }
+    index_fill_utf8(text, room, handle)
+}
+
+/// As `index_fill`, for bytes that are UTF-8.
+#[unsafe(no_mangle)]
+pub extern "C" fn index_fill_utf8<'a>(
+    text: &'a [u8],
+    room: &'a mut [Mark],
+    handle: &mut IndexHandle<'a>,
+) -> u32
+    requires { IsUtf8 text.now }
+    ensures index { result ≡ done → IsIndex handle.new }
+    ensures text { result ≡ done → text_of handle.new ≡ chars text.now }
+    ensures refused { result ≢ done → handle.new ≡ handle.old }
+    ensures no_room { (result ≡ no_room) ↔ (length room.old ≢ length text.now / stretch_size) }
+    ensures known { (result ≡ done) ⊎ (result ≡ no_room) }
+{
+    if room.len() != marks_for(text.len()) {
+        return NO_ROOM;
+    }
+    let whole = fill(utf8_of(text), room);
+    *handle = IndexHandle {
+        text,
+        marks: room,
+        whole,
+    };
+    DONE
 }
