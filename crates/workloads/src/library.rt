@@ -9,7 +9,9 @@ pub(crate) use rope_positions::{
     position_of,
 };
 use std::alloc::Global;
-pub(crate) use str_indices::{Scheme, chars, lines, lines_crlf, lines_lf, utf16};
+pub(crate) use str_indices::{
+    Scheme, chars, from_utf8, lines, lines_crlf, lines_lf, utf16, valid_up_to,
+};
 pub(crate) use text_index::TextIndex;
 pub(crate) use text_rope::{Refusal as RopeRefusal, Rope};
 

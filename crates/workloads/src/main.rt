@@ -1,6 +1,6 @@
 //! Workloads that a user waits for, as programs to be timed: a language server's day, an editor, a large file, spans of
 //! a text, a buffer of pieces, awkward texts, positions on lines that go over chunks, buffers of few pieces, undo,
-//! spans by an index, and lines moved by cuts.
+//! spans by an index, lines moved by cuts, and texts that come as bytes.
 //!
 //! Its words are the workload's name, a seed, and how many rounds it takes. It makes its own texts from the seed, and prints
 //! the name and a digest of all answers, which is the same in each run of the same words.
@@ -12,6 +12,7 @@ mod cut_and_paste;
 mod digest;
 mod editor;
 mod faults;
+mod from_bytes;
 mod index;
 mod large;
 mod library;
@@ -52,6 +53,7 @@ fn run(
         "index" => index::run(alloc, random, rounds, digest),
         "index_large" => index::run_large(alloc, random, rounds, digest),
         "cut_and_paste" => cut_and_paste::run(alloc, random, rounds, digest),
+        "from_bytes" => from_bytes::run(alloc, random, rounds, digest),
         "all" => run_each(alloc, random, rounds, digest),
         _ => Err(Fault::Words),
     }
@@ -73,7 +75,8 @@ fn run_each(
     short_lists::run(alloc, random, rounds, digest)?;
     undo::run(alloc, random, 1_000_000, rounds, digest)?;
     index::run(alloc, random, rounds, digest)?;
-    cut_and_paste::run(alloc, random, rounds, digest)
+    cut_and_paste::run(alloc, random, rounds, digest)?;
+    from_bytes::run(alloc, random, rounds, digest)
 }
 
 fn number(word: &str) -> Result<u64, Fault> {
