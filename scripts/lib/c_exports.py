@@ -124,6 +124,9 @@ def symbols(archive, library=STR_INDICES):
 
 
 def pairs(library=STR_INDICES):
-    """Each function with each other one of its shape."""
+    """Each function with each other one of its shape, but for one that is owed UTF-8 by the one that checks it: of UTF-8 both
+    make the same.
+    """
     functions = declared(library).values()
-    return [(one, other) for one in functions for other in functions if one != other and one.shape() == other.shape()]
+    of_one_shape = [(one, other) for one in functions for other in functions if one.shape() == other.shape()]
+    return [(one, other) for one, other in of_one_shape if one.name not in (other.name, f"{other.name}_utf8")]
