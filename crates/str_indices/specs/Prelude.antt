@@ -11,4 +11,4 @@ pub use Rattle.str_indices.specs.Schemes.{count, from_byte_idx, to_byte_idx, Cha
 pub use Rattle.str_indices.specs.Starts.{IsGreatestBoundary, IsGreatestEnd, IsSecondUnit}
 pub use Rattle.str_indices.specs.Text.{cut, size}
 pub use Rattle.str_indices.specs.TraitLaws.{break_at-le, break_start-le, mark-le, units_begun-le}
-pub use Rattle.str_indices.specs.Utf8.{AllFollow, AreBefore, AreBytes, AreFour, EndsAt, IsFault, IsWindow, after_zeros, follows, is_open, may_follow, open_start}
+pub use Rattle.str_indices.specs.Utf8.{AllFollow, AreAscii, AreBefore, AreBytes, AreFour, EndsAt, IsFault, IsWindow, after_zeros, follows, is_open, may_follow, open_start}

@@ -11,6 +11,8 @@
 --     IsWindow size bytes at lanes    the lanes are the `size` bytes of `after_zeros bytes` from `at` on
 --     AreFour size bytes at first second third fourth
 --                                     the four chunks that the bytes have from place `at` on
+--     AreAscii size first second third fourth
+--                                     all lanes of the four chunks are ASCII
 --     EndsAt size bytes at lanes      the last lane is the byte of `after_zeros bytes` at `at`
 --     AreBefore size bytes at one two three
 --                                     the last lanes of three chunks are the bytes one, two and three back from place `at`
@@ -72,6 +74,10 @@ pub record AreFour (size : ℕ) (bytes : List ℕ) (at : ℕ) (first second thir
   pub is_second : IsWindow size bytes (at + size + 3) second
   pub is_third : IsWindow size bytes (at + 2 * size + 3) third
   pub is_fourth : IsWindow size bytes (at + 3 * size + 3) fourth
+
+abbrev pub AreAscii : ℕ → List ℕ → List ℕ → List ℕ → List ℕ → Type 0
+AreAscii size first second third fourth = (j : ℕ) → j < size
+    → (slice_index first j < 128) × (slice_index second j < 128) × (slice_index third j < 128) × (slice_index fourth j < 128)
 
 pub record EndsAt (size : ℕ) (bytes : List ℕ) (at : ℕ) (lanes : List ℕ) : Type 0 where
   pub are : AreBytes size lanes

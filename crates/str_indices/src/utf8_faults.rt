@@ -2,9 +2,9 @@
 //!
 //! The bytes before a chunk are handed on as the last lanes of three chunks, from which its lanes are shifted: so no
 //! byte is loaded twice, and a chunk of any type will do.
-ghost use Rattle.std.specs.Prelude.{◌≡◌, ℕ, ◌+◌, ◌-◌, ◌*◌, ◌/◌, ◌<◌, ◌≤◌, ◌≢◌, ◌++◌, true, false, IsTrue, IsFalse, IfSome, IfNone, IfOk, IfErr, OnOk, length, replicate, slice_index, take, drop};
+ghost use Rattle.std.specs.Prelude.{◌≡◌, ℕ, ◌+◌, ◌-◌, ◌*◌, ◌/◌, ◌<◌, ◌≤◌, ◌≢◌, ◌↔◌, ◌++◌, true, false, bit_or, IsTrue, IsFalse, IfSome, IfNone, IfOk, IfErr, OnOk, length, replicate, slice_index, take, drop};
 ghost use Rattle.std.specs.Simd.Lanes.{zip2};
-ghost use Rattle.str_indices.specs.Prelude.{AllFollow, AreBefore, AreBytes, AreFour, IsFault, IsWindow, Reads, after_zeros, follows, is_open, leading_bytes, may_follow, open_start};
+ghost use Rattle.str_indices.specs.Prelude.{AllFollow, AreAscii, AreBefore, AreBytes, AreFour, IsFault, IsWindow, Reads, after_zeros, follows, is_open, leading_bytes, may_follow, open_start};
 
 use crate::utf8_lanes::Utf8Chunk;
 use byte_chunk::ByteProbe;
@@ -38,9 +38,10 @@ struct Group<T> {
     fourth: T,
 }
 
-/// Four chunks, if as many are left, and what is before them.
+/// Where the next group begins that is not ASCII, that group, and what is before it. There is no group where fewer than four
+/// chunks are left.
 #[derive(Clone, Copy)]
-struct Next<T> {
+struct NextGroup<T> {
     at: usize,
     group: Option<Group<T>>,
     before: Before<T>,
@@ -126,6 +127,7 @@ fn check_groups<T: Utf8Chunk>(probe: &mut ByteProbe<'_, T>, from: usize) -> Resu
     requires within { from ≤ length probe.old.text }
     requires follow { AllFollow probe.old.text 0 from }
     ensures ok { IfOk result (λ at. (from ≤ at) × (at ≤ length probe.old.text) × AllFollow probe.old.text 0 at) }
+    ensures few { IfOk result (λ at. length probe.old.text < at + 4 * T.SIZE) }
     ensures err { IfErr result (λ fault. IsFault probe.old.text fault.at) }
     ensures reads { Reads probe.old probe.new from 0 ((length probe.old.text - from) / T.SIZE) 3 }
     ensures ok_reads { IfOk result (λ at. Reads probe.old probe.new from 0 ((at - from) / T.SIZE) 3) }
@@ -139,7 +141,7 @@ fn check_groups<T: Utf8Chunk>(probe: &mut ByteProbe<'_, T>, from: usize) -> Resu
             Ok(next) => next,
             Err(fault) => return Err(fault),
         };
-        let Next {
+        let NextGroup {
             at: start,
             group,
             before: before_group,
@@ -156,13 +158,15 @@ fn check_groups<T: Utf8Chunk>(probe: &mut ByteProbe<'_, T>, from: usize) -> Resu
     Ok(at)
 }
 
-/// Finds the first group from `at` on that is not ASCII, with what is before it, or where fewer than four chunks are left.
+/// Finds the first group from `at` on that is not ASCII, or where fewer than four chunks are left.
+///
+/// Fails at `at` if a char goes on there and four chunks of ASCII follow.
 #[inline(always)]
 fn next_group<T: Utf8Chunk>(
     probe: &mut ByteProbe<'_, T>,
     at: usize,
     before: Before<T>,
-) -> Result<Next<T>, Fault>
+) -> Result<NextGroup<T>, Fault>
     requires within { at + 4 * T.SIZE ≤ length probe.old.text }
     requires follow { AllFollow probe.old.text 0 at }
     requires before { AreBefore T.SIZE probe.old.text at (T.lanes before.one_back) (T.lanes before.two_back)
@@ -174,12 +178,15 @@ fn next_group<T: Utf8Chunk>(
         (T.lanes group.first) (T.lanes group.second) (T.lanes group.third) (T.lanes group.fourth)
         × Reads probe.old probe.new at 0 ((next.at - at) / T.SIZE + 4) 0)) }
     ensures none { IfOk result (λ next. IfNone next.group (Reads probe.old probe.new at 0 ((next.at - at) / T.SIZE) 0)) }
+    ensures stops { IfOk result (λ next. IfSome next.group (λ group. ¬ (AreAscii T.SIZE (T.lanes group.first)
+        (T.lanes group.second) (T.lanes group.third) (T.lanes group.fourth)))) }
+    ensures few { IfOk result (λ next. IfNone next.group (length probe.old.text < next.at + 4 * T.SIZE)) }
     ensures err { IfErr result (λ fault. IsFault probe.old.text fault.at × Reads probe.old probe.new at 0 4 0) }
 {
     prove!(4 * T::SIZE <= probe.len() - at);
     let group = load_group(probe, at);
     if !is_ascii(group) {
-        return Ok(Next {
+        return Ok(NextGroup {
             at,
             group: Some(group),
             before,
@@ -189,7 +196,7 @@ fn next_group<T: Utf8Chunk>(
         return Err(Fault { at });
     }
     let (at, group) = skip_ascii(probe, at + 4 * T::SIZE);
-    Ok(Next {
+    Ok(NextGroup {
         at,
         group,
         before: bytes_before(probe, at),
@@ -208,6 +215,9 @@ fn skip_ascii<T: Utf8Chunk>(probe: &mut ByteProbe<'_, T>, from: usize) -> (usize
         (T.lanes group.second) (T.lanes group.third) (T.lanes group.fourth)
         × Reads probe.old probe.new from 0 ((result.0 - from) / T.SIZE + 4) 0) }
     ensures none { IfNone result.1 (Reads probe.old probe.new from 0 ((result.0 - from) / T.SIZE) 0) }
+    ensures stops { IfSome result.1 (λ group. ¬ (AreAscii T.SIZE (T.lanes group.first) (T.lanes group.second)
+        (T.lanes group.third) (T.lanes group.fourth))) }
+    ensures few { IfNone result.1 (length probe.old.text < result.0 + 4 * T.SIZE) }
 {
     let last = probe.len() - 4 * T::SIZE;
     let mut at = from;
@@ -323,16 +333,15 @@ fn load_group<T: Utf8Chunk>(probe: &mut ByteProbe<'_, T>, at: usize) -> Group<T>
     }
 }
 
-/// True only if all lanes are ASCII.
+/// Whether all lanes are ASCII.
 #[inline(always)]
 fn is_ascii<T: Utf8Chunk>(group: Group<T>) -> bool
     requires first { AreBytes T.SIZE (T.lanes group.first) }
     requires second { AreBytes T.SIZE (T.lanes group.second) }
     requires third { AreBytes T.SIZE (T.lanes group.third) }
     requires fourth { AreBytes T.SIZE (T.lanes group.fourth) }
-    ensures { IsTrue result → (j : ℕ) → j < T.SIZE
-        → (slice_index (T.lanes group.first) j < 128) × (slice_index (T.lanes group.second) j < 128)
-        × (slice_index (T.lanes group.third) j < 128) × (slice_index (T.lanes group.fourth) j < 128) }
+    ensures { IsTrue result ↔ AreAscii T.SIZE (T.lanes group.first) (T.lanes group.second) (T.lanes group.third)
+        (T.lanes group.fourth) }
 {
     let front = either(group.first, group.second);
     let back = either(group.third, group.fourth);
@@ -345,8 +354,7 @@ fn either<T: Utf8Chunk>(a: T, b: T) -> T
     requires a { AreBytes T.SIZE (T.lanes a) }
     requires b { AreBytes T.SIZE (T.lanes b) }
     ensures bytes { AreBytes T.SIZE (T.lanes result) }
-    ensures lanes { (j : ℕ) → j < T.SIZE
-        → (slice_index (T.lanes a) j ≤ slice_index (T.lanes result) j) × (slice_index (T.lanes b) j ≤ slice_index (T.lanes result) j) }
+    ensures lanes { T.lanes result ≡ zip2 bit_or (T.lanes a) (T.lanes b) }
 {
     a.sub(a.bitand(b)).add(b)
 }

@@ -1,7 +1,7 @@
 -- ASCII follows wherever no char goes on.
 use Rattle.str_indices.proofs.lemmas.Common.{◌≡◌, ℕ, zero, suc, ◌+◌, ◌-◌, ◌*◌, ◌<◌, ◌≤◌, List, get_or, sym, ap, ◌∙◌, subst, arith, inl, inr, cases_lt, add-zero, true, nat_tests}
 use Rattle.std.specs.Prelude.{IsTrue, IsFalse}
-use Rattle.str_indices.specs.Utf8.{AllFollow, AreFour, IsWindow, after_zeros, follows, is_open, leaves_open, may_follow}
+use Rattle.str_indices.specs.Utf8.{AllFollow, AreAscii, AreFour, IsWindow, after_zeros, follows, is_open, leaves_open, may_follow}
 use Rattle.str_indices.proofs.lemmas.utf8.Steps.{leaves_open-AllClosed, may_follow-first}
 use Rattle.str_indices.proofs.lemmas.faults.Follow.{byte_after_zeros, none_follow, one_follows}
 
@@ -55,7 +55,7 @@ module _ (bytes : List ℕ) where
 
   -- four chunks of ASCII
   pub group_ascii : {size at : ℕ} {first second third fourth : List ℕ} → AreFour size bytes at first second third fourth
-      → ((j : ℕ) → j < size → (get_or first j 0 < 128) × (get_or second j 0 < 128) × (get_or third j 0 < 128) × (get_or fourth j 0 < 128))
+      → AreAscii size first second third fourth
       → (i : ℕ) → at ≤ i → i < at + 4 * size → get_or bytes i 0 < 128
   group_ascii {size} {at} four small i low high =
       elim (cases_lt i (at + size)) [

@@ -3,7 +3,7 @@ use Rattle.str_indices.proofs.lemmas.Common.{◌≡◌, ℕ, suc, ◌+◌, ◌-�
 use Rattle.std.proofs.Common.{w8}
 use Rattle.std.proofs.Math.Facts.{Fits-or}
 use Rattle.std.proofs.lemmas.List.{ext_get_or, get_or-append_right}
-use Rattle.std.proofs.lemmas.Nat.{and_le_l, and_le_r}
+use Rattle.std.proofs.lemmas.Nat.{and_le_l, and_le_r, or_lt}
 use Rattle.std.proofs.lemmas.Nat.Bits.{and_pow}
 use Rattle.std.specs.Int.Bits.{and_zero_r, bit_or, or_add_and}
 use Rattle.str_indices.specs.Utf8.{AreBytes}
@@ -63,12 +63,24 @@ module _ {size : ℕ} {xs ys : List ℕ} (are : AreBytes size xs) (are' : AreByt
             (rw is_either (length-zip2 (λ (a b : ℕ). a + b) less ys (long_less ∙ sym are'.long) ∙ long_less))
             (λ j l. rw (either_lane j l) (or_below j l))
 
-        -- and no less than each of the two
-        pub either_above : (j : ℕ) → j < size → (get_or xs j 0 ≤ get_or either j 0) × (get_or ys j 0 ≤ get_or either j 0)
-        either_above j l = (
-          omega (arith, either_lane j l, or_lane j l, or_add_and (get_or xs j 0) (get_or ys j 0), and_le_r (get_or xs j 0) (get_or ys j 0)),
-          omega (arith, either_lane j l),
-        )
+        -- and lane by lane those of `bit_or`
+        pub either_lanes : either ≡ zip2 bit_or xs ys
+        either_lanes = ext_get_or 0 either (zip2 bit_or xs ys)
+            (either_bytes.long ∙ sym (length-zip2 bit_or xs ys (are.long ∙ sym are'.long) ∙ are.long))
+            (λ j l. let l' : j < size = omega (arith, l, either_bytes.long) in
+            either_lane j l' ∙ or_lane j l' ∙ sym (lane bit_or {zs = zip2 bit_or xs ys} refl j l'))
+
+-- a lane of either is ASCII just where both are
+pub or_ascii : {size : ℕ} {xs ys zs : List ℕ} → AreBytes size xs → AreBytes size ys → zs ≡ zip2 bit_or xs ys
+    → (j : ℕ) → j < size → (get_or zs j 0 < 128) ↔ ((get_or xs j 0 < 128) × (get_or ys j 0 < 128))
+or_ascii {size} {xs} {ys} {zs} are are' is j l =
+    let a = get_or xs j 0 in
+    let b = get_or ys j 0 in
+    let e : get_or zs j 0 ≡ bit_or a b = lane are are' bit_or is j l in
+    let sum = or_add_and a b in (
+      λ small. (omega (arith, small, e, sum, and_le_r a b), omega (arith, small, e, sum, and_le_l a b)),
+      λ both. rw e (or_lt 7 a b both.0 both.1),
+    )
 
 -- lanes that are all 0
 pub zero_lanes : {size : ℕ} (lanes : List ℕ) → length lanes ≡ size → ((j : ℕ) → j < size → get_or lanes j 0 ≡ 0)

@@ -1,4 +1,4 @@
-use Rattle.str_indices.proofs.lemmas.{both_below, less_has_room, either_bytes, either_above}
+use Rattle.str_indices.proofs.lemmas.{both_below, less_has_room, either_bytes, either_lanes}
 use Rattle.str_indices.proofs.utf8_faults.either.Goals as goal
 
 pub sub-requires : goal.sub-requires
@@ -11,4 +11,4 @@ pub returns-clause-bytes : goal.returns-clause-bytes
 returns-clause-bytes g c = either_bytes c.requires.a c.requires.b c.bitand.ensures c.sub.ensures c.add.ensures
 
 pub returns-clause-lanes : goal.returns-clause-lanes
-returns-clause-lanes g c = either_above c.requires.a c.requires.b c.bitand.ensures c.sub.ensures c.add.ensures
+returns-clause-lanes g c = either_lanes c.requires.a c.requires.b c.bitand.ensures c.sub.ensures c.add.ensures

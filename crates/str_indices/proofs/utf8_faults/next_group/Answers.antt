@@ -9,7 +9,7 @@ returns-then-is_open-clause-err g c =
     let at = c.args.at in
     let least = g.met.T.ByteChunk.lawful.least in
     let group = c.load_group-group.ensures in
-    let ascii = group_ascii text group.four (c.is_ascii.ensures c.if-not-is_ascii.false) in
+    let ascii = group_ascii text group.four (c.is_ascii.ensures.0 c.if-not-is_ascii.false) in
     let opened = subst (λ t. is_open t at ≡ true) group.reads.text_kept (sym c.is_open.ensures.open ∙ c.if-is_open.true) in (
       record {
         within = omega (arith, c.requires.within, least);
@@ -25,7 +25,7 @@ skip_ascii-at-requires-clause-follow g c =
     let at = c.args.at in
     let group = c.load_group-group.ensures in
     let kept = c.is_open.ensures.reads.text_kept ∙ group.reads.text_kept in
-    let ascii = group_ascii text group.four (c.is_ascii.ensures c.if-not-is_ascii.false) in
+    let ascii = group_ascii text group.four (c.is_ascii.ensures.0 c.if-not-is_ascii.false) in
     let shut = subst (λ t. IsFalse (is_open t at)) group.reads.text_kept (sym c.is_open.ensures.open ∙ c.if-is_open.false) in
     subst (λ t. AllFollow t 0 (at + 4 * c.SIZE-2.result)) (sym kept)
     (subst (λ k. AllFollow text 0 (at + 4 * k)) (sym c.SIZE-2.ensures)
@@ -37,7 +37,7 @@ skip_ascii-at-requires-clause-shut g c =
     let at = c.args.at in
     let group = c.load_group-group.ensures in
     let kept = c.is_open.ensures.reads.text_kept ∙ group.reads.text_kept in
-    let ascii = group_ascii text group.four (c.is_ascii.ensures c.if-not-is_ascii.false) in
+    let ascii = group_ascii text group.four (c.is_ascii.ensures.0 c.if-not-is_ascii.false) in
     let shut = subst (λ t. IsFalse (is_open t at)) group.reads.text_kept (sym c.is_open.ensures.open ∙ c.if-is_open.false) in
     rw (kept, c.SIZE-2.ensures) (ascii_follow text at (4 * g.T.ByteChunk.SIZE) shut ascii).1
 

@@ -11,7 +11,7 @@ groups-preserved g c =
     let group = c.load_group-group in
     let four = subst (λ t. AreFour size t at (lanes group.result.first) (lanes group.result.second) (lanes group.result.third)
     (lanes group.result.fourth)) so_far.reads.text_kept group.ensures.four in
-    let bytes = group_ascii text four (c.is_ascii.ensures c.if-not-is_ascii.false) in
+    let bytes = group_ascii text four (c.is_ascii.ensures.0 c.if-not-is_ascii.false) in
     let all = ascii_follow text at (4 * size) so_far.shut bytes in
     rw c.SIZE-in-groups.ensures (record {
       low = omega (arith, so_far.low);
