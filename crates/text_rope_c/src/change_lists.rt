@@ -6,7 +6,7 @@ ghost use Rattle.text_rope_c.specs.ChangeLists.{IsFirstNotUtf8, change_of, has_u
 ghost use Rattle.text_rope_c.specs.Kept.{null};
 ghost use Rattle.text_rope_c.specs.Numbers.{done, encoding_of, not_utf8, status_of};
 
-use crate::changes::text_of;
+use crate::changes::utf8_of;
 use crate::handles::{empty_handle, store};
 use crate::numbers::{NOT_UTF8, encoding_at, status_at};
 use crate::slot::Slot;
@@ -205,6 +205,6 @@ fn change_of<'a>(change: &ContentChange<'a>) -> Change<'a>
             Some(change.range)
         },
         // The bytes were checked before the first change.
-        text: text_of(change.text),
+        text: utf8_of(change.text),
     }
 }

@@ -2,8 +2,8 @@
 //!
 //! C holds a [`Slot`](slot::Slot), which is one pointer. Null is the empty text, so a handle begins as null and takes
 //! no memory. Each function takes the rope out of the handle, calls it, and puts it back. Those named `.._utf8` ask
-//! for UTF-8, and none asks anything else of its arguments beyond their types: `bindings/c/include/str_rope.h`, at the top of
-//! the repository, says what a caller in C owes.
+//! that the bytes are UTF-8; otherwise none asks more of its arguments than their types. `bindings/c/include/str_rope.h`, at
+//! the top of the repository, says what a caller in C owes.
 #![tactic(auto)]
 
 mod change_lists;
