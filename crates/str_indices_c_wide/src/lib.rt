@@ -3,7 +3,8 @@
 //!
 //! They promise what those of `str_indices_c` do, for a processor of the level x86-64-v3, where such a chunk is one
 //! vector. So this crate is checked and built for that level, by `bindings/c/build_library` at the top of the
-//! repository. `bindings/c/choose_half.c` there hands calls on to these functions where the processor is of that level.
+//! repository. `bindings/c/choose_half.c` there hands calls on to these functions where the processor is of that level. Whether
+//! fewer than thirty-two bytes are UTF-8, `str_indices` is asked.
 #![tactic(auto)]
 
 ghost use Rattle.std.specs.Prelude.{◌≡◌, ◌↔◌, IsCharBoundary, IsTrue, IsUtf8, chars};

@@ -14,7 +14,7 @@ const SIZES: [usize; 5] = [100, 1_000, 10_000, 100_000, 1_000_000];
 /// How many inputs a text is cut into at most.
 const INPUTS: usize = 400;
 
-/// How many bytes the texts have that are cut.
+/// How many bytes a text has at most, before it is cut into inputs.
 const BYTES: usize = 1_000_000;
 
 /// How many bytes are near the end of an input.
@@ -33,7 +33,7 @@ pub(crate) fn run(
     digest: &mut Digest,
 ) -> Result<(), Fault> {
     for i in 0..rounds {
-        take_inputs(alloc, random, SIZES[i % 5], digest)?;
+        take_inputs(alloc, random, SIZES[i % SIZES.len()], digest)?;
     }
     Ok(())
 }
