@@ -45,11 +45,13 @@ uint32_t index_fill(const char *text, size_t len, struct mark *room, size_t many
 /* The same for bytes that are UTF-8, which it does not check. */
 uint32_t index_fill_utf8(const char *text, size_t len, struct mark *room, size_t many, struct str_index *index);
 
-typedef uint32_t filling(const char *text, size_t len, struct mark *room, size_t many, struct str_index *index);
+/* Either of the two. */
+typedef uint32_t fill_function(const char *text, size_t len, struct mark *room, size_t many, struct str_index *index);
 
 /* The block is zeroed, so that a value is handed on. Where there is no mark, the room for
  * them is the end of the block, which is not null either. */
-static str_index_status filled(str_index **index, struct str_index *block, const char *text, size_t len, filling *fill)
+static str_index_status filled(str_index **index, struct str_index *block, const char *text, size_t len,
+                               fill_function *fill)
 {
     struct mark *room = (struct mark *)(block + 1);
     str_index_status status;
@@ -63,7 +65,7 @@ static str_index_status filled(str_index **index, struct str_index *block, const
     return status;
 }
 
-static str_index_status made(str_index **index, const char *text, size_t len, filling *fill)
+static str_index_status made(str_index **index, const char *text, size_t len, fill_function *fill)
 {
     size_t size = str_index_size(len);
     struct str_index *block;

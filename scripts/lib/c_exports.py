@@ -124,8 +124,8 @@ def symbols(archive, library=STR_INDICES):
 
 
 def pairs(library=STR_INDICES):
-    """Each function with each other one of its shape, but for one that is owed UTF-8 by the one that checks it: of UTF-8 both
-    make the same.
+    """Each function with each other one of its shape. A function named `.._utf8` is not answered by the one that checks: it
+    is only handed UTF-8, for which both do the same.
     """
     functions = declared(library).values()
     of_one_shape = [(one, other) for one in functions for other in functions if one.shape() == other.shape()]

@@ -43,13 +43,14 @@
  * SSE4.2), and does not ask whether it runs on one.
  *
  * The cost of a call: marks stand in the text, one for each 1,024 bytes, with
- * the counts of what is before them. Making an index goes over the text twice,
- * once for whether it is UTF-8, if that is checked. A count takes one step. A
- * conversion from a byte looks at two marks, and one to a byte halves the
- * marks; each reads at most 1,028 bytes of the text. At most, the end of a line
- * takes one such conversion; a line, the position of a byte, and that of one
- * that is a place two; the byte of a position three; an exact byte, and the
- * positions of a span four; the bytes of a range six.
+ * the counts of what is before them. Making an index goes over the text once,
+ * and once more before that to check that it is UTF-8; str_index_make_utf8
+ * leaves that out. A count takes one step. A conversion from a byte looks at
+ * two marks, and one to a byte halves the marks; each reads at most 1,028 bytes
+ * of the text. At most, the end of a line takes one such conversion; a line,
+ * the position of a byte, and that of one that is a place two; the byte of a
+ * position three; an exact byte, and the positions of a span four; the bytes of
+ * a range six.
  *
  * An index is one block of memory: 48 bytes for each mark, and 80 besides.
  */

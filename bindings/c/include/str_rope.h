@@ -399,7 +399,15 @@ STR_ROPE_CHECKED str_rope_status str_rope_change_all_exact(
  */
 
 /* The bytes of the content of a line, without its break. Past the last line
- * they are none, at the end of the text. */
+ * they are none, at the end of the text. A call searches the text twice. Where
+ * you want lines in order with their breaks, one search for each will do, by the
+ * scheme that counts the same breaks:
+ *
+ *     size_t line = 0, start = 0, end;
+ *     for (; start < str_rope_len(&rope); start = end) {
+ *         end = str_rope_to_byte_idx(&rope, STR_INDICES_LF, ++line);
+ *         show(start, end);
+ *     } */
 str_indices_bytes str_rope_line_by(const str_rope *rope,
                                    str_indices_line_type lines,
                                    size_t line_idx);
@@ -442,9 +450,10 @@ str_indices_range str_rope_range_by(const str_rope *rope,
 
 /* Each does what the function named without _utf8 does, but does not check the
  * bytes: it goes over the text once less, and never answers STR_ROPE_NOT_UTF8.
- * Where they are not UTF-8, what it and each later call with that text does is
- * undefined. They are for bindings of languages whose strings are UTF-8; in C
- * you should call the others. */
+ * Where they are not UTF-8, what it does is undefined, and so is each later
+ * call with that text, or with one that took chunks of it by a snapshot, an
+ * append or a split. They are for bindings of languages whose strings are
+ * UTF-8; in C you should call the others. */
 STR_ROPE_CHECKED str_rope_status str_rope_assign_utf8(str_rope *rope,
                                                       const char *text,
                                                       size_t len);

@@ -31,27 +31,30 @@ static void same(int right, const char *what, size_t len)
         printf("%s, of %zu bytes\n", what, len);
 }
 
+/* Either of the two calls that take a block. */
+typedef str_index_status make_function(str_index **index, const char *text, size_t len);
+
 /* What is refused: the text stays, there is no index, and nothing is left over. */
-static void try_refused(size_t len)
+static void try_refused(make_function *make, size_t len)
 {
     long before = living;
     str_index *index = (str_index *)whole;
     allocations = 0;
     refused = ALWAYS;
-    same(str_index_make(&index, whole, len) == STR_INDEX_NO_MEMORY && index == NULL, "memory is refused", len);
+    same(make(&index, whole, len) == STR_INDEX_NO_MEMORY && index == NULL, "memory is refused", len);
     refused = NEVER;
     same(allocations == 1 && living == before, "what is left over after a refusal", len);
 }
 
 /* An index where no more memory is to be had once it is made. */
-static void try_made(size_t len)
+static void try_made(make_function *make, size_t len)
 {
     long before = living;
     str_index *index = NULL;
     size_t lines = len / LINE;
     str_indices_position end = {lines, len % LINE};
     allocations = 0;
-    same(str_index_make(&index, whole, len) == STR_INDEX_OK && index != NULL, "make", len);
+    same(make(&index, whole, len) == STR_INDEX_OK && index != NULL, "make", len);
     same(allocations == 1 && living == before + 1, "one block is taken", len);
     same(asked == str_index_size(len), "the size of the block", len);
     refused = ALWAYS;
@@ -87,8 +90,10 @@ int main(void)
     /* standard output takes its memory now */
     printf("\n");
     for (size_t i = 0; i < sizeof lens / sizeof lens[0]; i++) {
-        try_refused(lens[i]);
-        try_made(lens[i]);
+        try_refused(str_index_make, lens[i]);
+        try_refused(str_index_make_utf8, lens[i]);
+        try_made(str_index_make, lens[i]);
+        try_made(str_index_make_utf8, lens[i]);
         try_wrong(lens[i]);
     }
     str_index_free(NULL);

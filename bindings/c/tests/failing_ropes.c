@@ -67,11 +67,15 @@ static int has_whole(str_rope *rope)
 
 typedef enum kind {
     ASSIGN,
+    ASSIGN_UTF8,
     SNAPSHOT,
     INSERT,
+    INSERT_UTF8,
     REMOVE,
     REPLACE,
+    REPLACE_UTF8,
     CHANGE,
+    CHANGE_UTF8,
     CHANGE_EXACT,
     CHANGE_ALL,
     APPEND,
@@ -86,6 +90,7 @@ typedef struct call {
 
 static const call calls[] = {
     {"assign", ASSIGN, WHOLE, 0, WHOLE, MOST_PUT},
+    {"assign_utf8", ASSIGN_UTF8, WHOLE, 0, WHOLE, MOST_PUT},
     {"assign to no text", ASSIGN, 0, 0, 0, MOST_PUT},
     {"snapshot", SNAPSHOT, WHOLE, WHOLE, WHOLE, 0},
     {"insert into no text", INSERT, 0, 0, 0, 3},
@@ -93,13 +98,16 @@ static const call calls[] = {
     {"insert of half a piece", INSERT, WHOLE, 20000, 20000, 600},
     {"insert of many pieces", INSERT, WHOLE, 20000, 20000, MOST_PUT},
     {"insert at the end", INSERT, WHOLE, WHOLE, WHOLE, 3000},
+    {"insert_utf8", INSERT_UTF8, WHOLE, 20000, 20000, MOST_PUT},
     {"remove in a piece", REMOVE, WHOLE, 20000, 20004, 0},
     {"remove of many pieces", REMOVE, WHOLE, 777, 39001, 0},
     {"remove of all", REMOVE, WHOLE, 0, WHOLE, 0},
     {"replace", REPLACE, WHOLE, 10000, 13000, MOST_PUT},
     {"replace in a piece", REPLACE, WHOLE, 10000, 10001, 900},
+    {"replace_utf8", REPLACE_UTF8, WHOLE, 10000, 13000, MOST_PUT},
     {"change", CHANGE, WHOLE, 20 * LINE, 200 * LINE, MOST_PUT},
     {"change of nothing", CHANGE, WHOLE, 20 * LINE, 20 * LINE, 900},
+    {"change_utf8", CHANGE_UTF8, WHOLE, 20 * LINE, 200 * LINE, MOST_PUT},
     {"exact change", CHANGE_EXACT, WHOLE, 20 * LINE, 200 * LINE, MOST_PUT},
     {"changes in turn", CHANGE_ALL, WHOLE, 20 * LINE, 200 * LINE, MOST_PUT},
     {"changes in turn of no text", CHANGE_ALL, 0, 0, 0, MOST_PUT},
@@ -128,11 +136,15 @@ static str_rope_status make(const call *one, str_rope *rope, str_rope *rest)
     str_indices_range range = {{one->from / LINE, 0}, {one->to / LINE, 0}};
     switch (one->is) {
     case ASSIGN: return str_rope_assign(rope, put, one->len);
+    case ASSIGN_UTF8: return str_rope_assign_utf8(rope, put, one->len);
     case SNAPSHOT: return str_rope_snapshot(rope, rest);
     case INSERT: return str_rope_insert(rope, one->from, put, one->len);
+    case INSERT_UTF8: return str_rope_insert_utf8(rope, one->from, put, one->len);
     case REMOVE: return str_rope_remove(rope, one->from, one->to);
     case REPLACE: return str_rope_replace(rope, one->from, one->to, put, one->len);
+    case REPLACE_UTF8: return str_rope_replace_utf8(rope, one->from, one->to, put, one->len);
     case CHANGE: return str_rope_change(rope, STR_INDICES_ENCODING_UTF8, range, put, one->len);
+    case CHANGE_UTF8: return str_rope_change_utf8(rope, STR_INDICES_ENCODING_UTF8, range, put, one->len);
     case CHANGE_EXACT: return str_rope_change_exact(rope, STR_INDICES_ENCODING_UTF8, range, put, one->len);
     case CHANGE_ALL: return make_in_turn(rope, range, one->len);
     case APPEND: return str_rope_append(rope, rest);

@@ -330,6 +330,17 @@ static void ranges_and_lines(void)
     str_rope_free(&rope);
 }
 
+/* Each line begins where the search by its scheme says. */
+static void lines_in_order(const str_rope *rope, str_indices_scheme scheme, const str_indices_bytes *lines)
+{
+    size_t line = 0, start = 0;
+    while (start < str_rope_len(rope)) {
+        same(start == lines[line].start, "lines in order", scheme, line);
+        start = str_rope_to_byte_idx(rope, scheme, ++line);
+    }
+    same(start == lines[line].end, "the end of the last line", scheme, line);
+}
+
 /* By what ends a line, in the order of `line_types`, of a text with a break of each kind. */
 static void lines_by_kind(void)
 {
@@ -343,6 +354,7 @@ static void lines_by_kind(void)
         {{{0, 10}, {11, 12}, {13, 14}, {14, 14}, {14, 14}, {14, 14}, {14, 14}}, {0, 3}, {0, 8}, {0, 8}, 12},
         {{{0, 1}, {4, 5}, {6, 7}, {8, 9}, {11, 12}, {13, 14}, {14, 14}}, {1, 1}, {3, 1}, {NONE, NONE}, 5},
     };
+    static const str_indices_scheme schemes[] = {STR_INDICES_CRLF, STR_INDICES_LF, STR_INDICES_LINES};
     str_rope rope = WITH(text);
     for (size_t kind = 0; kind <= NUMBER_OF(rows); kind++) {
         str_indices_line_type lines = line_types[kind];
@@ -354,6 +366,7 @@ static void lines_by_kind(void)
             str_indices_bytes bytes = str_rope_line_by(&rope, lines, line), wanted = rows[row].lines[line];
             same(bytes.start == wanted.start && bytes.end == wanted.end, "line_by", kind, line);
         }
+        lines_in_order(&rope, schemes[row], rows[row].lines);
         same(are_same(str_rope_position_by(&rope, lines, STR_INDICES_ENCODING_UTF16, 5), rows[row].at_form_feed),
              "position_by", kind, 5);
         same(are_same(str_rope_position_by(&rope, lines, STR_INDICES_ENCODING_UTF16, 10), rows[row].at_line_feed),
