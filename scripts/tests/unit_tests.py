@@ -204,7 +204,7 @@ def test_a_file_of_edits_that_is_refused(lines, tmp_path):
         edits_in(tmp_path, lines)
 
 
-@pytest.mark.parametrize("path", sorted((ROOT / "refusals").glob("*/*.edits")), ids=lambda path: f"{path.parent.name} {path.stem}")
+@pytest.mark.parametrize("path", sorted((ROOT / "refusals").glob("*/*.edits")), ids=lambda path: "/".join(path.parts[-2:]))
 def test_each_edit_can_be_made(path):
     crate = ROOT / "crates" / path.stem
     edited = [edit.edited(refusals.read(crate, edit.files())) for edit in refusals.edits_in(path)]
