@@ -29,7 +29,7 @@ pub fn valid_up_to(bytes: &[u8]) -> usize
     valid_up_to_impl(&mut ByteProbe::<Chunk>::of(bytes), 0)
 }
 
-/// Returns the bytes as a text, if they are UTF-8. Nothing is copied.
+/// Returns the bytes as a text, if they are UTF-8.
 pub fn from_utf8(bytes: &[u8]) -> Option<&str>
     ensures text { IfSome result (λ text. text.now ≡ bytes.now) }
     ensures some { IsSome result ↔ IsUtf8 bytes.now }
