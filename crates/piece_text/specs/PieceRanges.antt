@@ -1,5 +1,6 @@
 -- Which pieces are still to be looked at one by one.
 --     IsRunAt texts first run         from that number on the texts are those of the run, and then others
+--     IsRunOf texts run               the texts have the run
 --     IsPieceRange s texts range       the range is of these texts, and it is known what is before it
 --     IsSettled s texts end k         the text has the index, and one piece more, before a piece
 --     IsSpanRound texts byte part     the byte is in the part, or past the end
@@ -10,8 +11,8 @@ use Rattle.str_indices.specs.declared.Scheme.{Scheme}
 use Rattle.text_summary.specs.Fronts.{IsFront}
 use Rattle.piece_text.specs.Pieces.{joined, joined_size}
 use Rattle.piece_text.specs.Runs.{IsRun}
-use Rattle.piece_text.specs.declared.runs.Run.{Run}
-use Rattle.piece_text.specs.declared.runs.PieceSpan.{PieceSpan}
+use Rattle.piece_text.specs.declared.view.runs.Run.{Run}
+use Rattle.piece_text.specs.declared.view.runs.PieceSpan.{PieceSpan}
 use Rattle.piece_text.specs.declared.ranges.PieceRange.{PieceRange}
 
 -- from that number on the texts are those of the run, and then others
@@ -22,6 +23,10 @@ pub record IsRunAt (texts : List Text) (first : ℕ) (run : Run) : Type 0 where
   pub split : texts ≡ before ++ (own ++ after)
   pub place : length before ≡ first
   pub is : IsRun run own
+
+-- the texts have the run, from some number on
+abbrev pub IsRunOf : List Text → Run → Type 0
+IsRunOf texts run = (first : ℕ) × IsRunAt texts first run
 
 -- the range is of these texts, and it is known what is before it
 pub record IsPieceRange (s : Scheme) (texts : List Text) (range : PieceRange) : Type 0 where

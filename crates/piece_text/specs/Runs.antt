@@ -9,8 +9,8 @@ use Rattle.std.specs.Prelude.{ℕ, ◌≡◌, ◌≢◌, ◌+◌, ◌^◌, ◌<�
 use Rattle.str_indices.specs.Text.{Text}
 use Rattle.piece_text.specs.Pieces.{joined, joined_size}
 use Rattle.piece_text.specs.Summaries.{summary_of}
-use Rattle.piece_text.specs.declared.runs.Run.{Run}
-use Rattle.piece_text.specs.declared.runs.Swap.{Swap}
+use Rattle.piece_text.specs.declared.view.runs.Run.{Run}
+use Rattle.piece_text.specs.declared.view.runs.Swap.{Swap}
 
 -- its number of pieces and its sum are those of the texts, and these are not empty
 pub record IsRun (run : Run) (texts : List Text) : Type 0 where

@@ -14,7 +14,6 @@ mod places;
 mod queries;
 mod ranges;
 mod refusals;
-mod runs;
 mod sums;
 mod view;
 

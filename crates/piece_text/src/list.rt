@@ -8,7 +8,7 @@ ghost use Rattle.piece_text.specs.Splits.{IsEdge, IsCut, IsSplit};
 ghost use Rattle.piece_text.specs.declared.refusals.Refusal.TheVariants.{NoPiece, NotBoundary, TooLong, NoMemory};
 
 use crate::piece::Piece;
-use crate::runs::{Runs, Swap, span_round};
+use crate::view::runs::{Runs, Swap, span_round};
 use crate::{Pieces, Refusal, Scheme, Summary, count_in, from_in, to_in};
 use std::alloc::{AllocError, Global};
 use std::marker::Model;
@@ -18,7 +18,7 @@ const MAX_LEN: usize = isize::MAX as usize;
 
 /// A text that is kept in pieces, none of them empty. A contract sees the list of the pieces' texts.
 ///
-/// A question passes up to 128 pieces at one look, then looks at single pieces, and reads one at most.
+/// Its questions are those over a [`Pieces`]: each takes at most as many looks as there are pieces, and reads one at most.
 #[derive(Drop)]
 pub struct PieceText {
     pieces: Vec<Piece>,

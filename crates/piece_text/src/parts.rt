@@ -34,7 +34,7 @@ impl<'a> Model for PieceParts<'a> {
 }
 
 impl<'a> PieceParts<'a> {
-    /// Makes the parts of a view. It looks at each run, and at each piece that is in none, and reads no piece.
+    /// Makes the parts of a view, for at most as many looks as there are pieces. It reads no piece.
     pub fn of(pieces: Pieces<'a>) -> PieceParts<'a>
         ensures texts { result.texts ≡ pieces.entry.texts }
         ensures looks { result.looks ≤ pieces.entry.looks + length pieces.entry.texts }

@@ -8,6 +8,7 @@ ghost use Rattle.piece_text.specs.Splits.{IsHalved};
 use crate::Summary;
 use std::alloc::{AllocError, Global};
 use std::marker::Model;
+use str_indices::counts;
 
 /// A text that is not empty, and its summary. A contract sees the text's chars.
 ///
@@ -44,7 +45,7 @@ impl Piece {
     {
         let body = Body {
             text: String::new(alloc),
-            summary: Summary::of(text),
+            summary: Summary::with_counts(text, &counts(text)),
         };
         // before its text, so that both lie side by side
         let Ok(mut body) = Box::new(alloc, body) else {

@@ -4,7 +4,7 @@ ghost use Rattle.piece_text.specs.Pieces.{joined, joined_size};
 ghost use Rattle.piece_text.specs.PieceRanges.{IsPieceRange, IsRunAt, IsSettled};
 ghost use Rattle.text_summary.specs.Fronts.{IsFront};
 
-use crate::runs::Run;
+use crate::view::runs::Run;
 use crate::{Pieces, Scheme};
 use text_summary::Front;
 

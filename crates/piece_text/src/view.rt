@@ -4,16 +4,18 @@ ghost use Rattle.piece_text.specs.Pieces.{PiecesState, joined_size, piece_at};
 ghost use Rattle.piece_text.specs.Runs.{AreRuns};
 ghost use Rattle.piece_text.specs.Summaries.{summary_of};
 
+use self::runs::Run;
 use crate::Summary;
 use crate::piece::Piece;
-use crate::runs::Run;
 use byte_chunk::Counter;
 use std::marker::Model;
 
+pub(crate) mod runs;
+
 /// The pieces of a text, for a query: it lends their summaries and their texts, and counts both.
 ///
-/// It has the size of two slices: only contracts see its counters. It is neither `Copy` nor `Clone`, and hands out a text
-/// or a summary by the calls alone that count it.
+/// Only contracts see its counters. It is neither `Copy` nor `Clone`, and lends a text or a summary by the calls alone that
+/// count it.
 #[derive(Drop)]
 pub struct Pieces<'a> {
     pieces: &'a [Piece],
@@ -81,19 +83,10 @@ impl<'a> Pieces<'a> {
         pieces[i].text()
     }
 
-    /// The runs of its pieces. Counts nothing: `whole` lends the sum of one.
+    /// The runs of its pieces. Counts nothing: a run tells how many pieces it has, and only `whole` lends its sum.
     pub(crate) fn runs(&self) -> &'a [Run]
         ensures { AreRuns result.now self.now.texts }
     {
         self.runs
-    }
-
-    /// The sum of a run, for one look.
-    pub(crate) fn whole(&mut self, run: &Run) -> Summary
-        ensures whole { result ≡ run.now.whole }
-        ensures short { joined_size self.old.texts < 2 ^ 63 }
-        ensures state { self.new ≡ record self.old { looks = self.old.looks + 1 } }
-    {
-        run.look(&mut self.looks)
     }
 }

@@ -13,7 +13,7 @@ pub use Rattle.text_summary.specs.Fronts.{IsFront}
 pub use Rattle.piece_text.specs.Runs.{IsRun, AreRuns, pieces_in, IsSwap, IsRunSwapped, Swapped}
 pub use Rattle.piece_text.specs.PieceRanges.{IsRunAt, IsPieceRange, IsSettled, IsSpanRound}
 pub use Rattle.piece_text.specs.Summaries.{summary_of}
-pub use Rattle.piece_text.specs.declared.runs.Run.{Run}
-pub use Rattle.piece_text.specs.declared.runs.Swap.{Swap}
+pub use Rattle.piece_text.specs.declared.view.runs.Run.{Run}
+pub use Rattle.piece_text.specs.declared.view.runs.Swap.{Swap}
 pub use Rattle.piece_text.specs.declared.ranges.PieceRange.{PieceRange}
 pub use Rattle.std.proofs.lemmas.Bool.{cases_lt}

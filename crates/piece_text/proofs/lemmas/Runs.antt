@@ -12,7 +12,7 @@ use Rattle.piece_text.proofs.lemmas.Joining.{joined-append, joined-split, joined
 use Rattle.piece_text.proofs.lemmas.Splitting.{cut_list}
 use Rattle.piece_text.specs.Runs.{IsRun, AreRuns, pieces_in}
 use Rattle.piece_text.specs.PieceRanges.{IsRunAt}
-use Rattle.piece_text.specs.declared.runs.Run.{Run}
+use Rattle.piece_text.specs.declared.view.runs.Run.{Run}
 
 -- a list past its first texts, and up to some of the others
 drop_own : (texts own rest : List Text) (p m : ℕ) → texts ≡ own ++ rest → length own ≡ p → drop (p + m) texts ≡ drop m rest

@@ -1,6 +1,10 @@
 use Rattle.piece_text.proofs.lemmas.{joined, run_before, run_joined, next_run, ◌∙◌}
 use Rattle.piece_text.proofs.ranges.pass.Goals as goal
 
+-- the run is one of the text
+pub whole-whole-requires : goal.whole-whole-requires
+whole-whole-requires c = (c.args.first, c.requires.run)
+
 pub step-requires : goal.step-requires
 step-requires c = next_run c.args.s c.args.p.now.texts c.args.first c.args.front c.args.run.now c.whole-whole.result
     c.requires.run c.requires.front c.whole-whole.ensures.whole c.whole-whole.ensures.short

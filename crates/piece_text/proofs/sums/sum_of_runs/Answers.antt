@@ -6,6 +6,13 @@ pub loop-run-init : goal.loop-run-init
 loop-run-init c = record { pieces = refl; whole = c.none-whole.ensures; state = search rules; looks = omega arith }
 
 -- the run has its place there
+pub whole-requires : goal.whole-requires
+whole-requires c =
+    let texts = c.args.p.now.texts in
+    let here = passing c.runs-run-items.result.now texts c.loop-run.pieces c.loop-run.run-index no_run c.runs-run-items.ensures
+    c.loop-run-test.true c.loop-run.invariant.pieces in
+    (c.loop-run.pieces, rw (ap (λ p. p.texts) c.loop-run.invariant.state) here.at)
+
 pub join_summaries-whole-requires : goal.join_summaries-whole-requires
 join_summaries-whole-requires c =
     let texts = c.args.p.now.texts in
