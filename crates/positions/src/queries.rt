@@ -18,10 +18,10 @@ use std::ops;
 
 /// Converts a byte index to a position: its line, and the units from that line's beginning to the byte.
 ///
-/// A byte inside a char has the position where the char begins, a byte in a line break that of the line's end, and a
-/// byte past the end that of the text's end. It takes one search by the byte if the line begins after the start of the
-/// byte's part. Otherwise it takes one by the line too, and two more by a byte if parts come without the units before
-/// them.
+/// A byte inside a char has the position where the char begins. A byte in a line break has the position of its line's
+/// end, and a byte past the end has the position of the text's end. It takes one search by the byte if the line begins
+/// after the latest place where the byte's part may begin, `latest_start`. Otherwise it takes one by the line too, and
+/// two more by a byte if parts come without the units before them.
 pub fn position_of<'a, P: Parts<'a>>(
     parts: &mut P,
     lines: LineType,
@@ -116,7 +116,7 @@ pub fn byte_of<'a, P: Parts<'a>>(
 
 /// Converts a position that names a place to its byte index. It answers `None` if the text has no such line, if the
 /// offset is past the end of the line, or if the unit is inside a char: so a server notices a client that is out of
-/// step. It takes one search by a byte more than `byte_of`, if the place is not before the end of the line's part.
+/// step. It takes at most one search by a byte more than `byte_of`.
 pub fn exact_byte_of<'a, P: Parts<'a>>(
     parts: &mut P,
     lines: LineType,

@@ -1,7 +1,10 @@
 // Changes of a text in turn: all of them, or none.
-ghost use Rattle.std.specs.Prelude.{◌≡◌, ◌≤◌, IfErr, OnOk, OnErr, length, true, false};
-ghost use Rattle.rope_positions.specs.ChangeLists.{AreApplied, IsApplied, IsRefused, IsRefusedAmong};
+ghost use Rattle.std.specs.Prelude.{◌≡◌, ◌≤◌, ◌⊎◌, IfErr, OnOk, OnErr, length, true, false};
+ghost use Rattle.text_rope.specs.declared.refusals.Refusal.TheVariants.{NoMemory};
+ghost use Rattle.rope_positions.specs.ChangeLists.{AreApplied, CanBeMade, IsApplied, IsRefused, IsRefusedAmong};
 
+use crate::changes::byte_range_of;
+use crate::exact_changes::{exact_part_of, is_ordered};
 use crate::{Change, apply, apply_exact};
 use positions::Encoding;
 use text_rope::{Refusal, Rope};
@@ -18,8 +21,9 @@ pub struct RefusedChange {
 /// Applies changes in turn, each as `apply` does to the text that the one before it left: the protocol's
 /// `contentChanges`. They are all applied, or none is.
 ///
-/// After a refusal the text is as before the first change, and the answer says which one was refused and why. One change
-/// costs what it costs alone. Before more than one the rope takes a snapshot, so it copies the nodes that they change.
+/// After a refusal the text is as before the first change. The answer names the first change that cannot be made, and says why
+/// as `apply` does; or it names one that was refused memory before that. Before more than one change the rope takes a snapshot,
+/// so it copies the nodes that they change: where the snapshot is refused, the first change is the one that is refused memory.
 pub fn apply_all(
     rope: &mut Rope,
     encoding: Encoding,
@@ -73,13 +77,16 @@ fn apply_some(
     changes: &[Change<'_>],
 ) -> Result<(), RefusedChange>
     requires { 2 ≤ length changes.now }
-    ensures ok { OnOk result (AreApplied exact encoding rope.old changes.now rope.new) }
+    ensures made { OnOk result (AreApplied exact encoding rope.old changes.now rope.new) }
     ensures err { OnErr result (rope.new ≡ rope.old) }
     ensures refused { IfErr result (λ refused. IsRefusedAmong exact encoding rope.old changes.now refused) }
 {
     let before = match rope.snapshot() {
         Ok(before) => before,
-        Err(refusal) => return Err(RefusedChange { index: 0, refusal }),
+        Err(_) => {
+            let refusal = refusal_for_memory(rope, exact, encoding, changes[0]);
+            return Err(RefusedChange { index: 0, refusal });
+        }
     };
     for (index, change) in changes.iter().enumerate() {
         if let Err(refusal) = apply_one(rope, exact, encoding, *change) {
@@ -105,4 +112,36 @@ fn apply_one(
     } else {
         apply(rope, encoding, change)
     }
+}
+
+/// Tells why a change is refused that is refused memory before it is tried: its own refusal where it cannot be made, and
+/// else `NoMemory`.
+pub fn refusal_for_memory(
+    rope: &Rope,
+    exact: bool,
+    encoding: Encoding,
+    change: Change<'_>,
+) -> Refusal
+    ensures { IsRefused exact encoding rope.now change.entry result
+        ⊎ ((result ≡ NoMemory) × CanBeMade exact encoding rope.now change.entry) }
+{
+    let part = if exact {
+        if !is_ordered(change.range) {
+            return Refusal::NotOrdered;
+        }
+        match exact_part_of(rope, encoding, change.range) {
+            Some(part) => part,
+            None => return Refusal::NotBoundary,
+        }
+    } else {
+        match byte_range_of(rope, encoding, change.range) {
+            Some(part) => part,
+            None => return Refusal::NotOrdered,
+        }
+    };
+    let kept = rope.len() - (part.end - part.start);
+    if isize::MAX as usize - kept < change.text.len() {
+        return Refusal::TooLong;
+    }
+    Refusal::NoMemory
 }

@@ -45,7 +45,11 @@ pub fn apply(rope: &mut Rope, encoding: Encoding, change: Change<'_>) -> Result<
 }
 
 /// Finds the bytes that a change replaces, or `None` if the range's end is before its start.
-fn byte_range_of(rope: &Rope, encoding: Encoding, range: Option<Range>) -> Option<ops::Range<usize>>
+pub(crate) fn byte_range_of(
+    rope: &Rope,
+    encoding: Encoding,
+    range: Option<Range>,
+) -> Option<ops::Range<usize>>
     ensures part { result ≡ part_at encoding rope.now range }
     ensures ordered { IfSome result (λ part. part.start ≤ part.end) }
     ensures boundaries { IfSome result (λ part. IsBoundary rope.now part.start × IsBoundary rope.now part.end) }

@@ -41,7 +41,7 @@ pub fn apply_exact(rope: &mut Rope, encoding: Encoding, change: Change<'_>) -> R
 }
 
 /// Whether the end of a change's range is not before its start.
-fn is_ordered(range: Option<Range>) -> bool
+pub(crate) fn is_ordered(range: Option<Range>) -> bool
     ensures { result ≡ is_ordered range }
 {
     match range {
@@ -51,7 +51,11 @@ fn is_ordered(range: Option<Range>) -> bool
 }
 
 /// Finds the bytes that a change replaces, or `None` if a position names no place.
-fn exact_part_of(rope: &Rope, encoding: Encoding, range: Option<Range>) -> Option<ops::Range<usize>>
+pub(crate) fn exact_part_of(
+    rope: &Rope,
+    encoding: Encoding,
+    range: Option<Range>,
+) -> Option<ops::Range<usize>>
     requires ordered { IsTrue (is_ordered range) }
     ensures part { result ≡ exact_part_at encoding rope.now range }
     ensures ordered { IfSome result (λ part. part.start ≤ part.end) }

@@ -1,9 +1,9 @@
 //! A text with an index beside it.
-ghost use Rattle.std.specs.Prelude.{◌≡◌, ◌<◌, ◌^◌, ◌↔◌, IfOk, IsTrue, chars};
+ghost use Rattle.std.specs.Prelude.{◌≡◌, ◌<◌, ◌^◌, ◌↔◌, IfOk, IsOk, IsTrue, chars, length};
 ghost use Rattle.str_indices.specs.Relations.{IsBoundary};
 ghost use Rattle.str_indices.specs.Schemes.{count, from_byte_idx, to_byte_idx};
 ghost use Rattle.str_indices.specs.Text.{size};
-ghost use Rattle.text_index.specs.Marks.{AreMarks, MarksState};
+ghost use Rattle.text_index.specs.Marks.{AreMarks, MarksState, stretch_size};
 
 use crate::mark::{BEGINNING, Mark};
 use crate::marking::{fill, marks_for};
@@ -13,7 +13,7 @@ use std::marker::Model;
 
 /// A text with an index beside it, that answers for each byte and each index, past the end too. A contract sees the text.
 ///
-/// It takes at most a sixteenth of the memory that the text takes, and none for a text of less than a kilobyte.
+/// It keeps one [`Mark`](crate::Mark) of 48 bytes for each 1,024 bytes of the text, and so takes no memory for a shorter one.
 #[derive(Drop)]
 pub struct TextIndex<'a> {
     text: &'a str,
@@ -34,11 +34,15 @@ impl<'a> Model for TextIndex<'a> {
 }
 
 impl<'a> TextIndex<'a> {
-    /// Makes the index of a text, in one pass over it. It fails if memory is refused.
+    /// Makes the index of a text, in one pass over it. It fails if memory is refused, and never for a text of fewer than
+    /// 1,024 bytes.
     pub fn of(alloc: Global, text: &'a str) -> Result<TextIndex<'a>, AllocError>
-        ensures { IfOk result (λ index. index ≡ chars text.now) }
+        ensures ok { IfOk result (λ index. index ≡ chars text.now) }
+        ensures small { length text.now < stretch_size → IsOk result }
     {
-        let mut marks = Vec::from_elem(alloc, BEGINNING, marks_for(text.len()))?;
+        let many = marks_for(text.len());
+        let mut marks = Vec::with_capacity(alloc, many)?;
+        marks.resize(many, BEGINNING)?;
         let whole = fill(text, marks.as_mut_slice());
         Ok(TextIndex { text, marks, whole })
     }
@@ -95,7 +99,7 @@ impl<'a> TextIndex<'a> {
         to_in(&mut self.view(), s, k)
     }
 
-    /// Whether a byte index is between chars, or at the text's beginning or end, in one step.
+    /// Whether a byte index is between chars, or at the text's beginning or end.
     pub fn is_char_boundary(&self, b: usize) -> bool
         ensures { IsTrue result ↔ IsBoundary self.now b }
     {

@@ -49,8 +49,8 @@ impl<'a> TextIndex<'a> {
     /// Converts a byte index to a position: its line, and the units from that line's beginning to the byte. Lines end
     /// in LF, CR or CRLF. It asks `position_in`.
     ///
-    /// A byte inside a char has the position where the char begins, a byte in a line break that of the line's end, and a byte
-    /// past the end that of the text's end.
+    /// A byte inside a char has the position where the char begins. A byte in a line break has the position of its line's
+    /// end, and a byte past the end has the position of the text's end.
     pub fn position_of(&self, encoding: Encoding, byte: usize) -> Position
         ensures { result ≡ position_at LineType.LfCr encoding self.now byte }
     {

@@ -1,7 +1,8 @@
 //! An index beside a text that does not change: it answers in every scheme without going over the text.
 //!
 //! Marks stand in the text about a kilobyte apart, each with the counts of what is before it, and none between CR and LF:
-//! so a question looks at a few marks, and reads the text between two of them at most. Only making the index takes memory.
+//! so a question looks at a few marks and reads the text between two of them, at most six times. Only making the index
+//! takes memory.
 #![tactic(auto)]
 
 mod borrowed;

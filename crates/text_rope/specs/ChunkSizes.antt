@@ -4,6 +4,7 @@
 --     IsLongEnough chunk                it has at least `min_chunk` bytes
 --     AreLongEnough chunks              each has at least `min_chunk` bytes
 --     IsFilled chunks             each has at least `min_chunk` bytes, or there is one at most
+--     IsFull whole chunk           it has at least `min_chunk` bytes, or all of the text
 --     IsSmall summary           it is that of a text that a chunk can have
 --     IsKept summary text       the summary is the text's, which is not empty and not too long
 use Rattle.std.specs.Prelude.{ℕ, ◌≡◌, ◌≢◌, ◌≤◌, ◌⊎◌, List, [], length}
@@ -32,6 +33,10 @@ AreLongEnough chunks = All IsLongEnough chunks
 -- what holds of the chunks of each rope: each has as many, or there is one at most
 abbrev pub IsFilled : List Text → Type 0
 IsFilled chunks = AreLongEnough chunks ⊎ (length chunks ≤ 1)
+
+-- a chunk of a text has at least `min_chunk` bytes, or is all of the text
+abbrev pub IsFull : Text → Text → Type 0
+IsFull whole chunk = IsLongEnough chunk ⊎ (chunk ≡ whole)
 
 -- the summary is that of a text that a chunk can have
 pub record IsSmall (summary : Summary) : Type 0 where

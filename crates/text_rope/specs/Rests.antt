@@ -1,6 +1,7 @@
 -- The chunks of a leaf, in the order of the text.
 --     IsLeafPlace before texts chunks index start     the chunk with number `index` of a leaf starts at byte index `start`
---     IsLeafAt before texts chunks index start at     the same, where a byte is in it
+--     IsCursor texts chunks index start chunk         what holds of each `ChunkCursor`
+--     IsLeafAt before texts chunks index start at     that chunk, where a byte is in it
 --     IsRestFrom before texts chunks start     `chunks` are neighbours in `texts`, and start at byte index `start`
 --     IsRestAt before texts chunks start at    the same, where a byte is in the first of them
 --     IsOnWay texts chunks at end              what holds of each `Chunks`
@@ -18,7 +19,12 @@ pub record IsLeafPlace (before : ℕ) (texts chunks : List Text) (index start : 
   pub index_is : index < length chunks
   pub place : before + joined_size front + joined_size (take index chunks) ≡ start
 
--- the same, where a byte is in that chunk
+-- what holds of each `ChunkCursor`: it has the text of that chunk
+pub record IsCursor (texts chunks : List Text) (index start : ℕ) (chunk : Text) : Type 0 where
+  pub leaf : IsLeafPlace 0 texts chunks index start
+  pub chunk_is : chunk ≡ piece_at chunks index
+
+-- that chunk of a leaf, where a byte is in it
 pub record IsLeafAt (before : ℕ) (texts chunks : List Text) (index start at : ℕ) : Type 0 where
   pub leaf : IsLeafPlace before texts chunks index start
   pub after : start ≤ at

@@ -1,5 +1,6 @@
 -- A tree as a question sees it.
 --     RopeState            the chunks' texts, and how many nodes were looked at and chunks read
+--     unasked texts        a view of them when it is new
 --     texts_of root        the chunks' texts of a tree that may have none
 --     texts_under root     the same where it is lent
 use Rattle.std.specs.Prelude.{ℕ, List, [], Option, Some, None}
@@ -13,6 +14,10 @@ pub record RopeState : Type 0 where
   pub texts : List Text
   pub looks : ℕ
   pub reads : ℕ
+
+-- a view of chunks when it is new
+abbrev pub unasked : List Text → RopeState
+unasked texts = record { texts = texts; looks = 0; reads = 0 }
 
 -- the chunks' texts of a tree that may have none
 abbrev pub texts_of : Option Seen → List Text

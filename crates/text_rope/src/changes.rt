@@ -11,8 +11,8 @@ use crate::chunk::Chunk;
 use crate::joins::join;
 use crate::leaf::{LEAF_CAPACITY, chunk_up_to, push_shared};
 use crate::loads::{few_of, tree_of};
+use crate::rope::costs::Work;
 use crate::tree::{Below, Subtree, Tree};
-use crate::work::Work;
 use std::alloc::{AllocError, Global};
 
 /// The tree with the chunks between two of their ends replaced by others; all nodes off the ways to both ends are shared.
@@ -147,8 +147,8 @@ pub(crate) fn join_options(
 {
     match (front, back) {
         (Some(left), Some(right)) => Ok(Some(join(work, alloc, left, right)?)),
-        (Some(subtree), None) => Ok(Some(subtree.share()?)),
-        (None, Some(subtree)) => Ok(Some(subtree.share()?)),
+        (Some(subtree), None) => Ok(Some(work.share(subtree)?)),
+        (None, Some(subtree)) => Ok(Some(work.share(subtree)?)),
         (None, None) => Ok(None),
     }
 }

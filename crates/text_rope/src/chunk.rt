@@ -2,7 +2,6 @@
 ghost use Rattle.std.specs.Prelude.{◌≡◌, ◌≢◌, ◌+◌, ◌-◌, ◌<◌, ◌≤◌, ◌↔◌, [], ◌∷◌, chars, length, string_bytes, true, Err, IsTrue, IfOk, OnOk, OnErr};
 ghost use Rattle.std.specs.String.{string_len, string_capacity};
 ghost use Rattle.str_indices.specs.Relations.{IsBoundary};
-ghost use Rattle.str_indices.specs.Schemes.{from_byte_idx, to_byte_idx};
 ghost use Rattle.str_indices.specs.Text.{Text, size};
 ghost use Rattle.text_summary.specs.Changes.{IsReplaced};
 ghost use Rattle.text_summary.specs.Summaries.{summary_of};
@@ -11,11 +10,12 @@ ghost use Rattle.text_rope.specs.Shifts.{IsShift};
 ghost use Rattle.text_rope.specs.declared.chunk.Unplaced.TheVariants.{NotBoundary};
 
 use crate::counts::ChunkCounts;
+use crate::rope::costs::Permit;
 use crate::shifts::Shift;
 use std::alloc::{AllocError, Global};
 use std::marker::Model;
 use std::sync::Arc;
-use text_summary::{Scheme, Summary, summary_after};
+use text_summary::{Summary, summary_after};
 
 /// How many bytes a chunk has at most.
 pub const MAX_CHUNK: usize = 1024;
@@ -82,7 +82,7 @@ impl Chunk {
     }
 
     /// Shares the chunk: copies no text.
-    pub(crate) fn share(&self) -> Result<Chunk, AllocError>
+    pub(crate) fn share(&self, _permit: Permit) -> Result<Chunk, AllocError>
         ensures { IfOk result (λ chunk. chunk ≡ self.now) }
     {
         Ok(Chunk {
@@ -101,7 +101,17 @@ impl Chunk {
     }
 
     /// Its text.
-    pub(crate) fn text(&self) -> &str
+    pub(crate) fn text(&self, _permit: Permit) -> &str
+        ensures text { chars result.now ≡ self.now }
+        ensures len { length result.now ≡ size self.now }
+        ensures some { self.now ≢ [] }
+        ensures short { size self.now ≤ max_chunk }
+    {
+        self.own_text()
+    }
+
+    /// Its text, for itself.
+    fn own_text(&self) -> &str
         ensures text { chars result.now ≡ self.now }
         ensures len { length result.now ≡ size self.now }
         ensures some { self.now ≢ [] }
@@ -110,28 +120,12 @@ impl Chunk {
         self.text.as_str()
     }
 
-    /// How many chars, UTF-16 code units or line breaks it has up to a byte index; past the end, all.
-    pub(crate) fn from_byte_idx(&self, s: Scheme, byte_idx: usize) -> usize
-        ensures { result ≡ from_byte_idx s self.now byte_idx }
-    {
-        let summary = self.summary();
-        summary.from_byte_idx(s, self.text(), byte_idx)
-    }
-
-    /// The byte index after the first `idx` of them; the chunk's length where it has fewer.
-    pub(crate) fn to_byte_idx(&self, s: Scheme, idx: usize) -> usize
-        ensures { result ≡ to_byte_idx s self.now idx }
-    {
-        let summary = self.summary();
-        summary.to_byte_idx(s, self.text(), idx)
-    }
-
     /// Whether a byte index is between its chars, or at its beginning or end.
-    pub(crate) fn is_char_boundary(&self, byte_idx: usize) -> bool
+    fn is_char_boundary(&self, byte_idx: usize) -> bool
         ensures { IsTrue result ↔ IsBoundary self.now byte_idx }
     {
         let summary = self.summary();
-        summary.is_char_boundary(self.text(), byte_idx)
+        summary.is_char_boundary(self.own_text(), byte_idx)
     }
 
     /// Replaces what is between two byte indices by a text, where the chunk has at least `least` bytes after it and is not too
@@ -139,6 +133,7 @@ impl Chunk {
     /// its own, or shares it.
     pub(crate) fn replace_in_place(
         &mut self,
+        _permit: Permit,
         from: usize,
         to: usize,
         more: &str,
@@ -192,7 +187,7 @@ impl Chunk {
         ensures room { result ≢ Err NotBoundary }
     {
         let out = self.summary();
-        let after = summary_after(self.text(), out, from, to, more, Summary::of(more));
+        let after = summary_after(self.own_text(), out, from, to, more, Summary::of(more));
         let Ok(text) = Arc::make_mut(&mut self.text) else {
             return Err(Unplaced::NoRoom);
         };

@@ -5,14 +5,15 @@ ghost use Rattle.str_indices.specs.Schemes.{count, to_byte_idx};
 ghost use Rattle.str_indices.specs.Text.{size};
 ghost use Rattle.text_summary.specs.Pieces.{joined, joined_size};
 ghost use Rattle.text_summary.specs.Summaries.{summary_of};
-ghost use Rattle.text_rope.specs.Chunks.{IsChunkAt, IsChunkAtByte, IsRound};
+ghost use Rattle.text_rope.specs.ChunkEnds.{IsChunkOf};
+ghost use Rattle.text_rope.specs.Chunks.{HasChunkAt, IsChunkAtByte, IsRound};
 ghost use Rattle.text_rope.specs.ChunkSizes.{max_chunk};
 ghost use Rattle.text_rope.specs.Looks.{Asks};
 ghost use Rattle.text_rope.specs.States.{RopeState};
 
 use crate::chunk::Chunk;
 use crate::queries::{place_at, place_of};
-use crate::tree::View;
+use crate::rope::costs::View;
 use text_summary::{Front, Scheme, Summary};
 
 /// A chunk's text, and the byte index where it starts.
@@ -43,10 +44,10 @@ pub struct ChunkAtCount<'a> {
     pub chunk: ChunkAt<'a>,
 }
 
-/// A part of the text that a byte is in, of at most `MAX_CHUNK` bytes, and where it starts; none from the end of the text on.
+/// The chunk that a byte is in, of at most `MAX_CHUNK` bytes, and where it starts; none from the end of the text on.
 /// One question: at most 2 log₂ (chunks + 1) looks, and one read.
 pub fn chunk_in<'a>(v: &mut View<'a>, at: usize) -> Option<ChunkAt<'a>>
-    ensures chunk { IfSome result (λ chunk. IsChunkAt (joined v.old.texts) (chars chunk.text.now) chunk.start at) }
+    ensures chunk { IfSome result (λ chunk. HasChunkAt v.old.texts (chars chunk.text.now) chunk.start at) }
     ensures piece { IfSome result (λ chunk. size (chars chunk.text.now) ≤ max_chunk) }
     ensures some { IsSome result ↔ (at < joined_size v.old.texts) }
     ensures cost { Asks 1 v.old v.new }
@@ -57,12 +58,12 @@ pub fn chunk_in<'a>(v: &mut View<'a>, at: usize) -> Option<ChunkAt<'a>>
     }
 }
 
-/// A part of the text that a byte is in, of at most `MAX_CHUNK` bytes, its summary, where it starts, and what is counted in a
+/// The chunk that a byte is in, of at most `MAX_CHUNK` bytes, its summary, where it starts, and what is counted in a
 /// scheme before it; none from the end of the text on. One question, as `chunk_in`.
 #[tactic(auto, using(crate::proofs::lemmas::Asking::power_one))]
 pub fn chunk_at_byte_in<'a>(v: &mut View<'a>, s: Scheme, at: usize) -> Option<ChunkAtByte<'a>>
     ensures located { IfSome result (λ l.
-        IsChunkAtByte s (joined v.old.texts) (chars l.chunk.text.now) l.chunk.start l.before at) }
+        IsChunkAtByte s v.old.texts (chars l.chunk.text.now) l.chunk.start l.before at) }
     ensures own { IfSome result (λ l. l.own ≡ summary_of (chars l.chunk.text.now)) }
     ensures piece { IfSome result (λ l. size (chars l.chunk.text.now) ≤ max_chunk) }
     ensures some { IsSome result ↔ (at < joined_size v.old.texts) }
@@ -76,12 +77,13 @@ pub fn chunk_at_byte_in<'a>(v: &mut View<'a>, s: Scheme, at: usize) -> Option<Ch
         return None;
     }
     let place = place_at(v, subtree, s, at);
-    v.read();
-    Some(lend(place.chunk, place.before))
+    let text = v.read(place.chunk);
+    Some(lend(place.chunk, text, place.before))
 }
 
-/// A chunk, lent with its text and its summary.
-fn lend(chunk: &Chunk, before: Front) -> ChunkAtByte<'_>
+/// A chunk's text, lent with its summary.
+fn lend<'a>(chunk: &Chunk, text: &'a str, before: Front) -> ChunkAtByte<'a>
+    requires { chars text.now ≡ chunk.now }
     ensures text { chars result.chunk.text.now ≡ chunk.now }
     ensures start { result.chunk.start ≡ before.len }
     ensures own { result.own ≡ summary_of (chars result.chunk.text.now) }
@@ -90,7 +92,7 @@ fn lend(chunk: &Chunk, before: Front) -> ChunkAtByte<'_>
 {
     ChunkAtByte {
         chunk: ChunkAt {
-            text: chunk.text(),
+            text,
             start: before.len,
         },
         own: chunk.summary(),
@@ -105,6 +107,8 @@ fn lend(chunk: &Chunk, before: Front) -> ChunkAtByte<'_>
 pub fn chunk_at_count_in<'a>(v: &mut View<'a>, s: Scheme, k: usize) -> ChunkAtCount<'a>
     ensures byte { result.byte ≡ to_byte_idx s (joined v.old.texts) k }
     ensures chunk { IsRound (joined v.old.texts) (chars result.chunk.text.now) result.chunk.start result.byte }
+    ensures own { 0 < k → k ≤ count s (joined v.old.texts) → IsChunkOf v.old.texts
+        (chars result.chunk.text.now) result.chunk.start (result.chunk.start + size (chars result.chunk.text.now)) }
     ensures empty { chars result.chunk.text.now ≡ [] ↔ ((k ≡ 0) ⊎ (count s (joined v.old.texts) < k)) }
     ensures inside { IsLineScheme s → 0 < k → k ≤ count s (joined v.old.texts) → result.chunk.start < result.byte }
     ensures piece { size (chars result.chunk.text.now) ≤ max_chunk }
@@ -121,12 +125,12 @@ pub fn chunk_at_count_in<'a>(v: &mut View<'a>, s: Scheme, k: usize) -> ChunkAtCo
         return found_empty(whole.len);
     }
     let place = place_of(v, subtree, s, k);
-    v.read();
     let chunk = place.chunk;
-    let text = chunk.text();
-    let step = place.before.step(s, chunk.summary());
+    let text = v.read(chunk);
+    let own = chunk.summary();
+    let step = place.before.step(s, own);
     ChunkAtCount {
-        byte: place.before.len + chunk.to_byte_idx(s, k - step.reached),
+        byte: place.before.len + own.to_byte_idx(s, text, k - step.reached),
         chunk: ChunkAt {
             text,
             start: place.before.len,

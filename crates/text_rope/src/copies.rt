@@ -21,8 +21,8 @@ pub(crate) fn read_at(tree: &Tree, at: usize, room: &mut [u8]) -> usize
 /// Writes the bytes of the chunks that are left, but for so many, to the beginning of a room, as far as there is room, and
 /// answers how many.
 pub(crate) fn read_chunks(chunks: &mut Chunks<'_>, skip: usize, room: &mut [u8]) -> usize
-    requires { IsWithin chunks.old.text chunks.old.at chunks.old.end }
-    ensures read { IsPartRead chunks.old.text chunks.old.at chunks.new.at skip result room.old room.new }
+    requires { IsWithin (joined chunks.old.view.texts) chunks.old.at chunks.old.end }
+    ensures read { IsPartRead (joined chunks.old.view.texts) chunks.old.at chunks.new.at skip result room.old room.new }
     ensures within { chunks.new.at ≤ chunks.old.end }
     ensures full { chunks.new.at < chunks.old.end → result ≡ length room.old }
 {

@@ -7,15 +7,16 @@ ghost use Rattle.text_summary.specs.Pieces.{joined, joined_size};
 ghost use Rattle.text_rope.specs.Edits.{IsPatch, IsSpread, patched};
 ghost use Rattle.text_rope.specs.ChunkEnds.{IsChunkOf};
 ghost use Rattle.text_rope.specs.ChunkSizes.{max_chunk, min_chunk, IsFilled};
+ghost use Rattle.text_rope.specs.Rests.{IsLeafAt};
 ghost use Rattle.text_rope.specs.Work.{WorkState, Costs, TakesLog};
 
 use crate::changes::splice;
 use crate::chunk::{MIN_CHUNK, memory_for};
-use crate::cursor::leaf_at_in;
+use crate::cursor::{LeafPlace, chunk_of_leaf};
 use crate::iter::text_between;
 use crate::loads::{chunks_in, tree_from};
-use crate::tree::{Subtree, Tree};
-use crate::work::Work;
+use crate::rope::costs::Work;
+use crate::tree::{Below, Subtree, Tree};
 use std::alloc::{AllocError, Global};
 
 /// A chunk's text, and the byte indices where it starts and ends.
@@ -226,10 +227,31 @@ fn stretch_at<'a>(work: &mut Work, subtree: &'a Subtree, at: usize) -> ChunkSpan
 {
     let _short = subtree.summary();
     let place = leaf_at_in(work, subtree, 0, at);
-    let text = place.chunk().text();
+    let text = work.read(place.chunk());
     ChunkSpan {
         text,
         start: place.start,
         end: place.start + text.len(),
+    }
+}
+
+/// The chunk that byte `at` is in, where `before` bytes are before the tree. Reads lengths alone.
+fn leaf_at_in<'a>(work: &mut Work, subtree: &'a Subtree, before: usize, at: usize) -> LeafPlace<'a>
+    requires short { before + joined_size subtree.now.texts < 2 ^ 63 }
+    requires after { before ≤ at }
+    requires inside { at < before + joined_size subtree.now.texts }
+    ensures place { IsLeafAt before subtree.now.texts result.chunks.now result.index result.start at }
+    ensures work { Costs work.old work.new (subtree.now.height + 1) 0 }
+{
+    match work.look(subtree) {
+        Below::Chunks(chunks) => chunk_of_leaf(chunks, before, at),
+        Below::Subtrees(left, right) => {
+            let middle = before + left.summary().len;
+            if at < middle {
+                leaf_at_in(work, left, before, at)
+            } else {
+                leaf_at_in(work, right, middle, at)
+            }
+        }
     }
 }

@@ -7,8 +7,8 @@ ghost use Rattle.text_rope.specs.Work.{WorkState, Costs};
 
 use crate::chunk::Chunk;
 use crate::leaf::{LEAF_CAPACITY, push_shared};
+use crate::rope::costs::Work;
 use crate::tree::{Below, Subtree, branch_of, leaf_of};
-use crate::work::Work;
 use std::alloc::{AllocError, Global};
 
 /// Two leaves with no more chunks than this are put into one.
@@ -32,11 +32,11 @@ pub(crate) fn join(
     if l > r + 1 {
         let (front, back) = open(work, left);
         let back = join(work, alloc, back, right)?;
-        balance(work, alloc, front.share()?, back)
+        balance(work, alloc, work.share(front)?, back)
     } else if r > l + 1 {
         let (front, back) = open(work, right);
         let front = join(work, alloc, left, front)?;
-        balance(work, alloc, front, back.share()?)
+        balance(work, alloc, front, work.share(back)?)
     } else {
         merge_or_branch(work, alloc, left, right)
     }
@@ -92,12 +92,12 @@ fn lean_right(
 {
     let (front, back) = open(work, left);
     if front.height() >= back.height() {
-        let back = branch_of(work, alloc, back.share()?, right)?;
-        return branch_of(work, alloc, front.share()?, back);
+        let back = branch_of(work, alloc, work.share(back)?, right)?;
+        return branch_of(work, alloc, work.share(front)?, back);
     }
     let (inner, rest) = open(work, back);
-    let front = branch_of(work, alloc, front.share()?, inner.share()?)?;
-    let back = branch_of(work, alloc, rest.share()?, right)?;
+    let front = branch_of(work, alloc, work.share(front)?, work.share(inner)?)?;
+    let back = branch_of(work, alloc, work.share(rest)?, right)?;
     branch_of(work, alloc, front, back)
 }
 
@@ -115,12 +115,12 @@ fn lean_left(
 {
     let (front, back) = open(work, right);
     if back.height() >= front.height() {
-        let front = branch_of(work, alloc, left, front.share()?)?;
-        return branch_of(work, alloc, front, back.share()?);
+        let front = branch_of(work, alloc, left, work.share(front)?)?;
+        return branch_of(work, alloc, front, work.share(back)?);
     }
     let (first, inner) = open(work, front);
-    let front = branch_of(work, alloc, left, first.share()?)?;
-    let back = branch_of(work, alloc, inner.share()?, back.share()?)?;
+    let front = branch_of(work, alloc, left, work.share(first)?)?;
+    let back = branch_of(work, alloc, work.share(inner)?, work.share(back)?)?;
     branch_of(work, alloc, front, back)
 }
 
@@ -140,7 +140,7 @@ fn merge_or_branch(
 {
     match merge_leaves(work, alloc, left, right)? {
         Some(chunks) => leaf_of(work, alloc, chunks),
-        None => branch_of(work, alloc, left.share()?, right.share()?),
+        None => branch_of(work, alloc, work.share(left)?, work.share(right)?),
     }
 }
 

@@ -10,8 +10,8 @@ ghost use Rattle.text_rope.specs.Work.{WorkState, Costs};
 ghost use Rattle.text_rope.specs.declared.chunk.Unplaced.TheVariants.{NotBoundary};
 
 use crate::chunk::{Chunk, Unplaced};
+use crate::rope::costs::Work;
 use crate::shifts::Shift;
-use crate::work::Work;
 use std::alloc::AllocError;
 use std::marker::Model;
 use text_summary::{Summary, join_summaries};
@@ -85,8 +85,8 @@ impl Leaf {
         if from < place.start {
             return Err(Unplaced::NoRoom);
         }
-        work.copy();
         self.chunks[place.chunk].replace_in_place(
+            work.change(),
             from - place.start,
             to - place.start,
             more,
@@ -149,8 +149,7 @@ pub(crate) fn push_shared(
     ensures work { Costs work.old work.new 0 (length more.now) }
 {
     for chunk in more {
-        work.copy();
-        chunks.push(chunk.share()?)?;
+        chunks.push(work.copy(chunk)?)?;
     }
     Ok(())
 }

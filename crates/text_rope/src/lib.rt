@@ -20,7 +20,6 @@ mod refusals;
 mod rope;
 mod shifts;
 mod tree;
-mod work;
 
 pub use chars::{char_at_in, char_before_in};
 pub use chunk::{MAX_CHUNK, MIN_CHUNK};
@@ -33,5 +32,5 @@ pub use lines::{Line, line_in};
 pub use queries::{count_in, from_in, is_boundary_in, to_in};
 pub use refusals::Refusal;
 pub use rope::Rope;
+pub use rope::costs::View;
 pub use text_summary::{Front, Scheme, Summary};
-pub use tree::View;

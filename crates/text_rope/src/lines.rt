@@ -13,7 +13,7 @@ ghost use Rattle.text_rope.specs.States.{RopeState};
 
 use crate::chunks::{ChunkAt, ChunkAtCount, chunk_at_count_in, chunk_in};
 use crate::queries::{count_in, to_in};
-use crate::tree::View;
+use crate::rope::costs::View;
 use text_summary::Scheme;
 
 /// A line of a text: its content, and then its break.

@@ -1,5 +1,5 @@
 //! A text in chunks, and chunks in a tree.
-ghost use Rattle.std.specs.Prelude.{◌≡◌, ◌≢◌, ◌+◌, ◌-◌, ◌*◌, ◌/◌, ◌^◌, ◌<◌, ◌≤◌, ◌++◌, [], chars, length, string_bytes, IfOk, OnOk};
+ghost use Rattle.std.specs.Prelude.{ℕ, ◌≡◌, ◌≢◌, ◌+◌, ◌-◌, ◌*◌, ◌/◌, ◌^◌, ◌<◌, ◌≤◌, ◌++◌, [], chars, length, string_bytes, IfOk, IsCharBoundary, OnOk};
 ghost use Rattle.str_indices.specs.Text.{size};
 ghost use Rattle.text_summary.specs.Pieces.{joined, joined_size};
 ghost use Rattle.text_rope.specs.Leaves.{leaf_capacity};
@@ -11,8 +11,8 @@ use crate::changes::{height_of, join_options};
 use crate::chunk::{Chunk, MAX_CHUNK};
 use crate::joins::join;
 use crate::leaf::LEAF_CAPACITY;
+use crate::rope::costs::Work;
 use crate::tree::{Subtree, Tree, leaf_of};
-use crate::work::Work;
 use std::alloc::{AllocError, Global};
 
 /// How many bytes a chunk of a long text has at most: there is room for the first changes.
@@ -90,8 +90,20 @@ fn first_chunk(text: &str) -> (&str, &str)
     }
     let chunks = text.len().div_ceil(LOADED);
     let each = (text.len() / chunks).clamp(WIDEST, LOADED);
-    let end = text.floor_char_boundary(each);
+    let end = end_near(text, each);
     text.split_at(end)
+}
+
+/// The greatest boundary up to a byte index. It is no more than three bytes before it, also of bytes that are not UTF-8: so each
+/// load ends.
+fn end_near(text: &str, at: usize) -> usize
+    requires { at < length text.now }
+    ensures bound { result ≤ at }
+    ensures boundary { IsCharBoundary text.now result }
+    ensures nearest { (i : ℕ) → result < i → i ≤ at → ¬ (IsCharBoundary text.now i) }
+{
+    let end = text.floor_char_boundary(at);
+    end.max(at.saturating_sub(WIDEST - 1))
 }
 
 /// A tree of some chunks.

@@ -13,7 +13,7 @@ ghost use Rattle.text_rope.specs.States.{RopeState};
 
 use crate::chunks::chunk_in;
 use crate::queries::{Placed, from_in, place_at, place_of, to_in};
-use crate::tree::View;
+use crate::rope::costs::View;
 use byte_chunk::Chunk;
 use positions::{Encoding, LineType, Part, Parts, char_start, unit_scheme};
 
@@ -40,8 +40,8 @@ impl<'a> Parts<'a> for View<'a> {
         // the last chunk has the text's end too
         let last = subtree.summary().len - 1;
         let place = place_at(self, subtree, lines.scheme(), byte.min(last));
-        self.read();
-        part_in(self, lines, encoding, &place)
+        let text = self.read(place.chunk);
+        part_in(self, lines, encoding, &place, text)
     }
 
     fn part_of_line(&mut self, lines: LineType, encoding: Encoding, line: usize) -> Part<'a> {
@@ -52,8 +52,8 @@ impl<'a> Parts<'a> for View<'a> {
             return Part::of_nothing();
         };
         let place = place_of(self, subtree, lines.scheme(), line);
-        self.read();
-        part_in(self, lines, encoding, &place)
+        let text = self.read(place.chunk);
+        part_in(self, lines, encoding, &place, text)
     }
 
     fn units_of_byte(&mut self, encoding: Encoding, byte: usize) -> usize {
@@ -90,8 +90,15 @@ fn is_ascii(v: &View) -> bool
 /// The part that a chunk is, by what is known of the text before it: its line breaks and its bytes, and so its units only where
 /// these are bytes.
 #[inline(always)]
-fn part_in<'a>(v: &View<'_>, lines: LineType, encoding: Encoding, place: &Placed<'a>) -> Part<'a>
-    requires { IsPlaced (scheme_of lines) v.now.texts place.now.chunk.now place.now.before }
+fn part_in<'a>(
+    v: &View<'_>,
+    lines: LineType,
+    encoding: Encoding,
+    place: &Placed<'a>,
+    text: &'a str,
+) -> Part<'a>
+    requires placed { IsPlaced (scheme_of lines) v.now.texts place.now.chunk.now place.now.before }
+    requires text { chars text.now ≡ place.now.chunk.now }
     ensures part { IsPart (joined v.now.texts) lines encoding result }
     ensures text { chars result.text.now ≡ place.now.chunk.now }
     ensures some { place.now.chunk.now ≢ [] }
@@ -100,7 +107,7 @@ fn part_in<'a>(v: &View<'_>, lines: LineType, encoding: Encoding, place: &Placed
     let _len = v.len();
     let Placed { chunk, before } = *place;
     let own = chunk.summary();
-    Part::of_piece(lines, encoding, chunk.text(), &before, &own)
+    Part::of_piece(lines, encoding, text, &before, &own)
 }
 
 /// The greatest byte index between chars that is at most this one, in as many looks and reads at most as a question.

@@ -10,7 +10,8 @@ ghost use Rattle.text_rope.specs.Looks.{Asks};
 ghost use Rattle.text_rope.specs.States.{RopeState};
 
 use crate::chunk::Chunk;
-use crate::tree::{Below, Subtree, View};
+use crate::rope::costs::View;
+use crate::tree::{Below, Subtree};
 use text_summary::{Front, Scheme};
 
 /// A chunk, and what is known of the text before it.
@@ -47,10 +48,10 @@ pub fn from_in(v: &mut View, s: Scheme, b: usize) -> usize
     }
     let place = place_at(v, subtree, s, b);
     let chunk = place.chunk;
-    v.read();
+    let text = v.read(chunk);
     let own = chunk.summary();
     let step = place.before.step(s, own);
-    step.reached + chunk.from_byte_idx(s, b - place.before.len)
+    step.reached + own.from_byte_idx(s, text, b - place.before.len)
 }
 
 /// The byte index where char `k`, the char of code unit `k` or line `k` begins, the text's length where it has fewer. As many
@@ -69,10 +70,10 @@ pub fn to_in(v: &mut View, s: Scheme, k: usize) -> usize
     }
     let place = place_of(v, subtree, s, k);
     let chunk = place.chunk;
-    v.read();
+    let text = v.read(chunk);
     let own = chunk.summary();
     let step = place.before.step(s, own);
-    place.before.len + chunk.to_byte_idx(s, k - step.reached)
+    place.before.len + own.to_byte_idx(s, text, k - step.reached)
 }
 
 /// Whether a byte index is between chars, or at the beginning or end of the text; in as many looks and reads at most
@@ -91,8 +92,10 @@ pub fn is_boundary_in(v: &mut View, at: usize) -> bool
     }
     let place = place_at(v, subtree, Scheme::Lf, at);
     let chunk = place.chunk;
-    v.read();
-    chunk.is_char_boundary(at - place.before.len)
+    let text = v.read(chunk);
+    chunk
+        .summary()
+        .is_char_boundary(text, at - place.before.len)
 }
 
 /// The chunk of a tree that a byte is in, and what is known in a scheme of the text before it.

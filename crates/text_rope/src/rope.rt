@@ -9,10 +9,13 @@ ghost use Rattle.text_summary.specs.Pieces.{joined};
 ghost use Rattle.text_rope.specs.Chunks.{IsChunkAt, ChunksState, IsCopied, IsRead};
 ghost use Rattle.text_rope.specs.Edits.{IsCutAt};
 ghost use Rattle.text_rope.specs.Lines.{line_end_by};
-ghost use Rattle.text_rope.specs.ChunkSizes.{max_chunk, min_chunk, IsFilled};
-ghost use Rattle.text_rope.specs.States.{RopeState};
+ghost use Rattle.text_rope.specs.Looks.{Asks};
+ghost use Rattle.text_rope.specs.ChunkSizes.{max_chunk, min_chunk, IsFilled, IsFull};
+ghost use Rattle.text_rope.specs.States.{RopeState, unasked};
 ghost use Rattle.text_rope.specs.Work.{WorkState, TakesLog};
 ghost use Rattle.text_rope.specs.declared.refusals.Refusal.TheVariants.{NotOrdered, NotBoundary, TooLong, NoMemory};
+
+pub(crate) mod costs;
 
 use crate::changes::append_trees;
 use crate::chunk::{MAX_CHUNK, Unplaced};
@@ -20,11 +23,11 @@ use crate::copies::{read_at, read_chunks};
 use crate::edits::replace_text;
 use crate::loads::tree_from;
 use crate::tree::Tree;
-use crate::work::Work;
 use crate::{
     ChunkAt, ChunkCursor, Chunks, Line, Refusal, Scheme, View, char_at_in, char_before_in,
     chunk_in, count_in, from_in, is_boundary_in, line_in, to_in,
 };
+use costs::Work;
 use std::alloc::{AllocError, Global};
 use std::marker::Model;
 use std::mem;
@@ -89,7 +92,7 @@ impl Rope {
         ensures empty { self.now ≡ [] → IsOk result }
         ensures no_other { IsOkUnless result NoMemory }
     {
-        let tree = self.tree.share()?;
+        let tree = self.tree.share(&Work::none())?;
         Ok(Rope {
             tree,
             alloc: self.alloc,
@@ -121,7 +124,7 @@ impl Rope {
         ensures looks { result.looks ≡ 0 }
         ensures reads { result.reads ≡ 0 }
     {
-        self.tree.view()
+        View::of(&self.tree)
     }
 
     /// How many chars, UTF-16 code units or line breaks the text has.
@@ -166,10 +169,11 @@ impl Rope {
         is_boundary_in(&mut self.view(), byte_idx)
     }
 
-    /// A part of the text that a byte is in, of at most `MAX_CHUNK` bytes, and where it starts; none from the end of the text
-    /// on.
+    /// The chunk that a byte is in, and where it starts; none from the end of the text on. It has at most `MAX_CHUNK` bytes,
+    /// and at least `MIN_CHUNK` or all of the text.
     pub fn chunk_at(&self, byte_idx: usize) -> Option<ChunkAt<'_>>
         ensures chunk { IfSome result (λ chunk. IsChunkAt self.now (chars chunk.text.now) chunk.start byte_idx) }
+        ensures full { IfSome result (λ chunk. IsFull self.now (chars chunk.text.now)) }
         ensures piece { IfSome result (λ chunk. size (chars chunk.text.now) ≤ max_chunk) }
         ensures some { IsSome result ↔ (byte_idx < size self.now) }
     {
@@ -179,7 +183,9 @@ impl Rope {
     /// The chunk that a byte is in, to go on from to the next or the one before; none from the end of the text on.
     pub fn cursor_at(&self, byte_idx: usize) -> Option<ChunkCursor<'_>>
         ensures chunk { IfSome result (λ cursor. IsChunkAt self.now cursor.chunk cursor.start byte_idx) }
-        ensures text { IfSome result (λ cursor. cursor.text ≡ self.now) }
+        ensures text { IfSome result (λ cursor. joined cursor.view.texts ≡ self.now) }
+        ensures filled { IfSome result (λ cursor. IsFilled cursor.view.texts) }
+        ensures cost { IfSome result (λ cursor. Asks 1 (unasked cursor.view.texts) cursor.view) }
         ensures some { IsSome result ↔ (byte_idx < size self.now) }
     {
         if self.len() <= byte_idx {
@@ -204,19 +210,27 @@ impl Rope {
         char_before_in(&mut self.view(), byte_idx)
     }
 
-    /// The text in order, in parts of at most `MAX_CHUNK` bytes; their join is the text.
+    /// The text in order, chunk by chunk.
     pub fn chunks(&self) -> Chunks<'_>
-        ensures { result ≡ record { text = self.now; at = 0; end = size self.now } }
+        ensures text { joined result.view.texts ≡ self.now }
+        ensures at { result.at ≡ 0 }
+        ensures end { result.end ≡ size self.now }
+        ensures filled { IsFilled result.view.texts }
+        ensures cost { result.view ≡ unasked result.view.texts }
     {
         Chunks::of(&self.tree, 0, self.len())
     }
 
-    /// The text between two byte indices, each between chars, in order, in parts of at most `MAX_CHUNK` bytes.
+    /// The text between two byte indices, each between chars, in order, chunk by chunk. The indices cut the first and the last one.
     ///
     /// It is `NotOrdered` where the first index is above the second, and else `NotBoundary` where one is inside a char or
     /// past the end.
     pub fn chunks_in(&self, range: Range<usize>) -> Result<Chunks<'_>, Refusal>
-        ensures ok { IfOk result (λ chunks. chunks ≡ record { text = self.now; at = range.start; end = range.end }) }
+        ensures text { IfOk result (λ chunks. joined chunks.view.texts ≡ self.now) }
+        ensures at { IfOk result (λ chunks. chunks.at ≡ range.start) }
+        ensures end { IfOk result (λ chunks. chunks.end ≡ range.end) }
+        ensures filled { IfOk result (λ chunks. IsFilled chunks.view.texts) }
+        ensures cost { IfOk result (λ chunks. chunks.view ≡ unasked chunks.view.texts) }
         ensures not_ordered { IsErrOf result NotOrdered ↔ (range.end < range.start) }
         ensures not_boundary { IsErrOf result NotBoundary
             ↔ ((range.start ≤ range.end) × ¬ (IsBoundary self.now range.start × IsBoundary self.now range.end)) }
@@ -365,7 +379,7 @@ impl Rope {
     /// Appends where neither is empty. It inserts one chunk as a text, and joins two trees.
     fn append_some(&mut self, work: &mut Work, other: &mut Rope) -> Result<(), Refusal>
         requires short { size self.old + size other.old < 2 ^ 63 }
-        ensures ok { OnOk result (self.new ≡ self.old ++ other.old) }
+        ensures appended { OnOk result (self.new ≡ self.old ++ other.old) }
         ensures moved { OnOk result (other.new ≡ []) }
         ensures err { OnErr result ((self.new ≡ self.old) × (other.new ≡ other.old)) }
         ensures no_other { IsOkUnless result NoMemory }
@@ -373,12 +387,14 @@ impl Rope {
     {
         let len = self.len();
         if let Some(chunk) = other.tree.only_chunk() {
-            self.replace_range(work, len, len, chunk.text())?;
+            let text = work.read(chunk);
+            self.replace_range(work, len, len, text)?;
             other.tree = Tree::of(None);
             return Ok(());
         }
         if let Some(chunk) = self.tree.only_chunk() {
-            other.replace_range(work, 0, 0, chunk.text())?;
+            let text = work.read(chunk);
+            other.replace_range(work, 0, 0, text)?;
             self.tree = mem::replace(&mut other.tree, Tree::of(None));
             return Ok(());
         }
@@ -408,7 +424,7 @@ impl Rope {
     /// Cuts the text at a boundary: what is from there on is the result.
     fn cut(&mut self, work: &mut Work, at: usize) -> Result<Rope, AllocError>
         requires { IsBoundary self.old at }
-        ensures ok { IfOk result (λ back. IsCutAt self.old self.new back at) }
+        ensures parts { IfOk result (λ back. IsCutAt self.old self.new back at) }
         ensures err { OnErr result (self.new ≡ self.old) }
         ensures inside { IsErr result → (0 < at) × (at < size self.old) }
         ensures work { TakesLog 107 481 (size self.old) 0 work.old work.new }
@@ -424,7 +440,7 @@ impl Rope {
             });
         }
         let mut back = Rope {
-            tree: self.tree.share()?,
+            tree: self.tree.share(work)?,
             alloc: self.alloc,
         };
         back.rewrite(work, 0, at, "")?;
@@ -493,7 +509,7 @@ impl Rope {
         text: &str,
     ) -> Result<(), Refusal>
         requires order { from ≤ to }
-        ensures ok { OnOk result (IsReplaced self.old self.new from to (chars text.now)) }
+        ensures replaced { OnOk result (IsReplaced self.old self.new from to (chars text.now)) }
         ensures err { OnErr result (self.new ≡ self.old) }
         ensures not_boundary { IsErrOf result NotBoundary ↔ (¬ (IsBoundary self.old from × IsBoundary self.old to)) }
         ensures too_long { IsErrOf result TooLong
@@ -528,7 +544,7 @@ impl Rope {
         requires start { IsBoundary self.old from }
         requires end { IsBoundary self.old to }
         requires short { size self.old + length text.now < 2 ^ 63 + (to - from) }
-        ensures ok { OnOk result (IsReplaced self.old self.new from to (chars text.now)) }
+        ensures replaced { OnOk result (IsReplaced self.old self.new from to (chars text.now)) }
         ensures err { OnErr result (self.new ≡ self.old) }
         ensures work { TakesLog 53 240 (size self.old) (length text.now) work.old work.new }
     {

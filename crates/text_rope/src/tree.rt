@@ -9,7 +9,7 @@ ghost use Rattle.text_rope.specs.Leaves.{leaf_capacity, AreSome};
 ghost use Rattle.text_rope.specs.Shapes.{DifferByAtMost, IsLeafOf, IsBranchOf, fewest};
 ghost use Rattle.text_rope.specs.Looks.{IsLookAt};
 ghost use Rattle.text_rope.specs.Shifts.{IsChangedIn, IsOneChanged};
-ghost use Rattle.text_rope.specs.States.{RopeState, texts_of, texts_under};
+ghost use Rattle.text_rope.specs.States.{texts_of, texts_under};
 ghost use Rattle.text_rope.specs.ChunkSizes.{min_chunk, IsFilled};
 ghost use Rattle.text_rope.specs.Views.{IsBranch, seen};
 ghost use Rattle.text_rope.specs.Work.{WorkState, Costs, TakesLog};
@@ -17,9 +17,8 @@ ghost use Rattle.text_rope.specs.declared.chunk.Unplaced.TheVariants.{NotBoundar
 
 use crate::chunk::{Chunk, MIN_CHUNK, Unplaced};
 use crate::leaf::{Leaf, summary_of_chunks};
+use crate::rope::costs::{Permit, Work};
 use crate::shifts::{Shift, shift_by};
-use crate::work::Work;
-use byte_chunk::Counter;
 use std::alloc::{AllocError, Global};
 use std::marker::Model;
 use std::sync::Arc;
@@ -105,7 +104,7 @@ impl Subtree {
 
     /// Its parts.
     #[tactic(auto, using(crate::proofs::lemmas::Branches::branch_size))]
-    pub(crate) fn look(&self) -> Below<'_>
+    pub(crate) fn look(&self, _permit: Permit) -> Below<'_>
         ensures { IsLookAt self.now result }
     {
         match &self.node {
@@ -118,7 +117,7 @@ impl Subtree {
     }
 
     /// Shares the tree: copies no node.
-    pub(crate) fn share(&self) -> Result<Subtree, AllocError>
+    pub(crate) fn share(&self, _permit: Permit) -> Result<Subtree, AllocError>
         ensures { IfOk result (λ subtree. subtree ≡ self.now) }
     {
         let node = match &self.node {
@@ -255,6 +254,7 @@ pub(crate) fn leaf_of(
     requires short { joined_size chunks.items < 2 ^ 63 }
     ensures leaf { IfOk result (λ subtree. IsLeafOf subtree chunks.items) }
     ensures work { Costs work.old work.new 1 0 }
+    ensures made { work.new.nodes ≡ work.old.nodes + 1 }
 {
     work.make();
     let summary = summary_of_chunks(chunks.as_slice());
@@ -277,6 +277,7 @@ pub(crate) fn branch_of(
     requires short { joined_size left.texts + joined_size right.texts < 2 ^ 63 }
     ensures branch { IfOk result (λ subtree. IsBranchOf subtree left right) }
     ensures work { Costs work.old work.new 1 0 }
+    ensures made { work.new.nodes ≡ work.old.nodes + 1 }
 {
     work.make();
     let height = left.height().max(right.height()) + 1;
@@ -335,8 +336,8 @@ impl Tree {
         ensures some { IfSome result (λ chunk. self.now ≡ chunk.now ∷ []) }
         ensures none { IsNone result → length self.now ≢ 1 }
     {
-        match self.root()?.look() {
-            Below::Chunks(chunks) if chunks.len() == 1 => Some(&chunks[0]),
+        match &self.root()?.node {
+            Node::Leaf(leaf) if leaf.chunks().len() == 1 => Some(&leaf.chunks()[0]),
             _ => None,
         }
     }
@@ -357,11 +358,14 @@ impl Tree {
         ensures len { result ≡ joined_size self.now }
         ensures short { joined_size self.now < 2 ^ 63 }
     {
-        self.view().len()
+        match self.root() {
+            None => 0,
+            Some(subtree) => subtree.summary().len,
+        }
     }
 
     /// Shares the tree: copies no node.
-    pub(crate) fn share(&self) -> Result<Tree, AllocError>
+    pub(crate) fn share(&self, work: &Work) -> Result<Tree, AllocError>
         ensures ok { IfOk result (λ tree. tree ≡ self.now) }
         ensures empty { joined self.now ≡ [] → IsOk result }
     {
@@ -370,7 +374,7 @@ impl Tree {
             Some(subtree) => {
                 let _some = subtree.summary();
                 Ok(Tree {
-                    root: Some(subtree.share()?),
+                    root: Some(work.share(subtree)?),
                 })
             }
         }
@@ -402,72 +406,5 @@ impl Tree {
         let _height = subtree.height();
         let _short = subtree.summary();
         subtree.replace_in_place(work, from, to, more, least, &mut Shift::none())
-    }
-
-    /// It as a question sees it, with nothing counted.
-    pub(crate) fn view(&self) -> View<'_>
-        ensures view { result ≡ record { texts = self.now; looks = 0; reads = 0 } }
-        ensures filled { IsFilled self.now }
-    {
-        View {
-            root: self.root(),
-            looks: Counter::zero(),
-            reads: Counter::zero(),
-        }
-    }
-}
-
-/// A tree as a question sees it: contracts see its chunks, how many nodes were looked at, and how often a chunk was read.
-///
-/// It has the size of a reference: only contracts see its counters. It is neither `Copy` nor `Clone`, and a `Tree` alone
-/// lends it.
-#[derive(Drop)]
-pub struct View<'a> {
-    root: Option<&'a Subtree>,
-    looks: Counter,
-    reads: Counter,
-}
-
-impl<'a> Model for View<'a> {
-    ghost use Rattle.text_rope.specs.States.{RopeState, texts_under};
-
-    ghost Value = { RopeState };
-
-    ghost view = { λ v. record { texts = texts_under v.root; looks = v.looks; reads = v.reads } };
-}
-
-impl<'a> View<'a> {
-    /// Its root; none where there are no chunks. Counts nothing.
-    pub(crate) fn root(&self) -> Option<&'a Subtree>
-        ensures { texts_under result ≡ self.now.texts }
-    {
-        self.root
-    }
-
-    /// How many bytes the text has. Counts nothing.
-    pub fn len(&self) -> usize
-        ensures len { result ≡ joined_size self.now.texts }
-        ensures short { joined_size self.now.texts < 2 ^ 63 }
-    {
-        match self.root {
-            None => 0,
-            Some(subtree) => subtree.summary().len,
-        }
-    }
-
-    /// A tree's parts, for one look.
-    pub(crate) fn look<'b>(&mut self, subtree: &'b Subtree) -> Below<'b>
-        ensures look { IsLookAt subtree.now result }
-        ensures state { self.new ≡ record self.old { looks = self.old.looks + 1 } }
-    {
-        self.looks.tick();
-        subtree.look()
-    }
-
-    /// A chunk is read.
-    pub(crate) fn read(&mut self)
-        ensures { self.new ≡ record self.old { reads = self.old.reads + 1 } }
-    {
-        self.reads.tick();
     }
 }

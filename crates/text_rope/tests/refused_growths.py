@@ -62,7 +62,7 @@ INDEXES_MADE = "3500 bytes in the last text, 947 breaks in all\n"
 
 # what a text in pieces tells in the copy: how many pieces each run has, from which its sums follow, and the room of its lists
 RUNS_TOLD = {
-    "runs": """
+    "view/runs": """
 impl Runs {
     pub(crate) fn room(&self) -> usize {
         self.runs.capacity()

@@ -1,12 +1,12 @@
 -- Changes in turn: one more after them, and why they are refused.
-use Rattle.std.specs.Prelude.{◌≢◌, List, Bool, length, take, drop, get_or}
+use Rattle.std.specs.Prelude.{◌≢◌, ◌⊎◌, List, Bool, length, take, drop, get_or}
 use Rattle.std.proofs.lemmas.List.{drop_more, length-take-le, take_more, take-append-drop}
 use Rattle.std.proofs.Common.{ℕ, ◌≡◌, ◌≤◌, ◌<◌, ◌+◌, ◌++◌, ◌∷◌, [], ◌∙◌, ap, sym, inl, inr, refl, subst, arith}
 use Rattle.str_indices.specs.Text.{Text}
 use Rattle.positions.specs.declared.encodings.Encoding.{Encoding}
 use Rattle.text_rope.specs.declared.refusals.Refusal.{Refusal}
 use Rattle.text_rope.specs.declared.refusals.Refusal.TheVariants.{NoMemory}
-use Rattle.rope_positions.specs.ChangeLists.{AreApplied, IsApplied, IsRefused, IsRefusedAmong}
+use Rattle.rope_positions.specs.ChangeLists.{AreApplied, CanBeMade, IsApplied, IsRefused, IsRefusedAmong}
 use Rattle.rope_positions.specs.declared.changes.Change.{Change}
 
 one_more : (exact : Bool) (e : Encoding) (old between new : Text) (changes : List Change) (change : Change)
@@ -38,12 +38,23 @@ module _ (exact : Bool) (e : Encoding) (old between : Text) (changes : List Chan
     why = inl is;
   }
 
+-- the first of several is refused by itself, or the snapshot before it is
+first_refused : (exact : Bool) (e : Encoding) (old : Text) (change next : Change) (rest : List Change) (refusal : Refusal)
+    → old ≢ [] → IsRefused exact e old change refusal ⊎ ((refusal ≡ NoMemory) × CanBeMade exact e old change)
+    → IsRefused exact e old change refusal
+    ⊎ ((refusal ≡ NoMemory) × ((◌≡◌ {A = List Change} [] []) × ((next ∷ rest ≢ []) × ((old ≢ []) × CanBeMade exact e old change))))
+first_refused exact e old change next rest refusal some (inl own) = inl own
+first_refused exact e old change next rest refusal some (inr (memory, can)) = inr (memory, (refl, ((λ last. cc), (some, can))))
+
 -- no snapshot of a text is had before the first of several
-pub no_snapshot : (exact : Bool) (e : Encoding) (old : Text) (changes : List Change) (refusal : Refusal) → 2 ≤ length changes
-    → refusal ≡ NoMemory → old ≢ [] → IsRefusedAmong exact e old changes (record { index = 0; refusal = refusal })
-no_snapshot exact e old [] refusal several none some = absurd (omega (arith, several))
-no_snapshot exact e old (change ∷ []) refusal several none some = absurd (omega (arith, several))
-no_snapshot exact e old (change ∷ next ∷ rest) refusal several none some = record {
+pub no_snapshot : (exact : Bool) (e : Encoding) (old : Text) (changes : List Change) (first : Change) (refusal : Refusal)
+    → 2 ≤ length changes → old ≢ []
+    → IsRefused exact e old (get_or changes 0 first) refusal
+    ⊎ ((refusal ≡ NoMemory) × CanBeMade exact e old (get_or changes 0 first))
+    → IsRefusedAmong exact e old changes (record { index = 0; refusal = refusal })
+no_snapshot exact e old [] first refusal several some why = absurd (omega (arith, several))
+no_snapshot exact e old (change ∷ []) first refusal several some why = absurd (omega (arith, several))
+no_snapshot exact e old (change ∷ next ∷ rest) first refusal several some why = record {
   before = [];
   change = change;
   after = next ∷ rest;
@@ -51,5 +62,5 @@ no_snapshot exact e old (change ∷ next ∷ rest) refusal several none some = r
   index = refl;
   text = old;
   applied = refl;
-  why = inr (none, (refl, ((λ last. cc), some)));
+  why = first_refused exact e old change next rest refusal some why;
 }

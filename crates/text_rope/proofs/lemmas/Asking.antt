@@ -25,6 +25,25 @@ none_asked state = let still : 2 ^ (state.looks - state.looks) ≡ 1 = ap (λ n.
   reads_kept = omega arith;
 }
 
+-- and no looks
+pub no_looks : (looks n : ℕ) → 2 ^ (looks - looks) ≤ (n + 1) * (n + 1)
+no_looks looks n = let still : 2 ^ (looks - looks) ≡ 1 = ap (λ k. 2 ^ k) (sub_same looks) in omega (arith, still)
+
+-- a way down the tree, and a read
+pub one_asked : {old middle new : RopeState} → middle.texts ≡ old.texts
+    → 2 ^ (middle.looks - old.looks) ≤ (length old.texts + 1) * (length old.texts + 1) → old.looks ≤ middle.looks
+    → middle.reads ≡ old.reads → new ≡ record middle { reads = middle.reads + 1 } → Asks 1 old new
+one_asked {old} {middle} {new} texts looks kept reads is =
+    let m = (length old.texts + 1) * (length old.texts + 1) in
+    let now : new.looks ≡ middle.looks = ap (λ v. v.looks) is in
+    record {
+      texts = ap (λ v. v.texts) is ∙ texts;
+      looks = rw (now, power_one m) looks;
+      looks_kept = omega (arith, now, kept);
+      reads = omega (arith, ap (λ v. v.reads) is, reads);
+      reads_kept = omega (arith, ap (λ v. v.reads) is, reads);
+    }
+
 -- some questions, and then others
 pub asked_after : {j k : ℕ} {a b c : RopeState} → Asks j a b → Asks k b c → Asks (j + k) a c
 asked_after {j} {k} {a} {b} {c} first next =

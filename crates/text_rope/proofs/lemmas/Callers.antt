@@ -2,4 +2,5 @@
 pub use Rattle.text_rope.proofs.lemmas.Counts.{count-replaced, count-inserted, count-removed}
 pub use Rattle.text_rope.proofs.lemmas.Asking.{none_asked, asked_after, asked_within}
 pub use Rattle.text_rope.proofs.lemmas.Lending.{asks}
-pub use Rattle.text_rope.proofs.lemmas.Sending.{rope_send}
+pub use Rattle.text_rope.proofs.lemmas.Chunks.{in_text, filled_full}
+pub use Rattle.text_rope.proofs.lemmas.Sending.{chunks_send, chunks_sync, rope_send}

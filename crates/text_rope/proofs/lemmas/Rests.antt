@@ -4,7 +4,7 @@ use Rattle.text_rope.proofs.lemmas.Branches.{joined_size-append}
 use Rattle.text_rope.proofs.lemmas.ChunkEnds.{chunk_end_right, ends_at, next_size, size-chunk, starts_at}
 use Rattle.text_rope.proofs.lemmas.Places.{chunks_at, parts_at}
 use Rattle.text_rope.specs.ChunkEnds.{IsChunkEnd}
-use Rattle.text_rope.specs.Chunks.{IsChunkAt, IsWithin}
+use Rattle.text_rope.specs.Chunks.{HasChunkAt, IsWithin}
 use Rattle.text_rope.specs.Rests.{IsLeafAt, IsLeafPlace, IsRestFrom, IsRestAt}
 
 -- of the second of two trees
@@ -127,25 +127,31 @@ leaf_prev i leaf one start_is = record {
 
 -- the first of them, round the byte
 pub chunk_of_rest : {texts chunks others : List Text} {chunk lent : Text} {start at : ℕ} → IsRestAt 0 texts chunks start at
-    → chunks ≡ chunk ∷ others → lent ≡ chunk → IsChunkAt (joined texts) lent start at
+    → chunks ≡ chunk ∷ others → lent ≡ chunk → HasChunkAt texts lent start at
 chunk_of_rest {others = others} {chunk = chunk} {lent = lent} is chunks_are lent_is =
     let same : is.chunk ≡ lent = cc (is.chunks_are, chunks_are, lent_is) in
     record {
-      front = joined is.front;
-      back = joined (is.others ++ is.back);
-      parts = ap joined is.parts ∙ joined-append is.front (is.chunk ∷ (is.others ++ is.back))
-          ∙ ap (λ c. joined is.front ++ (c ++ joined (is.others ++ is.back))) same;
+      front = is.front;
+      back = is.others ++ is.back;
+      parts = is.parts ∙ ap (λ c. is.front ++ c ∷ (is.others ++ is.back)) same;
       place = omega (arith, is.place);
       after = is.after;
       inside = omega (arith, is.inside, ap size same);
     }
 
--- the chunk of a leaf, round a byte that is in it
-pub leaf_round : {texts chunks : List Text} {index start at : ℕ} → IsLeafAt 0 texts chunks index start at
-    → IsChunkAt (joined texts) (piece_at chunks index) start at
-leaf_round {texts = texts} {chunks = chunks} {index = i} {start = start} {at = at} is =
+-- the chunk of a leaf, as one of the text's
+pub leaf_has : {texts chunks : List Text} {index start at : ℕ} → IsLeafAt 0 texts chunks index start at
+    → HasChunkAt texts (piece_at chunks index) start at
+leaf_has {texts = texts} {chunks = chunks} {index = i} {start = start} {at = at} is =
     let rest : IsRestAt 0 texts (drop i chunks) start at = rest_of_leaf is refl in
-    chunk_of_rest rest (chunks_at chunks i (piece_at chunks i) is.leaf.index_is refl) refl
+    record {
+      front = rest.front;
+      back = rest.others ++ rest.back;
+      parts = rest.parts ∙ ap (λ c. rest.front ++ c ∷ (rest.others ++ rest.back)) (rest_chunk is rest);
+      place = omega (arith, rest.place);
+      after = is.after;
+      inside = is.inside;
+    }
 
 -- and those after it
 pub rest_after : {texts chunks others : List Text} {chunk : Text} {start at p : ℕ} → IsRestAt 0 texts chunks start at

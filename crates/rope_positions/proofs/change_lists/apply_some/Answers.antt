@@ -3,8 +3,8 @@ use Rattle.rope_positions.proofs.lemmas.{no_snapshot, one_more_at, refused_at}
 use Rattle.rope_positions.proofs.change_lists.apply_some.Goals as goal
 
 pub returns-in-Err-clause-refused : goal.returns-in-Err-clause-refused
-returns-in-Err-clause-refused c = no_snapshot c.args.exact c.args.encoding c.args.rope.now c.args.changes.now c.in-Err.refusal
-    c.requires c.in-Err.ensures.no_other (λ none. let bad = c.in-Err.ensures.empty none in cc)
+returns-in-Err-clause-refused c = no_snapshot c.args.exact c.args.encoding c.args.rope.now c.args.changes.now _
+    c.refusal_for_memory-refusal.result c.requires (λ none. let bad = c.in-Err.ensures.empty none in cc) c.refusal_for_memory-refusal.ensures
 
 pub loop-index-preserved : goal.loop-index-preserved
 loop-index-preserved c = record {
@@ -18,6 +18,6 @@ returns-in-Err-apply_one-clause-refused c = refused_at c.args.exact c.args.encod
     c.args.changes.now c.loop-index.index c.loop-index-test.true c.loop-index.invariant.applied _ c.in-Err-apply_one.refusal
     c.in-Err-apply_one.ensures.refused
 
-pub returns-clause-ok : goal.returns-clause-ok
-returns-clause-ok c =
+pub returns-clause-made : goal.returns-clause-made
+returns-clause-made c =
     rw (take_all c.loop-index.index c.args.changes.now c.loop-index-test.false) at c.loop-index.invariant.applied

@@ -1,4 +1,4 @@
-use Rattle.text_rope.proofs.lemmas.{◌∙◌, ap, sym, arith, refl, size, joined, length-encodes, read_of_part}
+use Rattle.text_rope.proofs.lemmas.{◌∙◌, ap, sym, arith, refl, joined, joined_size, length-encodes, read_of_part}
 use Rattle.text_rope.proofs.copies.read_at.Goals as goal
 
 pub returns-then-len-at : goal.returns-then-len-at
@@ -11,5 +11,4 @@ pub returns : goal.returns
 returns c =
     let chunks = c.from_chunk-chunks.result.0 in
     let is = c.from_chunk-chunks.ensures in
-    let text = is.text in
-    rw (← is.text, ← is.place) (read_of_part c.read_chunks.ensures.read (is.end ∙ ap size (sym is.text)) c.read_chunks.ensures.full)
+    rw (← is.texts, ← is.place) (read_of_part c.read_chunks.ensures.read (is.end ∙ ap joined_size (sym is.texts)) c.read_chunks.ensures.full)

@@ -1,4 +1,4 @@
-use Rattle.text_rope.proofs.lemmas.{◌∙◌, refl, arith, chars, size-chars, part_read_none, part_read_on}
+use Rattle.text_rope.proofs.lemmas.{◌∙◌, refl, arith, chars, joined, size-chars, part_read_none, part_read_on}
 use Rattle.text_rope.specs.Chunks.{IsPartAt}
 use Rattle.text_rope.proofs.copies.read_chunks.Goals as goal
 
@@ -8,7 +8,7 @@ loop-written-init c = record {
   skip = omega arith;
   within = c.requires.order;
   after = omega arith;
-  text = refl;
+  texts = refl;
   end = refl;
 }
 
@@ -19,8 +19,8 @@ loop-written-preserved c =
     let to = c.next_chunk.new.self.at in
     let bytes = c.as_bytes-bytes.result.now in
     let utf8 = c.as_bytes-bytes.ensures.utf8 in
-    let part : IsPartAt c.args.chunks.now.text (chars bytes) at to =
-    rw (before.text, ← c.as_bytes-bytes.ensures.value) at c.in-Some.ensures.part in
+    let part : IsPartAt (joined c.args.chunks.now.view.texts) (chars bytes) at to =
+    rw (before.texts, ← c.as_bytes-bytes.ensures.value) at c.in-Some.ensures.part in
     record {
       read = part_read_on before.read utf8 part before.skip c.read-written.ensures;
       skip = omega (
@@ -34,6 +34,6 @@ loop-written-preserved c =
       );
       within = c.in-Some.ensures.within;
       after = omega (arith, before.after, c.in-Some.ensures.on);
-      text = c.in-Some.ensures.text ∙ before.text;
+      texts = c.in-Some.ensures.cost.texts ∙ before.texts;
       end = c.in-Some.ensures.end ∙ before.end;
     }

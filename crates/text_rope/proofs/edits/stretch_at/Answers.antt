@@ -7,19 +7,19 @@ returns-clause-chunk c =
     let place = c.leaf_at_in-place.result in
     let is = c.leaf_at_in-place.ensures.place in
     let rest : IsRestAt 0 c.args.subtree.now.texts (drop place.index place.chunks.now) place.start c.args.at = rest_of_leaf is refl in
-    let chunk : chars c.text-text.result.now ≡ rest.chunk = c.text-text.ensures.text ∙ c.chunk.ensures ∙ sym (rest_chunk is rest) in
+    let chunk : chars c.read-text.result.now ≡ rest.chunk = c.read-text.ensures.text ∙ c.chunk.ensures ∙ sym (rest_chunk is rest) in
     record {
       front = rest.front;
       back = rest.others ++ rest.back;
       parts = rw chunk rest.parts;
       start_is = omega (arith, rest.place);
-      end_is = omega (arith, c.text-text.ensures.len, ap size c.text-text.ensures.text);
+      end_is = omega (arith, c.read-text.ensures.len, ap size c.read-text.ensures.text);
     }
 
 pub returns-clause-inside : goal.returns-clause-inside
 returns-clause-inside c = omega (
   arith,
   c.leaf_at_in-place.ensures.place.inside,
-  c.text-text.ensures.len,
+  c.read-text.ensures.len,
   ap size c.chunk.ensures,
 )

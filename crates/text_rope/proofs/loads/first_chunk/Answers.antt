@@ -15,13 +15,13 @@ returns-then-text-le-MAX_CHUNK-clause-piece c =
 
 pub returns-clause-parts : goal.returns-clause-parts
 returns-clause-parts c =
-    let end = c.floor_char_boundary-end in
+    let end = c.end_near-end in
     rw (c.split_at.ensures.front, c.split_at.ensures.back) (chars-cut c.args.text.now c.utf8.text end.result end.ensures.boundary)
 
 pub returns-clause-some : goal.returns-clause-some
 returns-clause-some c =
     let bytes = c.args.text.now in
-    let end = c.floor_char_boundary-end in
+    let end = c.end_near-end in
     let first = IsCharBoundary-from_boundary bytes c.utf8.text 0 (boundary_start (chars bytes)) in
     let above : 0 < end.result = goes_on bytes c.utf8.text 0 end.result c.clamp-each.result first c.requires.some
     (omega (arith, c.clamp-each.ensures)) (λ i past within. end.ensures.nearest i past (omega (arith, within))) in
@@ -29,7 +29,7 @@ returns-clause-some c =
 
 pub returns-clause-piece : goal.returns-clause-piece
 returns-clause-piece c =
-    let end = c.floor_char_boundary-end in
+    let end = c.end_near-end in
     rw c.split_at.ensures.front (omega (
       arith,
       size-part c.args.text.now c.utf8.text end.result end.ensures.boundary,
@@ -40,7 +40,7 @@ returns-clause-piece c =
 pub returns-clause-less : goal.returns-clause-less
 returns-clause-less c =
     let bytes = c.args.text.now in
-    let end = c.floor_char_boundary-end in
+    let end = c.end_near-end in
     let first = IsCharBoundary-from_boundary bytes c.utf8.text 0 (boundary_start (chars bytes)) in
     let above : 0 < end.result = goes_on bytes c.utf8.text 0 end.result c.clamp-each.result first c.requires.some
     (omega (arith, c.clamp-each.ensures)) (λ i past within. end.ensures.nearest i past (omega (arith, within))) in
@@ -54,7 +54,7 @@ returns-clause-enough c some =
     let bytes = c.args.text.now in
     let len = length bytes in
     let chunks = c.div_ceil-chunks.result in
-    let end = c.floor_char_boundary-end in
+    let end = c.end_near-end in
     let wide : 512 ≤ len / chunks = le-div 512 len chunks (omega (arith, c.div_ceil-chunks.ensures))
     (omega (arith, c.div_ceil-chunks.ensures, c.if-text-le-MAX_CHUNK.false)) in
     let far = goes_far bytes c.utf8.text end.result c.clamp-each.result end.ensures.boundary (omega (arith, c.split_at.ensures.back_len, some))
@@ -72,7 +72,7 @@ returns-clause-rest c some =
       each,
       div-mul-le_self len chunks,
       c.clamp-each.ensures,
-      c.floor_char_boundary-end.ensures.bound,
+      c.end_near-end.ensures.bound,
       c.split_at.ensures.back_len,
       c.if-text-le-MAX_CHUNK.false,
     )
@@ -82,7 +82,7 @@ returns-then-text-le-MAX_CHUNK-clause-len c = omega (arith, size-chars c.args.te
 
 pub returns-clause-len : goal.returns-clause-len
 returns-clause-len c =
-    let end = c.floor_char_boundary-end in
+    let end = c.end_near-end in
     rw c.split_at.ensures.front (omega (
       arith,
       size-part c.args.text.now c.utf8.text end.result end.ensures.boundary,

@@ -35,7 +35,7 @@ overflow_add-result c =
     omega (
       arith,
       here,
-      c.from_byte_idx.ensures,
+      (rw c.read-text.ensures.text at c.from_byte_idx.ensures),
       from_byte_idx-le-count s cs c.args.b,
       count-le-size s cs,
       c.summary-whole.ensures.short,
@@ -47,4 +47,4 @@ returns-clause-answer c =
     let chunk = c.place_at-place.result.chunk.now in
     let told = c.step-step.ensures (joined place.front) chunk place.before_is c.summary-own.ensures.summary c.summary-own.ensures.some in
     let here = answer_at c.step-step.result place c.summary-own.ensures.some told in
-    rw (← c.in-Some.ensures) (omega (arith, here, c.from_byte_idx.ensures))
+    rw (← c.in-Some.ensures) (omega (arith, here, (rw c.read-text.ensures.text at c.from_byte_idx.ensures)))

@@ -30,4 +30,4 @@ returns-then-whole-at-clause-answer c =
     rw (← c.in-Some.ensures) (of_end (joined c.in-Some.subtree.now.texts) c.args.at c.summary-whole.result.now.len len c.if-whole-at.true)
 
 pub returns-clause-answer : goal.returns-clause-answer
-returns-clause-answer c = rw (← c.in-Some.ensures) (of_both c.is_char_boundary.ensures (boundary_at c.place_at-place.ensures.place))
+returns-clause-answer c = rw (← c.in-Some.ensures) (of_both (rw c.read-text.ensures.text at c.is_char_boundary.ensures) (boundary_at c.place_at-place.ensures.place))

@@ -33,7 +33,7 @@ overflow_add-result c =
     let cs = joined c.in-Some.subtree.now.texts in
     let here : to_byte_idx s cs c.args.k ≡ before.len + to_byte_idx s chunk (c.args.k - c.step-step.result.reached) =
     rw reached at place.answer in
-    omega (arith, here, c.to_byte_idx.ensures, to_byte_idx-le-size s cs c.args.k, c.summary-whole.ensures.short)
+    omega (arith, here, (rw c.read-text.ensures.text at c.to_byte_idx.ensures), to_byte_idx-le-size s cs c.args.k, c.summary-whole.ensures.short)
 
 pub returns-clause-answer : goal.returns-clause-answer
 returns-clause-answer c =
@@ -46,4 +46,4 @@ returns-clause-answer c =
     omega (arith, place.before_is.total, told.reached) in
     let here : to_byte_idx s (joined c.in-Some.subtree.now.texts) c.args.k ≡ before.len + to_byte_idx s chunk (c.args.k - c.step-step.result.reached) =
     rw reached at place.answer in
-    rw (← c.in-Some.ensures) (omega (arith, here, c.to_byte_idx.ensures))
+    rw (← c.in-Some.ensures) (omega (arith, here, (rw c.read-text.ensures.text at c.to_byte_idx.ensures)))

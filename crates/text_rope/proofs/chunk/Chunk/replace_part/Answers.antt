@@ -46,7 +46,7 @@ of-self-inside-requires c =
     let r : IsReplaced c.args.self.now new c.args.from c.args.to (chars c.args.more.now) = rw is at c.replace_range.ensures in
     let sizes = size-replaced c.args.self.now new c.args.from c.args.to (chars c.args.more.now) r in
     let in_size = size-chars c.args.more.now c.utf8.more in
-    record { text = new; right = c.summary_after-after.ensures.summary new (rw c.text.ensures.text r); short = omega (arith, sizes, in_size, c.requires.room) }
+    record { text = new; right = c.summary_after-after.ensures.summary new (rw c.own_text.ensures.text r); short = omega (arith, sizes, in_size, c.requires.room) }
 
 pub invariant_of-self-2 : goal.invariant_of-self-2
 invariant_of-self-2 c =
@@ -58,7 +58,7 @@ invariant_of-self-2 c =
     let in_size = size-chars c.args.more.now c.utf8.more in
     let ok : IsOk c.make_mut.result = rw c.in-Ok.is refl in
     rw (c.make_mut.follows.holds c.replace_range.new.text ok) (record {
-      right = c.of-self-inside.ensures ∙ c.summary_after-after.ensures.summary new (rw c.text.ensures.text r);
+      right = c.of-self-inside.ensures ∙ c.summary_after-after.ensures.summary new (rw c.own_text.ensures.text r);
       some = some_of new (λ none. omega (arith, sizes, in_size, none, c.requires.some, c.requires.order));
       short = omega (arith, sizes, in_size, c.requires.room);
     })
@@ -101,7 +101,7 @@ returns-clause-shift c =
     let is : chars (string_bytes c.has_memory.new.text) ≡ c.args.self.now =
     ap chars (c.has_memory.ensures.text ∙ same_bytes c.in-Ok.text.now _ c.in-Ok.ensures.value) ∙ c.self.view_is in
     let r : IsReplaced c.args.self.now new c.args.from c.args.to (chars c.args.more.now) = rw is at c.replace_range.ensures in
-    let own = c.summary_after-after.ensures.summary new (rw c.text.ensures.text r) in
+    let own = c.summary_after-after.ensures.summary new (rw c.own_text.ensures.text r) in
     let sizes = size-replaced c.args.self.now new c.args.from c.args.to (chars c.args.more.now) r in
     let in_size = size-chars c.args.more.now c.utf8.more in
     let ok : IsOk c.make_mut.result = rw c.in-Ok.is refl in

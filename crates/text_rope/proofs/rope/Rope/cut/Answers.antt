@@ -1,11 +1,12 @@
 use Rattle.text_rope.proofs.lemmas.{size, chars-nil, takes_twice, ◌∙◌, refl, ap, joined, cut_of}
 use Rattle.text_rope.proofs.rope.Rope.cut.Goals as goal
 
-pub returns-clause-ok : goal.returns-clause-ok
-returns-clause-ok c =
+pub returns-clause-parts : goal.returns-clause-parts
+returns-clause-parts c =
     let copy_is = ap joined c.in_ok-share.ensures.ok ∙ c.self.view_is in
-    cut_of c.args.self.now (joined c.in_ok-share.field-0) c.take_end.new.self c.rewrite.new.self c.args.at (size c.args.self.now)
-    copy_is refl c.in_ok-take_end.ensures.ok (rw chars-nil at c.in_ok-rewrite.ensures.ok)
+    let parts = cut_of c.args.self.now (joined c.in_ok-share.field-0) c.take_end.new.self c.rewrite.new.self c.args.at
+    (size c.args.self.now) copy_is refl c.in_ok-take_end.ensures.ok (rw chars-nil at c.in_ok-rewrite.ensures.replaced) in
+    parts
 
 pub returns-clause-work : goal.returns-clause-work
 returns-clause-work c =

@@ -16,8 +16,9 @@ left_of n from to text all within (inl order) =
 pub returns-then-takes_all-clause-ok : goal.returns-then-takes_all-clause-ok
 returns-then-takes_all-clause-ok c =
     let both = c.takes_all.ensures.0 c.if-takes_all.true in
-    rw c.of.ensures (replaced_all c.args.self.now c.args.from c.args.to (chars c.args.text.now) both.0 c.requires.order
-    (omega (arith, c.if-len-to.false, c.len-len.ensures.len)) (omega (arith, both.1, c.len-len.ensures.len)))
+    let all = replaced_all c.args.self.now c.args.from c.args.to (chars c.args.text.now) both.0 c.requires.order
+    (omega (arith, c.if-len-to.false, c.len-len.ensures.len)) (omega (arith, both.1, c.len-len.ensures.len)) in
+    rw c.of.ensures all
 
 pub returns-then-text-gt-MAX_CHUNK-clause-no_memory : goal.returns-then-text-gt-MAX_CHUNK-clause-no_memory
 returns-then-text-gt-MAX_CHUNK-clause-no_memory c refused =

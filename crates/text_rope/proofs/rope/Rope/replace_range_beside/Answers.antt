@@ -3,8 +3,8 @@ use Rattle.std.proofs.lemmas.Bool.Decides.{nat_tests}
 use Rattle.text_rope.proofs.rope.Rope.replace_range_beside.Goals as goal
 use Rattle.text_rope.proofs.rope.Rope.replace_range_beside.Goals.{else-from-to-via-then-from-to+else-is_empty, else-from-to-via-else-from-to, then-is_char_boundary, else-is_char_boundary}
 
-pub returns-then-is_empty-clause-ok : goal.returns-then-is_empty-clause-ok
-returns-then-is_empty-clause-ok c =
+pub returns-then-is_empty-clause-replaced : goal.returns-then-is_empty-clause-replaced
+returns-then-is_empty-clause-replaced c =
     let zero : length c.args.text.now ≡ 0 = grind (arith, nat_tests, c.is_empty.ensures, c.if-is_empty.true) in
     elim c.if-is_char_boundary.branch [
       | then-is_char_boundary w ↦

@@ -8,7 +8,7 @@ returns-in-Ok-clause-ok c = rw (c.self.view_is, c.len-len.ensures.len, chars-nil
 pub returns-in_ok-rewrite-in-Err-clause-ok : goal.returns-in_ok-rewrite-in-Err-clause-ok
 returns-in_ok-rewrite-in-Err-clause-ok c =
     let same = ap joined c.in-Err.ensures.err ∙ c.self.view_is in
-    rw (same, c.len-len.ensures.len, chars-nil) at c.in_ok-rewrite-in-Err.ensures.ok
+    rw (same, c.len-len.ensures.len, chars-nil) at c.in_ok-rewrite-in-Err.ensures.replaced
 
 pub returns-in_ok-rewrite-in-Err-clause-work : goal.returns-in_ok-rewrite-in-Err-clause-work
 returns-in_ok-rewrite-in-Err-clause-work c =

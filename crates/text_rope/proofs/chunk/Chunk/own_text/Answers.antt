@@ -1,5 +1,5 @@
 use Rattle.text_rope.proofs.lemmas.{◌∙◌, ap, sym, chars, string_bytes, size, size-chars}
-use Rattle.text_rope.proofs.chunk.Chunk.text.Goals as goal
+use Rattle.text_rope.proofs.chunk.Chunk.own_text.Goals as goal
 
 pub returns-clause-len : goal.returns-clause-len
 returns-clause-len c = sym (size-chars c.as_str.result.now c.as_str.utf8)
