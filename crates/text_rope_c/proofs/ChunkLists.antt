@@ -4,15 +4,19 @@
 --     more_at                        its chunk comes to the list          next_at    and where it is after that
 --     IsNextBefore text at cs now    where a cursor is that goes back before them
 --     more_before                    its chunk comes to the list          next_before    and where it is after that
---     set_at, set_before, set_rest   the same where a loop puts the chunk into a room after those of the list
-use Rattle.std.specs.Prelude.{IsTrue, List, [], ◌∷◌, chars, drop, false, length, slice_set, take}
+--     set_at, set_before, set_rest, set_sized    and where a loop puts the chunk into the room after the list's chunks
+use Rattle.std.specs.Prelude.{All, IsTrue, List, [], ◌∷◌, chars, drop, false, length, slice_set, take}
 use Rattle.std.proofs.Common.{◌≡◌, ℕ, ◌+◌, ◌-◌, ◌<◌, ◌≤◌, ◌++◌, ap, arith, inl, inr, refl, subst, sym, ◌∙◌}
 use Rattle.std.proofs.lemmas.Bool.{cases_lt, false≢true}
 use Rattle.std.proofs.lemmas.List.{drop-drop, drop-set-lt, take_more_set}
+use Rattle.std.proofs.lemmas.List.Elements.{All-append, All-cons, All-nil}
 use Rattle.str_indices.specs.Text.{Text, size}
-use Rattle.text_rope.specs.Chunks.{CursorState, IsChunkAt}
+use Rattle.text_rope.specs.Chunks.{CursorState, IsChunkAt, HasChunkAt}
+use Rattle.text_rope.specs.ChunkSizes.{max_chunk, IsFilled, IsFull}
 use Rattle.text_rope.specs.declared.chunks.ChunkAt.{ChunkAt}
-use Rattle.text_rope_c.specs.ChunkLists.{AreChunksAt, AreChunksBefore, AreChunksFrom, AreChunksTo, end_after, end_of, start_after, text_of}
+use Rattle.text_rope_c.specs.ChunkLists.{IsSized, AreChunksAt, AreChunksBefore, AreChunksFrom, AreChunksTo, end_after, end_of, start_after, text_of}
+use Rattle.text_rope.proofs.lemmas.Callers.{filled_full, in_text}
+use Rattle.text_summary.specs.Pieces.{joined}
 use Rattle.text_rope_c.specs.declared.reads.Chunk.{Chunk}
 
 abbrev pub IsNextAt : Text → ℕ → List Chunk → CursorState → Type 0
@@ -100,12 +104,12 @@ pub record IsSetAt (text : Text) (at : ℕ) (lent : List Chunk) (c : Chunk) : Ty
   pub next : (now : CursorState) → now.start ≡ end_of c → IsNextAt text at lent now
 
 pub set_at : (text : Text) (at : ℕ) (out : List Chunk) (n : ℕ) (now : CursorState) (c : Chunk) → n < length out
-    → AreChunksAt text at (take n out) → IsNextAt text at (take n out) now → IsLent now c → now.text ≡ text
-    → IsChunkAt now.text now.chunk now.start now.start → IsSetAt text at (take (n + 1) (slice_set out n c)) c
+    → AreChunksAt text at (take n out) → IsNextAt text at (take n out) now → IsLent now c → joined now.view.texts ≡ text
+    → HasChunkAt now.view.texts now.chunk now.start now.start → IsSetAt text at (take (n + 1) (slice_set out n c)) c
 set_at text at out n now c room are is lent same part =
     subst (λ (cs : List Chunk). IsSetAt text at cs c) (sym (take_more_set out n c room)) (record {
       chunks = more_at text at (take n out) now c are is lent
-          (subst (λ (x : Text). IsChunkAt x now.chunk now.start now.start) same part);
+          (subst (λ (x : Text). IsChunkAt x now.chunk now.start now.start) same (in_text part));
       end = ended_at at (take n out) c;
       next = λ after starts. next_at text at (take n out) after c starts;
     })
@@ -117,12 +121,12 @@ pub record IsSetBefore (text : Text) (at : ℕ) (lent : List Chunk) (c : Chunk) 
   pub next : (now : CursorState) → now.start + size now.chunk ≡ c.start → IsNextBefore text at lent now
 
 pub set_before : (text : Text) (at : ℕ) (out : List Chunk) (n : ℕ) (now : CursorState) (c : Chunk) → n < length out
-    → AreChunksBefore text at (take n out) → IsNextBefore text at (take n out) now → IsLent now c → now.text ≡ text
-    → IsChunkAt now.text now.chunk now.start now.start → IsSetBefore text at (take (n + 1) (slice_set out n c)) c
+    → AreChunksBefore text at (take n out) → IsNextBefore text at (take n out) now → IsLent now c → joined now.view.texts ≡ text
+    → HasChunkAt now.view.texts now.chunk now.start now.start → IsSetBefore text at (take (n + 1) (slice_set out n c)) c
 set_before text at out n now c room are is lent same part =
     subst (λ (cs : List Chunk). IsSetBefore text at cs c) (sym (take_more_set out n c room)) (record {
       chunks = more_before text at (take n out) now c are is lent
-          (subst (λ (x : Text). IsChunkAt x now.chunk now.start now.start) same part);
+          (subst (λ (x : Text). IsChunkAt x now.chunk now.start now.start) same (in_text part));
       start = began_before at (take n out) c;
       next = λ after ends. next_before text at (take n out) after c ends;
     })
@@ -131,6 +135,18 @@ pub set_rest : (out old : List Chunk) (n : ℕ) (c : Chunk) → drop n out ≡ d
     → drop (n + 1) (slice_set out n c) ≡ drop (n + 1) old
 set_rest out old n c same =
     drop-set-lt (n + 1) out n c (omega arith) ∙ sym (drop-drop 1 n out) ∙ ap (drop 1) same ∙ drop-drop 1 n old
+
+pub set_sized : (text : Text) (out : List Chunk) (n : ℕ) (now : CursorState) (c : Chunk) → n < length out
+    → All (IsSized text) (take n out) → IsLent now c → joined now.view.texts ≡ text → IsFilled now.view.texts
+    → HasChunkAt now.view.texts now.chunk now.start now.start → size now.chunk ≤ max_chunk
+    → All (IsSized text) (take (n + 1) (slice_set out n c))
+set_sized text out n now c room are lent same filled own short =
+    let sized : IsSized text c = record {
+      short = subst (λ (x : Text). size x ≤ max_chunk) (sym lent.text) short;
+      full = subst (IsFull text) (sym lent.text) (subst (λ (x : Text). IsFull x now.chunk) same (filled_full filled own));
+    } in
+    subst (All (IsSized text)) (sym (take_more_set out n c room))
+    (All-append (IsSized text) (take n out) (c ∷ []) are (All-cons (IsSized text) c [] sized (All-nil (IsSized text))))
 
 -- a number that is below no other: where a step was refused there is no more
 pub no_more : (m n : ℕ) → (m < n → IsTrue false) → n ≤ m

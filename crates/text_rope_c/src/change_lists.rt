@@ -11,7 +11,7 @@ use crate::handles::{empty_handle, store};
 use crate::numbers::{NOT_UTF8, encoding_at, status_at};
 use crate::slot::Slot;
 use positions::{Encoding, Range};
-use rope_positions::{Change, RefusedChange, apply, apply_exact};
+use rope_positions::{Change, RefusedChange, apply, apply_exact, refusal_for_memory};
 use std::alloc::Global;
 use str_indices::is_utf8;
 use text_rope::{Refusal, Rope};
@@ -123,7 +123,11 @@ fn apply_some(
     }
     let before = match rope.as_mut().snapshot() {
         Ok(before) => before,
-        Err(refusal) => return Err(RefusedChange { index: 0, refusal }),
+        Err(_) => {
+            let first = change_of(&changes[0]);
+            let refusal = refusal_for_memory(rope.as_mut(), exact, encoding, first);
+            return Err(RefusedChange { index: 0, refusal });
+        }
     };
     let answer = apply_each(alloc, rope, exact, encoding, changes);
     if answer.is_err() {
