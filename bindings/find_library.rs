@@ -1,14 +1,19 @@
 //! Finds a static library of the proved functions, or builds it. The build scripts of the Cargo crates beside this file
 //! take it in.
 use std::env;
+use std::fs;
 use std::path::{Path, PathBuf};
 use std::process::{exit, Command};
 
 /// The environment variable that names the folder of the libraries.
 const LIBRARY_FOLDER: &str = "STR_INDICES_LIB_DIR";
 
-/// The script of the repository that builds a library.
+/// The repository's script that builds a library. It leaves a library alone that it built from the present sources.
 const SCRIPT: &str = "bindings/c/build_library";
+
+/// What a library is built from, in the repository and in each of its crates.
+const SOURCES: [&str; 3] = ["crates.txt", "HANDLES", "bindings/c"];
+const SOURCES_OF_CRATE: [&str; 4] = ["src", "specs", "proofs", "c"];
 
 /// A static library, by its name.
 pub struct Library {
@@ -37,12 +42,13 @@ impl Library {
     }
 
     /// Where the library is: in the folder that was named, else where this repository builds it or a release has it, else
-    /// where it is installed; and where it is nowhere, it is built.
+    /// where it is installed; and where it is nowhere, it is built. One of another version is refused, and one that the
+    /// repository built from other sources is built anew.
     fn folder(&self) -> Result<PathBuf, String> {
         let named = env::var_os(LIBRARY_FOLDER).filter(|folder| !folder.is_empty());
         if let Some(folder) = named.map(PathBuf::from) {
             return if self.is_in(&folder) {
-                Ok(folder)
+                self.with_version(folder)
             } else {
                 let (file, folder) = (self.file(), folder.display());
                 Err(format!("{LIBRARY_FOLDER} names {folder}, which has no {file}"))
@@ -50,18 +56,27 @@ impl Library {
         }
         let repository = Path::new(env!("CARGO_MANIFEST_DIR")).join("../..");
         let built = repository.join("out");
-        let released = repository.join("lib");
-        if let Some(folder) = [&built, &released].into_iter().find(|folder| self.is_in(folder)) {
-            return Ok(folder.clone());
-        }
-        if let Some(installed) = self.installed_folder().filter(|folder| self.is_in(folder)) {
-            return Ok(installed);
-        }
-        self.build(&repository)?;
         if self.is_in(&built) {
-            Ok(built)
+            return self.build(&repository, "may have been built from other sources");
+        }
+        let found = [Some(repository.join("lib")), self.installed_folder()];
+        match found.into_iter().flatten().find(|folder| self.is_in(folder)) {
+            Some(folder) => self.with_version(folder),
+            None => self.build(&repository, "is missing"),
+        }
+    }
+
+    /// The folder, where the library in it has the version of the crate: it has its own behind its name.
+    fn with_version(&self, folder: PathBuf) -> Result<PathBuf, String> {
+        let version = env!("CARGO_PKG_VERSION");
+        let named = format!("{} {version}\0", self.name);
+        let library = folder.join(self.file());
+        let bytes = fs::read(&library).map_err(|error| format!("{}: {error}", library.display()))?;
+        if bytes.windows(named.len()).any(|part| part == named.as_bytes()) {
+            Ok(folder)
         } else {
-            Err(format!("{SCRIPT} left no {}", self.file()))
+            let library = library.display();
+            Err(format!("{library} is not of version {version}, as this crate is"))
         }
     }
 
@@ -80,11 +95,12 @@ impl Library {
         output.status.success().then(|| PathBuf::from(folder.trim_end()))
     }
 
-    /// Proves and builds the library in the repository that the crate is part of. The first time takes minutes.
-    fn build(&self, repository: &Path) -> Result<(), String> {
+    /// Lets the repository that the crate is part of prove and build the library, which takes minutes the first time. Where
+    /// it cannot, the error says what was wrong with the library.
+    fn build(&self, repository: &Path, wrong: &str) -> Result<PathBuf, String> {
         let (file, name) = (self.file(), self.name);
         let missing = format!(
-            "the static library {file} is missing. Let {LIBRARY_FOLDER} name a folder that has it, or install it where \
+            "the static library {file} {wrong}. Let {LIBRARY_FOLDER} name a folder that has it, or install it where \
              pkg-config finds {name}"
         );
         if !repository.join(SCRIPT).is_file() {
@@ -95,11 +111,25 @@ impl Library {
                 "{missing}, or build it by {SCRIPT} {name} with Rattle's command rt on the path"
             ));
         }
+        watch_sources(repository);
+        let folder = repository.join("out");
         match Command::new(repository.join(SCRIPT)).arg(name).status() {
-            Ok(status) if status.success() => Ok(()),
-            Ok(status) => Err(format!("{SCRIPT} failed: {status}")),
+            Ok(status) if !status.success() => Err(format!("{SCRIPT} failed: {status}")),
+            Ok(_) if !self.is_in(&folder) => Err(format!("{SCRIPT} left no {file}")),
+            Ok(_) => Ok(folder),
             Err(error) => Err(format!("{SCRIPT} cannot be run: {error}")),
         }
+    }
+}
+
+/// Lets cargo look for the library again where a crate has changed.
+fn watch_sources(repository: &Path) {
+    let crates = fs::read_dir(repository.join("crates")).into_iter().flatten().flatten();
+    let parts = crates.flat_map(|entry| SOURCES_OF_CRATE.map(|part| entry.path().join(part)));
+    let others = SOURCES.map(|name| repository.join(name));
+    // cargo would run it each time for a path that is not there
+    for path in parts.chain(others).filter(|path| path.exists()) {
+        println!("cargo:rerun-if-changed={}", path.display());
     }
 }
 

@@ -32,9 +32,12 @@ bool str_indices_is_wide(size_t len)
     return least != NO_TEXT && len >= least;
 }
 
+/* The version behind the library's name, by which a build finds it in the file. */
+static const char named_version[] = "str_indices " STR_INDICES_VERSION;
+
 const char *str_indices_version(void)
 {
-    return STR_INDICES_VERSION;
+    return named_version + sizeof "str_indices";
 }
 
 #ifdef STR_INDICES_WIDE

@@ -48,6 +48,12 @@ uint32_t index_fill_utf8(const char *text, size_t len, struct mark *room, size_t
 /* Either of the two. */
 typedef uint32_t fill_function(const char *text, size_t len, struct mark *room, size_t many, struct str_index *index);
 
+/* Whether a text is missing: null, though its length is not 0. */
+static bool is_missing(const char *text, size_t len)
+{
+    return text == NULL && len != 0;
+}
+
 /* The block is zeroed, so that a value is handed on. Where there is no mark, the room for
  * them is the end of the block, which is not null either. */
 static str_index_status filled(str_index **index, struct str_index *block, const char *text, size_t len,
@@ -71,6 +77,8 @@ static str_index_status made(str_index **index, const char *text, size_t len, fi
     struct str_index *block;
     str_index_status status;
     *index = NULL;
+    if (is_missing(text, len))
+        return STR_INDEX_NULL_TEXT;
     if (size == 0)
         return STR_INDEX_TOO_LONG;
     block = calloc(1, size);
@@ -96,6 +104,8 @@ str_index_status str_index_make_in(str_index **index, void *room, size_t size, c
 {
     size_t taken = str_index_size(len);
     *index = NULL;
+    if (is_missing(text, len))
+        return STR_INDEX_NULL_TEXT;
     if (taken == 0)
         return STR_INDEX_TOO_LONG;
     if (size < taken)
@@ -117,11 +127,15 @@ const char *str_index_status_text(str_index_status status)
     case STR_INDEX_NOT_UTF8: return "the bytes are not UTF-8";
     case STR_INDEX_NO_ROOM: return "the memory handed over has too few bytes";
     case STR_INDEX_TOO_LONG: return "the text is too long";
+    case STR_INDEX_NULL_TEXT: return "the text is null, and its length is not 0";
     }
     return "no status of this version";
 }
 
+/* The version behind the library's name, by which a build finds it in the file. */
+static const char named_version[] = "str_index " STR_INDEX_VERSION;
+
 const char *str_index_version(void)
 {
-    return STR_INDEX_VERSION;
+    return named_version + sizeof "str_index";
 }

@@ -79,6 +79,12 @@ uint32_t rope_change_exact(str_rope *rope, uint32_t encoding, str_indices_range 
 uint32_t rope_change_all(str_rope *rope, bool exact, uint32_t encoding, const str_rope_content_change *changes,
                          size_t count, size_t *refused);
 
+/* Whether a text is missing: null, though its length is not 0. */
+static bool is_missing(const char *text, size_t len)
+{
+    return text == NULL && len != 0;
+}
+
 /* A text that may be null where its length is 0. */
 static const char *text_of(const char *text)
 {
@@ -100,11 +106,15 @@ void str_rope_free(str_rope *rope)
 
 str_rope_status str_rope_assign(str_rope *rope, const char *text, size_t len)
 {
+    if (is_missing(text, len))
+        return STR_ROPE_NULL_TEXT;
     return (str_rope_status)rope_assign(rope, text_of(text), len);
 }
 
 str_rope_status str_rope_assign_utf8(str_rope *rope, const char *text, size_t len)
 {
+    if (is_missing(text, len))
+        return STR_ROPE_NULL_TEXT;
     return (str_rope_status)rope_assign_utf8(rope, text_of(text), len);
 }
 
@@ -116,21 +126,29 @@ str_rope_status str_rope_snapshot(const str_rope *rope, str_rope *copy)
 
 str_rope_status str_rope_insert(str_rope *rope, size_t at, const char *text, size_t len)
 {
+    if (is_missing(text, len))
+        return STR_ROPE_NULL_TEXT;
     return (str_rope_status)rope_insert(rope, at, text_of(text), len);
 }
 
 str_rope_status str_rope_insert_utf8(str_rope *rope, size_t at, const char *text, size_t len)
 {
+    if (is_missing(text, len))
+        return STR_ROPE_NULL_TEXT;
     return (str_rope_status)rope_insert_utf8(rope, at, text_of(text), len);
 }
 
 str_rope_status str_rope_replace(str_rope *rope, size_t from, size_t to, const char *text, size_t len)
 {
+    if (is_missing(text, len))
+        return STR_ROPE_NULL_TEXT;
     return (str_rope_status)rope_replace(rope, from, to, text_of(text), len);
 }
 
 str_rope_status str_rope_replace_utf8(str_rope *rope, size_t from, size_t to, const char *text, size_t len)
 {
+    if (is_missing(text, len))
+        return STR_ROPE_NULL_TEXT;
     return (str_rope_status)rope_replace_utf8(rope, from, to, text_of(text), len);
 }
 
@@ -187,19 +205,35 @@ str_rope_status str_rope_copy_to(const str_rope *rope, size_t from, size_t to, c
 str_rope_status str_rope_change(str_rope *rope, str_indices_encoding encoding, str_indices_range range,
                                 const char *text, size_t len)
 {
+    if (is_missing(text, len))
+        return STR_ROPE_NULL_TEXT;
     return (str_rope_status)rope_change(rope, encoding, range, text_of(text), len);
 }
 
 str_rope_status str_rope_change_utf8(str_rope *rope, str_indices_encoding encoding, str_indices_range range,
                                      const char *text, size_t len)
 {
+    if (is_missing(text, len))
+        return STR_ROPE_NULL_TEXT;
     return (str_rope_status)rope_change_utf8(rope, encoding, range, text_of(text), len);
 }
 
 str_rope_status str_rope_change_exact(str_rope *rope, str_indices_encoding encoding, str_indices_range range,
                                       const char *text, size_t len)
 {
+    if (is_missing(text, len))
+        return STR_ROPE_NULL_TEXT;
     return (str_rope_status)rope_change_exact(rope, encoding, range, text_of(text), len);
+}
+
+/* The index of the first change whose text is null, also where its length is 0, or which a null list has; `count` where
+ * there is none. */
+static size_t first_null(const str_rope_content_change *changes, size_t count)
+{
+    size_t index = 0;
+    while (index < count && changes != NULL && changes[index].text != NULL)
+        ++index;
+    return index;
 }
 
 /* The list may be null where it is empty, and so may the place for an index. */
@@ -207,9 +241,15 @@ static str_rope_status change_all(str_rope *rope, bool exact, str_indices_encodi
                                   const str_rope_content_change *changes, size_t count, size_t *refused)
 {
     static const str_rope_content_change nothing;
-    size_t index = 0;
+    size_t index = first_null(changes, count);
+    if (refused == NULL)
+        refused = &index;
+    if (index < count) {
+        *refused = index;
+        return STR_ROPE_NULL_TEXT;
+    }
     return (str_rope_status)rope_change_all(rope, exact, encoding, changes != NULL ? changes : &nothing, count,
-                                            refused != NULL ? refused : &index);
+                                            refused);
 }
 
 str_rope_status str_rope_change_all(str_rope *rope, str_indices_encoding encoding,
@@ -234,11 +274,15 @@ const char *str_rope_status_text(str_rope_status status)
     case STR_ROPE_NO_MEMORY: return "memory was refused";
     case STR_ROPE_NOT_UTF8: return "the bytes are not UTF-8";
     case STR_ROPE_SAME_HANDLE: return "two handles are one";
+    case STR_ROPE_NULL_TEXT: return "a text is null, and its length is not 0";
     }
     return "no status of this version";
 }
 
+/* The version behind the library's name, by which a build finds it in the file. */
+static const char named_version[] = "str_rope " STR_ROPE_VERSION;
+
 const char *str_rope_version(void)
 {
-    return STR_ROPE_VERSION;
+    return named_version + sizeof "str_rope";
 }

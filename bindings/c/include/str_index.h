@@ -21,8 +21,8 @@
  *   - An index keeps the address of its text, and no copy. The `len` bytes from
  *     `text` on may be read, and no thread writes to them, from the call that
  *     makes the index until it is freed. A `text` that is null is the empty
- *     text, and then `len` is 0. That the bytes are UTF-8 is checked, but not
- *     by str_index_make_utf8.
+ *     text, and with another `len` than 0 it is refused. That the bytes are
+ *     UTF-8 is checked, but not by str_index_make_utf8.
  *   - An index that is handed over was made by a function whose name begins
  *     with str_index_make, which answered STR_INDEX_OK, and was not freed
  *     since. One that was made in memory of the caller's is there while that
@@ -93,7 +93,8 @@ typedef enum str_index_status {
     STR_INDEX_NO_MEMORY, /* memory was refused */
     STR_INDEX_NOT_UTF8,  /* the bytes handed over are not UTF-8 */
     STR_INDEX_NO_ROOM,   /* the memory handed over has too few bytes */
-    STR_INDEX_TOO_LONG   /* `len` is above PTRDIFF_MAX */
+    STR_INDEX_TOO_LONG,  /* `len` is above PTRDIFF_MAX */
+    STR_INDEX_NULL_TEXT  /* `text` is NULL, and `len` is not 0 */
 } str_index_status;
 
 /* Says in English what a status means, by a text that stays as long as the
@@ -110,7 +111,7 @@ const char *str_index_version(void);
 /* Makes the index of a text, for which `*index` then stands. It is NULL where
  * the status is another than STR_INDEX_OK. Takes time in the length of the
  * text. May answer STR_INDEX_NO_MEMORY, and then nothing is said of the bytes,
- * STR_INDEX_NOT_UTF8, and STR_INDEX_TOO_LONG. */
+ * STR_INDEX_NOT_UTF8, STR_INDEX_TOO_LONG, and before them STR_INDEX_NULL_TEXT. */
 STR_INDEX_CHECKED str_index_status str_index_make(str_index **index,
                                                   const char *text, size_t len);
 
@@ -130,8 +131,8 @@ size_t str_index_size(size_t len);
 /* Makes the index of a text as str_index_make does, but in memory of the
  * caller's: the `size` bytes from `room` on, of which it takes the first
  * str_index_size(len). They are aligned as malloc aligns a block, and stay the
- * caller's, who does not free the index. May answer STR_INDEX_NO_ROOM,
- * STR_INDEX_NOT_UTF8, and STR_INDEX_TOO_LONG; never STR_INDEX_NO_MEMORY. */
+ * caller's, who does not free the index. May answer STR_INDEX_NO_ROOM, and the
+ * others that str_index_make answers; never STR_INDEX_NO_MEMORY. */
 STR_INDEX_CHECKED str_index_status str_index_make_in(str_index **index,
                                                      void *room, size_t size,
                                                      const char *text,

@@ -180,7 +180,8 @@ private:
         case STR_INDEX_NO_MEMORY: throw std::bad_alloc();
         case STR_INDEX_TOO_LONG: throw too_long(str_index_status_text(status));
         case STR_INDEX_NOT_UTF8: throw not_utf8(str_index_status_text(status));
-        case STR_INDEX_NO_ROOM: break; // of str_index_make_in alone
+        case STR_INDEX_NO_ROOM: break;   // of str_index_make_in alone
+        case STR_INDEX_NULL_TEXT: break; // of a view that is broken
         }
         throw std::invalid_argument(str_index_status_text(status));
     }

@@ -25,8 +25,9 @@
  *     during the call;
  *   - `len` is at most half of the address space, PTRDIFF_MAX;
  *   - the bytes are UTF-8 (the Unicode Standard, chapter 3, table 3-7). A text
- *     of unknown origin is asked for with str_indices_is_utf8 first. A zero
- *     byte is a char as any other and ends nothing.
+ *     of unknown origin is asked for with str_indices_is_utf8 first: of one
+ *     that begins inside a char, bytes before `text` may be read. A zero byte
+ *     is a char as any other and ends nothing.
  *
  * Any number of threads may be in these functions at once, with one text or
  * with several.

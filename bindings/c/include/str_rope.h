@@ -41,8 +41,9 @@
  *     be read, and no thread writes to them during the call; the `room` bytes
  *     from `out` on, or chunks from `chunks` on, may be written, and no thread
  *     reads them during the call. They do not overlap with each other or with a
- *     handle, and have at most PTRDIFF_MAX bytes. That those of a text are UTF-8
- *     is checked, unless the function's name ends in _utf8.
+ *     handle, and have at most PTRDIFF_MAX bytes. Of all this a null `text` alone
+ *     is checked; and that the bytes of a text are UTF-8, unless the function's
+ *     name ends in _utf8.
  *   - malloc, realloc and free are those of one allocator, and align each
  *     block to every power of two up to 16 that divides its size.
  *   - No function is called from a signal handler, or in the forked child of a
@@ -61,8 +62,9 @@
  * order too, and more with the length of what is put in. It copies the text
  * that is put in, and three chunks at most that stand round it, a cut as many
  * for each part. Where one chunk has no room for it, or the text shares its
- * chunks with a snapshot, it makes the way to them anew as well. To take out
- * all of a text takes no memory.
+ * chunks with a snapshot, it makes the way to them anew as well. It frees what
+ * goes out and no other text shares, chunk by chunk: 24 milliseconds for 100 MB.
+ * To take out all of a text takes no memory.
  */
 #ifndef STR_ROPE_H
 #define STR_ROPE_H
@@ -118,8 +120,8 @@ typedef struct str_rope_chunk {
 #define STR_ROPE_MAX_CHUNK 1024
 
 /* Whether a call did what it was asked. Where two reasons hold, the status is
- * the one that stands first here; but STR_ROPE_NOT_UTF8 and
- * STR_ROPE_SAME_HANDLE come before all others. */
+ * the one that stands first here; but STR_ROPE_NULL_TEXT, then
+ * STR_ROPE_NOT_UTF8, and STR_ROPE_SAME_HANDLE come before all others. */
 typedef enum str_rope_status {
     STR_ROPE_OK,           /* it is done */
     STR_ROPE_NOT_ORDERED,  /* the end of a part is before its start */
@@ -129,7 +131,9 @@ typedef enum str_rope_status {
                               or a part has more than the room for it */
     STR_ROPE_NO_MEMORY,    /* memory was refused */
     STR_ROPE_NOT_UTF8,     /* the bytes handed over are not UTF-8 */
-    STR_ROPE_SAME_HANDLE   /* two handles that should differ are one */
+    STR_ROPE_SAME_HANDLE,  /* two handles that should differ are one */
+    STR_ROPE_NULL_TEXT     /* `text` is NULL, and `len` is not 0: of each call
+                              that takes a text */
 } str_rope_status;
 
 /* Says in English what a status means, by a text that stays as long as the
@@ -155,9 +159,10 @@ STR_ROPE_CHECKED str_rope_status str_rope_assign(str_rope *rope,
 
 /* Makes the text of `copy` the same as that of `rope`, in one step, whatever its
  * length. They share their chunks from then on, and a change of either leaves
- * the other. The former text of `copy` is freed; where both handles are one,
- * nothing happens. May answer STR_ROPE_NO_MEMORY where the text is not empty,
- * and then `copy` is as before. */
+ * the other. A count of who shares them is written to, atomically, although
+ * `rope` is `const`. The former text of `copy` is freed; where both handles are
+ * one, nothing happens. May answer STR_ROPE_NO_MEMORY where the text is not
+ * empty, and then `copy` is as before. */
 STR_ROPE_CHECKED str_rope_status str_rope_snapshot(const str_rope *rope,
                                                    str_rope *copy);
 
@@ -355,7 +360,7 @@ str_rope_change_exact(str_rope *rope, str_indices_encoding encoding,
  * whole text. */
 typedef struct str_rope_content_change {
     str_indices_range range;
-    const char *text; /* not NULL, also where `len` is 0 */
+    const char *text; /* NULL is refused, also where `len` is 0 */
     size_t len;
     bool whole; /* whether it replaces the whole text, whatever `range` is */
 } str_rope_content_change;
@@ -374,14 +379,14 @@ typedef struct str_rope_content_change {
  *
  * Where one is refused, the text is as before the first of them, `*refused` is
  * the index of that change, and the status is what str_rope_change answers to
- * it. But the texts of all of them are looked at first: STR_ROPE_NOT_UTF8 is of
- * the first that is not UTF-8. Where all are made, `*refused` stays as it is;
- * `refused` may be NULL.
+ * it. But the texts of all of them are looked at first: STR_ROPE_NULL_TEXT is of
+ * the first that is NULL, and else STR_ROPE_NOT_UTF8 of the first that is not
+ * UTF-8. Where all are made, `*refused` stays as it is; `refused` may be NULL.
  *
  * One change costs what it costs alone. Before more of them a text that is not
  * empty takes a snapshot, which is freed in the end, so the nodes that change
- * are copied. Where memory for that is refused, STR_ROPE_NO_MEMORY is of the
- * first change. */
+ * are copied. Where memory for that is refused, the refusal is of the first
+ * change: its own, or else STR_ROPE_NO_MEMORY. */
 STR_ROPE_CHECKED str_rope_status str_rope_change_all(
     str_rope *rope, str_indices_encoding encoding,
     const str_rope_content_change *changes, size_t count, size_t *refused);

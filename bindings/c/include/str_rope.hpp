@@ -86,6 +86,7 @@ void throw_refusal(str_rope_status status, Throw throw_it)
     case STR_ROPE_NO_MEMORY: return throw_it(std::bad_alloc());
     case STR_ROPE_NOT_UTF8: return throw_it(not_utf8(what));
     case STR_ROPE_SAME_HANDLE: return throw_it(same_rope(what));
+    case STR_ROPE_NULL_TEXT: break; // of a view that is broken
     }
     throw_it(std::invalid_argument(what));
 }

@@ -6,7 +6,8 @@ processors below, at and above the level of the wide half, as do the worked answ
 environment variable that chooses is unset, `narrow`, `wide` and another word.
 
 Beside that, how `build_library` answers a compiler that is not there, one that has no `cpuid.h` to ask a processor by,
-and a wide half that does not compile: in a copy with a stand-in of `rt`, since nothing of it has to be proved.
+and a wide half that does not compile, and that it builds anew where anything has changed that a library was built from: in
+a copy with a stand-in of `rt`, since nothing of it has to be proved.
 """
 import os
 import re
@@ -14,6 +15,7 @@ import shutil
 import subprocess
 
 from c_exports import HEADERS, LIBRARIES, PREFIX, ROOT, declared
+from crate_copies import copy_crates
 from halves import has_wide_half, missing
 
 NAMES = re.compile(rf"\bU {PREFIX}(narrow|wide)_(\w+)")
@@ -167,18 +169,29 @@ def try_halves(tally, library, narrow, worked_answers, folder):
 
 
 def copy_for_builds(folder):
-    """What build_library needs, with the halves as they are built, and a folder with a stand-in of rt."""
-    shutil.copytree(ROOT / "bindings/c", folder / "bindings/c")
-    for crate in ["str_indices_c_wide", *[library.crate for library in LIBRARIES]]:
+    """What build_library needs, with the halves as they are built, and a folder with a stand-in of rt, which lists its calls."""
+    for name in ["bindings/c", "scripts/lib"]:
+        shutil.copytree(ROOT / name, folder / name)
+    crates = ["str_indices_c_wide", *[library.crate for library in LIBRARIES]]
+    copy_crates(crates, folder, left_out=("out",))
+    for crate in crates:
         (folder / "crates" / crate / "out").mkdir(parents=True)
         shutil.copy(ROOT / "crates" / crate / f"out/lib{crate}.a", folder / "crates" / crate / "out")
     commands = folder / "commands"
     commands.mkdir()
-    for name, text in [("rt", "exit 0"), ("old_cc", CANNOT_ASK)]:
+    for name, text in [("rt", f'echo "$*" >> "{folder}/{CALLS}"'), ("old_cc", CANNOT_ASK)]:
         (commands / name).write_text(f"#!/bin/sh\n{text}\n", encoding="utf-8")
         (commands / name).chmod(0o755)
     return commands
 
+
+# the file in which the stand-in lists its calls
+CALLS = "calls"
+# what a library is built from: a crate, a definition, a proof, the handles, C and the toolchain; and the library itself
+CHANGED = [
+    "crates/byte_chunk/src/lib.rt", "crates/text_rope_c/specs/Kept.antt", "crates/text_rope/proofs/lemmas/Common.antt",
+    "HANDLES", "bindings/c/rope.c", "KIT-ID", "out/libstr_rope.a",
+]
 
 # a compiler without the header: it refuses a text that names it
 CANNOT_ASK = """for word; do
@@ -191,14 +204,39 @@ exec cc "$@"
 """
 
 
+def build(folder, commands, compiler, name="str_indices"):
+    """The run of build_library in the copy, by that compiler."""
+    path = dict(os.environ, PATH=f"{commands}:{os.environ['PATH']}", CC=compiler, PYTHONDONTWRITEBYTECODE="1")
+    return subprocess.run([folder / "bindings/c/build_library", name], env=path, capture_output=True, text=True)
+
+
 def try_build(tally, folder, commands, compiler, right, said, what):
     """Whether build_library ends so, and whether there is a library then."""
     shutil.rmtree(folder / "out", ignore_errors=True)
-    path = dict(os.environ, PATH=f"{commands}:{os.environ['PATH']}", CC=compiler)
-    done = subprocess.run([folder / "bindings/c/build_library", "str_indices"], env=path, capture_output=True, text=True)
+    done = build(folder, commands, compiler)
     built = (folder / "out/libstr_indices.a").is_file()
     if not tally.result((done.returncode == 0) == right == built and said in done.stderr, f"build_library, {what}"):
         print(done.returncode, done.stdout + done.stderr)
+
+
+def builds_anew(folder, commands, compiler="cc"):
+    """Whether build_library has something proved before it prints the path of the library for a rope."""
+    (folder / CALLS).unlink(missing_ok=True)
+    done = build(folder, commands, compiler, "str_rope")
+    assert done.returncode == 0 and done.stdout.endswith("/out/libstr_rope.a\n"), done.stdout + done.stderr
+    return (folder / CALLS).is_file()
+
+
+def try_freshness(tally, folder, commands):
+    """A library is built anew where a byte of what it was built from has changed, and is taken as it is where none has."""
+    builds_anew(folder, commands)
+    tally.result(not builds_anew(folder, commands), "build_library, nothing has changed: the library is taken as it is")
+    for name in CHANGED:
+        with open(folder / name, "a", encoding="utf-8") as file:
+            file.write("\n")
+        changed = builds_anew(folder, commands)
+        tally.result(changed and not builds_anew(folder, commands), f"build_library, {name} has changed: it is built anew")
+    tally.result(builds_anew(folder, commands, "old_cc"), "build_library, another compiler: the library is built anew")
 
 
 def try_builds(tally, folder, commands):
@@ -211,3 +249,4 @@ def try_builds(tally, folder, commands):
     with open(folder / "bindings/c/choose_half.c", "a", encoding="utf-8") as source:
         source.write("#ifdef STR_INDICES_WIDE\n#error a fault\n#endif\n")
     try_build(tally, folder, commands, "cc", False, "a fault", "a wide half that does not compile: an error")
+    try_freshness(tally, folder, commands)

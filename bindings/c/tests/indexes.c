@@ -405,6 +405,22 @@ static void try_text(const char *text, size_t len)
     free(copy);
 }
 
+/* A text without an address that is said to have bytes makes no index. */
+static void null_texts_with_bytes(void)
+{
+    static const size_t lens[] = {1, 1024, SIZE_MAX};
+    for (size_t i = 0; i < NUMBER_OF(lens); i++) {
+        str_index *index = (str_index *)&index;
+        same(str_index_make(&index, NULL, lens[i]) == STR_INDEX_NULL_TEXT && index == NULL, "make of null", lens[i], 0);
+        index = (str_index *)&index;
+        same(str_index_make_utf8(&index, NULL, lens[i]) == STR_INDEX_NULL_TEXT && index == NULL, "make_utf8 of null",
+             lens[i], 0);
+        index = (str_index *)&index;
+        same(str_index_make_in(&index, &index, sizeof index, NULL, lens[i]) == STR_INDEX_NULL_TEXT && index == NULL,
+             "make_in of null", lens[i], 0);
+    }
+}
+
 /* A text without an address is the empty one, and none is above PTRDIFF_MAX. */
 static void no_text_and_a_long_one(void)
 {
@@ -428,7 +444,7 @@ static void no_text_and_a_long_one(void)
 static void words_and_version(void)
 {
     char numbers[64];
-    for (int status = STR_INDEX_OK; status <= STR_INDEX_TOO_LONG + 1; status++)
+    for (int status = STR_INDEX_OK; status <= STR_INDEX_NULL_TEXT + 1; status++)
         for (int other = STR_INDEX_OK; other < status; other++)
             same(strcmp(str_index_status_text((str_index_status)status),
                         str_index_status_text((str_index_status)other)) != 0,
@@ -621,6 +637,7 @@ int main(int number, char **words)
     worked_lines();
     worked_kinds();
     refused_bytes();
+    null_texts_with_bytes();
     no_text_and_a_long_one();
     words_and_version();
     for (size_t i = 0; i < NUMBER_OF(across); i++)

@@ -683,6 +683,56 @@ static void null_texts(void)
     str_rope_free(NULL);
 }
 
+/* A null pointer that is said to have bytes is refused, before all else, and the text stays. */
+static void null_texts_with_bytes(void)
+{
+    str_indices_range back = {{1, 0}, {0, 0}};
+    str_rope_content_change changes[] = {CHANGE(0, 0, 0, 1, "x"), WHOLE("\377"), CHANGE(0, 0, 0, 0, "")};
+    size_t refused = UNTOUCHED;
+    str_rope rope = WITH("ab");
+    same(str_rope_assign(&rope, NULL, 14) == STR_ROPE_NULL_TEXT, "assign null", 14, 0);
+    same(str_rope_assign_utf8(&rope, NULL, 1) == STR_ROPE_NULL_TEXT, "assign_utf8 null", 1, 0);
+    same(str_rope_insert(&rope, 9, NULL, MOST) == STR_ROPE_NULL_TEXT, "insert null", 9, MOST);
+    same(str_rope_insert_utf8(&rope, 1, NULL, 1) == STR_ROPE_NULL_TEXT, "insert_utf8 null", 1, 1);
+    same(str_rope_replace(&rope, 2, 1, NULL, 1) == STR_ROPE_NULL_TEXT, "replace by null", 2, 1);
+    same(str_rope_replace_utf8(&rope, 0, 1, NULL, 1) == STR_ROPE_NULL_TEXT, "replace_utf8 by null", 0, 1);
+    same(str_rope_change(&rope, STR_INDICES_ENCODING_UTF16, back, NULL, 1) == STR_ROPE_NULL_TEXT, "change to null", 1,
+         0);
+    same(str_rope_change_exact(&rope, STR_INDICES_ENCODING_UTF8, back, NULL, 1) == STR_ROPE_NULL_TEXT,
+         "change_exact to null", 1, 0);
+    same(str_rope_change_utf8(&rope, STR_INDICES_ENCODING_UTF16, back, NULL, 1) == STR_ROPE_NULL_TEXT,
+         "change_utf8 to null", 1, 0);
+    for (size_t len = 0; len < 2; len++) {
+        changes[2].text = NULL;
+        changes[2].len = len;
+        same(str_rope_change_all(&rope, STR_INDICES_ENCODING_UTF8, changes, 3, &refused) == STR_ROPE_NULL_TEXT &&
+                 refused == 2,
+             "change_all to null", len, refused);
+        same(str_rope_change_all_exact(&rope, STR_INDICES_ENCODING_UTF8, changes, 3, NULL) == STR_ROPE_NULL_TEXT,
+             "change_all_exact to null", len, 0);
+    }
+    same(str_rope_change_all(&rope, STR_INDICES_ENCODING_UTF8, NULL, 2, &refused) == STR_ROPE_NULL_TEXT && refused == 0,
+         "change_all of a null list", 2, refused);
+    HAS(&rope, "ab", "null texts with bytes");
+    str_rope_free(&rope);
+}
+
+/* Bytes that are not UTF-8 make no text, but the calls that do not check them end, and so does the free. */
+static void wrong_bytes_end(void)
+{
+    static const char *const wrong[] = {"\200", "a\200", "a\200\200\200\200", "\360", "\303\200\200"};
+    static char bytes[5 * STR_ROPE_MAX_CHUNK];
+    for (size_t i = 0; i < NUMBER_OF(wrong); i++)
+        for (size_t len = STR_ROPE_MAX_CHUNK; len <= sizeof bytes; len += len == STR_ROPE_MAX_CHUNK ? 1 : 509) {
+            str_rope rope = STR_ROPE_EMPTY;
+            for (size_t at = 0; at < len; at++)
+                bytes[at] = wrong[i][at % strlen(wrong[i])];
+            same(str_rope_assign_utf8(&rope, bytes, len) == STR_ROPE_OK && str_rope_len(&rope) == len,
+                 "assign_utf8 of wrong bytes", i, len);
+            str_rope_free(&rope);
+        }
+}
+
 /* Two handles that are one. */
 static void one_handle(void)
 {
@@ -698,7 +748,7 @@ static void one_handle(void)
 static void words_and_version(void)
 {
     char numbers[64];
-    for (int status = STR_ROPE_OK; status <= STR_ROPE_SAME_HANDLE + 1; status++)
+    for (int status = STR_ROPE_OK; status <= STR_ROPE_NULL_TEXT + 1; status++)
         for (int other = STR_ROPE_OK; other < status; other++)
             same(strcmp(str_rope_status_text((str_rope_status)status), str_rope_status_text((str_rope_status)other)) !=
                      0,
@@ -732,6 +782,8 @@ int main(void)
     lent_chunks();
     lists_of_chunks();
     null_texts();
+    null_texts_with_bytes();
+    wrong_bytes_end();
     one_handle();
     words_and_version();
     printf("%d passed, %d failed\n", passed, failed);

@@ -53,6 +53,11 @@ NAME:4:2: `]` closes nothing
   |  ^
 """
 
+# a stand-in of build_library, which lists its calls, and makes a library with nothing in it where there is none
+LISTING = """#!/bin/sh
+cd "$(dirname "$0")/../.." && mkdir -p out && echo "$1" >> calls && { test -f "out/lib$1.a" || ar rcs "out/lib$1.a"; }
+"""
+
 TEST_RESULT = re.compile(r"^test result: \w+\. (\d+) passed; (\d+) failed", re.MULTILINE)
 COMPARED = re.compile(r"^random texts: .* (\d+) answers, none differs.*", re.MULTILINE)
 BYTES_COMPARED = re.compile(r"^random bytes: (\d+) inputs, .* none differs.*", re.MULTILINE)
@@ -127,7 +132,7 @@ def test_outside(libraries, folder):
     shutil.copy(ROOT / "Cargo.toml", folder)
     for library in libraries:
         install(library, folder / "a prefix")
-    named = dict(os.environ, PKG_CONFIG_PATH=str(folder / "a prefix/lib/pkgconfig"))
+    named = dict(os.environ, PKG_CONFIG_PATH=str(folder / "a prefix/lib/pkgconfig"), CARGO_TARGET_DIR=str(folder / "target"))
     for name in OTHERS[:3]:
         enough_tests(name, cargo(folder / name, "test", env=named), " outside the repository, by pkg-config")
 
@@ -162,6 +167,45 @@ def test_missing_library(crate, folder, missed):
     done = cargo(crate, "build", env=named)
     said = f"STR_INDICES_LIB_DIR names {folder}, which has no {missed}" in done.stderr
     tally.result(done.returncode != 0 and said, f"{crate.relative_to(ROOT)} says what is missing")
+
+
+def test_other_version(library, folder):
+    """What the crate says of a library that has another version behind its name."""
+    version = (ROOT / "VERSION").read_text(encoding="utf-8").strip()
+    named = f"str_indices {version}\0".encode()
+    other = folder / "other version" / library.name
+    other.parent.mkdir()
+    other.write_bytes(library.read_bytes().replace(named, named[:-2] + b"?\0"))
+    done = cargo(BINDINGS, "build", env=dict(os.environ, STR_INDICES_LIB_DIR=str(other.parent)))
+    said = f"{other} is not of version {version}" in done.stderr
+    tally.result(done.returncode != 0 and said, "bindings/rust refuses a library of another version", done.stderr)
+
+
+def test_sources(folder):
+    """The crate in a repository of few sources: the library is looked at again where one has changed, and only there."""
+    for name in ["bindings", "bench"]:
+        shutil.copytree(ROOT / name, folder / name)
+    shutil.copy(ROOT / "Cargo.toml", folder)
+    source = folder / "crates/byte_chunk/src/lib.rt"
+    source.parent.mkdir(parents=True)
+    source.write_text("one\n", encoding="utf-8")
+    (folder / "bindings/c/build_library").write_text(LISTING, encoding="utf-8")
+    # with the target folder of the workspace, cargo would run the build script that it compiled there
+    own = dict(os.environ, CARGO_TARGET_DIR=str(folder / "target"))
+    calls = []
+    # the second build finds the library newer than the first
+    for text in ["one\n", None, None, "two\n"]:
+        if text:
+            source.write_text(text, encoding="utf-8")
+        done = cargo(folder / "bindings/rust", "build", env=own)
+        listed = done.returncode == 0 and (folder / "calls").read_text(encoding="utf-8")
+        calls.append(listed.count("str_indices\n") if listed else done.stderr)
+    tally.result(calls == [1, 2, 2, 3], f"bindings/rust has its library looked at where a source has changed: {calls}")
+    source.write_text("three\n", encoding="utf-8")
+    path = os.pathsep.join(part for part in os.environ["PATH"].split(os.pathsep) if not shutil.which("rt", path=part))
+    done = cargo(folder / "bindings/rust", "build", env=dict(own, PATH=path))
+    said = "may have been built from other sources" in done.stderr and "build_library str_indices with" in done.stderr
+    tally.result(done.returncode != 0 and said, "bindings/rust takes no library that it cannot have looked at", done.stderr)
 
 
 def test_example(target):
@@ -235,6 +279,8 @@ def test_all(library, rope, index, folder):
     test_missing_library(BINDINGS, empty, library.name)
     test_missing_library(ROPE, library.parent / "narrow", rope.name)
     test_missing_library(INDEX, library.parent / "narrow", index.name)
+    test_other_version(library, folder)
+    test_sources(folder / "repository")
     test_others()
     test_outside([library, rope, index], folder)
     test_exchanges(library, folder)
