@@ -5,9 +5,10 @@ The archive is built from a commit of a copy, and unpacked into an empty folder.
 stand, in an environment where nothing is set and Rattle's command is not to be found: each language's first program, by
 pkg-config and by CMake, shared and static, and the programs. Then once more where the folder was moved. The lines of the page
 for C run there too. The sums and the manual pages are looked at, that each page names only what is in the archive, and that
-none speaks of Rattle's command; nor does a crate that finds no library. Where Cargo does not get the crate that the language
-server takes, the archive is built without the server. With --twice the archive is built in two folders, and has to have the
-same bytes. The last line printed is 'N passed, M failed', with what is left out.
+none speaks of Rattle's command; nor does a crate that finds no library. No archive is built with a gate's output that is of
+another commit or toolchain, or tells of a failure. Where Cargo does not get the crate that the language server takes, the
+archive is built without the server. With --twice the archive is built in two folders, and has to have the same bytes. The last
+line printed is 'N passed, M failed', with what is left out.
 """
 import json
 import os
@@ -27,10 +28,11 @@ from packed_pages import astray  # noqa: E402
 from page_lines import blocks, environment, try_lines  # noqa: E402
 from proved import hand_on  # noqa: E402
 from tally import Tally, least  # noqa: E402
+from tried import tried  # noqa: E402
 
 LEFT_OUT = shutil.ignore_patterns(".git", "out", "target", "dist", "__pycache__", "Cargo.lock")
-# what stands in for the gate's output; a release has the real one
-GATE_OUTPUT = "1 passed, 0 failed\n"
+# what stands in for the gate's last line; a release has the real one
+GATE_LINE = "1 passed, 0 failed"
 COMMIT = ["-c", "user.name=test", "-c", "user.email=test", "commit", "-q", "-m", "A copy"]
 WHEN = {"GIT_AUTHOR_DATE": "2026-01-01T00:00:00Z", "GIT_COMMITTER_DATE": "2026-01-01T00:00:00Z"}
 # what pages name that is no file of the archive: requests of a language server, an entry of a package, and what Cargo makes
@@ -54,6 +56,22 @@ def has_crates_of_server():
         return subprocess.run(command, cwd=folder / "examples/language_server", capture_output=True).returncode == 0
 
 
+def try_outputs(top, gate_output, of):
+    """Outputs of the gate for another commit, another toolchain, a copy with changes or a failure are refused."""
+    commit = re.search(r"commit (\w+),", of)[1]
+    others = {"another commit": of.replace(commit, commit[::-1]), "changes": of.replace("clean", "with changes"),
+              "another toolchain": f"{of}0", "none": "", "two commits": f"{of}; and at the end {of}0"}
+    outputs = {what: f"{other}\n{GATE_LINE}\n" for what, other in others.items()}
+    outputs["a failure"] = f"{of}\n1 passed, 1 failed\n"
+    taken = []
+    for what, output in outputs.items():
+        gate_output.write_text(output, encoding="utf-8")
+        done = subprocess.run([top / "scripts/release", gate_output], capture_output=True, text=True)
+        if done.returncode != 1 or not done.stderr.startswith("release: ") or str(gate_output) not in done.stderr:
+            taken.append(f"{what}: {done.stderr}")
+    tally.result(not taken, f"scripts/release takes none of {len(outputs)} outputs of other runs {' '.join(taken)}")
+
+
 def build(folder, flags):
     """The archive, from a commit of a copy in the folder; None where that fails."""
     top = folder / "pauskern"
@@ -62,7 +80,9 @@ def build(folder, flags):
         subprocess.run(["git", *words], cwd=top, env=dict(os.environ, **WHEN), check=True)
     (top / ".git/info/exclude").write_text("out/\n", encoding="utf-8")
     hand_on(ROOT, top)
-    (folder / "gate.txt").write_text(GATE_OUTPUT, encoding="utf-8")
+    of = tried(top)
+    try_outputs(top, folder / "gate.txt", of)
+    (folder / "gate.txt").write_text(f"{of}\n{GATE_LINE}\n", encoding="utf-8")
     done = subprocess.run([top / "scripts/release", *flags, folder / "gate.txt"], stdout=subprocess.PIPE, text=True)
     if not tally.result(done.returncode == 0, "scripts/release"):
         return None

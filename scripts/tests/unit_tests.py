@@ -11,6 +11,7 @@ import os
 import pathlib
 import re
 import shutil
+import subprocess
 import sys
 
 ROOT = pathlib.Path(__file__).resolve().parents[2]
@@ -34,8 +35,10 @@ import man_pages  # noqa: E402
 import parts  # noqa: E402
 import pytest  # noqa: E402
 import refusals  # noqa: E402
+from built_from import Built  # noqa: E402
 from crate_copies import stands_on, with_all_below  # noqa: E402
 from packed_pages import packed  # noqa: E402
+from tried import tried  # noqa: E402
 
 LOAD = "text_probe::Probe::load"
 ADD = "chunks::plain_array::PlainByteChunk::add"
@@ -280,6 +283,22 @@ def test_with_another_toolchain_the_sum_is_another(changed, sums, monkeypatch):
     assert kept.crate_sum(ROOT, "byte_chunk") != sums["byte_chunk"]
 
 
+# A changed source changes a library's sum.
+
+@pytest.mark.parametrize("path", [
+    "crates/str_indices/src/chars.rt", "crates/byte_chunk/specs/new.antt", "bindings/c/rope.c", "out/library",
+])
+def test_a_library_of_other_sources(path, copy):
+    built = Built(copy / "out/library", ["str_indices"], [copy / "bindings/c/rope.c"], root=copy)
+    built.file.parent.mkdir(exist_ok=True)
+    built.file.write_text("library")
+    assert not built.is_of(built.sum())
+    built.keep(built.sum())
+    assert built.is_of(built.sum())
+    assert others_once_changed(copy, path, {"library": True}, lambda _: {"library": built.is_of(built.sum())}) == {"library"}
+    shutil.rmtree(built.file.parent)
+
+
 # What makes another toolchain of one.
 
 @pytest.fixture
@@ -475,6 +494,40 @@ def test_a_part_that_is_kept_or_cannot_be_run(gate):
     whole = gate.not_run("word_chunks.py", 0, f"kept {MOST}: x", f"{MOST} passed, 0 failed")
     assert whole.kept() == MOST and whole.is_whole()
     assert gate.not_run("word_chunks.py", 1, "FAILED: x", "0 passed, 1 failed").sums() == (0, 1, 0)
+
+
+# The gate's line about the commit.
+
+@pytest.mark.parametrize("words, before, line", [
+    (["--all"], "one", "one"), (["--all"], "two", "two; and at the end one"), ([], "one", None),
+])
+def test_the_line_before_the_last(words, before, line, gate, monkeypatch, capsys):
+    lines = [before]
+    part = gate.Ended("word_chunks.py", 0, f"{MOST} passed, 0 failed\n")
+    monkeypatch.setattr(gate, "run_all", lambda _: (None, [part]))
+    monkeypatch.setattr(gate, "tried", lambda _: lines.pop() if lines else "one")
+    monkeypatch.setattr(gate.signal, "signal", lambda *_: None)
+    assert gate.main(words) == 0
+    *_, told, last = capsys.readouterr().out.splitlines()
+    assert last == f"{MOST} passed, 0 failed" and (told == line or line is None)
+    assert line or not re.search("^(one|two)", told)
+
+
+def test_the_line_of_a_commit(tmp_path):
+    commit = ["git", "-c", "user.name=test", "-c", "user.email=test", "commit", "-q", "--allow-empty", "-m", "One"]
+    subprocess.run(["git", "init", "-q", "."], cwd=tmp_path, check=True)
+    lines = []
+    for _ in range(2):
+        subprocess.run(commit, cwd=tmp_path, check=True)
+        lines.append(tried(tmp_path))
+    (tmp_path / "new").write_text("")
+    lines.append(tried(tmp_path))
+    subprocess.run(["git", "reset", "-q", "--hard", "HEAD~"], cwd=tmp_path, check=True)
+    (tmp_path / "new").unlink()
+    assert lines[0] == tried(tmp_path) and len(set(lines)) == 3
+    assert [re.sub(r"commit \w{40}|; toolchain .*", "", line) for line in lines] == [
+        "tried: , clean", "tried: , clean", "tried: , with changes",
+    ]
 
 
 PLACES = {"bindings/c/README.md": "docs/C.md", "bindings/c/examples": "examples/c", "bindings/c/include": "include",
