@@ -1,6 +1,6 @@
 //! All that the workloads have of the libraries, which no other file names.
 //!
-//! For the start, which `docs/PERF.md` names, `bench/start` puts `bench/start.rt.txt` in the place of this file.
+//! For the start, the commit of `bench/start.txt`, `bench/start` puts `bench/start.rt.txt` in the place of this file.
 
 use crate::faults::Fault;
 pub(crate) use piece_text::{PieceText, Refusal as PieceRefusal};
