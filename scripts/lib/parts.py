@@ -118,9 +118,9 @@ def environment() -> Dict[str, str]:
 
 
 def packages() -> Dict[str, List[str]]:
-    """Debian's packages that the gate uses, each with the commands that it has, as scripts/packages lists them."""
-    listed = (HERE.parent / "packages").read_text(encoding="utf-8").split("packages='\n")[1].partition("'")[0]
-    return {package: commands for package, *commands in map(str.split, listed.splitlines())}
+    """Debian's packages that the gate uses, each with the commands that it has."""
+    lines = (HERE.parent / "packages.txt").read_text(encoding="utf-8").splitlines()
+    return {package: commands for package, *commands in map(str.split, lines) if package != "#"}
 
 
 @functools.lru_cache(maxsize=None)
