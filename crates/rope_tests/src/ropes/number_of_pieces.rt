@@ -1,9 +1,9 @@
 //! How many chunks a text has: memory is taken by the chunk.
 use super::{Change, fewest_pieces, lines, make};
-use crate::random::Random;
 use std::process::Abort;
 use std::test::Fail;
 use text_rope::Rope;
+use text_tests::random::Random;
 
 /// How many changes a text of some hundred kilobytes has.
 const CHANGES: usize = 300_000;

@@ -1,7 +1,7 @@
 use denote.Param.Send.{sendable}
 use Rattle.std.proofs.Crossing.{crosses}
 use Rattle.text_rope.proofs.lemmas.Callers.{chunks_send, chunks_sync}
-use Rattle.text_tests.proofs.ropes.calls.may_cross.Goals as goal
+use Rattle.rope_tests.proofs.ropes.calls.may_cross.Goals as goal
 
 pub crosses-requires-2-send-T : goal.crosses-requires-2-send-T
 crosses-requires-2-send-T c κs = search (sendable, crosses, chunks_send)

@@ -3,7 +3,6 @@ ghost use Rattle.std.specs.Prelude.{chars, IfOk, IfSome};
 ghost use Rattle.text_summary.specs.Changes.{IsReplaced};
 ghost use Rattle.rope_positions.specs.Changes.{part_at};
 
-use crate::random::Random;
 use positions::{Encoding, LineType, Position, Range};
 use rope_positions::{
     Change, apply, apply_all, apply_all_exact, byte_of, byte_range, exact_byte_of, line_end,
@@ -13,6 +12,7 @@ use std::alloc::{AllocError, Global};
 use std::process::Abort;
 use std::test::Fail;
 use text_rope::{Refusal, Rope};
+use text_tests::random::Random;
 
 /// How many changes there are.
 const CHANGES: usize = 2_000;

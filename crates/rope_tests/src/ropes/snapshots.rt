@@ -1,10 +1,10 @@
 //! Snapshots that are taken, changed and let go between many changes: each has its own text to the end.
 use super::random_changes::{change_at_random, long};
 use super::{Both, assert_same, lines};
-use crate::random::Random;
 use std::process::Abort;
 use std::test::Fail;
 use text_rope::{Refusal, Rope};
+use text_tests::random::Random;
 
 /// How many changes there are.
 const CHANGES: usize = 6_000;

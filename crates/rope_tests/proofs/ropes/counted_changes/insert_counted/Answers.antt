@@ -2,7 +2,7 @@ use Rattle.std.proofs.Common.{arith, chars}
 use Rattle.str_indices.proofs.lemmas.Callers.{count-le-size}
 use Rattle.str_indices.specs.declared.Scheme.TheVariants.{Lf}
 use Rattle.text_rope.proofs.lemmas.Callers.{count-inserted}
-use Rattle.text_tests.proofs.ropes.counted_changes.insert_counted.Goals as goal
+use Rattle.rope_tests.proofs.ropes.counted_changes.insert_counted.Goals as goal
 
 pub overflow_add-result : goal.overflow_add-result
 overflow_add-result c =

@@ -1,10 +1,10 @@
 //! A long list of changes, chosen from a seed, of a rope and of a plain text.
 use super::{Both, Change, concat};
-use crate::random::Random;
 use std::alloc::{AllocError, Global};
 use std::process::Abort;
 use std::test::Fail;
 use text_rope::{Refusal, Rope};
+use text_tests::random::Random;
 
 /// How many changes there are.
 const CHANGES: usize = 10_000;
