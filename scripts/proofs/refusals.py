@@ -1,11 +1,12 @@
 """Tries edits of crates: each must be refused by the function, and at the goal, that it names.
 
-An edit has lines of a word and a text. 'refuses:' names a function and what must be open in it: a clause of
-its contract, or 'returns' for one without a name; 'invariant' for that of a type whose value it leaves; what a call in it
-asks, as 'CALL asks CLAUSE'; what a loop with that label keeps, as 'LABEL keeps'; 'proof', where a file Proof.antt proves
-it step by step, which names no clause; or 'lemma NAME', for an edit of a definition. 'file:' names a file of the crate,
-and each 'old:' text, which stands once in it, becomes the 'new:' text of the next line. A file CRATE.edits has many: each
-begins with its name in brackets, and what begins with '#' is for the reader.
+An edit has lines of a word and a text. 'refuses:' names a function and, with commas between, all that must be open in it: a
+clause of its contract, or 'returns' for one without a name; 'invariant' for that of a type whose value it leaves; what a
+call in it asks, as 'CALL asks CLAUSE'; what a loop with that label keeps, as 'LABEL keeps'; 'proof', where a file Proof.antt
+proves it step by step, which names no clause; or 'lemma NAME', for an edit of a definition. 'file:' names a file of the
+crate, and each 'old:' text, which stands once in it, becomes the 'new:' text of the next line; ⏎ stands for a line's end.
+'kept:' says why there is an edit of a function that other crates cannot name. A file CRATE.edits has many: each begins with
+its name in brackets, and what begins with '#' is for the reader.
 
 Each crate is copied with all below it, and proved as it stands, before and after. What a script puts into one group is
 tried in one check of a copy, each edit by the function that it names and no other. What was refused where it should be, in
@@ -39,7 +40,7 @@ STALE_NAME = re.compile(r"has no field|is not in scope(?! here, so what is shown
 
 
 # the words that a line of an edit may begin with
-WORDS = {"refuses", "file", "old", "new"}
+WORDS = {"refuses", "kept", "file", "old", "new"}
 
 
 class Edit:
@@ -52,10 +53,12 @@ class Edit:
             word, _, text = line.partition(":")
             if word not in WORDS:
                 raise ValueError(f"{name}: a line that no edit has: {line}")
-            fields[word] = text.removeprefix(" ")
+            fields[word] = text.removeprefix(" ").replace("⏎", "\n")
             if word == "new":
                 self.changes.append((fields["file"], fields["old"], fields["new"]))
-        self.function, _, self.goal = fields.get("refuses", "").partition(" ")
+        self.function, _, goals = fields.get("refuses", "").partition(" ")
+        self.goals = goals.split(", ")
+        self.reason = fields.get("kept", "")
 
     def edited(self, texts: Dict[str, str]) -> Tuple[Dict[str, str], str]:
         """The texts of its files after the changes, from what they are before; where an old text does not stand once, why not."""
@@ -77,26 +80,28 @@ class Edit:
         write(crate, after)
         return ({}, fault) if fault else (before, "")
 
-    def wants(self) -> "re.Pattern[str]":
-        """The checker's names of what must be open; a clause that is owed at several ends has a goal for each."""
-        call, asks, clause = self.goal.partition(" asks")
-        if asks:
-            unnamed, end = ("", f"-clause-{re.escape(clause.strip())}") if clause else ("(?!.*-clause-)", "")
-            return re.compile(rf"{unnamed}{re.escape(call)}(-\w+)*-requires(-.*)?{end}$")
-        if self.goal.endswith(" keeps"):
-            return re.compile(rf"{re.escape(self.goal.removesuffix(' keeps'))}-preserved(-.*)?$")
-        if self.goal == "returns":
-            return re.compile(r"returns(?!.*-clause-)")
-        if self.goal == "invariant":
-            return re.compile(r"invariant_of-")
-        if self.goal == "proof":
-            return re.compile(r"\w+_spec$")
-        if self.goal.startswith("lemma "):
-            return re.compile(rf"{re.escape(self.goal.removeprefix('lemma '))}$")
-        return re.compile(rf"returns(-.*)?-clause-{re.escape(self.goal)}$")
-
     def is_refused(self, goals: List[str]) -> bool:
-        return any(self.wants().match(goal) for goal in goals)
+        """Whether all that it names is open."""
+        return all(any(pattern_of(wanted).match(goal) for goal in goals) for wanted in self.goals)
+
+
+def pattern_of(wanted: str) -> "re.Pattern[str]":
+    """The checker's names of what an edit names; a clause that is owed at several ends has a goal for each."""
+    call, asks, clause = wanted.partition(" asks")
+    if asks:
+        unnamed, end = ("", f"-clause-{re.escape(clause.strip())}") if clause else ("(?!.*-clause-)", "")
+        return re.compile(rf"{unnamed}{re.escape(call)}(-\w+)*-requires(-.*)?{end}$")
+    if wanted.endswith(" keeps"):
+        return re.compile(rf"{re.escape(wanted.removesuffix(' keeps'))}-preserved(-.*)?$")
+    if wanted == "returns":
+        return re.compile(r"returns(?!.*-clause-)")
+    if wanted == "invariant":
+        return re.compile(r"invariant_of-")
+    if wanted == "proof":
+        return re.compile(r"\w+_spec$")
+    if wanted.startswith("lemma "):
+        return re.compile(rf"{re.escape(wanted.removeprefix('lemma '))}$")
+    return re.compile(rf"returns(-.*)?-clause-{re.escape(wanted)}$")
 
 
 def edits_in(path: pathlib.Path) -> List[Edit]:
@@ -300,7 +305,8 @@ def try_group(crate: pathlib.Path, edits: List[Edit], nothing_else: bool) -> Ite
         if edit.is_refused(goals):
             yield Tried(edit, True, f"{crate.name} {edit.name}: {edit.function} is open at {', '.join(goals)}")
         else:
-            yield Tried(edit, False, f"{crate.name} {edit.name}: {edit.function} is not refused at {edit.goal}: {goals}\n{said}")
+            wanted = ", ".join(edit.goals)
+            yield Tried(edit, False, f"{crate.name} {edit.name}: {edit.function} is not refused at {wanted}: {goals}\n{said}")
 
 
 class Copy(NamedTuple):

@@ -36,6 +36,7 @@ import parts  # noqa: E402
 import pytest  # noqa: E402
 import refusals  # noqa: E402
 from built_from import Built  # noqa: E402
+from contracts import Crate  # noqa: E402
 from crate_copies import stands_on, with_all_below  # noqa: E402
 from packed_pages import packed  # noqa: E402
 from tried import tried  # noqa: E402
@@ -156,6 +157,17 @@ def test_goals_that_fit(names, goal, fits):
     assert edit_of(f"refuses: {names}").is_refused([goal]) == fits
 
 
+@pytest.mark.parametrize("goals, fits", [
+    (["returns-clause-text", "returns-then-clause-low"], True), (["returns-clause-text"], False), ([], False),
+])
+def test_an_edit_that_names_two_goals(goals, fits):
+    assert edit_of("refuses: f text, low").is_refused(goals) == fits
+
+
+def test_an_old_text_of_two_lines():
+    assert edit_of("file: src/lib.rt", "old: a⏎b", "new: c").edited({"src/lib.rt": "a\nb\n"}) == ({"src/lib.rt": "c\n"}, "")
+
+
 def test_goals_in_a_cycle_of_two_types():
     goals = ["Fork::put-returns-clause-kept", "Tree::put-returns-clause-text", "returns"]
     assert refusals.own_goals("tree::Fork::put", goals) == ["returns-clause-kept", "returns"]
@@ -190,7 +202,7 @@ TWO = ["# a promise", "", "[one]", HEAD, *CHANGE, "", "# why", "[two]", f"refuse
 
 def edits_in(folder, lines):
     (folder / "crate.edits").write_text("\n".join(lines), encoding="utf-8")
-    return [(edit.name, edit.goal, len(edit.changes)) for edit in refusals.edits_in(folder / "crate.edits")]
+    return [(edit.name, *edit.goals, len(edit.changes)) for edit in refusals.edits_in(folder / "crate.edits")]
 
 
 def test_a_file_of_two_edits(tmp_path):
@@ -212,6 +224,27 @@ def test_each_edit_can_be_made(path):
     crate = ROOT / "crates" / path.stem
     edited = [edit.edited(refusals.read(crate, edit.files())) for edit in refusals.edits_in(path)]
     assert [fault for _, fault in edited if fault] == []
+
+
+@pytest.mark.parametrize("crate, path, is_public, clauses", [
+    ("str_indices", "chars::to_byte_idx", True, ["answer", "boundary"]),
+    ("str_indices", "passes::sure_chunks", False, ["within", "sure"]),
+    ("text_rope", "rope::Rope::cut", False, ["parts", "err", "inside", "work"]),
+    ("text_rope", "rope::costs::View::len", True, ["len", "short"]),
+    ("text_index", "index::TextIndex::line_end", True, ["answer", "boundary"]),
+    ("positions", "parts::Parts::len", True, ["len", "short", "searched"]),
+    ("text_rope_c", "reads::rope_chunk_at", True, ["stays", "chunk", "sized", "some", "none"]),
+])
+def test_clauses_of_a_function(crate, path, is_public, clauses):
+    found = [function for function in Crate(crate).functions() if function.path == path]
+    assert [(it.is_public, it.clauses) for it in found] == [(is_public, clauses)]
+
+
+@pytest.mark.parametrize("crate", stands_on())
+def test_each_clause_is_of_a_function(crate):
+    sources = Crate(crate)
+    clauses = [line for text in sources.texts.values() for line in text.splitlines() if re.match(r"\s*ensures\b", line)]
+    assert len(clauses) == sum(len(function.clauses) for function in sources.functions())
 
 
 # What is counted.
@@ -472,7 +505,7 @@ def gate():
     return module
 
 
-MOST = tally.least("word_chunks.py")
+MOST = tally.least("must_not_compile.py")
 
 
 @pytest.mark.parametrize("output, status, is_right, is_whole", [
@@ -482,7 +515,7 @@ MOST = tally.least("word_chunks.py")
     (f"2 passed, 1 failed\n{MOST} passed, 0 failed\n", 0, False, False), ("killed\n", -9, False, False), ("", 0, False, False),
 ])
 def test_verdicts(output, status, is_right, is_whole, gate):
-    ended = gate.Ended("word_chunks.py", status, output)
+    ended = gate.Ended("must_not_compile.py", status, output)
     assert (ended.wrong() is None, ended.is_whole()) == (is_right, is_whole)
 
 
@@ -491,9 +524,9 @@ def test_what_was_kept_is_added_up(gate):
 
 
 def test_a_part_that_is_kept_or_cannot_be_run(gate):
-    whole = gate.not_run("word_chunks.py", 0, f"kept {MOST}: x", f"{MOST} passed, 0 failed")
+    whole = gate.not_run("must_not_compile.py", 0, f"kept {MOST}: x", f"{MOST} passed, 0 failed")
     assert whole.kept() == MOST and whole.is_whole()
-    assert gate.not_run("word_chunks.py", 1, "FAILED: x", "0 passed, 1 failed").sums() == (0, 1, 0)
+    assert gate.not_run("must_not_compile.py", 1, "FAILED: x", "0 passed, 1 failed").sums() == (0, 1, 0)
 
 
 # The gate's line about the commit.
@@ -503,7 +536,7 @@ def test_a_part_that_is_kept_or_cannot_be_run(gate):
 ])
 def test_the_line_before_the_last(words, before, line, gate, monkeypatch, capsys):
     lines = [before]
-    part = gate.Ended("word_chunks.py", 0, f"{MOST} passed, 0 failed\n")
+    part = gate.Ended("must_not_compile.py", 0, f"{MOST} passed, 0 failed\n")
     monkeypatch.setattr(gate, "run_all", lambda _: (None, [part]))
     monkeypatch.setattr(gate, "tried", lambda _: lines.pop() if lines else "one")
     monkeypatch.setattr(gate.signal, "signal", lambda *_: None)
