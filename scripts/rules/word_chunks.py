@@ -1,4 +1,3 @@
-#!/usr/bin/env python3
 """Shows by the text of its file that a chunk which is a number works on all its lanes at once.
 
 A loop over lanes would meet the same contracts. So a file that implements `ByteChunk` for an integer type has no loop,
@@ -6,14 +5,9 @@ no branch and no test, and brackets of an array or a slice in `load` alone. Each
 texts of it, in which the search must find the fault: a search that finds nothing anywhere would pass. The last line
 printed is 'N passed, M failed'.
 """
-import pathlib
 import re
-import sys
 
-ROOT = pathlib.Path(__file__).resolve().parents[2]
-sys.path.insert(0, str(ROOT / "scripts/lib"))
-
-from tally import Tally  # noqa: E402
+from crate_copies import ROOT
 
 # the chunk types that are numbers, each in a file of its own
 NUMBERS = ["u128", "usize"]
@@ -42,8 +36,7 @@ def faults(text):
     return [f"{what}: {hit[0]}" for what, hit in found.items() if hit]
 
 
-def main():
-    tally = Tally()
+def check(tally):
     texts = {path: path.read_text(encoding="utf-8") for path in sorted(ROOT.glob("crates/*/src/**/*.rt"))}
     files = [path for path, text in texts.items() if IMPL.search(text)]
     types = [IMPL.findall(texts[path]) for path in files]
@@ -57,8 +50,3 @@ def main():
         for what, line in FAULTS.items():
             edited = text.replace(FIRST_LINE, f"{FIRST_LINE}        {line}\n")
             tally.result(edited != text and bool(faults(edited)), f"{name} with {what} is refused")
-    return tally.end()
-
-
-if __name__ == "__main__":
-    sys.exit(main())

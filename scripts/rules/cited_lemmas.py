@@ -1,19 +1,11 @@
-#!/usr/bin/env python3
 """Shows by their texts that a crate's proofs cite of another crate what that one's file `Callers` passes on.
 
 The other lemma files are a crate's own, and may move. So where a file of one crate names the proofs of another, it names
-`proofs/lemmas/Callers`. The search is tried on edited texts too, in which it must find the fault. The last line printed
-is 'N passed, M failed'.
+`proofs/lemmas/Callers`. The search is tried on edited texts too, in which it must find the fault.
 """
-import pathlib
 import re
-import sys
 
-ROOT = pathlib.Path(__file__).resolve().parents[2]
-sys.path.insert(0, str(ROOT / "scripts/lib"))
-
-from crate_copies import stands_on  # noqa: E402
-from tally import Tally  # noqa: E402
+from crate_copies import ROOT, stands_on
 
 CITED = re.compile(r"\bRattle\.\w+\.proofs[\w.]*|\b\w+::proofs[\w:]*")
 CALLERS = re.compile(r"\w+\.proofs\.lemmas\.Callers\b.*")
@@ -41,14 +33,8 @@ def try_crate(tally, own, others):
         tally.result(all(faults(text, own, others) for text in edited), f"{own} with lemmas of other files is refused")
 
 
-def main():
-    tally = Tally()
+def check(tally):
     names = list(stands_on())
     tally.result(len(names) > 15, f"{len(names)} crates are listed")
     for own in names:
         try_crate(tally, own, names)
-    return tally.end()
-
-
-if __name__ == "__main__":
-    sys.exit(main())

@@ -1,4 +1,3 @@
-#!/usr/bin/env python3
 """Compares what the pages for callers quote of Rattle with the source.
 
 The pages are the README and each CALLING.md. In a block of Rattle the first line names a file, in a comment. What comes
@@ -9,18 +8,12 @@ statements, which declares nothing; but a formula in a comment there is that of 
 fails, and so does a contract in a block of another language.
 
 The search is tried on edited blocks too, in which it must find the fault: each quoted line with another word in it, each
-that is left out, each block with no file named, and some that break the other rules. The last line printed is
-'N passed, M failed'.
+that is left out, each block with no file named, and some that break the other rules.
 """
 import functools
-import pathlib
 import re
-import sys
 
-ROOT = pathlib.Path(__file__).resolve().parents[2]
-sys.path.insert(0, str(ROOT / "scripts/lib"))
-
-from tally import Tally  # noqa: E402
+from crate_copies import ROOT
 
 RATTLE = {"rust", "antt"}
 # what else the pages show: commands, C, JavaScript, and files that list or configure
@@ -192,16 +185,10 @@ def try_page(tally, path):
             tally.result(not missed, f"{name}, block {number}, is refused where it is edited{''.join(missed)}")
 
 
-def main():
-    tally = Tally()
+def check(tally):
     pages = [ROOT / "README.md", *sorted(ROOT.glob("crates/*/CALLING.md"))]
     tally.result(len(pages) > 5, f"{len(pages)} pages are for callers")
     for path in pages:
         try_page(tally, path)
     for language, block, is_right in ROWS:
         tally.result((fault_of(language, block) is None) == is_right, f"{'right' if is_right else 'refused'} is {block!r}")
-    return tally.end()
-
-
-if __name__ == "__main__":
-    sys.exit(main())

@@ -1,20 +1,13 @@
-#!/usr/bin/env python3
 """Searches names and words: a thing has one, and a function that is no test is named by no bare participle.
 
 The words of docs/DEFINITIONS.md are the ones to use. A name that was given up for one of them is searched in the sources,
-the definitions, the headers and the pages. A wrong body names a function that its crate has. The last line printed is
-'N passed, M failed'.
+the definitions, the headers and the pages. A wrong body names a function that its crate has.
 """
 import pathlib
 import re
 import subprocess
-import sys
 
-ROOT = pathlib.Path(__file__).resolve().parent.parent
-sys.path.insert(0, str(ROOT / "scripts/lib"))
-sys.dont_write_bytecode = True
-
-from tally import Tally  # noqa: E402
+from crate_copies import ROOT
 
 ROPE = r"^(crates/(text_rope|text_rope_c|rope_positions)/(src|specs|[A-Z])|bindings/rope/|bindings/c/include/str_rope)"
 SOURCES = r"^(crates|bindings|examples)/.*(/src/|/specs/|/include/|\.md$)|^README\.md$|^docs/[A-CE-Z].*\.md$"
@@ -34,8 +27,6 @@ IRREGULAR = {"begun", "built", "found", "given", "held", "kept", "known", "left"
 DECLARED = re.compile(r"\b(?:struct|enum|trait) (\w+)")
 REFUSED = re.compile(r"^refuses: ([\w:]+)", re.MULTILINE)
 FUNCTION = re.compile(r"^ *(?:pub(?:\(crate\))? )?fn ([a-z]+)\b", re.MULTILINE)
-
-tally = Tally()
 
 
 def files():
@@ -77,7 +68,7 @@ def unknown_functions(found):
         yield from [f"{edits}: {function}" for function in REFUSED.findall(found[edits]) if not has_function(text, function)]
 
 
-def main():
+def check(tally):
     found = files()
     for where, word, pattern, used in GIVEN_UP:
         lines = list(lines_with(found, where, rf"\b({pattern})\b"))
@@ -87,8 +78,3 @@ def main():
     tally.result(not named, "\n".join(["no function is named by a bare participle", *named]))
     unknown = list(unknown_functions(found))
     tally.result(not unknown, "\n".join(["each wrong body names a function of its crate", *unknown]))
-    return tally.end()
-
-
-if __name__ == "__main__":
-    sys.exit(main())

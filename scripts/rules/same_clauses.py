@@ -1,4 +1,3 @@
-#!/usr/bin/env python3
 """Shows by their texts that what is said once more is the same: clauses, and what the benchmark calls.
 
 A wrong body is tried at one implementation of a call of `ByteChunk` or `Utf8Chunk` and at one half of the C library. That
@@ -6,22 +5,16 @@ stands for the others where these have the same clauses. So no implementation of
 which would take the place of the trait's; and the exports of the wide half must have those of the narrow half, which the
 browser's are.
 
-The workloads are timed over the sources of the start too, which docs/PERF.md names, with another file in the place of the
-one that has all of the libraries' names. So each name in that file must be public there, and no workload may call what is
+The workloads are timed over the sources of the start too, the commit of bench/start.txt, with another file in the place of
+the one that has all of the libraries' names. So each name in that file must be public there, and no workload may call what is
 public now and was not then. Without the history of the start this is left out.
 
-All searches are tried on edited texts too, in which they must find the fault. The last line printed is
-'N passed, M failed'.
+All searches are tried on edited texts too, in which they must find the fault.
 """
-import pathlib
 import re
 import subprocess
-import sys
 
-ROOT = pathlib.Path(__file__).resolve().parents[2]
-sys.path.insert(0, str(ROOT / "scripts/lib"))
-
-from tally import Tally  # noqa: E402
+from crate_copies import ROOT
 
 NARROW = ROOT / "crates/str_indices_c/src"
 WIDE = ROOT / "crates/str_indices_c_wide/src"
@@ -31,7 +24,7 @@ FILES = [
     ("text_positions.rt", 13, ("LineType.LfCr Utf8 ", "LineType.LfCr Utf16 ")),
 ]
 
-PERF = ROOT / "docs/PERF.md"
+START = ROOT / "bench/start.txt"
 WORKLOADS = ROOT / "crates/workloads/src"
 LIBRARY = WORKLOADS / "library.rt"
 LIBRARY_AT_START = ROOT / "bench/start.rt.txt"
@@ -108,7 +101,7 @@ def called_later(texts, then, now):
 
 
 def try_start(tally):
-    start = re.search(r"after (\w{40}), the start\.$", read(PERF), re.MULTILINE)[1]
+    start = read(START).strip()
     then = sources_of(start, "*")
     if then is None:
         tally.leave_out(4, f"what the workloads call at the start, as git has no {start}")
@@ -128,14 +121,8 @@ def try_start(tally):
     tally.result(all(found), f"what the start has not is found: {' '.join([*found[0], *found[1]])}")
 
 
-def main():
-    tally = Tally()
+def check(tally):
     try_chunks(tally)
     for name, number, exchange in FILES:
         try_exports(tally, name, number, exchange)
     try_start(tally)
-    return tally.end()
-
-
-if __name__ == "__main__":
-    sys.exit(main())

@@ -1,18 +1,12 @@
-#!/usr/bin/env python3
 """Lists each `unsafe` in the source of the crates, and compares the list with the table of docs/DIFFERENCES.md.
 
 A row has the crate, the function or the impl by its path, and what is unsafe: the body of a block, or the head of an item. An
-attribute, as `#[unsafe(no_mangle)]` of each export, is not listed. With --write the table is written first. It tries its search
-on edited texts too: it must find each planted `unsafe`, and none in a sound text. The last line printed is 'N passed, M failed'.
+attribute, as `#[unsafe(no_mangle)]` of each export, is not listed. It tries its search
+on edited texts too: it must find each planted `unsafe`, and none in a sound text.
 """
-import pathlib
 import re
-import sys
 
-ROOT = pathlib.Path(__file__).resolve().parents[2]
-sys.path.insert(0, str(ROOT / "scripts/lib"))
-
-from tally import Tally  # noqa: E402
+from crate_copies import ROOT
 
 PAGE = ROOT / "docs/DIFFERENCES.md"
 HEAD = "| crate | place | `unsafe` |\n|---|---|---|\n"
@@ -90,14 +84,15 @@ def all_rows():
     return found
 
 
-def main(words):
-    tally = Tally()
+def write():
+    """Writes the table anew."""
+    table = HEAD + "".join(f"{row}\n" for row in all_rows())
+    PAGE.write_text(TABLE.sub(lambda _: table, PAGE.read_text(encoding="utf-8")), encoding="utf-8")
+
+
+def check(tally):
     found = all_rows()
-    page = PAGE.read_text(encoding="utf-8")
-    if words == ["--write"]:
-        page = TABLE.sub(lambda _: HEAD + "".join(f"{row}\n" for row in found), page)
-        PAGE.write_text(page, encoding="utf-8")
-    table = TABLE.search(page)
+    table = TABLE.search(PAGE.read_text(encoding="utf-8"))
     told = table[1].splitlines() if table else []
     differing = [f"only in the code: {row}" for row in found if row not in told]
     differing += [f"only on the page: {row}" for row in told if row not in found]
@@ -107,8 +102,3 @@ def main(words):
     for text, row in FAULTS.items():
         tally.result(list(rows("crate", [], text)) == [row], f"the search finds {row}", f"{list(rows('crate', [], text))}")
     tally.result(not any(list(rows("crate", [], text)) for text in NO_FAULTS), "the search finds nothing in what is no code")
-    return tally.end()
-
-
-if __name__ == "__main__":
-    sys.exit(main(sys.argv[1:]))
