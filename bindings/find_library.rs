@@ -11,8 +11,10 @@ const LIBRARY_FOLDER: &str = "STR_INDICES_LIB_DIR";
 /// The repository's script that builds a library. It leaves a library alone that it built from the present sources.
 const SCRIPT: &str = "bindings/c/build_library";
 
-/// What a library is built from, in the repository and in each of its crates.
+/// The files and folders of the repository that the script builds a library from.
 const SOURCES: [&str; 3] = ["crates.txt", "HANDLES", "bindings/c"];
+
+/// The folders of each crate that the script builds a library from.
 const SOURCES_OF_CRATE: [&str; 4] = ["src", "specs", "proofs", "c"];
 
 /// A static library, by its name.

@@ -1,12 +1,15 @@
 """Tries edits of crates: each must be refused by the function, and at the goal, that it names.
 
-An edit has lines of a word and a text. 'refuses:' names a function and, with commas between, all that must be open in it: a
-clause of its contract, or 'returns' for one without a name; 'invariant' for that of a type whose value it leaves; what a
-call in it asks, as 'CALL asks CLAUSE'; what a loop with that label keeps, as 'LABEL keeps'; 'proof', where a file Proof.antt
-proves it step by step, which names no clause; or 'lemma NAME', for an edit of a definition. 'file:' names a file of the
-crate, and each 'old:' text, which stands once in it, becomes the 'new:' text of the next line; ⏎ stands for a line's end.
-'kept:' says why there is an edit of a function that other crates cannot name. A file CRATE.edits has many: each begins with
-its name in brackets, and what begins with '#' is for the reader.
+A file CRATE.edits has the edits of a crate. Each edit begins with its name in brackets, and has lines of a word and a text:
+
+- 'refuses:' names a function and the goals that the edit must leave open there, with commas between. A goal is a clause of the
+  contract, by its name or as 'returns'; 'invariant', of a type whose value the function leaves; 'CALL asks CLAUSE', of a call;
+  'LABEL keeps', of a loop; 'lemma NAME', of a changed definition; or 'proof', where the file Proof.antt names no clause;
+- 'kept:' gives the reason for an edit of a function that other crates cannot name;
+- 'file:' names a file of the crate, 'old:' a text that stands there once, and 'new:' the text that replaces it. The sign ⏎
+  stands for a line's end.
+
+The tools skip lines that begin with '#'.
 
 Each crate is copied with all below it, and proved as it stands, before and after. What a script puts into one group is
 tried in one check of a copy, each edit by the function that it names and no other. What was refused where it should be, in

@@ -1,7 +1,7 @@
 //! Tests of texts in pieces, indexes and positions, as another crate calls them.
 //!
-//! They are a crate of their own, so that the libraries are proved without them. They stand on no rope, so that nothing
-//! waits for the proof of ropes but what tests ropes.
+//! They are a crate of their own, so that the libraries are proved without them. None needs a rope, so the toolchain proves
+//! them while it proves `text_rope`.
 #![tactic(auto)]
 
 #[cfg(test)]
