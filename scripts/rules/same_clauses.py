@@ -25,6 +25,7 @@ FILES = [
 ]
 
 START = ROOT / "bench/start.txt"
+PERF = ROOT / "docs/PERF.md"
 WORKLOADS = ROOT / "crates/workloads/src"
 LIBRARY = WORKLOADS / "library.rt"
 LIBRARY_AT_START = ROOT / "bench/start.rt.txt"
@@ -102,6 +103,8 @@ def called_later(texts, then, now):
 
 def try_start(tally):
     start = read(START).strip()
+    first, _, _ = read(PERF).partition("\n")
+    tally.result(start in first, f"{PERF.name} names the start in its first line")
     then = sources_of(start, "*")
     if then is None:
         tally.leave_out(4, f"what the workloads call at the start, as git has no {start}")
