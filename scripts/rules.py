@@ -1,25 +1,26 @@
 #!/usr/bin/env python3
 """Tries the rules of the house, each a file of scripts/rules: rules.py [NAME ..]
 
-Each search is tried on edited texts too, in which it must find the fault. 'rules.py --write' writes the table of unsafe code
-first. The last line printed is 'N passed, M failed'.
+Each search is tried on edited texts too, in which it must find the fault. 'rules.py --write' first writes what the tree says
+twice: the version and the table of unsafe code. The last line printed is 'N passed, M failed'.
 """
-import importlib
-import pathlib
 import sys
 
-HERE = pathlib.Path(__file__).resolve().parent
-sys.path[:0] = [str(HERE / folder) for folder in ("lib", "proofs", "rules")]
-sys.dont_write_bytecode = True
+from rules import (
+    cited_lemmas, links, names, quoted_contracts, refused_clauses, same_clauses, unsafe_code, version, word_chunks,
+)
+from tally import Tally
 
-from tally import Tally  # noqa: E402
-
-RULES = ["names", "same_clauses", "quoted_contracts", "word_chunks", "cited_lemmas", "unsafe_code", "refused_clauses"]
+RULES = {
+    rule.__name__.rpartition(".")[2]: rule
+    for rule in [names, same_clauses, quoted_contracts, word_chunks, cited_lemmas, unsafe_code, refused_clauses, links, version]
+}
 
 
 def main(words):
     if words == ["--write"]:
-        importlib.import_module("unsafe_code").write()
+        version.write()
+        unsafe_code.write()
         words = []
     unknown = sorted({*words} - {*RULES})
     if unknown:
@@ -27,7 +28,7 @@ def main(words):
         return 2
     tally = Tally()
     for name in words or RULES:
-        importlib.import_module(name).check(tally)
+        RULES[name].check(tally)
     return tally.end()
 
 

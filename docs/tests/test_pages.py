@@ -12,13 +12,12 @@ import subprocess
 import sys
 import tempfile
 
-ROOT = pathlib.Path(__file__).resolve().parents[2]
-sys.path.insert(0, str(ROOT / "scripts/lib"))
+from page_lines import blocks, environment, try_lines
+from proved import hand_on
+from report_span import check_reports
+from tally import Tally, least
 
-from page_lines import blocks, environment, try_lines  # noqa: E402
-from proved import hand_on  # noqa: E402
-from report_span import check_reports  # noqa: E402
-from tally import Tally, least  # noqa: E402
+ROOT = pathlib.Path(__file__).resolve().parents[2]
 
 LEFT_OUT = shutil.ignore_patterns(".git", "out", "target", "__pycache__", "Cargo.lock", "refusals")
 # each page, and the folder in which its lines run

@@ -19,16 +19,15 @@ import subprocess
 import sys
 import tempfile
 
-ROOT = pathlib.Path(__file__).resolve().parents[2]
-sys.path.insert(0, str(ROOT / "scripts/lib"))
+from debian_crates import source_flags
+from man_pages import PAGES, pages
+from packed_pages import astray
+from page_lines import blocks, environment, try_lines
+from proved import hand_on
+from tally import Tally, least
+from tried import tried
 
-from debian_crates import source_flags  # noqa: E402
-from man_pages import PAGES, pages  # noqa: E402
-from packed_pages import astray  # noqa: E402
-from page_lines import blocks, environment, try_lines  # noqa: E402
-from proved import hand_on  # noqa: E402
-from tally import Tally, least  # noqa: E402
-from tried import tried  # noqa: E402
+ROOT = pathlib.Path(__file__).resolve().parents[2]
 
 LEFT_OUT = shutil.ignore_patterns(".git", "out", "target", "dist", "__pycache__", "Cargo.lock")
 # what stands in for the gate's last line; a release has the real one

@@ -170,7 +170,7 @@ def try_halves(tally, library, narrow, worked_answers, folder):
 
 def copy_for_builds(folder):
     """What build_library needs, with the halves as they are built, and a folder with a stand-in of rt, which lists its calls."""
-    for name in ["bindings/c", "scripts/lib"]:
+    for name in ["bindings/c", "scripts"]:
         shutil.copytree(ROOT / name, folder / name)
     crates = ["str_indices_c_wide", *[library.crate for library in LIBRARIES]]
     copy_crates(crates, folder, left_out=("out",))

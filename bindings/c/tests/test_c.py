@@ -13,20 +13,19 @@ import subprocess
 import sys
 import tempfile
 
-ROOT = pathlib.Path(__file__).resolve().parents[3]
-sys.path.insert(0, str(ROOT / "scripts/lib"))
+from c_exports import LIBRARIES, STR_INDEX, STR_INDICES, STR_ROPE, pairs
+from c_halves import copy_for_builds, try_builds, try_halves
+from c_headers import try_headers
+from c_indexes import try_glue
+from c_install import try_install
+from c_programs import TESTS, build, compiles, try_tests
+from exchanges import exchanging_library, try_exchanges
+from halves import missing
+from line_and_column import ROWS, check_example
+from report_span import check_reports
+from tally import Tally, least
 
-from c_exports import LIBRARIES, STR_INDEX, STR_INDICES, STR_ROPE, pairs  # noqa: E402
-from c_halves import copy_for_builds, try_builds, try_halves  # noqa: E402
-from c_headers import try_headers  # noqa: E402
-from c_indexes import try_glue  # noqa: E402
-from c_install import try_install  # noqa: E402
-from c_programs import TESTS, build, compiles, try_tests  # noqa: E402
-from exchanges import exchanging_library, try_exchanges  # noqa: E402
-from halves import missing  # noqa: E402
-from line_and_column import ROWS, check_example  # noqa: E402
-from report_span import check_reports  # noqa: E402
-from tally import Tally, least  # noqa: E402
+ROOT = pathlib.Path(__file__).resolve().parents[3]
 
 # the programs in which an exchange of functions is to be seen, the halves that are tried, and how many exchanges are wanted
 EXCHANGED = {

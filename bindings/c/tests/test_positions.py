@@ -13,12 +13,9 @@ import subprocess
 import sys
 import tempfile
 
-ROOT = pathlib.Path(__file__).resolve().parents[3]
-sys.path.insert(0, str(ROOT / "scripts/lib"))
-
-from c_exports import build  # noqa: E402
-from position_model import CHARACTERS, ENCODINGS, GREATEST, Lines, units  # noqa: E402
-from tally import Tally  # noqa: E402
+from c_exports import build
+from position_model import CHARACTERS, ENCODINGS, GREATEST, Lines, units
+from tally import Tally
 
 SEED = 317
 TEXTS = 4000

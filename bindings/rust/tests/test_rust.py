@@ -20,14 +20,13 @@ import subprocess
 import sys
 import tempfile
 
-ROOT = pathlib.Path(__file__).resolve().parents[3]
-sys.path.insert(0, str(ROOT / "scripts/lib"))
+from c_exports import build, declared, pairs
+from exchanges import exchanging_library, try_exchanges
+from halves import ASKED, halves, missing
+from line_and_column import check_example
+from tally import Tally, least
 
-from c_exports import build, declared, pairs  # noqa: E402
-from exchanges import exchanging_library, try_exchanges  # noqa: E402
-from halves import ASKED, halves, missing  # noqa: E402
-from line_and_column import check_example  # noqa: E402
-from tally import Tally, least  # noqa: E402
+ROOT = pathlib.Path(__file__).resolve().parents[3]
 
 BINDINGS = ROOT / "bindings/rust"
 POSITIONS = ROOT / "bindings/positions"
@@ -246,14 +245,14 @@ def test_no_std(target):
 
 
 def test_benchmark():
-    done = subprocess.run([ROOT / "bench/run", "--small", "--rounds", "1"], capture_output=True, text=True)
-    if not tally.result(done.returncode == 0 and "chars::count" in done.stdout, "bench/run, one round over small texts"):
+    done = subprocess.run([ROOT / "bench/functions", "--small", "--rounds", "1"], capture_output=True, text=True)
+    if not tally.result(done.returncode == 0 and "chars::count" in done.stdout, "bench/functions, one round over small texts"):
         print(done.stdout + done.stderr)
 
 
 def test_checks_of_utf8():
-    done = subprocess.run([ROOT / "bench/pieces", "--utf8", "--small"], capture_output=True, text=True)
-    if not tally.result(done.returncode == 0 and "| CJK, " in done.stdout, "bench/pieces, checks of UTF-8"):
+    done = subprocess.run([ROOT / "bench/utf8", "--small"], capture_output=True, text=True)
+    if not tally.result(done.returncode == 0 and "| CJK, " in done.stdout, "bench/utf8, small texts"):
         print(done.stdout + done.stderr)
 
 

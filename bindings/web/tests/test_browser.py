@@ -19,14 +19,13 @@ import sys
 import tempfile
 import threading
 
-ROOT = pathlib.Path(__file__).resolve().parents[3]
-sys.path.insert(0, str(ROOT / "scripts/lib"))
+import page_tests
+from devtools import Browser
+from page_lines import blocks
+from tally import Tally
+from web_package import BUNDLERS, OF_BUNDLER, try_bundles, try_types
 
-import page_tests  # noqa: E402
-from devtools import Browser  # noqa: E402
-from page_lines import blocks  # noqa: E402
-from tally import Tally  # noqa: E402
-from web_package import BUNDLERS, OF_BUNDLER, try_bundles, try_types  # noqa: E402
+ROOT = pathlib.Path(__file__).resolve().parents[3]
 
 NAMES = ["chromium", "chromium-browser", "google-chrome"]
 # how many results there are of what Node and of what a Chromium is asked

@@ -19,11 +19,8 @@ import sys
 import tempfile
 import typing
 
-ROOT = pathlib.Path(__file__).resolve().parents[3]
-sys.path.insert(0, str(ROOT / "scripts/lib"))
-
-from tally import Tally  # noqa: E402
-from test_program import CRATE, NO_MEMORY, NOT_UTF8, PROGRAM, READ, USAGE, WRITE, build, number, run, told  # noqa: E402
+from tally import Tally
+from test_program import CRATE, NO_MEMORY, NOT_UTF8, PROGRAM, READ, USAGE, WRITE, build, number, run, told
 
 SOURCE = CRATE / "tests/failing_calls.c"
 COMPILER = ["cc", "-std=c99", "-Wall", "-Wextra", "-Werror", "-pedantic", "-O2", "-shared", "-fPIC"]

@@ -12,10 +12,9 @@ import subprocess
 import sys
 import tempfile
 
-ROOT = pathlib.Path(__file__).resolve().parents[3]
-sys.path.insert(0, str(ROOT / "scripts/lib"))
+from tally import Tally
 
-from tally import Tally  # noqa: E402
+ROOT = pathlib.Path(__file__).resolve().parents[3]
 
 CRATE = ROOT / "crates/idx"
 PROGRAM = CRATE / "out/idx"

@@ -12,12 +12,11 @@ import subprocess
 import sys
 import tempfile
 
-ROOT = pathlib.Path(__file__).resolve().parents[3]
-sys.path.insert(0, str(ROOT / "scripts/lib"))
+from crate_copies import copy_program
+from position_model import CHARACTERS, ENCODINGS, GREATEST, Lines
+from tally import Tally
 
-from crate_copies import copy_program  # noqa: E402
-from position_model import CHARACTERS, ENCODINGS, GREATEST, Lines  # noqa: E402
-from tally import Tally  # noqa: E402
+ROOT = pathlib.Path(__file__).resolve().parents[3]
 
 SEED = 733
 LISTS = 50

@@ -21,12 +21,10 @@ import sys
 import tempfile
 from typing import Dict, NamedTuple, Tuple
 
+from crate_copies import copy_program
+from tally import Tally
+
 ROOT = pathlib.Path(__file__).resolve().parents[3]
-sys.path.insert(0, str(ROOT / "scripts/lib"))
-
-from crate_copies import copy_program  # noqa: E402
-from tally import Tally  # noqa: E402
-
 
 Numbers = Tuple[Tuple[str, int], ...]
 

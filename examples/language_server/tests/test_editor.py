@@ -23,7 +23,6 @@ import sys
 import tempfile
 
 ROOT = pathlib.Path(__file__).resolve().parents[3]
-sys.path.insert(0, str(ROOT / "scripts/lib"))
 
 from c_exports import build  # noqa: E402
 from debian_crates import source_flags  # noqa: E402

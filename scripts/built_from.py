@@ -13,7 +13,7 @@ from typing import List, NamedTuple, Sequence
 from kept import crate_sum, sum_of, sum_of_file, sums_of_files
 from parts import tool
 
-ROOT = pathlib.Path(__file__).resolve().parents[2]
+ROOT = pathlib.Path(__file__).resolve().parents[1]
 
 
 class Built(NamedTuple):

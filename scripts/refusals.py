@@ -372,7 +372,7 @@ class Trial:
 
     def name(self, of_crate: str, edit: Edit) -> str:
         """The name under which the edit of a crate with that sum is kept."""
-        scripts = scripts_sum("lib/kept.py", "proofs/refusals.py", "lib/crate_copies.py")
+        scripts = scripts_sum("kept.py", "refusals.py", "crate_copies.py")
         return sum_of(of_crate, scripts, edit.name, edit.lines, self.nothing_else)
 
     def take(self, of_crate: str, edits: List[Edit]) -> None:

@@ -12,11 +12,10 @@ function at the clause that its edit names, and nothing else. The last line prin
 import pathlib
 import sys
 
-ROOT = pathlib.Path(__file__).resolve().parents[2]
-sys.path.insert(0, str(ROOT / "scripts/lib"))
+from refusals import Trial, edits_in
+from tally import Tally
 
-from refusals import Trial, edits_in  # noqa: E402
-from tally import Tally  # noqa: E402
+ROOT = pathlib.Path(__file__).resolve().parents[1]
 
 CASES = ROOT / "refusals/own-walk"
 

@@ -7,7 +7,7 @@ import re
 import subprocess
 from typing import NamedTuple
 
-ROOT = pathlib.Path(__file__).resolve().parents[2]
+ROOT = pathlib.Path(__file__).resolve().parents[1]
 
 COMMENT = re.compile(r"/\*.*?\*/|^#.*?$", re.MULTILINE | re.DOTALL)
 PARAMETER = re.compile(r"(\w+): ([^,]+)")

@@ -12,12 +12,11 @@ import subprocess
 import sys
 import tempfile
 
-ROOT = pathlib.Path(__file__).resolve().parents[2]
-sys.path.insert(0, str(ROOT / "scripts/lib"))
+from crate_copies import copy_crate
+from kept import Kept, crate_sum, scripts_sum, sum_of, sums_of_files
+from tally import Tally
 
-from crate_copies import copy_crate  # noqa: E402
-from kept import Kept, crate_sum, scripts_sum, sum_of, sums_of_files  # noqa: E402
-from tally import Tally  # noqa: E402
+ROOT = pathlib.Path(__file__).resolve().parents[1]
 
 CASES = ROOT / "refusals/must-not-compile"
 
@@ -41,7 +40,7 @@ def check(crate, program):
 
 def name_of(cases):
     """The name under which a folder is kept."""
-    scripts = scripts_sum("lib/kept.py", "proofs/must_not_compile.py", "lib/crate_copies.py")
+    scripts = scripts_sum("kept.py", "must_not_compile.py", "crate_copies.py")
     files = [*cases.iterdir(), *BESIDE.get(cases.name, [])]
     return sum_of(crate_sum(ROOT, cases.name), scripts, sums_of_files(ROOT, files))
 

@@ -5,7 +5,7 @@ import shutil
 import subprocess
 from typing import Dict, Iterable, List, Tuple
 
-ROOT = pathlib.Path(__file__).resolve().parents[2]
+ROOT = pathlib.Path(__file__).resolve().parents[1]
 
 
 def crate_lines() -> Dict[str, str]:

@@ -3,7 +3,7 @@ import pathlib
 import re
 from typing import Dict, Iterator, List, NamedTuple, Optional, Set
 
-ROOT = pathlib.Path(__file__).resolve().parents[2]
+ROOT = pathlib.Path(__file__).resolve().parents[1]
 
 # the head of an impl: of which trait, if of one, and for which type
 IMPL = re.compile(r"(?:unsafe )?impl\b(?:<.*?>(?= ))? (?:(\w+)(?:<.*>)? for )?(\w+)")

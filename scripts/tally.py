@@ -10,7 +10,7 @@ import shutil
 import subprocess
 from typing import Optional, Sequence, Tuple
 
-LEAST = pathlib.Path(__file__).resolve().parents[1] / "least.txt"
+LEAST = pathlib.Path(__file__).resolve().parent / "least.txt"
 SUMS = re.compile(r"([0-9]+) passed, ([0-9]+) failed(?:, ([0-9]+) skipped)?")
 
 
@@ -56,7 +56,7 @@ class Tally:
             self.leave_out(number, "pytest is not on the path (Debian's package python3-pytest)")
             return
         command = ["pytest", "--quiet", "-rs", "-p", "no:cacheprovider", *map(str, files)]
-        paths = dict(os.environ, PYTHONPATH=str(LEAST.parent / "lib"))
+        paths = dict(os.environ, PYTHONPATH=str(LEAST.parent))
         done = subprocess.run(command, cwd=LEAST.parents[1], env=paths, stdout=subprocess.PIPE, text=True)
         print(done.stdout)
         sums = done.stdout.splitlines()[-1] if done.stdout else ""

@@ -12,12 +12,11 @@ import pathlib
 import re
 import sys
 
-ROOT = pathlib.Path(__file__).resolve().parents[2]
-sys.path.insert(0, str(ROOT / "scripts/lib"))
+from crate_copies import stands_on
+from refusals import Trial, apply_together, edits_in
+from tally import Tally
 
-from crate_copies import stands_on  # noqa: E402
-from refusals import Trial, apply_together, edits_in  # noqa: E402
-from tally import Tally  # noqa: E402
+ROOT = pathlib.Path(__file__).resolve().parents[1]
 
 # how many are tried at once
 MOST = 36

@@ -99,7 +99,7 @@ def crate_sum(root: pathlib.Path, crate: str) -> str:
 @functools.lru_cache(maxsize=None)
 def scripts_sum(*names: str) -> str:
     """A sum of scripts, by their paths from scripts/."""
-    here = pathlib.Path(__file__).parents[1]
+    here = pathlib.Path(__file__).parent
     return sum_of(sums_of_files(here, [here / name for name in names]))
 
 

@@ -1,19 +1,14 @@
-#!/usr/bin/env python3
-"""Looks where the links of the pages lead: each to a file of the repository, and to a heading where it names one.
+"""Each link of a page leads to a file of the repository, and to a heading where it names one.
 
 The pages are all that git knows which end in .md, and the page for a browser, whose links go from the folder in which it
 is built. The files that the recipes of CONTRIBUTING.md name must be there, and the recipe for a scheme must list exactly
-those that name every scheme. Each search is tried on what it must find too. The last line printed is 'N passed, M failed'.
+those that name every scheme. Each search is tried on what it must find too.
 """
 import pathlib
 import re
 import subprocess
-import sys
 
-ROOT = pathlib.Path(__file__).resolve().parents[2]
-sys.path.insert(0, str(ROOT / "scripts/lib"))
-
-from tally import Tally  # noqa: E402
+from crate_copies import ROOT
 
 WEB_PAGE = "bindings/web/index.html"
 BUILT_WEB_PAGE = "out/web/index.html"
@@ -112,8 +107,7 @@ def try_recipes(tally, text):
     tally.result(bool(right), "the search finds a file that is not listed, and one that names no scheme")
 
 
-def main():
-    tally = Tally()
+def check(tally):
     for page, read_at in pages().items():
         found = links((ROOT / page).read_text(encoding="utf-8"))
         astray = [link for link in found if not leads_somewhere(link, read_at)]
@@ -123,8 +117,3 @@ def main():
     try_recipes(tally, (ROOT / contributing).read_text(encoding="utf-8"))
     found = {link: leads_somewhere(link, "README.md") for link in ROWS}
     tally.result(found == ROWS, "the search finds a link that leads nowhere")
-    return tally.end()
-
-
-if __name__ == "__main__":
-    sys.exit(main())

@@ -7,7 +7,7 @@ import re
 import sys
 import textwrap
 
-ROOT = pathlib.Path(__file__).resolve().parents[2]
+ROOT = pathlib.Path(__file__).resolve().parents[1]
 INCLUDE = ROOT / "bindings/c/include"
 
 # each library: a title, and its headers

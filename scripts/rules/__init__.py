@@ -1,0 +1,1 @@
+"""The rules of the house. Each tries what it says of all files: check(tally)."""
