@@ -20,8 +20,8 @@ GIVEN_UP = [
     (r"^crates/(?!str_indices/).*/(src|specs)/", "behind", r"\w*behind\w*(?! a reference)", "after"),
     (r"^crates/.*/src/.*\.rt$", "character", r"(?<=// ).*characters(?! of the Unicode)", "char"),
 ]
-# what ends like a participle, and is none, or is a name of ropey
-NOUNS = {"encoding", "feed", "heading", "reversed", "seed", "string"}
+# what ends like a participle, and is none, or is a name of ropey or serde
+NOUNS = {"encoding", "expecting", "feed", "heading", "reversed", "seed", "string"}
 IRREGULAR = {"begun", "built", "found", "given", "held", "kept", "known", "left", "lent", "lost", "made", "shown", "taken",
              "written"}
 DECLARED = re.compile(r"\b(?:struct|enum|trait) (\w+)")

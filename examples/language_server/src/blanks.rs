@@ -1,8 +1,8 @@
 //! Blanks at the end of lines.
 use crate::faults::Fault;
-use crate::protocol::Span;
+use crate::protocol::{Span, Units};
 use std::ops;
-use str_rope::{Encoding, Error, LineType, Rope};
+use str_rope::{Error, LineType, Rope};
 
 /// The most warnings that are sent for a document: a key that moves one sends all of them again.
 const MOST_WARNINGS: usize = 200;
@@ -18,7 +18,7 @@ pub struct Warnings {
     read: usize,
     /// Whether no line with a warning was changed since the client was told. One that was may have the same offsets, and others
     /// in a client that keeps them in bytes.
-    pub is_told: bool,
+    pub is_sent: bool,
 }
 
 impl Warnings {
@@ -27,23 +27,23 @@ impl Warnings {
     pub fn update(
         &mut self,
         rope: &Rope,
-        encoding: Encoding,
+        units: Units,
         lines: ops::Range<usize>,
         lines_before: usize,
     ) -> Result<(), Fault> {
         if self.read <= lines.start {
             return Ok(());
         }
-        let next_now = (number_of_lines(rope) + lines.end)
+        let next_now = (rope.len_lines(units.lines) + lines.end)
             .saturating_sub(lines_before)
             .max(lines.start);
         let read_before = self.read;
         let after = self.found.split_off(self.before(lines.end));
         let first = self.before(lines.start);
-        self.is_told &= first == self.found.len();
+        self.is_sent &= first == self.found.len();
         self.found.truncate(first);
         self.read = lines.start;
-        self.read_to(rope, encoding, next_now)?;
+        self.read_to(rope, units, next_now)?;
         if self.read == next_now && lines.end <= read_before {
             for one in after {
                 self.found.push(one.move_to(lines.end, next_now)?);
@@ -58,8 +58,8 @@ impl Warnings {
     }
 
     /// The first of them.
-    pub fn first(&mut self, rope: &Rope, encoding: Encoding) -> Result<&[Span], Fault> {
-        self.read_to(rope, encoding, number_of_lines(rope))?;
+    pub fn first(&mut self, rope: &Rope, units: Units) -> Result<&[Span], Fault> {
+        self.read_to(rope, units, rope.len_lines(units.lines))?;
         Ok(&self.found[..self.found.len().min(MOST_WARNINGS)])
     }
 
@@ -69,10 +69,10 @@ impl Warnings {
     }
 
     /// Reads on up to a line, or until there are enough.
-    fn read_to(&mut self, rope: &Rope, encoding: Encoding, line: usize) -> Result<(), Fault> {
+    fn read_to(&mut self, rope: &Rope, units: Units, line: usize) -> Result<(), Fault> {
         let missing = MOST_WARNINGS.saturating_sub(self.found.len());
         if self.read < line && missing > 0 {
-            let found = blanks_in(rope, encoding, self.read..line, LONGEST_WARNING, missing)?;
+            let found = blanks_in(rope, units, self.read..line, LONGEST_WARNING, missing)?;
             self.read = if found.len() < missing {
                 line
             } else {
@@ -84,23 +84,18 @@ impl Warnings {
     }
 }
 
-/// How many lines a text has, as the protocol counts them: one more than line breaks.
-pub fn number_of_lines(rope: &Rope) -> usize {
-    rope.len_lines(LineType::LfCr)
-}
-
 /// Where some lines end in blanks: the first of these, at most `most`, and of each the last `longest` bytes. Of the last line
 /// no more is read.
 pub fn blanks_in(
     rope: &Rope,
-    encoding: Encoding,
+    units: Units,
     lines: ops::Range<usize>,
     longest: usize,
     most: usize,
 ) -> Result<Vec<Span>, Fault> {
-    let start_of = |line| rope.line_to_byte_idx(line, LineType::LfCr);
+    let start_of = |line| rope.line_to_byte_idx(line, units.lines);
     let tail_of = |line| {
-        let end = rope.line_end(line, LineType::LfCr);
+        let end = rope.line_end(line, units.lines);
         let start = end.saturating_sub(longest).max(start_of(line));
         rope.floor_char_boundary(start)..end
     };
@@ -108,32 +103,34 @@ pub fn blanks_in(
     if !lines.is_empty() {
         let last = lines.end - 1;
         if lines.start < last {
-            find_blanks(rope, tail_of(lines.start).start..start_of(last), most, &mut found)?;
+            let part = tail_of(lines.start).start..start_of(last);
+            find_blanks(rope, units.lines, part, most, &mut found)?;
         }
-        find_blanks(rope, tail_of(last), most, &mut found)?;
+        find_blanks(rope, units.lines, tail_of(last), most, &mut found)?;
     }
     let span = |bytes: ops::Range<usize>| {
-        Span::of(
-            rope,
-            encoding,
-            bytes.start.max(bytes.end.saturating_sub(longest))..bytes.end,
-        )
+        let start = bytes.start.max(bytes.end.saturating_sub(longest));
+        units.span(rope, start..bytes.end)
     };
     found.into_iter().map(span).collect()
 }
 
-/// Looks for blanks before a break or the end of a part of a text, until the most that are wanted are found.
+/// Looks for blanks before a break or the end of a part of a text, until the most that are wanted are found. CR LF is a break
+/// also where LF alone ends a line.
 fn find_blanks(
     rope: &Rope,
+    lines: LineType,
     part: ops::Range<usize>,
     most: usize,
     found: &mut Vec<ops::Range<usize>>,
 ) -> Result<(), Error> {
     let mut start = None;
+    let is_break = |at| lines != LineType::Lf || rope.byte(at + 1).unwrap_or(b'\n') == b'\n';
     for (at, byte) in (part.start..).zip(rope.slice(part.clone())?.bytes()) {
         match byte {
             b' ' | b'\t' => start = start.or(Some(at)),
-            b'\r' | b'\n' => found.extend(start.take().map(|start| start..at)),
+            b'\n' => found.extend(start.take().map(|start| start..at)),
+            b'\r' if is_break(at) => found.extend(start.take().map(|start| start..at)),
             _ => start = None,
         }
         if found.len() == most {
@@ -148,6 +145,7 @@ fn find_blanks(
 mod tests {
     use super::*;
     use crate::protocol::Place;
+    use str_rope::Encoding;
 
     /// Random numbers, by xorshift.
     struct Numbers(u64);
@@ -169,14 +167,21 @@ mod tests {
     }
 
     /// The first warnings of a whole text.
-    fn all(rope: &Rope, encoding: Encoding) -> Vec<Span> {
-        Warnings::default().first(rope, encoding).unwrap().to_vec()
+    fn all(rope: &Rope, units: Units) -> Vec<Span> {
+        Warnings::default().first(rope, units).unwrap().to_vec()
+    }
+
+    /// Each encoding, by each kind of line.
+    fn all_units() -> impl Iterator<Item = Units> {
+        let encodings = [Encoding::Utf8, Encoding::Utf16, Encoding::Utf32];
+        let by_lines = move |lines| encodings.map(|encoding| Units { encoding, lines });
+        [LineType::LfCr, LineType::Lf].into_iter().flat_map(by_lines)
     }
 
     #[test]
     fn what_is_kept_is_what_the_whole_text_has() {
         let mut numbers = Numbers(59);
-        for encoding in [Encoding::Utf8, Encoding::Utf16, Encoding::Utf32] {
+        for units in all_units() {
             let (mut rope, mut kept) = (Rope::new(), Warnings::default());
             for turn in 0..20_000 {
                 let mut bytes = [numbers.below(rope.len() + 1), numbers.below(rope.len() + 1)];
@@ -188,13 +193,13 @@ mod tests {
                     end.min(start + 40)
                 };
                 let end = rope.floor_char_boundary(end);
-                let line = |byte| rope.position_of(encoding, byte).line;
-                let (lines, before) = (line(start)..line(end) + 1, number_of_lines(&rope));
+                let line = |byte| rope.byte_to_line_idx(byte, units.lines);
+                let (lines, before) = (line(start)..line(end) + 1, rope.len_lines(units.lines));
                 let text = numbers.text(if turn % 100 == 0 { 8_000 } else { 24 });
                 rope.replace(start..end, &text).unwrap();
-                kept.update(&rope, encoding, lines, before).unwrap();
+                kept.update(&rope, units, lines, before).unwrap();
                 if numbers.below(3) == 0 {
-                    assert_eq!(kept.first(&rope, encoding).unwrap(), all(&rope, encoding), "{rope:?}");
+                    assert_eq!(kept.first(&rope, units).unwrap(), all(&rope, units), "{rope:?}");
                 }
             }
         }
@@ -203,22 +208,19 @@ mod tests {
     #[test]
     fn what_is_found_is_by_hand() {
         let rope: Rope = "a \r\n🐸\t \r \n\n  ".parse().unwrap();
-        let found = |encoding| {
+        let found = |units| {
             let numbers = |place: Place| (place.line, place.character);
             let one = |one: Span| (numbers(one.start), numbers(one.end).1);
-            all(&rope, encoding).into_iter().map(one).collect::<Vec<_>>()
+            all(&rope, units).into_iter().map(one).collect::<Vec<_>>()
         };
-        assert_eq!(
-            found(Encoding::Utf8),
-            [((0, 1), 2), ((1, 4), 6), ((2, 0), 1), ((4, 0), 2)]
-        );
-        assert_eq!(
-            found(Encoding::Utf16),
-            [((0, 1), 2), ((1, 2), 4), ((2, 0), 1), ((4, 0), 2)]
-        );
-        assert_eq!(
-            found(Encoding::Utf32),
-            [((0, 1), 2), ((1, 1), 3), ((2, 0), 1), ((4, 0), 2)]
-        );
+        let expected = [
+            [((0, 1), 2), ((1, 4), 6), ((2, 0), 1), ((4, 0), 2)],
+            [((0, 1), 2), ((1, 2), 4), ((2, 0), 1), ((4, 0), 2)],
+            [((0, 1), 2), ((1, 1), 3), ((2, 0), 1), ((4, 0), 2)],
+        ];
+        assert_eq!(all_units().map(found).take(3).collect::<Vec<_>>(), expected);
+        // The CR alone ends no line.
+        let by_lf: Vec<_> = all_units().map(found).skip(3).collect();
+        assert_eq!(by_lf[0], [((0, 1), 2), ((1, 7), 8), ((3, 0), 2)]);
     }
 }

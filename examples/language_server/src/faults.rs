@@ -44,7 +44,12 @@ impl Fault {
 
     /// A request about a document whose text the server does not know: the protocol's `RequestFailed`.
     pub fn out_of_step() -> Fault {
-        Fault::new(-32803, "the document is out of step: save it, or send its whole text")
+        Fault::new(-32803, "the document is out of step: save it, or open it again")
+    }
+
+    /// A save of a text that neither the file nor the server has.
+    pub fn other_save() -> Fault {
+        Fault::new(-32602, "a text was saved that is not the file's")
     }
 
     pub fn old_version(version: i64, last: i64) -> Fault {

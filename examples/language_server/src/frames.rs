@@ -1,8 +1,8 @@
 //! Frames on a stream: each is a header that tells the length of its body in bytes, an empty line, and the body.
 //!
-//! What is no frame is refused once, and then the next frame is looked for. No JSON has a line that ends in
-//! `Content-Length: 12`, since a line break in a string is escaped. So such a line begins a frame wherever it stands, also
-//! inside a body whose length was told too long.
+//! Between two frames may be blanks. What else is no frame is refused once, and the next frame is looked for. No JSON has a
+//! line that ends in `Content-Length: 12`, since a line break in a string is escaped. So such a line begins a frame wherever
+//! it stands, also inside a body whose length was told too long.
 use crate::faults::Fault;
 use crate::system;
 use std::io::{self, BufRead, ErrorKind, Write};
@@ -20,11 +20,13 @@ const KEPT: usize = 1 << 20;
 /// No more bytes than these come at once.
 const MOST_READ: usize = 64 << 10;
 
-/// The field that each header has.
+/// The field that each header has, and one that it may have.
 const LENGTH: &str = "Content-Length";
+const TYPE: &str = "Content-Type";
 
-/// A line with that field and a length is no longer than this, where a frame is looked for.
-const LONGEST_LENGTH: usize = 64;
+/// A line with a length, and one with a type, is no longer than this, where a frame is looked for.
+const LONGEST_LINE: usize = 64;
+const LONGEST_TYPE: usize = 256;
 
 /// The frames of an input.
 pub struct Frames<R> {
@@ -33,40 +35,46 @@ pub struct Frames<R> {
     buffer: Vec<u8>,
     /// Where in it the next frame begins, or is looked for.
     at: usize,
-    /// Where the body begins that was answered or refused last; it ends at `at`.
+    /// Where the last body begins, which ends at `at`.
     body: usize,
-    /// How far it was told what is refused.
-    told: usize,
-    /// Whether what is there was refused, so that the next frame has to be looked for.
-    is_lost: bool,
+    /// Whether the next frame has to be looked for.
+    is_searching: bool,
+    /// Whether no frame came since something was refused.
+    was_refused: bool,
 }
 
-/// Bytes that are no frame.
+/// What was refused: a message, or bytes that are no frame.
 pub struct Refused<'a> {
     pub fault: Fault,
-    /// No frame came since something was refused before it.
-    pub was_lost: bool,
-    /// The bytes of its body, as far as they were read.
-    pub bytes: &'a [u8],
+    /// The message, where it is whole. Else several messages may have been in the bytes, or parts of them.
+    pub body: Option<&'a [u8]>,
+    /// A frame came since something else was refused.
+    pub is_first: bool,
 }
 
-/// A line of a header, as far as it was read.
-enum Line {
-    /// It ends before this place, where the next one begins.
-    Ends(usize),
-    TooLong,
-    /// The input ends in it.
-    Cut,
+/// What there is in place of a frame.
+enum Missing {
+    /// The input ends.
+    End,
+    /// The bytes are no frame.
+    NoFrame(Fault),
+    /// The frame is whole, and its body is refused.
+    NoMessage(Fault),
+    Failed(io::Error),
+}
+
+impl From<io::Error> for Missing {
+    fn from(error: io::Error) -> Missing {
+        Missing::Failed(error)
+    }
 }
 
 /// What a header tells.
 #[derive(Default)]
 struct Header {
     len: Option<usize>,
-    /// It has the name of an encoding that is not UTF-8.
-    is_other_text: bool,
-    /// Where it ends.
-    end: usize,
+    /// Whether a type has the name of an encoding that is not UTF-8, if there is a type.
+    is_other_text: Option<bool>,
 }
 
 impl<R: BufRead> Frames<R> {
@@ -76,163 +84,166 @@ impl<R: BufRead> Frames<R> {
             buffer: Vec::new(),
             at: 0,
             body: 0,
-            told: 0,
-            is_lost: false,
+            is_searching: false,
+            was_refused: false,
         }
     }
 
     /// Whether nothing is there that could be served.
     pub fn is_idle(&self) -> bool {
-        (self.is_lost || self.at == self.buffer.len()) && !system::has_input()
+        (self.is_searching || self.buffer[self.at..].trim_ascii().is_empty()) && !system::has_input()
     }
 
     /// The body of the next frame, or why there is none; `None` where the input ends before the frame does.
     pub fn next(&mut self) -> io::Result<Option<Result<&[u8], Refused<'_>>>> {
+        let (fault, is_whole) = match self.frame() {
+            Ok(()) => {
+                self.was_refused = false;
+                return Ok(Some(Ok(&self.buffer[self.body..self.at])));
+            }
+            Err(Missing::End) => return Ok(None),
+            Err(Missing::Failed(error)) => return Err(error),
+            Err(Missing::NoFrame(fault)) => (fault, false),
+            Err(Missing::NoMessage(fault)) => (fault, true),
+        };
+        let is_first = !mem::replace(&mut self.was_refused, true);
+        let body = is_whole.then(|| &self.buffer[self.body..self.at]);
+        Ok(Some(Err(Refused { fault, body, is_first })))
+    }
+
+    /// Refuses the last body, which is no message. Where a frame begins inside it, its length is wrong, and that frame is next.
+    pub fn refuse(&mut self, fault: Fault) -> Refused<'_> {
+        let end = self.at;
+        let inside = frame_in(&self.buffer, self.body).filter(|inside| *inside < end);
+        self.at = inside.unwrap_or(end - length_begun(&self.buffer[self.body..end]));
+        self.was_refused = true;
+        Refused {
+            fault,
+            body: (self.at == end).then(|| &self.buffer[self.body..end]),
+            is_first: true,
+        }
+    }
+
+    /// Goes past the next frame, or to where one may begin after what is none.
+    fn frame(&mut self) -> Result<(), Missing> {
         self.forget();
-        let found = if self.is_lost { self.find()? } else { Some(Ok(())) };
-        let taken = match found {
-            Some(Ok(())) => self.frame()?,
-            _ => found,
-        };
-        let was_lost = mem::replace(&mut self.is_lost, !matches!(taken, Some(Ok(()))));
-        Ok(taken.map(|taken| {
-            let bytes = &self.buffer[self.body..self.at];
-            taken
-                .map(|()| bytes)
-                .map_err(|fault| Refused { fault, was_lost, bytes })
-        }))
-    }
-
-    /// The body that was answered last is no message, so its length may be wrong: the next frame is looked for in it too.
-    /// Answers the part of it before a frame inside it.
-    pub fn reject(&mut self) -> &[u8] {
-        self.told = frame_in(&self.buffer, self.body).map_or(self.at, |inside| inside.min(self.at));
-        self.at = self.body;
-        self.is_lost = true;
-        &self.buffer[self.body..self.told]
-    }
-
-    /// Goes past the next frame, or past what refuses it; `None` where the input ends in it.
-    fn frame(&mut self) -> io::Result<Option<Result<(), Fault>>> {
-        let header = match self.header()? {
-            None => return Ok(None),
-            Some(Ok(header)) => header,
-            Some(Err(fault)) => {
-                self.pass_header();
-                return Ok(Some(Err(fault)));
-            }
-        };
-        let Some(len) = header.len else {
-            self.pass_header();
-            return Ok(Some(Err(Fault::invalid_request("a header has no Content-Length"))));
-        };
-        let end = header.end + len;
-        let missing = end.saturating_sub(self.buffer.len());
-        if missing > 0 && self.buffer.try_reserve_exact(missing + MOST_READ).is_err() {
-            self.pass_header();
-            return Ok(Some(Err(Fault::no_memory())));
+        if self.is_searching {
+            self.find()?;
         }
-        self.body = header.end;
-        let body = self.read_body(end)?;
-        if header.is_other_text && matches!(body, Some(Ok(()))) {
-            return Ok(Some(Err(Fault::invalid_request("a body is not said to be UTF-8"))));
+        self.pass_blanks()?;
+        let header = self.header();
+        if let Err(Missing::NoFrame(_)) = header {
+            // The line that was refused is not found again.
+            self.at += 1;
+            self.is_searching = true;
         }
-        Ok(body)
+        let (len, is_other_text) = header?;
+        self.read_body(self.body + len)?;
+        match is_other_text {
+            true => Err(Missing::NoMessage(Fault::invalid_request(
+                "a body is not said to be UTF-8",
+            ))),
+            false => Ok(()),
+        }
     }
 
-    /// Goes into a header that is refused, so that it is not found again.
-    fn pass_header(&mut self) {
-        self.at += 1;
-        self.body = self.at;
-    }
-
-    /// The next header, as soon as it is whole or refused.
-    fn header(&mut self) -> io::Result<Option<Result<Header, Fault>>> {
-        let mut header = Header {
-            end: self.at,
-            ..Header::default()
-        };
+    fn pass_blanks(&mut self) -> Result<(), Missing> {
         loop {
-            let end = match self.line(header.end)? {
-                Line::Ends(end) => end,
-                Line::TooLong => return Ok(Some(Err(Fault::invalid_request("a header is too long")))),
-                Line::Cut => return Ok(None),
-            };
+            self.forget();
+            let blanks = self.buffer[self.at..]
+                .iter()
+                .take_while(|byte| byte.is_ascii_whitespace());
+            self.at += blanks.count();
+            if self.at < self.buffer.len() {
+                return Ok(());
+            }
+            self.fill()?;
+        }
+    }
+
+    /// The length that the next header tells, and whether it says that the body is not UTF-8.
+    fn header(&mut self) -> Result<(usize, bool), Missing> {
+        let refused = |sentence| Err(Missing::NoFrame(Fault::invalid_request(sentence)));
+        let mut header = Header::default();
+        let mut start = self.at;
+        loop {
+            let end = self.line_end(start)?;
             if end - self.at > MOST_HEADER {
-                return Ok(Some(Err(Fault::invalid_request("a header is too long"))));
+                return refused("a header is too long");
             }
-            let line = self.buffer[header.end..end].trim_ascii_end();
-            header.end = end;
-            if line.is_empty() {
-                return Ok(Some(Ok(header)));
+            let line = self.buffer[start..end].trim_ascii_end();
+            if length_before(line).is_some_and(|back| back < line.len()) {
+                return refused("a frame begins inside a header");
             }
-            let has_frame = length_before(line).is_some_and(|back| back < line.len());
-            if has_frame {
-                return Ok(Some(Err(Fault::invalid_request("a frame begins inside a header"))));
+            if !line.is_empty() {
+                header.take(line).map_err(Missing::NoFrame)?;
+                start = end;
+                continue;
             }
-            if let Err(fault) = header.take(line) {
-                return Ok(Some(Err(fault)));
+            let Some(len) = header.len else {
+                return refused("a header has no Content-Length");
+            };
+            let missing = (end + len).saturating_sub(self.buffer.len());
+            if missing > 0 && self.buffer.try_reserve_exact(missing + MOST_READ).is_err() {
+                return Err(Missing::NoFrame(Fault::no_memory()));
             }
+            self.body = end;
+            return Ok((len, header.is_other_text == Some(true)));
         }
     }
 
-    /// The line of a header that begins at a place.
-    fn line(&mut self, from: usize) -> io::Result<Line> {
+    /// Where the line of a header ends, or more bytes than a header may have.
+    fn line_end(&mut self, start: usize) -> Result<usize, Missing> {
         loop {
-            if let Some(len) = self.buffer[from..].iter().position(|byte| *byte == b'\n') {
-                return Ok(Line::Ends(from + len + 1));
+            if let Some(len) = self.buffer[start..].iter().position(|byte| *byte == b'\n') {
+                return Ok(start + len + 1);
             }
             if self.buffer.len() - self.at > MOST_HEADER {
-                return Ok(Line::TooLong);
+                return Ok(self.buffer.len());
             }
-            if !self.fill()? {
-                return Ok(Line::Cut);
-            }
+            self.fill()?;
         }
     }
 
-    /// Reads on until the body is there, and goes to its end; or to a frame inside it, which tells that its length is
-    /// wrong. A body that the end of the input cuts off is none.
-    fn read_body(&mut self, end: usize) -> io::Result<Option<Result<(), Fault>>> {
+    /// Reads on until the body is there, and goes to its end; or to a frame inside it, which tells that its length is wrong.
+    fn read_body(&mut self, end: usize) -> Result<(), Missing> {
         let mut searched = self.body;
         while self.buffer.len() < end {
             if let Some(inside) = frame_in(&self.buffer, searched) {
                 self.at = inside;
-                return Ok(Some(Err(Fault::parse_error("a frame begins inside a body"))));
+                return Err(Missing::NoFrame(Fault::parse_error("a frame begins inside a body")));
             }
-            searched = self.body.max(self.buffer.len().saturating_sub(LONGEST_LENGTH));
-            if !self.fill()? {
-                return Ok(None);
-            }
+            searched = self.body.max(self.buffer.len().saturating_sub(LONGEST_LINE));
+            self.fill()?;
         }
         self.at = end;
-        Ok(Some(Ok(())))
+        Ok(())
     }
 
-    /// Looks for the next line that begins a frame, and goes there. It refuses the bytes before that line where they have a
-    /// `{`, since a message may begin with it.
-    fn find(&mut self) -> io::Result<Option<Result<(), Fault>>> {
+    /// Looks for the next line that begins a frame, and goes there. What is before it and no blank may have been a message.
+    fn find(&mut self) -> Result<(), Missing> {
         loop {
             let found = frame_in(&self.buffer, self.at);
-            let to = found.unwrap_or(self.at.max(self.buffer.len().saturating_sub(LONGEST_LENGTH)));
-            let from = self.told.clamp(self.at, to);
-            let has_object = self.buffer[from..to].contains(&b'{');
-            (self.at, self.body) = (to, to);
-            if has_object {
-                return Ok(Some(Err(Fault::parse_error("a message has no frame"))));
+            let to = found.unwrap_or(self.at.max(self.buffer.len().saturating_sub(LONGEST_LINE)));
+            let passed = self.buffer[self.at..to].trim_ascii();
+            let (is_blank, is_type) = (passed.is_empty(), is_type(passed));
+            self.is_searching = found.is_none();
+            if !is_type {
+                self.at = to;
+            }
+            if !is_blank && !is_type {
+                return Err(Missing::NoFrame(Fault::parse_error("bytes are in no frame")));
             }
             if found.is_some() {
-                return Ok(Some(Ok(())));
+                return Ok(());
             }
             self.forget();
-            if !self.fill()? {
-                return Ok(None);
-            }
+            self.fill()?;
         }
     }
 
-    /// Reads what comes; whether anything came.
-    fn fill(&mut self) -> io::Result<bool> {
+    /// Reads what comes.
+    fn fill(&mut self) -> Result<(), Missing> {
         let read = loop {
             match self.input.fill_buf() {
                 Err(error) if error.kind() == ErrorKind::Interrupted => {}
@@ -242,7 +253,10 @@ impl<R: BufRead> Frames<R> {
         let len = read.len();
         self.buffer.extend_from_slice(read);
         self.input.consume(len);
-        Ok(len != 0)
+        match len {
+            0 => Err(Missing::End),
+            _ => Ok(()),
+        }
     }
 
     /// Forgets what was served, where that is most of what was read.
@@ -250,26 +264,29 @@ impl<R: BufRead> Frames<R> {
         if self.at >= self.buffer.len() / 2 {
             self.buffer.drain(..self.at);
             self.buffer.shrink_to(KEPT);
-            self.told = self.told.saturating_sub(self.at);
             (self.at, self.body) = (0, 0);
         }
     }
 }
 
 impl Header {
-    /// Takes a line of the header.
+    /// Takes a line of the header. The protocol has two fields. What is neither may be the end of another message.
     fn take(&mut self, line: &[u8]) -> Result<(), Fault> {
-        let (name, value) =
-            field(line).ok_or_else(|| Fault::invalid_request("a header has a line that is no field"))?;
-        if name.eq_ignore_ascii_case(LENGTH) {
-            let len = length(value).ok_or_else(|| Fault::invalid_request("a Content-Length is none, or too long"))?;
-            if self.len.replace(len).is_some() {
-                return Err(Fault::invalid_request("a header has two lengths"));
+        let refused = |sentence| Err(Fault::invalid_request(sentence));
+        let was_there = match field(line) {
+            Some((name, value)) if name.eq_ignore_ascii_case(LENGTH) => match length(value) {
+                Some(len) => self.len.replace(len).is_some(),
+                None => return refused("a Content-Length is none, or too long"),
+            },
+            Some((name, value)) if name.eq_ignore_ascii_case(TYPE) && !value.contains(':') => {
+                self.is_other_text.replace(is_other_text(value)).is_some()
             }
-        } else if name.eq_ignore_ascii_case("Content-Type") {
-            self.is_other_text = is_other_text(value);
+            _ => return refused("a header has a line that is no field of the protocol"),
+        };
+        match was_there {
+            true => refused("a header has a field twice"),
+            false => Ok(()),
         }
-        Ok(())
     }
 }
 
@@ -277,6 +294,12 @@ impl Header {
 fn field(line: &[u8]) -> Option<(&str, &str)> {
     let (name, value) = std::str::from_utf8(line).ok()?.split_once(':')?;
     Some((name, value.trim()))
+}
+
+/// Whether some bytes are the other field of a header, which may stand before the length, or its beginning.
+fn is_type(bytes: &[u8]) -> bool {
+    let name = field(bytes).map(|(name, _)| name);
+    bytes.len() <= LONGEST_TYPE && !bytes.contains(&b'\n') && name.is_some_and(|name| name.eq_ignore_ascii_case(TYPE))
 }
 
 /// The length of a body, where it is one that may be.
@@ -298,12 +321,23 @@ fn frame_in(bytes: &[u8], from: usize) -> Option<usize> {
     let mut start = from;
     while let Some(len) = bytes[start..].iter().position(|byte| *byte == b'\n') {
         let end = start + len;
-        if let Some(back) = length_before(&bytes[start.max(end.saturating_sub(LONGEST_LENGTH))..end]) {
+        if let Some(back) = length_before(&bytes[start.max(end.saturating_sub(LONGEST_LINE))..end]) {
             return Some(end - back);
         }
         start = end + 1;
     }
     None
+}
+
+/// How many of the last of some bytes may begin the field for a length, if the next bytes go on so.
+fn length_begun(bytes: &[u8]) -> usize {
+    let begins = |len: &usize| {
+        let last = &bytes[bytes.len() - len..];
+        let (name, value) = last.split_at(LENGTH.len().min(*len));
+        let is_value = |byte: &u8| byte.is_ascii_digit() || b": \r".contains(byte);
+        LENGTH.as_bytes()[..name.len()].eq_ignore_ascii_case(name) && value.iter().all(is_value)
+    };
+    (1..=bytes.len().min(LONGEST_LINE)).rev().find(begins).unwrap_or(0)
 }
 
 /// How many bytes before the end of a line its field for the length begins, where it ends in one.

@@ -1,4 +1,8 @@
 //! What the server asks of the system, beside what Rust has.
+use std::ffi::OsString;
+use std::fs::File;
+use std::io::{self, BufRead, BufReader};
+use std::os::unix::ffi::OsStringExt;
 use std::path::PathBuf;
 use std::process;
 use std::thread;
@@ -37,5 +41,81 @@ pub fn end_with(process: i64) {
             }
             process::exit(1)
         });
+    }
+}
+
+/// Whether the file of a URI has a text, as an editor writes it: its line breaks may have a CR more, and its beginning the mark
+/// of its encoding. A file that cannot be read has none.
+pub fn file_has(uri: &str, text: &str) -> bool {
+    path_of(uri).is_some_and(|path| {
+        // A pipe would be waited for.
+        path.is_file()
+            && File::open(path)
+                .and_then(|file| has(BufReader::new(file), text))
+                .unwrap_or(false)
+    })
+}
+
+fn has(mut file: impl BufRead, text: &str) -> io::Result<bool> {
+    const MARK: &str = "\u{feff}";
+    let text = text.strip_prefix(MARK).unwrap_or(text);
+    if file.fill_buf()?.starts_with(MARK.as_bytes()) {
+        file.consume(MARK.len());
+    }
+    let mut wanted = text.bytes().peekable();
+    for byte in file.bytes() {
+        let byte = byte?;
+        let next = wanted.peek().copied();
+        if next == Some(byte) {
+            wanted.next();
+        } else if (byte, next) != (b'\r', Some(b'\n')) {
+            return Ok(false);
+        }
+    }
+    Ok(wanted.next().is_none())
+}
+
+/// The path of a file by its URI, where it is one of this machine.
+fn path_of(uri: &str) -> Option<PathBuf> {
+    let path = uri.strip_prefix("file://")?;
+    let path = path.strip_prefix("localhost").unwrap_or(path);
+    let mut parts = path.split('%');
+    let mut bytes = parts.next()?.as_bytes().to_vec();
+    for part in parts {
+        bytes.push(u8::from_str_radix(part.get(..2)?, 16).ok()?);
+        bytes.extend_from_slice(&part.as_bytes()[2..]);
+    }
+    let path = PathBuf::from(OsString::from_vec(bytes));
+    path.is_absolute().then_some(path)
+}
+
+#[cfg(test)]
+mod tests {
+    use super::*;
+
+    #[test]
+    fn a_file_has_a_text() {
+        let has = |file: &str, text| has(file.as_bytes(), text).unwrap();
+        assert!(has("a\nb\n", "a\nb\n") && has("a\r\nb\r\n", "a\nb\n") && has("\u{feff}a", "a") && has("", ""));
+        assert!(
+            !has("a\nb\n", "a\nb") && !has("a\nb", "a\nb\n") && !has("ab", "a") && !has("a\rb", "ab") && !has("a", "")
+        );
+    }
+
+    #[test]
+    fn a_uri_has_a_path() {
+        assert_eq!(path_of("file:///a%20b/%c3%A9"), Some(PathBuf::from("/a b/é")));
+        assert_eq!(path_of("file://localhost/a"), Some(PathBuf::from("/a")));
+        for uri in [
+            "untitled:a",
+            "file://host/a",
+            "file:///%",
+            "file:///%g0",
+            "file:///%é",
+            "file:a",
+            "",
+        ] {
+            assert_eq!(path_of(uri), None, "{uri}");
+        }
     }
 }

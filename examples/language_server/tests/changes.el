@@ -5,21 +5,19 @@
 ;;
 ;;     emacs --batch -l changes.el
 ;;
-;; The environment variable JOB has what to do, as JSON: the server's program, the file, the number of edits, and of those of
-;; each small text, the length of a paste, and the seed of the random numbers. What was found is printed as JSON.
+;; The environment variable JOB has what to do, as JSON: the server's program, the file, the number of edits, of those of each
+;; small text, and of saves of a part, the length of a paste, and the seed of the random numbers. What was found is printed.
 
 (require 'eglot)
 (require 'json)
 
 (defvar changes-job (json-parse-string (getenv "JOB") :object-type 'alist))
-(defvar changes-found (list (cons 'ends 0) (cons 'edits 0) (cons 'texts 0) (cons 'hovers 0) (cons 'told 0)
-                            (cons 'after_return "") (cons 'wrong [])))
+(defvar changes-found (list (cons 'ends 0) (cons 'edits 0) (cons 'texts 0) (cons 'hovers 0) (cons 'parts 0) (cons 'wrong [])))
 (defvar changes-server nil)
 
-;; Chars of one to four bytes, chars that combine with the one before, and chars that some take for line breaks; no CR alone,
-;; which Emacs takes for no line break and the protocol does.
+;; Chars of one to four bytes, chars that combine with the one before, and chars that some take for line breaks.
 (defvar changes-pieces
-  ["a" "word" " " "  " "\t" "é" "e\u0301" "せ" "世界" "🐸" "🐸\ufe0f" "👩\u200d🚀" "\U0010ffff" "\u0085" "\u2028" "\u000b" "\f" "\n" "\n\n"])
+  ["a" "word" " " "  " "\t" "\r" "é" "e\u0301" "せ" "世界" "🐸" "🐸\ufe0f" "👩\u200d🚀" "\U0010ffff" "\u0085" "\u2028" "\u000b" "\f" "\n" "\n\n"])
 
 (defun changes-get (name)
   (alist-get name changes-job))
@@ -62,13 +60,13 @@
         (_ (undo))))))
 
 (defun changes-edit-mixed ()
-  "A random edit at an end of a line, which leaves each CR before an LF: one that stands alone ends a line for the server."
+  "A random edit at an end of a line."
   (changes-place)
   (beginning-of-line)
   (setq last-command nil)
   (ignore-errors
-    (pcase (random 11)
-      ((or 0 1) (insert (aref ["a" "🐸 " "b\r\n" "\n" "c \n"] (random 5))))
+    (pcase (random 12)
+      ((or 0 1) (insert (aref ["a" "🐸 " "b\r\n" "\n" "c \n" "\r"] (random 6))))
       (2 (kill-whole-line))
       (3 (kill-line))
       (4 (delete-char 1))
@@ -77,6 +75,7 @@
       (7 (when (search-forward "\r\n" nil t) (replace-match "\n")))
       (8 (end-of-line) (insert "\n"))
       (9 (end-of-line) (unless (bolp) (delete-char -1)))
+      (10 (end-of-line) (insert "\r"))
       (_ (undo)))))
 
 (defun changes-empty ()
@@ -170,30 +169,18 @@
   (dotimes (_ hovers)
     (changes-compare-hover)))
 
-(cl-defmethod eglot-handle-notification :after (_server (_method (eql window/logMessage)) &rest _params)
-  "Counts what the server tells the client's log."
-  (changes-count 'told))
-
-(defun changes-return-alone ()
-  "A CR alone ends a line by the protocol, and none for the editor: a change after it is put elsewhere."
-  (goto-char (point-max))
-  (insert "\na\rb\nsecond\nthird\n")
-  (changes-compare-text)
-  (search-backward "second")
-  (delete-char 1)
-  (insert "S")
-  (let* ((text (buffer-substring-no-properties (point-min) (point-max)))
-         (asked (list :textDocument (eglot--TextDocumentIdentifier)))
-         (answer (ignore-errors (plist-get (changes-ask :pauskern/text asked) :text))))
-    (setf (alist-get 'after_return changes-found)
-          (cond ((not answer) "refused") ((string= text answer) "in step") (t "another text")))))
-
-(defun changes-save ()
-  "A save mends that, since the server takes the text that was saved.  It tells of the CR again."
-  (let ((told (alist-get 'told changes-found)))
+(defun changes-narrow ()
+  "Saves and formats a buffer that is narrowed, and compares the whole text."
+  (let* ((start (changes-place)) (end (changes-place)))
+    (narrow-to-region (min start end) (max start end))
+    (changes-place)
+    (insert (changes-text 6) " ")
+    (changes-count 'parts)
     (save-buffer)
-    (changes-compare-text)
-    (setf (alist-get 'told changes-found) told)))
+    (when (= 0 (random 4))
+      (eglot-format-buffer))
+    (widen)
+    (changes-compare-text)))
 
 (defun changes-run ()
   (find-file (changes-get 'file))
@@ -211,9 +198,9 @@
       (changes-compare 2)))
   (changes-compare 10)
   (changes-try-ends)
-  (find-file (changes-get 'file))
-  (changes-return-alone)
-  (changes-save)
+  (find-file (format "%s1.txt" (changes-get 'file)))
+  (dotimes (_ (changes-get 'parts))
+    (changes-narrow))
   (changes-stop))
 
 (defun changes-stop ()
@@ -234,7 +221,7 @@
       undo-strong-limit 100000000
       inhibit-message t
       make-backup-files nil
-      eglot-server-programs (list (cons 'text-mode (list (changes-get 'program)))))
+      eglot-server-programs (list (cons 'text-mode (list (changes-get 'program) "--lines" "lf"))))
 (prefer-coding-system 'utf-8)
 (random (format "%s" (changes-get 'seed)))
 (condition-case fault

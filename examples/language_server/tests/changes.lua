@@ -14,11 +14,11 @@ local PATIENCE = 60000
 
 -- Chars of one to four bytes, chars that combine with the one before, and chars that some take for line breaks.
 local PIECES = {
-  "a", "b", "word", "x1", " ", "  ", "\t", "'", "é", "e\u{301}", "\u{301}", "せ", "世界", "🐸", "🐸\u{FE0F}", "👩\u{200D}🚀",
+  "a", "b", "word", "x1", " ", "  ", "\t", "'", "\r", "é", "e\u{301}", "\u{301}", "せ", "世界", "🐸", "🐸\u{FE0F}", "👩\u{200D}🚀",
   "\u{10FFFF}", "\u{FFFD}", "\u{85}", "\u{2028}", "\u{2029}", "\u{B}", "\u{C}", "\u{FEFF}",
 }
 
-local found = { ends = 0, edits = 0, texts = 0, hovers = 0, told = 0, after_return = "", wrong = {} }
+local found = { ends = 0, edits = 0, texts = 0, hovers = 0, wrong = {} }
 local client
 
 -- Tells what is wrong, in ASCII, since a part of a text may begin or end inside a char.
@@ -197,9 +197,11 @@ end
 local function expected_warnings()
   local warnings = {}
   for row, line in ipairs(vim.api.nvim_buf_get_lines(0, 0, -1, true)) do
-    local first = line:find("[ \t]+$")
+    -- A CR at the end of such a line is in a file of mixed breaks.
+    local content = vim.bo.fileformat == "unix" and line:gsub("\r$", "") or line
+    local first = content:find("[ \t]+$")
     if first and #warnings < 200 then
-      table.insert(warnings, string.format("%d:%d-%d:%d", row - 1, first - 1, row - 1, #line))
+      table.insert(warnings, string.format("%d:%d-%d:%d", row - 1, first - 1, row - 1, #content))
     end
   end
   return warnings
@@ -226,23 +228,14 @@ local function compare(hovers)
   end
 end
 
--- The limit: a CR alone ends a line by the protocol, and none for the editor. The server tells of it, and has the text. But
--- a change on a line after it is put into another line, or refused; where whole texts are sent, it comes to its place.
-local function return_alone()
-  local count = vim.api.nvim_buf_line_count(0)
-  vim.api.nvim_buf_set_lines(0, count, count, true, { "a\rb", "second", "third" })
-  compare_text()
-  vim.api.nvim_buf_set_text(0, count + 1, 0, count + 1, 1, { "S" })
-  local answer = ask("pauskern/text", {})
-  found.after_return = answer and (answer.text == buffer_text() and "in step" or "another text") or "refused"
-end
-
--- A save mends that, since the server takes the text that was saved. It tells of the CR again.
+-- The server takes what the file has. That may have a break at its end that the buffer has not.
 local function save()
-  local told = found.told
   vim.cmd("silent write")
-  compare_text()
-  found.told = told
+  local answer, text = ask("pauskern/text", {}), buffer_text()
+  local written = text .. (vim.bo.eol and "" or line_break(vim.bo.fileformat))
+  if answer and answer.text ~= text and answer.text ~= written then
+    wrong("text after a save", text, answer.text)
+  end
 end
 
 -- The end of a text.
@@ -305,12 +298,11 @@ local function edit_other(name, commands, one_edit)
   save()
 end
 
--- In a file with both breaks the editor takes a CR for the last char of its line. These leave each CR before an LF, since one
--- that stands alone ends a line for the server.
+-- In a file with both breaks the editor takes a CR for a char of its line.
 local MIXED = {
   "1s/\\r$//", "%s/\\r$//", "%s/[^\\r]$/&\\r/", "2,4move $", "1,3copy 0", "%sort", "2,5sort!", "2delete", "undo", "undo", "redo",
   "normal! 0x", "normal! 0ix", "normal! 0D", "normal! dd", "normal! yyp", "normal! ddp", "normal! ddP", "normal! O🐸 ", "normal! cc", "normal! ggdG",
-  "normal! o🐸 ", "normal! $x",
+  "normal! o🐸 ", "normal! $x", "normal! A\22\r", "normal! i\22\r", "normal! A \22\r", "normal! x",
 }
 
 local function edit_mixed()
@@ -345,11 +337,6 @@ local function start()
     capabilities = capabilities(),
     offset_encoding = job.encoding,
     flags = { allow_incremental_sync = not job.whole, debounce_text_changes = job.debounce },
-    handlers = {
-      ["window/logMessage"] = function()
-        found.told = found.told + 1
-      end,
-    },
     on_exit = function(code)
       found.exit = code
     end,
@@ -394,8 +381,6 @@ local function run()
   end
   compare(20)
   try_ends()
-  return_alone()
-  save()
   stop()
 end
 

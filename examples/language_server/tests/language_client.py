@@ -5,17 +5,20 @@ import pathlib
 import queue
 import re
 import subprocess
+import tempfile
 import threading
 
 # no answer takes so long, in seconds
 PATIENCE = 60
+# where the files of documents are
+FILES = tempfile.TemporaryDirectory()
 
 
 class Client:
     """Runs the server, sends messages, and takes what comes."""
 
-    def __init__(self, *words):
-        command = [os.environ["LANGUAGE_SERVER"], *words]
+    def __init__(self, *words, program=None):
+        command = [program or os.environ["LANGUAGE_SERVER"], *words]
         self.server = subprocess.Popen(command, stdin=subprocess.PIPE, stdout=subprocess.PIPE, stderr=subprocess.DEVNULL)
         self.came = queue.Queue()
         threading.Thread(target=self.read, daemon=True).start()
@@ -98,8 +101,8 @@ class Client:
     def notify(self, method, **params):
         return self.tell({"method": method, "params": params})
 
-    def initialize(self, capabilities=None, process=None):
-        params = {"processId": process, "rootUri": None, "capabilities": capabilities or {}}
+    def initialize(self, capabilities=None, process=None, **more):
+        params = {"processId": process, "rootUri": None, "capabilities": capabilities or {}, **more}
         return self.request("initialize", params)["result"]["capabilities"]
 
     def open(self, uri, text):
@@ -110,8 +113,10 @@ class Client:
         self.version += 1
         return self.tell(changed(uri, [event(*change) for change in changes], self.version if version is None else version))
 
-    def save(self, uri, text=None):
-        """Tells that a document was saved, with its text or without."""
+    def save(self, uri, text=None, of=None):
+        """Tells that a document was saved, with its text or without; the text may be a part of what the file has."""
+        if text is not None:
+            write_file(uri, text if of is None else of)
         return self.notify("textDocument/didSave", textDocument={"uri": uri}, **({} if text is None else {"text": text}))
 
     def memory(self, name):
@@ -130,6 +135,14 @@ class Client:
             self.send({"method": method})
         self.server.stdin.close()
         return self.server.wait(timeout=PATIENCE)
+
+
+def uri_of(name):
+    return f"file://{FILES.name}/{name}"
+
+
+def write_file(uri, text):
+    pathlib.Path(uri.partition("file://")[2]).write_bytes(text.encode())
 
 
 def body(message):

@@ -9,11 +9,10 @@ import resource
 import subprocess
 
 import pytest
-from language_client import Client, body, changed, event, frame, item, place, places_of
+from language_client import Client, body, changed, event, frame, item, place, places_of, uri_of
 from wrong_client import ABOUT_ANY, ODD, REFUSED, TOO_LONG
 
-URI = "file:///a"
-OTHER = "file:///b"
+URI, OTHER = uri_of("a"), uri_of("b")
 PARSE_ERROR, INVALID_REQUEST, NO_METHOD, INVALID_PARAMS = -32700, -32600, -32601, -32602
 NOT_INITIALIZED, OUT_OF_STEP = -32002, -32803
 SHOWN, LOGGED = "window/showMessage", "window/logMessage"
@@ -166,8 +165,8 @@ def test_out_of_step(client, what, healed):
     ("🐸\n\n", (0, 3), (1, 5), " ", "🐸 \n"), ("one", (0, GREATEST), (0, GREATEST), "!", "one!"),
     ("a\rb", (0, 2), (0, 2), "x", OUT_OF_STEP), ("a\r\nb\r", (0, 3), (0, 3), "x", OUT_OF_STEP),
     ("one", (0, 0), (1, 1), "x", OUT_OF_STEP), ("one", (0, 0), (GREATEST, 0), "x", OUT_OF_STEP),
-    ("🐸", (0, 1), (0, 9), "x", OUT_OF_STEP), ("a\r\nb", (0, 1), (0, 2), "", "a\nb"), ("a\r\nb", (0, 2), (1, 0), "", "a\rb"),
-    ("a\r\nb", (0, 2), (0, 2), "x", "a\rx\nb"), ("a\r\nb", (0, 3), (0, 3), "x", "ax\r\nb"),
+    ("🐸", (0, 1), (0, 9), "x", OUT_OF_STEP), ("ab\r\ncd", (0, 0), (0, 3), "", "\r\ncd"), ("a\r\nb", (0, 2), (1, 0), "", "ab"),
+    ("a\r\nb", (0, 2), (0, 2), "x", "ax\r\nb"), ("a\r\nb", (0, 3), (0, 3), "x", "ax\r\nb"),
     ("a\nb", (0, 2), (0, 2), "x", "ax\nb"),
 ])
 def test_ends(client, text, start, end, put, expected):
@@ -179,6 +178,8 @@ def test_ends(client, text, start, end, put, expected):
 
 @pytest.mark.parametrize("events", [
     [{"range": {"start": {"line": 0}, "end": place(0, 1)}, "text": ""}], [{"range": 7, "text": "a"}], [{}], {}, None, 7,
+    # serde takes a list for a structure
+    [{"range": [[0, 0], [0, 1]], "text": ""}], [[None, "whole"]], [{"range": {"start": [0, 0], "end": [0, 1]}, "text": ""}],
 ])
 def test_parameters_that_are_not_the_protocols(client, events):
     client.open(URI, "kept")
@@ -194,15 +195,39 @@ def test_a_whole_text_of_any_version(client, version):
     assert client.text(URI) == "Whole"
 
 
-@pytest.mark.parametrize("saved, heard", [("one", []), (None, []), ("two", [SHOWN])])
-def test_save(client, saved, heard):
-    client.open(URI, "one")
-    assert client.save(URI, saved) == heard and client.text(URI) == (saved or "one")
+@pytest.mark.parametrize("saved, of, text, heard", [
+    ("one\ntwo", None, "one\ntwo", []), (None, None, "one\ntwo", []), ("Two", None, "Two", [SHOWN]),
+    # a text that the file has with other breaks, and one that has but a break more at its end
+    ("Two\n", "\ufeffTwo\r\n", "Two\n", [SHOWN]), ("one\ntwo\n", "else", "one\ntwo\n", [SHOWN]),
+    # the part to which Emacs narrowed a buffer; and one of another text
+    ("two", "one\ntwo", "one\ntwo", []), ("", "one\ntwo", "one\ntwo", []), ("Two", "one\nTwo", OUT_OF_STEP, [SHOWN]),
+])
+def test_save(client, saved, of, text, heard):
+    client.open(URI, "one\ntwo")
+    assert client.save(URI, saved, of) == heard and client.text(URI) == text
 
 
-def test_a_save_opens_no_document(client):
-    client.save(URI, "text")
-    assert client.text(URI) == INVALID_PARAMS
+def test_a_part_that_is_saved_heals_nothing(client):
+    client.open(URI, "one\ntwo")
+    client.change(URI, ((9, 0), (9, 0), "x"))
+    for part in ["one", "two", "one\n", ""]:
+        assert client.save(URI, part, of="one\ntwo") == [] and client.text(URI) == OUT_OF_STEP
+    assert client.save(URI, "one\ntwo") == [] and client.text(URI) == "one\ntwo"
+
+
+def test_a_save_under_a_new_name(client):
+    """It opens the document, where the file has the text."""
+    client.save(OTHER, "part", of="a part")
+    assert client.text(OTHER) == INVALID_PARAMS
+    client.save(OTHER, "a part")
+    assert client.text(OTHER) == "a part"
+
+
+def test_a_file_that_is_a_pipe_is_not_waited_for(client):
+    client.open(uri_of("pipe"), "one")
+    os.mkfifo(uri_of("pipe").partition("file://")[2])
+    client.notify("textDocument/didSave", textDocument={"uri": uri_of("pipe")}, text="two")
+    assert client.text(uri_of("pipe")) == OUT_OF_STEP
 
 
 def test_a_return_alone(client):
@@ -211,6 +236,33 @@ def test_a_return_alone(client):
     assert client.change(URI, ((1, 0), (1, 1), " ")) == [] and client.text(URI) == "a\r \nc "
     assert client.warned(URI) == [(1, 0, 1), (2, 1, 2)]
     assert client.change(URI, ((3, 1), (3, 1), "y")) == [SHOWN] and client.text(URI) == OUT_OF_STEP
+
+
+@pytest.mark.parametrize("words, info, expected", [
+    (["--lines", "lf"], None, "a\rb\nc"), (["--lines", "protocol"], "Neovim", OUT_OF_STEP), ([], "Neovim", "a\rb\nc"),
+    ([], "Visual Studio Code", OUT_OF_STEP), ([], 7, OUT_OF_STEP),
+])
+def test_lines(words, info, expected):
+    """What ends a line, by the command line or by who the client is: here the second CR goes from a line that an LF ends."""
+    with Client(*words) as client:
+        client.initialize(clientInfo={"name": info} if info else None)
+        client.open(URI, "a\rb\r\nc")
+        client.change(URI, ((0, 3), (0, 4), ""))
+        assert client.text(URI) == expected
+
+
+def test_a_client_that_asks_for_warnings():
+    with Client() as client:
+        assert client.initialize({"textDocument": {"diagnostic": {}}})["diagnosticProvider"]
+        client.open(URI, "one \ntwo")
+        report = client.ask("textDocument/diagnostic", URI)
+        assert report["kind"] == "full" and places_of(report["items"]) == [(0, 3, 4)] and client.warnings == {}
+
+
+@pytest.mark.parametrize("params", [{"capabilities": None}, {"processId": 1.5}, {"clientInfo": []}, {"capabilities": 7}])
+def test_odd_words_of_a_client(params):
+    with Client() as client:
+        assert client.request("initialize", params)["result"]["capabilities"]["positionEncoding"] == "utf-16"
 
 
 RIGHT = changed(URI, [event((0, 0), (0, 0), "X")], 2)
@@ -281,6 +333,42 @@ def test_odd_change(client, what):
     client.open(URI, "hello")
     client.write(ODD[what](body(changed(URI, [event((0, 0), (0, 0), "X")], 2))))
     assert client.change(URI, ((0, 0), (0, 0), ">"), version=3) == [] and client.text(URI) == ">Xhello"
+
+
+def test_one_file_that_is_not_utf_8(client):
+    """It is out of step alone, though it is not open, until it is saved as UTF-8."""
+    client.open(URI, "kept")
+    client.write(frame(body({"method": "textDocument/didOpen", "params": item(OTHER, "Y")}).replace(b"Y", b"\xff")))
+    assert SHOWN in client.said() and [client.text(URI), client.text(OTHER)] == ["kept", OUT_OF_STEP]
+    assert client.change(OTHER, ((0, 0), (0, 1), "y")) == []
+    assert client.save(OTHER, "y") == [] and client.text(OTHER) == "y"
+
+
+# a right change, and what is left of it
+CUT = frame(body(changed(OTHER, [event((0, 0), (0, 0), "X")], 2)))
+
+
+@pytest.mark.parametrize("rest", [CUT[:1], CUT[:18], CUT[:40], CUT[-2:], CUT[-40:], b"}"], ids=range(6))
+def test_the_rest_of_a_frame_after_a_refused_body(client, rest):
+    """The body names one document; what else is no blank may have been a change of any."""
+    for uri in [URI, OTHER]:
+        client.open(uri, "kept")
+    client.write(frame(body(RIGHT)[:-1]) + rest)
+    assert client.said().count(SHOWN) == 2 and client.text(OTHER) == OUT_OF_STEP
+
+
+def test_a_name_that_is_hidden(client):
+    for uri in [URI, OTHER]:
+        client.open(uri, "kept")
+    hidden = b'"params": {"textDocument": {"\\u0075ri": "%s"}, ' % OTHER.encode()
+    client.write(frame(body(RIGHT)[:-1].replace(b'"params": {', hidden)))
+    assert client.said().count(SHOWN) == 2 and client.text(OTHER) == OUT_OF_STEP
+
+
+def test_blanks_between_frames(client):
+    client.open(URI, "a ")
+    client.write(b"\r\n \n")
+    assert client.warned(URI) == [(0, 1, 2)] and client.said() == [] and client.text(URI) == "a "
 
 
 def test_half_a_pair_elsewhere(client):
@@ -358,6 +446,38 @@ def test_words(words, status, said):
     assert ("usage: " in done.stderr) == (status == 2)
 
 
+# The small server.
+
+SMALL = f"{os.environ['LANGUAGE_SERVER'].rpartition('/')[0]}/small_server"
+
+
+def test_a_day_of_the_small_server():
+    with Client(program=SMALL) as client:
+        assert client.initialize()["hoverProvider"]
+        client.open(URI, "a\r\n🐸b")
+        client.change(URI, ((0, 1), (1, 0), "-"), ((0, 4), (0, 4), "!"))
+        hover = client.ask("textDocument/hover", URI, position=place(0, 4))
+        assert hover["contents"] == "byte 6, char 3, line 0"
+        assert client.save(URI, "a-🐸!b") == [] and client.save(URI, "a-") == [SHOWN]
+        assert client.change(URI, ((0, 0), (0, 1), ""), ((7, 0), (7, 0), "x")) == [SHOWN]
+        assert client.change(URI, ((0, 0), (0, 0), "x")) == [] and client.save(URI, "a") == []
+        assert client.ask("textDocument/hover", URI, position=place(0, 0)) == OUT_OF_STEP
+        client.change(URI, (None, None, "ab"), ((0, 0), (0, 1), ""))
+        assert client.ask("textDocument/hover", URI, position=place(0, 9))["contents"] == "byte 1, char 1, line 0"
+        client.notify("textDocument/didClose", textDocument={"uri": URI})
+        assert client.ask("textDocument/hover", URI, position=place(0, 0)) == OUT_OF_STEP
+        assert client.request("shutdown", None)["result"] is None and client.end("exit") == 0
+
+
+@pytest.mark.parametrize("data", [
+    b"", b"x\r\n\r\n", b"Content-Length: x\r\n\r\n", b"\r\n{}", frame(b"{"), frame(b"{}"),
+    b"Content-Length: 99999999999999\r\n\r\n{}", frame(body({"method": "textDocument/didOpen"})), b"\xff\r\n",
+])
+def test_what_ends_the_small_server(data):
+    done = subprocess.run([SMALL], input=data, capture_output=True)
+    assert done.returncode == 1 and done.stderr.startswith(b"small_server: ") and done.stdout == b""
+
+
 # What it takes.
 
 def test_changes_by_which_a_text_comes_and_goes(client):
@@ -395,7 +515,7 @@ def no_request(data):
 
 
 def about(params):
-    return b'{"textDocument": {"uri": "file:///a"}, %s}' % params
+    return b'{"textDocument": {"uri": "%s"}, %s}' % (URI.encode(), params)
 
 
 EMPTY_RANGE = json.dumps(of_range((0, 0), (0, 0))["range"]).encode()

@@ -2,12 +2,12 @@
 """Builds the language server of examples/language_server, speaks with it, and lets editors edit files with it.
 
 By hand, by server_by_hand.py: what the server and its client agree on, and what it does with changes, with what is no
-message, and with messages that it cannot serve; and what it takes of memory and time. By wrong_client.py: 100,000 random
+message, and with messages that it cannot serve; and what it takes of memory and time. By wrong_client.py: 300,000 random
 messages, right and wrong, where each right one must be answered, and never from a text that the client does not have. In a
 headless Neovim, by changes.lua, in each position encoding, with line breaks of LF and of CR LF: random edits, with undo, redo
-and a paste of megabytes, and then in small texts that end in every way; and so in Emacs with eglot, by changes.el. The server
-must have the editor's text, and tell of places and of blanks at the end of lines what the editor knows. The set-ups of
-README.md are run too, where their editor is here.
+and a paste of megabytes, and then in small texts that end in every way; and so in Emacs with eglot, by changes.el, also in a
+narrowed buffer. The server must have the editor's text, and tell of places and of blanks at the end of lines what the editor
+knows. The set-ups of README.md are run too, where their editor is here, and a day of the small server.
 
 The command `pytest` runs the tests, with the server that LANGUAGE_SERVER names. Run as a script this file builds it first;
 where cargo, the crate serde_json, pytest or an editor is missing, what needs it is left out. The last line printed is
@@ -161,19 +161,12 @@ def test_neovim(neovim, tmp_path, offered, encoding, line_break, whole):
     )
     assert_enough(found, "changes.lua", "edits", "texts", "hovers", "ends")
     assert found["encoding"] == encoding
-    assert_limit(found, whole)
 
 
 @pytest.mark.parametrize("line_break", [LF, CR_LF])
 def test_emacs(emacs, tmp_path, line_break):
-    found = found_by(IN_EMACS, tmp_path, line_break, seed=1, edits=300, paste=LONG_PASTE, ends=850)
-    assert_enough(found, "changes.el", "edits", "texts", "hovers", "ends")
-    assert_limit(found, False)
-
-
-def assert_limit(found, whole):
-    """After a CR alone an editor is out of step, unless it sends whole texts, until it saves; the server has told of it."""
-    assert found["told"] == 1 and (found["after_return"] == "in step") == whole
+    found = found_by(IN_EMACS, tmp_path, line_break, seed=1, edits=300, paste=LONG_PASTE, ends=850, parts=100)
+    assert_enough(found, "changes.el", "edits", "texts", "hovers", "ends", "parts")
 
 
 # What README.md says of editors.
@@ -193,6 +186,18 @@ vim.cmd("normal! Atwo ")
 has("one two \n")
 vim.cmd("edit!")
 has("one \n")
+for _, client in pairs(vim.lsp.get_active_clients()) do
+  client.stop(true)
+end
+assert(vim.wait(60000, function() return #vim.lsp.get_active_clients() == 0 end, 10))
+vim.cmd("edit!")
+has("one \n")
+local name = vim.fn.expand("%")
+vim.cmd("saveas! " .. name .. "2.txt")
+vim.cmd("normal! Ax")
+has("one x\n")
+vim.cmd("saveas! " .. name)
+vim.cmd("normal! x")
 vim.cmd("normal! Atwo ")
 has("one two \n")
 local asked = vim.lsp.util.make_given_range_params({ 1, 0 }, { 1, 0 })
@@ -210,6 +215,16 @@ vim.cmd("write")
 IN_BATCH = """
 (run-hooks 'post-command-hook)
 (with-timeout (60) (while (not (eglot-managed-p)) (accept-process-output nil 0.1)))
+(defun text ()
+  (let ((asked (list :textDocument (eglot--TextDocumentIdentifier))))
+    (eglot--signal-textDocument/didChange)
+    (plist-get (jsonrpc-request (eglot-current-server) :pauskern/text asked :timeout 60) :text)))
+(let ((name buffer-file-name))
+  (write-file (concat name "2.txt"))
+  (insert "x")
+  (unless (string= (text) "xone \n") (error "After a new name: %s" (text)))
+  (delete-char -1)
+  (write-file name))
 (goto-char (point-max))
 (insert "two ")
 (eglot-format-buffer)
@@ -218,7 +233,6 @@ IN_BATCH = """
 
 
 IN_VIM = """
-set filetype=text
 call ale#Queue(0, 'lint_file')
 for turn in range(1200)
   if !empty(ale#engine#GetLoclist(bufnr(''))) | break | endif
@@ -262,5 +276,5 @@ def test_set_up_of_emacs(emacs, text_after):
 
 def test_set_up_of_vim(vim, text_after):
     """It shows what the server warns of."""
-    words = ["-N", "-u", "NONE", "-i", "NONE", "-es", "-c", "packadd ale", "-S", "SET_UP", "-c", "edit TEXT", "-S", "THEN"]
+    words = ["-N", "-u", "NONE", "-i", "NONE", "-es", "-S", "SET_UP", "-c", "edit TEXT", "-S", "THEN"]
     assert text_after("vim", IN_VIM, "vim", *words) == "blanks at the end of a line\n"

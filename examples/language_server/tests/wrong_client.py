@@ -2,25 +2,27 @@
 
 Beside each document stands the client's text, by the model of positions in Python. Every right request must be answered
 from it, or by the error that the document is out of step: never from another text, whatever stands before it: frames that
-are cut, lengths that are wrong, junk, changes in bodies that are refused, changes that no client in step sends, old
-versions, thousands of changes in a message. The server must not end, nor be silent for a minute, and its memory must stay
-below a bound. The command `pytest` runs this.
+are cut, tails of frames, lengths that are wrong, junk, changes in bodies that are refused, changes that no client in step
+sends, saves of a part of a text, old versions, thousands of changes in a message. The server must not end, nor be silent for
+a minute, and its memory must stay below a bound. The command `pytest` runs this.
 """
 import collections
 import json
 import random
 import re
 
-from language_client import Client, body, changed, event, frame, item, place, places_of
+import pytest
+from language_client import Client, body, changed, event, frame, item, place, places_of, uri_of, write_file
 from position_model import Lines
 from tally import least
 
-SEED = 59
-# how many messages are sent
+# drawn anew for each run; a failure names its seed
+SEEDS = random.SystemRandom().sample(range(2**32), 3)
+# how many messages are sent by each
 MESSAGES = 100_000
 # the most memory that the server has at any time
 MOST_MEMORY = 32 << 20
-URIS = [f"file:///{name}" for name in "abcde"]
+URIS = [uri_of(name) for name in "abcde"]
 LONGEST = 1000
 OUT_OF_STEP, NO_DOCUMENT, NO_METHOD = -32803, -32602, -32601
 PIECES = ["a", "word", " ", "  ", "\t", "é", "せ", "🐸", "\n", "\r\n", "\r", "\u2028", "\"", "\\", "\0"]
@@ -62,7 +64,7 @@ REFUSED = {
     "a batch": lambda content: frame(b"[%s]" % content),
 }
 # those whose bytes do not say which document they change
-ABOUT_ANY = ["a body that is too long", "two methods"]
+ABOUT_ANY = ["a body that is too long", "a length that is one too small", "two methods"]
 # and what makes a frame that is taken, with what the server does not look at
 ODD = {
     "a member nested 200 deep": lambda content: frame(with_member(content, b"\"x\": " + b"[" * 200 + b"]" * 200)),
@@ -115,20 +117,15 @@ def warnings_of(text):
     return found
 
 
-def is_between(data, byte):
-    """Whether a byte is the LF of a CR LF."""
-    return byte > 0 and data[byte - 1:byte + 1] == b"\r\n"
-
-
 def is_whole(events):
     """Whether the text after some changes is known whatever it was before."""
     return any("range" not in one for one in events)
 
 
 class WrongClient(Client):
-    def __init__(self):
+    def __init__(self, seed):
         super().__init__()
-        self.random = random.Random(SEED)
+        self.random = random.Random(seed)
         self.documents = [Document(uri) for uri in URIS]
         # by the number of each request that is not answered yet, what it must be answered with
         self.wanted = {}
@@ -175,12 +172,12 @@ class WrongClient(Client):
         document.is_open = False
         self.send({"method": "textDocument/didClose", "params": document.named})
 
-    def byte(self, data, has_return):
-        """A place of a text: a byte where a char begins; between CR and LF, where no CR stands alone."""
+    def byte(self, data):
+        """A place of a text: a byte where a char begins, and not between CR and LF."""
         byte = self.random.randrange(len(data) + 1)
         while byte < len(data) and data[byte] & 0xC0 == 0x80:
             byte += 1
-        return byte - (has_return and is_between(data, byte))
+        return byte - (byte > 0 and data[byte - 1:byte + 1] == b"\r\n")
 
     def right_change(self, text):
         """A random change that names places, and the text after it."""
@@ -188,7 +185,7 @@ class WrongClient(Client):
             return event(None, None, whole := self.random_text(200)), whole
         lines, has_return = Lines(text), LONE_RETURN.search(text) is not None
         data = lines.data
-        start, end = sorted([self.byte(data, has_return), self.byte(data, has_return)])
+        start, end = sorted([self.byte(data), self.byte(data)])
         if self.random.randrange(2) == 0:
             end = start
         said = self.random.choice(self.ways(lines, end, has_return))
@@ -200,13 +197,11 @@ class WrongClient(Client):
     def ways(self, lines, byte, has_return):
         """How a client may say a place: an end of a line, or of the text, also by a position past it."""
         line, character = place = lines.position(byte, 16)
-        if is_between(lines.data, byte):
-            return [(line, character + 1)]
         ways = [place, place]
         if byte == len(lines.data):
             ways += [(len(lines.lines), 0), (GREATEST, GREATEST)]
         if byte == lines.end(line) and not has_return:
-            ways += [(line, character + self.random.randrange(2, LONGEST))]
+            ways += [(line, character + self.random.randrange(1, LONGEST))]
         return ways
 
     def changed(self, document, events, version):
@@ -245,7 +240,22 @@ class WrongClient(Client):
 
     def save(self, document):
         document.state, document.taken = IN_STEP, None
-        self.send({"method": "textDocument/didSave", "params": {**document.named, "text": document.text}})
+        self.send_save(document, document.text)
+
+    def save_part(self, document):
+        """The file has the whole text, and the message a part of it, which heals nothing."""
+        self.counts["parts"] += 1
+        start, end = sorted(self.random.randrange(len(document.text) + 1) for _ in range(2))
+        part = document.text[start:end]
+        if part == document.text:
+            document.state, document.taken = IN_STEP, None
+        self.send_save(document, part)
+
+    def send_save(self, document, text):
+        write_file(document.uri, document.text)
+        self.send({"method": "textDocument/didSave", "params": {**document.named, "text": text}})
+        # the file must not be another before the server has read it
+        self.settle()
 
     def many_changes(self, document):
         """Thousands of changes that leave the text as it was."""
@@ -292,11 +302,13 @@ class WrongClient(Client):
         events = self.right_changes(document)
         document.state = LOST
         self.write(refused(body(changed(document.uri, events, document.version))))
+        if self.random.randrange(4) == 0:
+            self.cut_frame(self.random.choice([other for other in self.documents if other.is_open]))
         self.change(document)
         self.ask_for_text(document)
 
     def cut_frame(self, document):
-        """A right change's frame with a part of it cut out, or a length that is wrong, or with another cut one after it."""
+        """A right change's frame with a part of it cut out, its head or tail, or a length that is wrong."""
         self.doubt()
         events = self.right_changes(document)
         # a cut in the header may leave the frame as right as it was
@@ -305,7 +317,7 @@ class WrongClient(Client):
         at = self.random.randrange(1, len(whole))
         cut = self.random.randrange(1, 30)
         self.write(self.random.choice([
-            whole[:at], whole[:at] + whole[at + cut:], whole.replace(b": ", b": 1", 1), whole[:at] + whole[at + 1:],
+            whole[:at], whole[at:], whole[:at] + whole[at + cut:], whole.replace(b": ", b": 1", 1), whole[:at] + whole[at + 1:],
         ]))
         self.change(document)
         self.ask_for_text(document)
@@ -324,7 +336,7 @@ class WrongClient(Client):
         self.write(frame(self.random.choice(WRONG_JSON)))
 
     # what each is done to a document that is open, or closed too
-    OPEN = [change, change, change, change, save, ask_for_hover, ask_for_edits]
+    OPEN = [change, change, change, change, save, save_part, ask_for_hover, ask_for_edits]
     ANY = [ask_for_text, ask_for_text, ask_for_hover, ask_for_nothing, ask_for_edits, open, open, close, heal, heal]
     WRONG = [wrong_change, refused_body, refused_body, cut_frame, cut_frame, junk, junk, wrong_json]
 
@@ -362,8 +374,9 @@ class WrongClient(Client):
             assert self.warned(document.uri) in document.warnings()
 
 
-def test_a_client_that_speaks_wrongly():
-    with WrongClient() as client:
+@pytest.mark.parametrize("seed", SEEDS)
+def test_a_client_that_speaks_wrongly(seed):
+    with WrongClient(seed) as client:
         while client.counts["messages"] < MESSAGES:
             for _ in range(50):
                 client.step()
@@ -371,5 +384,5 @@ def test_a_client_that_speaks_wrongly():
         assert client.memory("VmHWM") <= MOST_MEMORY
         assert client.request("shutdown", None)["result"] is None and client.end("exit") == 0
     print(json.dumps(client.counts))
-    for what in ["answers", "texts", "changes", "refused changes"]:
+    for what in ["answers", "texts", "changes", "refused changes", "parts"]:
         assert client.counts[what] >= least(f"{what} of wrong_client.py")
