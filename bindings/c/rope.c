@@ -76,8 +76,6 @@ uint32_t rope_copy_to(str_rope *rope, size_t from, size_t to, char *out, size_t 
 uint32_t rope_change(str_rope *rope, uint32_t encoding, str_indices_range range, const char *text, size_t len);
 uint32_t rope_change_utf8(str_rope *rope, uint32_t encoding, str_indices_range range, const char *text, size_t len);
 uint32_t rope_change_exact(str_rope *rope, uint32_t encoding, str_indices_range range, const char *text, size_t len);
-uint32_t rope_change_all(str_rope *rope, bool exact, uint32_t encoding, const str_rope_content_change *changes,
-                         size_t count, size_t *refused);
 
 /* Whether a text is missing: null, though its length is not 0. */
 static bool is_missing(const char *text, size_t len)
@@ -224,44 +222,6 @@ str_rope_status str_rope_change_exact(str_rope *rope, str_indices_encoding encod
     if (is_missing(text, len))
         return STR_ROPE_NULL_TEXT;
     return (str_rope_status)rope_change_exact(rope, encoding, range, text_of(text), len);
-}
-
-/* The index of the first change whose text is null, also where its length is 0, or which a null list has; `count` where
- * there is none. */
-static size_t first_null(const str_rope_content_change *changes, size_t count)
-{
-    size_t index = 0;
-    while (index < count && changes != NULL && changes[index].text != NULL)
-        ++index;
-    return index;
-}
-
-/* The list may be null where it is empty, and so may the place for an index. */
-static str_rope_status change_all(str_rope *rope, bool exact, str_indices_encoding encoding,
-                                  const str_rope_content_change *changes, size_t count, size_t *refused)
-{
-    static const str_rope_content_change nothing;
-    size_t index = first_null(changes, count);
-    if (refused == NULL)
-        refused = &index;
-    if (index < count) {
-        *refused = index;
-        return STR_ROPE_NULL_TEXT;
-    }
-    return (str_rope_status)rope_change_all(rope, exact, encoding, changes != NULL ? changes : &nothing, count,
-                                            refused);
-}
-
-str_rope_status str_rope_change_all(str_rope *rope, str_indices_encoding encoding,
-                                    const str_rope_content_change *changes, size_t count, size_t *refused)
-{
-    return change_all(rope, false, encoding, changes, count, refused);
-}
-
-str_rope_status str_rope_change_all_exact(str_rope *rope, str_indices_encoding encoding,
-                                          const str_rope_content_change *changes, size_t count, size_t *refused)
-{
-    return change_all(rope, true, encoding, changes, count, refused);
 }
 
 const char *str_rope_status_text(str_rope_status status)

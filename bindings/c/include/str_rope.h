@@ -337,7 +337,8 @@ str_indices_bytes str_rope_byte_range(const str_rope *rope,
                                       str_indices_range range);
 
 /* Replaces the bytes of a range, as str_rope_byte_range answers them, by a
- * text: one change as a client sends it. For a change that has no range, which
+ * text: one change as a client sends it. Each change of a message is meant in
+ * the text that the one before it left. For a change that has no range, which
  * replaces the whole text, call str_rope_assign. May answer
  * STR_ROPE_NOT_ORDERED, STR_ROPE_TOO_LONG, STR_ROPE_NOT_UTF8 and, where
  * something goes or comes, STR_ROPE_NO_MEMORY. */
@@ -355,47 +356,6 @@ STR_ROPE_CHECKED str_rope_status str_rope_change(str_rope *rope,
 STR_ROPE_CHECKED str_rope_status
 str_rope_change_exact(str_rope *rope, str_indices_encoding encoding,
                       str_indices_range range, const char *text, size_t len);
-
-/* A change, one of some in turn: a text in the place of a range, or of the
- * whole text. */
-typedef struct str_rope_content_change {
-    str_indices_range range;
-    const char *text; /* NULL is refused, also where `len` is 0 */
-    size_t len;
-    bool whole; /* whether it replaces the whole text, whatever `range` is */
-} str_rope_content_change;
-
-/* Makes `count` changes in turn, each as str_rope_change does in the text that
- * the one before it left: all of them, or none. They are the `contentChanges`
- * of a message:
- *
- *     str_rope_content_change changes[] = {
- *         {.range = {{0, 4}, {0, 9}}, .text = "line", .len = 4},
- *         {.text = text, .len = len, .whole = true},
- *     };
- *     size_t refused;
- *     if (str_rope_change_all(&rope, encoding, changes, 2, &refused) !=
- *         STR_ROPE_OK) ...
- *
- * Where one is refused, the text is as before the first of them, `*refused` is
- * the index of that change, and the status is what str_rope_change answers to
- * it. But the texts of all of them are looked at first: STR_ROPE_NULL_TEXT is of
- * the first that is NULL, and else STR_ROPE_NOT_UTF8 of the first that is not
- * UTF-8. Where all are made, `*refused` stays as it is; `refused` may be NULL.
- *
- * One change costs what it costs alone. Before more of them a text that is not
- * empty takes a snapshot, which is freed in the end, so the nodes that change
- * are copied. Where memory for that is refused, the refusal is of the first
- * change: its own, or else STR_ROPE_NO_MEMORY. */
-STR_ROPE_CHECKED str_rope_status str_rope_change_all(
-    str_rope *rope, str_indices_encoding encoding,
-    const str_rope_content_change *changes, size_t count, size_t *refused);
-
-/* As str_rope_change_all, each change as str_rope_change_exact makes it: one
- * with a position that names no place is STR_ROPE_NOT_BOUNDARY. */
-STR_ROPE_CHECKED str_rope_status str_rope_change_all_exact(
-    str_rope *rope, str_indices_encoding encoding,
-    const str_rope_content_change *changes, size_t count, size_t *refused);
 
 /*
  * Lines and positions by what ends a line. With STR_INDICES_LINE_TYPE_LF_CR the end

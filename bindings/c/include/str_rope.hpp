@@ -19,14 +19,12 @@
 #define STR_ROPE_HPP
 
 #include <algorithm>
-#include <initializer_list>
 #include <iterator>
 #include <new>
 #include <optional>
 #include <ostream>
 #include <string>
 #include <string_view>
-#include <type_traits>
 #include <utility>
 
 #include <str_indices_positions.hpp>
@@ -34,75 +32,23 @@
 
 namespace pauskern {
 
-// A change, one of some in turn, as change_of() makes it: a text in the place of
-// a part, or of the whole text. It lends the text.
-using content_change = str_rope_content_change;
-
 namespace detail {
-
-// Returns where a text begins: not null, also where it is empty.
-inline const char *begin_of(std::string_view text) noexcept
-{
-    return text.data() != nullptr ? text.data() : "";
-}
-
-} // namespace detail
-
-inline content_change change_of(range part, std::string_view text) noexcept
-{
-    return {detail::to_c(part), detail::begin_of(text), text.size(), false};
-}
-// Makes a change of the whole text.
-inline content_change change_of(std::string_view text) noexcept
-{
-    return {{}, detail::begin_of(text), text.size(), true};
-}
-
-// Which change of some was refused, from 0. What is thrown is both this and the
-// type that says why.
-struct refused_change {
-    std::size_t index;
-};
-
-namespace detail {
-
-template <class Why> struct refused_for : Why, refused_change {
-    refused_for(const Why &why, std::size_t index)
-        : Why(why), refused_change{index}
-    {
-    }
-};
-
-// Hands what a status says, if it is a refusal, to a function that throws it.
-template <class Throw>
-void throw_refusal(str_rope_status status, Throw throw_it)
-{
-    const char *what = str_rope_status_text(status);
-    switch (status) {
-    case STR_ROPE_OK: return;
-    case STR_ROPE_NOT_ORDERED: return throw_it(not_ordered(what));
-    case STR_ROPE_NOT_BOUNDARY: return throw_it(not_boundary(what));
-    case STR_ROPE_TOO_LONG: return throw_it(too_long(what));
-    case STR_ROPE_NO_MEMORY: return throw_it(std::bad_alloc());
-    case STR_ROPE_NOT_UTF8: return throw_it(not_utf8(what));
-    case STR_ROPE_SAME_HANDLE: return throw_it(same_rope(what));
-    case STR_ROPE_NULL_TEXT: break; // of a view that is broken
-    }
-    throw_it(std::invalid_argument(what));
-}
 
 // Throws what a status says, if it is a refusal.
 inline void check(str_rope_status status)
 {
-    throw_refusal(status, [](const auto &why) { throw why; });
-}
-
-// Throws it with the index of the change that was refused.
-inline void check_change(str_rope_status status, std::size_t index)
-{
-    throw_refusal(status, [index](const auto &why) {
-        throw refused_for<std::decay_t<decltype(why)>>(why, index);
-    });
+    const char *what = str_rope_status_text(status);
+    switch (status) {
+    case STR_ROPE_OK: return;
+    case STR_ROPE_NOT_ORDERED: throw not_ordered(what);
+    case STR_ROPE_NOT_BOUNDARY: throw not_boundary(what);
+    case STR_ROPE_TOO_LONG: throw too_long(what);
+    case STR_ROPE_NO_MEMORY: throw std::bad_alloc();
+    case STR_ROPE_NOT_UTF8: throw not_utf8(what);
+    case STR_ROPE_SAME_HANDLE: throw same_rope(what);
+    case STR_ROPE_NULL_TEXT: break; // of a view that is broken
+    }
+    throw std::invalid_argument(what);
 }
 
 } // namespace detail
@@ -546,42 +492,6 @@ public:
         detail::check(str_rope_change_exact(&handle_, detail::to_c(units),
                                             detail::to_c(part), text.data(),
                                             text.size()));
-    }
-
-    // Makes changes in turn, each in the text that the one before it left: all
-    // of them, or none. They are in a std::vector, an array or the like. Throws
-    // what change() throws, as a type that is a refused_change too.
-    //
-    //     text.change_all(units, {change_of(part, "ye"), change_of(other, "")});
-    template <class Changes>
-    void change_all(encoding units, const Changes &changes)
-    {
-        std::size_t refused = 0;
-        const str_rope_status status = str_rope_change_all(
-            &handle_, detail::to_c(units), std::data(changes),
-            std::size(changes), &refused);
-        detail::check_change(status, refused);
-    }
-    void change_all(encoding units,
-                    std::initializer_list<content_change> changes)
-    {
-        change_all<>(units, changes);
-    }
-    // Does so for changes whose positions each name a place. Throws
-    // not_boundary where one does not, and what change_all() throws.
-    template <class Changes>
-    void change_all_exact(encoding units, const Changes &changes)
-    {
-        std::size_t refused = 0;
-        const str_rope_status status = str_rope_change_all_exact(
-            &handle_, detail::to_c(units), std::data(changes),
-            std::size(changes), &refused);
-        detail::check_change(status, refused);
-    }
-    void change_all_exact(encoding units,
-                          std::initializer_list<content_change> changes)
-    {
-        change_all_exact<>(units, changes);
     }
 
     // Returns the handle, for the functions of str_rope.h. It stays the rope's.

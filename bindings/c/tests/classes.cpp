@@ -322,36 +322,6 @@ void changes_by_positions()
     same(text.text(text.line(1)) == "c", "change_exact");
 }
 
-// Changes in turn, as a list, a vector and an array; a refusal says which of them it is of, and why.
-void changes_in_turn()
-{
-    using pauskern::change_of;
-    rope text(of_lines);
-    const std::vector<pauskern::content_change> some = {change_of({{1, 0}, {1, 2}}, FROG FROG),
-                                                        change_of({{1, 9}, {9, 0}}, "")};
-    const pauskern::content_change two[] = {change_of("one\ntwo"), change_of({{1, 0}, {1, 3}}, std::string_view())};
-    text.change_all(encoding::utf16, some);
-    same(text == "a\r\n" FROG FROG "b", "change_all of a vector");
-    std::size_t index = 9;
-    try {
-        text.change_all_exact(encoding::utf16, some);
-    } catch (const pauskern::refused_change &refused) {
-        index = refused.index;
-    }
-    same(index == 1 && text == "a\r\n" FROG FROG "b", "which change is refused");
-    same(refuses<pauskern::not_boundary>([&] { text.change_all_exact(encoding::utf16, some); }), "change_all_exact");
-    same(refuses<pauskern::not_utf8>([&] {
-             text.change_all(encoding::utf8, {change_of({}, "x"), change_of("\200")});
-         }),
-         "change_all to no UTF-8");
-    text.change_all_exact(encoding::utf8, two);
-    same(text == "one\n", "change_all_exact of an array");
-    text.change_all(encoding::utf8, {change_of({}, "x"), change_of({{0, 1}, {0, 4}}, "y")});
-    text.change_all_exact(encoding::utf8, {change_of({{0, 1}, {0, 2}}, "z")});
-    text.change_all(encoding::utf8, {});
-    same(text == "xz\n", "change_all of a list");
-}
-
 //
 // Indexes, and the types.
 //
@@ -403,7 +373,6 @@ int main()
     comparisons();
     copies_and_moves();
     changes_by_positions();
-    changes_in_turn();
     indexes();
     types_of_positions();
     std::printf("%zu passed, %zu failed\n", passed, failed);

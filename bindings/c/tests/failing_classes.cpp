@@ -38,7 +38,6 @@ void operator delete(void *block, std::size_t) noexcept
 
 namespace {
 
-using pauskern::change_of;
 using pauskern::encoding;
 using pauskern::owned_index;
 using pauskern::rope;
@@ -114,11 +113,6 @@ const call calls[] = {
          of.text.change_exact(encoding::utf8, {{0, 1}, {0, 2}}, longer);
      },
      [](const state &of) { return has_replaced(of.text, 1, 2, longer); }},
-    {"change_all",
-     [](state &of) {
-         of.text.change_all(encoding::utf8, {change_of({{0, 1}, {0, 2}}, longer), change_of({{0, 0}, {0, 1}}, "cc")});
-     },
-     [](const state &of) { return of.text == "cc" + longer + whole.substr(2); }},
     {"text", [](state &of) { of.copy = of.text.text(); }, [](const state &of) { return of.copy == whole; }},
     {"a part's text",
      [](state &of) {

@@ -35,7 +35,7 @@ static int same(int right, const char *call, long number)
 enum { WHOLE = 40000, MOST_PUT = 60000, LINE = 20 };
 
 static char whole[WHOLE], put[MOST_PUT], after[WHOLE + MOST_PUT], copy[WHOLE + MOST_PUT];
-static const char line[LINE + 1] = "line of text \360\237\220\270b\r\n", put_line[] = "a line that goes\n";
+static const char line[LINE + 1] = "line of text \360\237\220\270b\r\n";
 
 static void make_texts(void)
 {
@@ -77,7 +77,6 @@ typedef enum kind {
     CHANGE,
     CHANGE_UTF8,
     CHANGE_EXACT,
-    CHANGE_ALL,
     APPEND,
     SPLIT_OFF
 } kind;
@@ -109,27 +108,9 @@ static const call calls[] = {
     {"change of nothing", CHANGE, WHOLE, 20 * LINE, 20 * LINE, 900},
     {"change_utf8", CHANGE_UTF8, WHOLE, 20 * LINE, 200 * LINE, MOST_PUT},
     {"exact change", CHANGE_EXACT, WHOLE, 20 * LINE, 200 * LINE, MOST_PUT},
-    {"changes in turn", CHANGE_ALL, WHOLE, 20 * LINE, 200 * LINE, MOST_PUT},
-    {"changes in turn of no text", CHANGE_ALL, 0, 0, 0, MOST_PUT},
-    {"changes in turn that leave no text", CHANGE_ALL, WHOLE, 0, WHOLE, 0},
     {"append", APPEND, WHOLE, WHOLE, WHOLE, 4},
     {"split_off", SPLIT_OFF, WHOLE, 20001, WHOLE, 0},
 };
-
-/* A line is put in before a part, and goes again; then the part is replaced. */
-static str_rope_status make_in_turn(str_rope *rope, str_indices_range range, size_t len)
-{
-    str_indices_position next = {range.start.line + 1, 0};
-    str_rope_content_change changes[] = {
-        {{range.start, range.start}, put_line, sizeof put_line - 1, false},
-        {{range.start, next}, "", 0, false},
-        {range, put, len, false},
-    };
-    size_t index = 9;
-    str_rope_status status = str_rope_change_all(rope, STR_INDICES_ENCODING_UTF8, changes, 3, &index);
-    same(status == STR_ROPE_OK ? index == 9 : index < 3, "the index of a refused change", (long)index);
-    return status;
-}
 
 static str_rope_status make(const call *one, str_rope *rope, str_rope *rest)
 {
@@ -146,7 +127,6 @@ static str_rope_status make(const call *one, str_rope *rope, str_rope *rest)
     case CHANGE: return str_rope_change(rope, STR_INDICES_ENCODING_UTF8, range, put, one->len);
     case CHANGE_UTF8: return str_rope_change_utf8(rope, STR_INDICES_ENCODING_UTF8, range, put, one->len);
     case CHANGE_EXACT: return str_rope_change_exact(rope, STR_INDICES_ENCODING_UTF8, range, put, one->len);
-    case CHANGE_ALL: return make_in_turn(rope, range, one->len);
     case APPEND: return str_rope_append(rope, rest);
     default: return str_rope_split_off(rope, one->from, rest);
     }

@@ -25,8 +25,6 @@
 namespace {
 
 using pauskern::bytes;
-using pauskern::change_of;
-using pauskern::content_change;
 using pauskern::encoding;
 using pauskern::line_type;
 using pauskern::owned_index;
@@ -513,7 +511,7 @@ private:
 
     void change(document &one, document &other)
     {
-        switch (draw_.below(17)) {
+        switch (draw_.below(16)) {
         case 0:
         case 1:
         case 2: return insert(one);
@@ -529,7 +527,6 @@ private:
         case 12: return move(one, other);
         case 13: return assign(one);
         case 14: return load(one, draw_.size());
-        case 15: return change_in_turn(one);
         default: return append_text(one);
         }
     }
@@ -610,66 +607,6 @@ private:
         });
         settle(one, found, put.is_utf8 ? made.right : STR_ROPE_NOT_UTF8, made.meant, put.text,
                is_exact ? "change_exact" : "change");
-    }
-
-    // Changes of a message, and what they are to do: the text after them, or why which of them is refused.
-    struct message {
-        std::vector<piece> puts;
-        std::vector<content_change> changes;
-        std::string after;
-        str_rope_status right = STR_ROPE_OK;
-        std::size_t refused = most;
-    };
-
-    // Puts a change at the end of a message. Of those that are refused the first counts, but bytes that are no UTF-8 come
-    // before all.
-    void add_change(message &all, encoding units, bool is_exact)
-    {
-        const piece &put = all.puts[all.changes.size()];
-        const bool is_whole = draw_.once_in(5);
-        const sent made = is_whole ? sent{{}, {0, all.after.size()}, STR_ROPE_OK} : send(all.after, units, is_exact);
-        const str_rope_status right = put.is_utf8 ? made.right : STR_ROPE_NOT_UTF8;
-        if (right != STR_ROPE_OK && (all.right == STR_ROPE_OK || (!put.is_utf8 && all.right != STR_ROPE_NOT_UTF8))) {
-            all.right = right;
-            all.refused = all.changes.size();
-        } else if (all.right == STR_ROPE_OK) {
-            all.after.replace(made.meant.start, made.meant.size(), put.text);
-        }
-        all.changes.push_back(is_whole ? change_of(put.text) : change_of(made.part, put.text));
-    }
-
-    // Makes changes in turn by a class or a function for C, and tells which was refused.
-    str_rope_status make_all(rope &text, encoding units, bool is_exact, const message &all, std::size_t &refused)
-    {
-        if (draw_.once_in(2)) {
-            const auto in_c = is_exact ? str_rope_change_all_exact : str_rope_change_all;
-            return in_c(text.get(), pauskern::detail::to_c(units), all.changes.data(), all.changes.size(), &refused);
-        }
-        return status_of([&] {
-            try {
-                is_exact ? text.change_all_exact(units, all.changes) : text.change_all(units, all.changes);
-            } catch (const pauskern::refused_change &why) {
-                refused = why.index;
-                throw;
-            }
-        });
-    }
-
-    void change_in_turn(document &one)
-    {
-        const encoding units = draw_.one_of(encodings);
-        const bool is_exact = draw_.once_in(2);
-        message all;
-        all.after = one.plain;
-        for (std::size_t left = draw_.below(5); left > 0; left--)
-            all.puts.push_back(draw_.put());
-        while (all.changes.size() < all.puts.size())
-            add_change(all, units, is_exact);
-        std::size_t refused = most;
-        const str_rope_status found = make_all(one.text, units, is_exact, all, refused);
-        const char *const call = is_exact ? "change_all_exact" : "change_all";
-        if (same(found == all.right && refused == all.refused, call) && found == STR_ROPE_OK)
-            one.plain = all.after;
     }
 
     // Moves one text to the end of another, which may be the same.

@@ -455,111 +455,6 @@ static void refusals_by_positions(void)
     str_rope_free(&rope);
 }
 
-/*
- * Changes in turn: by hand, each in the text that the one before it left.
- */
-
-enum { MOST_CHANGES = 3, UNTOUCHED = 77 };
-
-/* The last field says that a change is of the whole text. */
-#define CHANGE(line, from, to_line, to, text) \
-    { \
-        {{line, from}, {to_line, to}}, text, sizeof text - 1, false \
-    }
-#define WHOLE(text) \
-    { \
-        {{9, 9}, {0, 0}}, text, sizeof text - 1, true \
-    }
-
-/* What a list of changes comes to; where one is refused, which, and the text is left. */
-typedef struct outcome {
-    str_rope_status status;
-    size_t refused;
-    const char *left;
-} outcome;
-
-typedef struct list_row {
-    const char *before;
-    str_rope_content_change changes[MOST_CHANGES];
-    size_t count;
-    outcome cut, exact;
-} list_row;
-
-#define MADE(text) \
-    { \
-        STR_ROPE_OK, UNTOUCHED, text \
-    }
-#define REFUSED(status, index) \
-    { \
-        STR_ROPE_##status, index, NULL \
-    }
-
-static const list_row list_rows[] = {
-    {"ab\r\n" FROG "c",
-     {CHANGE(0, 2, 1, 0, ""), CHANGE(0, 2, 0, 4, "X"), CHANGE(0, 4, 0, 4, "\n")},
-     3,
-     MADE("abXc\n"),
-     MADE("abXc\n")},
-    {"ab\r\n" FROG "c", {CHANGE(0, 2, 1, 0, ""), CHANGE(0, 2, 0, 9, "X")}, 2, MADE("abX"), REFUSED(NOT_BOUNDARY, 1)},
-    {"ab", {CHANGE(0, 0, 0, 0, FROG), CHANGE(0, 1, 0, 2, "")}, 2, MADE("ab"), REFUSED(NOT_BOUNDARY, 1)},
-    {"ab",
-     {CHANGE(0, 0, 0, 1, "x"), CHANGE(0, 2, 0, 1, ""), CHANGE(0, 1, 0, 0, "")},
-     3,
-     REFUSED(NOT_ORDERED, 1),
-     REFUSED(NOT_ORDERED, 1)},
-    {"ab", {CHANGE(0, 1, 0, 0, "")}, 1, REFUSED(NOT_ORDERED, 0), REFUSED(NOT_ORDERED, 0)},
-    {"ab", {CHANGE(0, 1, 0, 9, "")}, 1, MADE("a"), REFUSED(NOT_BOUNDARY, 0)},
-    {"ab", {WHOLE("one\ntwo"), CHANGE(1, 0, 1, 3, "2"), CHANGE(0, 0, 0, 0, "")}, 3, MADE("one\n2"), MADE("one\n2")},
-    {"ab", {CHANGE(0, 0, 0, 0, "x"), WHOLE(""), CHANGE(0, 1, 0, 1, "y")}, 3, MADE("y"), REFUSED(NOT_BOUNDARY, 2)},
-    {"ab",
-     {CHANGE(0, 1, 0, 0, ""), CHANGE(0, 0, 0, 0, "\200"), WHOLE("\377")},
-     3,
-     REFUSED(NOT_UTF8, 1),
-     REFUSED(NOT_UTF8, 1)},
-    {"", {CHANGE(0, 0, 0, 0, "a"), CHANGE(0, 1, 0, 1, "b")}, 2, MADE("ab"), MADE("ab")},
-    {"", {CHANGE(0, 0, 0, 0, "a"), CHANGE(0, 1, 0, 0, "b")}, 2, REFUSED(NOT_ORDERED, 1), REFUSED(NOT_ORDERED, 1)},
-    {"", {CHANGE(0, 0, 0, 0, "a"), WHOLE("")}, 2, MADE(""), MADE("")},
-    {"", {WHOLE(""), CHANGE(0, 0, 0, 1, "")}, 2, MADE(""), REFUSED(NOT_BOUNDARY, 1)},
-    {"ab", {WHOLE("")}, 0, MADE("ab"), MADE("ab")},
-};
-
-static void try_list(const list_row *row, int is_exact, size_t i)
-{
-    const outcome *wanted = is_exact ? &row->exact : &row->cut;
-    const char *left = wanted->left ? wanted->left : row->before, *call = is_exact ? "change_all_exact" : "change_all";
-    size_t refused = UNTOUCHED;
-    str_rope rope = with(row->before, strlen(row->before));
-    str_rope_status status =
-        is_exact ? str_rope_change_all_exact(&rope, STR_INDICES_ENCODING_UTF16, row->changes, row->count, &refused)
-                 : str_rope_change_all(&rope, STR_INDICES_ENCODING_UTF16, row->changes, row->count, &refused);
-    same(status == wanted->status && refused == wanted->refused, call, i, refused);
-    has(&rope, left, strlen(left), call);
-    str_rope_free(&rope);
-}
-
-/* By each encoding, and with nulls: for no list, and for no place for an index. */
-static void lists_of_changes(void)
-{
-    static const str_rope_content_change before_c[] = {CHANGE(1, 0, 1, 4, "b"), CHANGE(1, 1, 1, 2, "")};
-    static const char *const left[ENCODINGS + 1] = {"a\nb", "a\nbd", "a\nb", "a\nb"};
-    str_rope rope = STR_ROPE_EMPTY;
-    for (size_t i = 0; i < NUMBER_OF(list_rows); i++) {
-        try_list(&list_rows[i], 0, i);
-        try_list(&list_rows[i], 1, i);
-    }
-    for (size_t number = 0; number <= ENCODINGS; number++) {
-        rope = with("a\n" FROG "cd", 8);
-        same(str_rope_change_all(&rope, encodings[number], before_c, 2, NULL) == STR_ROPE_OK, "change_all", number, 2);
-        has(&rope, left[number], strlen(left[number]), "change_all");
-        str_rope_free(&rope);
-    }
-    same(str_rope_change_all(&rope, STR_INDICES_ENCODING_UTF8, NULL, 0, NULL) == STR_ROPE_OK, "change_all", 0, 0);
-    rope = with("ab", 2);
-    same(str_rope_change_all_exact(&rope, STR_INDICES_ENCODING_UTF8, NULL, 0, NULL) == STR_ROPE_OK, "no list", 0, 0);
-    HAS(&rope, "ab", "no list");
-    str_rope_free(&rope);
-}
-
 /* The chunks of a text in order, each lent with where it starts. */
 static void lent_chunks(void)
 {
@@ -687,8 +582,6 @@ static void null_texts(void)
 static void null_texts_with_bytes(void)
 {
     str_indices_range back = {{1, 0}, {0, 0}};
-    str_rope_content_change changes[] = {CHANGE(0, 0, 0, 1, "x"), WHOLE("\377"), CHANGE(0, 0, 0, 0, "")};
-    size_t refused = UNTOUCHED;
     str_rope rope = WITH("ab");
     same(str_rope_assign(&rope, NULL, 14) == STR_ROPE_NULL_TEXT, "assign null", 14, 0);
     same(str_rope_assign_utf8(&rope, NULL, 1) == STR_ROPE_NULL_TEXT, "assign_utf8 null", 1, 0);
@@ -702,17 +595,6 @@ static void null_texts_with_bytes(void)
          "change_exact to null", 1, 0);
     same(str_rope_change_utf8(&rope, STR_INDICES_ENCODING_UTF16, back, NULL, 1) == STR_ROPE_NULL_TEXT,
          "change_utf8 to null", 1, 0);
-    for (size_t len = 0; len < 2; len++) {
-        changes[2].text = NULL;
-        changes[2].len = len;
-        same(str_rope_change_all(&rope, STR_INDICES_ENCODING_UTF8, changes, 3, &refused) == STR_ROPE_NULL_TEXT &&
-                 refused == 2,
-             "change_all to null", len, refused);
-        same(str_rope_change_all_exact(&rope, STR_INDICES_ENCODING_UTF8, changes, 3, NULL) == STR_ROPE_NULL_TEXT,
-             "change_all_exact to null", len, 0);
-    }
-    same(str_rope_change_all(&rope, STR_INDICES_ENCODING_UTF8, NULL, 2, &refused) == STR_ROPE_NULL_TEXT && refused == 0,
-         "change_all of a null list", 2, refused);
     HAS(&rope, "ab", "null texts with bytes");
     str_rope_free(&rope);
 }
@@ -778,7 +660,6 @@ int main(void)
     changes_by_positions();
     exact_changes();
     refusals_by_positions();
-    lists_of_changes();
     lent_chunks();
     lists_of_chunks();
     null_texts();

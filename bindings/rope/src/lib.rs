@@ -48,7 +48,6 @@ extern crate alloc;
 extern crate std;
 
 mod builder;
-mod change_lists;
 mod chunks;
 mod compare;
 mod errors;
@@ -65,7 +64,6 @@ mod traits;
 mod walk;
 
 pub use builder::RopeBuilder;
-pub use change_lists::{Change, RefusedChange};
 pub use chunks::MAX_CHUNK;
 pub use errors::Error;
 #[cfg(feature = "std")]

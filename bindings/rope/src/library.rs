@@ -3,7 +3,6 @@
 //! You pass a handle that was zeroed once. Calls that take it as `*const` may run at once, in many threads; one that takes it as
 //! `*mut` runs beside no other. Bytes that you pass must stay where and as they are until the call returns. The bytes of a
 //! `&str` do, and are UTF-8, which an export named `.._utf8` does not check.
-use crate::Change;
 use core::ffi::c_void;
 use core::ptr;
 use str_indices_positions::{Position, Range};
@@ -79,18 +78,4 @@ extern "C" {
     pub fn str_rope_range_by(rope: *const Handle, lines: u32, encoding: u32, span: Bytes) -> Range;
     pub fn str_rope_change_utf8(rope: *mut Handle, encoding: u32, range: Range, text: *const u8, len: usize) -> u32;
     pub fn str_rope_change_exact(rope: *mut Handle, encoding: u32, range: Range, text: *const u8, len: usize) -> u32;
-    pub fn str_rope_change_all(
-        rope: *mut Handle,
-        encoding: u32,
-        changes: *const Change<'_>,
-        count: usize,
-        refused: *mut usize,
-    ) -> u32;
-    pub fn str_rope_change_all_exact(
-        rope: *mut Handle,
-        encoding: u32,
-        changes: *const Change<'_>,
-        count: usize,
-        refused: *mut usize,
-    ) -> u32;
 }

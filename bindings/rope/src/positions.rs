@@ -73,8 +73,8 @@ impl Rope {
     /// Replaces the text in a range by another: one entry of the protocol's `contentChanges`. Positions past the end of a line
     /// or of the text are cut as by [`Rope::byte_of`], so it never returns [`Error::NotBoundary`].
     ///
-    /// Each entry is meant in the text that the one before it left. If the entry has no range, its text is the whole one: call
-    /// [`Rope::assign`]. Returns [`Error::NotOrdered`] if the range ends before it starts, and [`Error::TooLong`] and
+    /// Each entry is meant in the text that the one before it left; a clone before the first brings the text back. If the entry
+    /// has no range, its text is the whole one: call [`Rope::assign`]. Returns [`Error::NotOrdered`] if the range ends before it starts, and [`Error::TooLong`] and
     /// [`Error::NoMemory`] as [`Rope::replace`] does; after an error the text is as it was.
     pub fn change(&mut self, encoding: Encoding, range: Range, text: &str) -> Result<(), Error> {
         let number = encoding as u32;

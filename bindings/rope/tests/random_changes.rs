@@ -6,9 +6,7 @@ use model::*;
 use std::collections::hash_map::DefaultHasher;
 use std::hash::{Hash, Hasher};
 use std::ops;
-use str_rope::{
-    Change, Encoding, Error, LineType, Position, Range, RefusedChange, Rope, RopeBuilder, Scheme, MAX_CHUNK,
-};
+use str_rope::{Encoding, Error, LineType, Position, Range, Rope, RopeBuilder, Scheme, MAX_CHUNK};
 
 /// How many programs are run, and of how many steps.
 const PROGRAMS: u64 = 12;
@@ -46,7 +44,7 @@ impl Pair {
             5 => self.split_off(numbers),
             6 => self.insert_char(numbers),
             7 => self.extend(numbers),
-            8 | 9 => self.change_in_turn(numbers),
+            8 | 9 => self.change_or_refuse(numbers),
             _ => self.change_by_positions(numbers),
         }
     }
@@ -142,28 +140,17 @@ impl Pair {
         self.text.replace_range(bytes, &text);
     }
 
-    /// Makes some changes in turn: where the plain text refuses one, the rope refuses all of them.
-    fn change_in_turn(&mut self, numbers: &mut Numbers) {
+    /// Makes a change by any two positions, or of the whole text: where the plain text refuses it, the rope does.
+    fn change_or_refuse(&mut self, numbers: &mut Numbers) {
         let (encoding, is_exact) = (ENCODINGS[numbers.below(3)], numbers.below(2) == 0);
-        let texts: Vec<String> = (0..numbers.below(5)).map(|_| numbers.text(60)).collect();
-        let (mut after, mut wanted, mut changes) = (self.text.clone(), Ok(()), Vec::new());
-        for (index, text) in texts.iter().enumerate() {
-            let range = random_range(encoding, &after, numbers);
-            changes.push(Change::new(range, text));
-            if wanted.is_ok() {
-                wanted = part_of(encoding, is_exact, &after, range)
-                    .map(|part| after.replace_range(part, text))
-                    .map_err(|error| RefusedChange { index, error });
-            }
-        }
-        let made = match is_exact {
-            true => self.rope.change_all_exact(encoding, &changes),
-            false => self.rope.change_all(encoding, &changes),
+        let (text, range) = (numbers.text(60), random_range(encoding, &self.text, numbers));
+        let wanted = part_of(encoding, is_exact, &self.text, range);
+        let made = match range {
+            None => self.rope.assign(&text),
+            Some(range) if is_exact => self.rope.change_exact(encoding, range, &text),
+            Some(range) => self.rope.change(encoding, range, &text),
         };
-        assert_eq!(made, wanted);
-        if wanted.is_ok() {
-            self.text = after;
-        }
+        assert_eq!(made, wanted.map(|part| self.text.replace_range(part, &text)));
     }
 
     /// Tries a change or a copy at any two indices, which is made or refused as it should be.
@@ -427,14 +414,14 @@ fn random_programs() {
     }
 }
 
-/// Lists of changes, of an empty text, a short one and one of several chunks.
+/// Of an empty text, a short one and one of several chunks.
 #[test]
-fn changes_in_turn_are_all_made_or_none() {
+fn changes_by_any_positions_are_made_or_refused() {
     let mut numbers = Numbers(9);
     for round in 0..300 {
         let mut pair = Pair::of(numbers.text([1, 10, 3000][round % 3]));
         for _ in 0..5 {
-            pair.change_in_turn(&mut numbers);
+            pair.change_or_refuse(&mut numbers);
             pair.assert_text();
         }
     }

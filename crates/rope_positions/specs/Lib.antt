@@ -1,2 +1,1 @@
-pub mod ChangeLists
 pub mod Changes

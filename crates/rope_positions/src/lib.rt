@@ -4,13 +4,11 @@
 //! the whole text, by a constant number of the rope's own questions.
 #![tactic(auto)]
 
-mod change_lists;
 mod changes;
 mod exact_changes;
 mod queries;
 mod ropes;
 
-pub use change_lists::{RefusedChange, apply_all, apply_all_exact, refusal_for_memory};
 pub use changes::{Change, apply};
 pub use exact_changes::apply_exact;
 pub use positions::{Encoding, LineType, Position, Range};

@@ -6,7 +6,6 @@
 //! the top of the repository, says what a caller in C owes.
 #![tactic(auto)]
 
-mod change_lists;
 mod changes;
 mod chunk_lists;
 mod exact_changes;

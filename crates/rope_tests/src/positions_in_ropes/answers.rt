@@ -4,10 +4,7 @@ ghost use Rattle.text_summary.specs.Changes.{IsReplaced};
 ghost use Rattle.rope_positions.specs.Changes.{part_at};
 
 use positions::{Encoding, LineType, Position, Range};
-use rope_positions::{
-    Change, apply, apply_all, apply_all_exact, byte_of, byte_range, exact_byte_of, line_end,
-    position_of,
-};
+use rope_positions::{Change, apply, byte_of, byte_range, exact_byte_of, line_end, position_of};
 use std::alloc::{AllocError, Global};
 use std::process::Abort;
 use std::test::Fail;
@@ -274,55 +271,6 @@ fn a_change_has_a_range_or_is_the_whole_text(rt: HostRuntime) -> Result<(), Fail
         };
         let rope = opened_and_changed(rt.alloc(), "a\r\n🐸b", Encoding::Utf16, change)?;
         assert_text(&rt, &text_of(rt.alloc(), &rope)?, wanted);
-    }
-    Ok(())
-}
-
-/// A change of the first line, from `start` up to `end`.
-fn on_first_line(start: usize, end: usize, text: &str) -> Change<'_> {
-    let (start, end) = (at(0, start), at(0, end));
-    Change {
-        range: Some(Range { start, end }),
-        text,
-    }
-}
-
-#[test]
-fn changes_in_turn_are_all_applied_or_none(rt: HostRuntime) -> Result<(), Fail> {
-    // each range is of the text that the change before it left; the third ends before it starts, the fourth in the frog
-    let frog = on_first_line(1, 2, "🐸");
-    let accent = on_first_line(3, 3, "é");
-    let backward = on_first_line(2, 1, "d");
-    let inside = on_first_line(2, 3, "e");
-    let rows: [(&[Change<'_>], bool, Option<(usize, Refusal)>, &str); 7] = [
-        (&[], true, None, "abc"),
-        (&[frog], true, None, "a🐸c"),
-        (&[frog, accent], false, None, "a🐸éc"),
-        (&[frog, accent], true, None, "a🐸éc"),
-        (
-            &[frog, accent, backward],
-            false,
-            Some((2, Refusal::NotOrdered)),
-            "abc",
-        ),
-        (&[frog, inside], false, None, "aec"),
-        (
-            &[frog, inside],
-            true,
-            Some((1, Refusal::NotBoundary)),
-            "abc",
-        ),
-    ];
-    for (changes, exact, refused, left) in rows {
-        let mut rope = Rope::from_str(rt.alloc(), "abc")?;
-        let found = if exact {
-            apply_all_exact(&mut rope, Encoding::Utf16, changes)
-        } else {
-            apply_all(&mut rope, Encoding::Utf16, changes)
-        };
-        let found = found.err().map(|refused| (refused.index, refused.refusal));
-        assert!(rt; found == refused, "{found:?}");
-        assert_text(&rt, &text_of(rt.alloc(), &rope)?, left);
     }
     Ok(())
 }

@@ -6,7 +6,7 @@ use std::collections::HashMap;
 use std::error::Error;
 use std::io::{self, BufRead, Read, Write};
 use std::process::ExitCode;
-use str_rope::{Change, Encoding, LineType, Position, Range, Rope, Scheme};
+use str_rope::{Encoding, LineType, Position, Range, Rope, Scheme};
 
 type Result<T> = std::result::Result<T, Box<dyn Error>>;
 
@@ -105,26 +105,30 @@ impl Server {
         }
     }
 
-    /// Makes the changes of a message, each in the text that the one before it left. Where one names no place, none is made,
-    /// and the document is out of step until it is opened again, or a whole text comes.
+    /// Makes the changes of a message, each in the text that the one before it left. Where one names no place, the document is
+    /// out of step until it is opened again, or a whole text comes.
     fn change(&mut self, params: &Value) -> Result<Option<String>> {
-        let events = params["contentChanges"]
-            .as_array()
-            .ok_or("there are no contentChanges")?;
-        let changes = events.iter().map(change).collect::<Result<Vec<_>>>()?;
         let uri = uri(params)?;
         let document = self.documents.get_mut(&uri).ok_or("a document is not open")?;
-        let is_whole = changes.iter().any(|change| change.range().is_none());
-        let Some(mut rope) = document.take().or_else(|| is_whole.then(Rope::new)) else {
-            return Ok(None);
-        };
-        match rope.change_all_exact(ENCODING, &changes) {
-            Ok(()) => {
-                *document = Some(rope);
-                Ok(None)
+        for event in params["contentChanges"]
+            .as_array()
+            .ok_or("there are no contentChanges")?
+        {
+            let text = string(&event["text"])?;
+            let made = match (event.get("range"), &mut *document) {
+                (None, _) => {
+                    *document = Some(text.parse()?);
+                    continue;
+                }
+                (Some(_), None) => return Ok(None),
+                (Some(place), Some(rope)) => rope.change_exact(ENCODING, range(place)?, text),
+            };
+            if let Err(error) = made {
+                *document = None;
+                return Ok(Some(format!("{uri} is out of step: {error}. Open it again.")));
             }
-            Err(refused) => Ok(Some(format!("{uri} is out of step: {refused}. Open it again."))),
         }
+        Ok(None)
     }
 
     /// Compares the text that a client saved. It does not take one: some editors save the part that they show.
@@ -146,12 +150,6 @@ impl Server {
         let line = rope.byte_to_line_idx(byte, LINES);
         Ok(json!({ "contents": format!("byte {byte}, char {char}, line {line}") }))
     }
-}
-
-/// The change that an entry of `contentChanges` tells. Without a range its text is the whole one.
-fn change(event: &Value) -> Result<Change<'_>> {
-    let range = event.get("range").map(range).transpose()?;
-    Ok(Change::new(range, string(&event["text"])?))
 }
 
 fn range(range: &Value) -> Result<Range> {
