@@ -23,7 +23,9 @@
 #define STR_INDICES_POSITIONS_HPP
 
 #include <cstddef>
+#include <cstdint>
 #include <iterator>
+#include <optional>
 #include <stdexcept>
 
 #include <str_indices_positions.h>
@@ -240,8 +242,8 @@ private:
     line_type type_;
 };
 
-// Turns these types into those of C, and back. They are no part of what is
-// promised.
+// Turns these types into those of C, and back. What is in `detail` is no part of
+// what is promised, but for the questions below.
 namespace detail {
 
 inline str_indices_scheme to_c(scheme value) noexcept
@@ -288,6 +290,118 @@ inline bytes from_c(str_indices_bytes value) noexcept
 {
     return {value.start, value.end};
 }
+
+// The questions that a rope and both kinds of index have alike, each for every
+// index. `Text` has `get`, its handle for C, and `Calls` the functions of C.
+template <class Text, class Calls> class questions {
+public:
+    // Returns how many bytes the text has.
+    std::size_t size() const noexcept { return Calls::len(handle()); }
+    bool empty() const noexcept { return size() == 0; }
+    // Returns how many chars, UTF-16 code units or line breaks the text has.
+    std::size_t count(scheme what) const noexcept
+    {
+        return Calls::count(handle(), to_c(what));
+    }
+    // Returns how many of them end at or before a byte.
+    std::size_t from_byte_idx(scheme what, std::size_t byte_idx) const noexcept
+    {
+        return Calls::from_byte_idx(handle(), to_c(what), byte_idx);
+    }
+    // Returns the byte where a char, the char of a unit, or a line begins.
+    std::size_t to_byte_idx(scheme what, std::size_t idx) const noexcept
+    {
+        return Calls::to_byte_idx(handle(), to_c(what), idx);
+    }
+    // Tells whether a byte index is between two chars, or at the beginning or
+    // the end of the text.
+    bool is_char_boundary(std::size_t byte_idx) const noexcept
+    {
+        return Calls::is_char_boundary(handle(), byte_idx);
+    }
+
+    //
+    // Lines, and positions of a language server. The kind of line is that of a
+    // language server where none is given.
+    //
+
+    // Returns the bytes of a line's content, without its break: past the last
+    // line none, at the end of the text.
+    bytes line(std::size_t number,
+               line_type type = line_type::lf_cr) const noexcept
+    {
+        return from_c(Calls::line_by(handle(), to_c(type), number));
+    }
+    // Returns the lines in order.
+    line_range<Text> lines(line_type type = line_type::lf_cr) const &noexcept
+    {
+        return {static_cast<const Text &>(*this), type};
+    }
+    line_range<Text> lines(line_type type = line_type::lf_cr) const && = delete;
+
+    // Returns the position of a byte: its line, and the units from that line's
+    // beginning to the byte.
+    position position_of(encoding units, std::size_t byte_idx,
+                         line_type type = line_type::lf_cr) const noexcept
+    {
+        return from_c(
+            Calls::position_by(handle(), to_c(type), to_c(units), byte_idx));
+    }
+    // Returns the position of a byte that is a place on a line, and else none.
+    std::optional<position>
+    exact_position_of(encoding units, std::size_t byte_idx,
+                      line_type type = line_type::lf_cr) const noexcept
+    {
+        const str_indices_position there = Calls::exact_position_by(
+            handle(), to_c(type), to_c(units), byte_idx);
+        return there.line != SIZE_MAX ? std::optional(from_c(there))
+                                      : std::nullopt;
+    }
+    // Returns the positions of both ends of a part.
+    range range_of(encoding units, bytes part,
+                   line_type type = line_type::lf_cr) const noexcept
+    {
+        return from_c(
+            Calls::range_by(handle(), to_c(type), to_c(units), to_c(part)));
+    }
+    // Returns the byte where the char at a position begins, or the end of its
+    // line or of the text where that comes first.
+    std::size_t byte_of(encoding units, position there,
+                        line_type type = line_type::lf_cr) const noexcept
+    {
+        return Calls::byte_by(handle(), to_c(type), to_c(units), to_c(there));
+    }
+    // Returns the byte of a position that names a place on a line, and else
+    // none.
+    std::optional<std::size_t> exact_byte_of(encoding units,
+                                             position there) const noexcept
+    {
+        const std::size_t byte_idx =
+            Calls::exact_byte_of(handle(), to_c(units), to_c(there));
+        return byte_idx != SIZE_MAX ? std::optional(byte_idx) : std::nullopt;
+    }
+    // Returns the bytes of a range, and none where its end is before its start.
+    std::optional<bytes> byte_range(encoding units, range part) const noexcept
+    {
+        const str_indices_bytes found =
+            Calls::byte_range(handle(), to_c(units), to_c(part));
+        return found.start != SIZE_MAX ? std::optional(from_c(found))
+                                       : std::nullopt;
+    }
+
+protected:
+    // no class of its own
+    questions() noexcept = default;
+    questions(const questions &) noexcept = default;
+    questions &operator=(const questions &) noexcept = default;
+    ~questions() = default;
+
+private:
+    auto handle() const noexcept
+    {
+        return static_cast<const Text *>(this)->get();
+    }
+};
 
 } // namespace detail
 

@@ -19,9 +19,10 @@
 #define STR_ROPE_HPP
 
 #include <algorithm>
+#include <cstdint>
+#include <functional>
 #include <iterator>
 #include <new>
-#include <optional>
 #include <ostream>
 #include <string>
 #include <string_view>
@@ -33,6 +34,22 @@
 namespace pauskern {
 
 namespace detail {
+
+// The functions of C that the questions call.
+struct rope_calls {
+    static constexpr auto len = str_rope_len;
+    static constexpr auto count = str_rope_count;
+    static constexpr auto from_byte_idx = str_rope_from_byte_idx;
+    static constexpr auto to_byte_idx = str_rope_to_byte_idx;
+    static constexpr auto is_char_boundary = str_rope_is_char_boundary;
+    static constexpr auto line_by = str_rope_line_by;
+    static constexpr auto position_by = str_rope_position_by;
+    static constexpr auto exact_position_by = str_rope_exact_position_by;
+    static constexpr auto range_by = str_rope_range_by;
+    static constexpr auto byte_by = str_rope_byte_by;
+    static constexpr auto exact_byte_of = str_rope_exact_byte_of;
+    static constexpr auto byte_range = str_rope_byte_range;
+};
 
 // Throws what a status says, if it is a refusal.
 inline void check(str_rope_status status)
@@ -143,7 +160,7 @@ public:
         {
             if (is_on ? at_ + 1 >= count_ : at_ == 0)
                 return false;
-            at_ += is_on ? 1 : -1;
+            at_ = is_on ? at_ + 1 : at_ - 1;
             return true;
         }
         // Asks for one chunk, since most ways are short.
@@ -203,7 +220,7 @@ private:
 };
 
 // A text.
-class rope {
+class rope : public detail::questions<rope, detail::rope_calls> {
 public:
     // Makes the empty text, and takes no memory.
     rope() noexcept = default;
@@ -244,35 +261,6 @@ public:
     }
     // Makes the text the empty one, and gives its memory back.
     void clear() noexcept { str_rope_free(&handle_); }
-
-    //
-    // Questions, each for every index.
-    //
-
-    // Returns how many bytes the text has.
-    std::size_t size() const noexcept { return str_rope_len(&handle_); }
-    bool empty() const noexcept { return size() == 0; }
-    // Returns how many chars, UTF-16 code units or line breaks the text has.
-    std::size_t count(scheme what) const noexcept
-    {
-        return str_rope_count(&handle_, detail::to_c(what));
-    }
-    // Returns how many of them end at or before a byte.
-    std::size_t from_byte_idx(scheme what, std::size_t byte_idx) const noexcept
-    {
-        return str_rope_from_byte_idx(&handle_, detail::to_c(what), byte_idx);
-    }
-    // Returns the byte where a char, the char of a unit, or a line begins.
-    std::size_t to_byte_idx(scheme what, std::size_t idx) const noexcept
-    {
-        return str_rope_to_byte_idx(&handle_, detail::to_c(what), idx);
-    }
-    // Tells whether a byte index is between two chars, or at the beginning or
-    // the end of the text.
-    bool is_char_boundary(std::size_t byte_idx) const noexcept
-    {
-        return str_rope_is_char_boundary(&handle_, byte_idx);
-    }
 
     //
     // Changes.
@@ -346,19 +334,19 @@ public:
         return str_rope_read(&handle_, at, out, room);
     }
 
-    // Tells whether two texts have the same bytes.
-    friend bool operator==(const rope &one, const rope &other) noexcept
+    // Compares two texts by their bytes: below 0 where the first comes first, 0
+    // where they are equal.
+    friend int compare(const rope &one, const rope &other) noexcept
     {
         chunk_range::iterator ours = one.chunks().begin(),
                               theirs = other.chunks().begin();
         std::string_view left = *ours, right = *theirs;
-        if (one.size() != other.size())
-            return false;
-        while (!left.empty()) {
+        while (!left.empty() && !right.empty()) {
             const std::size_t size = std::min(left.size(), right.size());
-            if (std::char_traits<char>::compare(left.data(), right.data(),
-                                                size) != 0)
-                return false;
+            const int found = std::char_traits<char>::compare(
+                left.data(), right.data(), size);
+            if (found != 0)
+                return found;
             left.remove_prefix(size);
             right.remove_prefix(size);
             if (left.empty())
@@ -366,7 +354,28 @@ public:
             if (right.empty())
                 right = *++theirs;
         }
-        return true;
+        return static_cast<int>(right.empty()) - static_cast<int>(left.empty());
+    }
+    // Tells whether two texts have the same bytes.
+    friend bool operator==(const rope &one, const rope &other) noexcept
+    {
+        return one.size() == other.size() && compare(one, other) == 0;
+    }
+    friend bool operator<(const rope &one, const rope &other) noexcept
+    {
+        return compare(one, other) < 0;
+    }
+    friend bool operator>(const rope &one, const rope &other) noexcept
+    {
+        return other < one;
+    }
+    friend bool operator<=(const rope &one, const rope &other) noexcept
+    {
+        return !(other < one);
+    }
+    friend bool operator>=(const rope &one, const rope &other) noexcept
+    {
+        return !(one < other);
     }
     friend bool operator==(const rope &one, std::string_view text) noexcept
     {
@@ -406,77 +415,6 @@ public:
         return out;
     }
 
-    //
-    // Lines, and positions of a language server. The kind of line is that of a
-    // language server where none is given.
-    //
-
-    // Returns the bytes of a line's content, without its break: past the last
-    // line none, at the end of the text.
-    bytes line(std::size_t number,
-               line_type type = line_type::lf_cr) const noexcept
-    {
-        return detail::from_c(
-            str_rope_line_by(&handle_, detail::to_c(type), number));
-    }
-    // Returns the lines in order.
-    line_range<rope> lines(line_type type = line_type::lf_cr) const &noexcept
-    {
-        return {*this, type};
-    }
-    line_range<rope> lines(line_type type = line_type::lf_cr) const && = delete;
-
-    // Returns the position of a byte: its line, and the units from that line's
-    // beginning to the byte.
-    position position_of(encoding units, std::size_t byte_idx,
-                         line_type type = line_type::lf_cr) const noexcept
-    {
-        return detail::from_c(str_rope_position_by(
-            &handle_, detail::to_c(type), detail::to_c(units), byte_idx));
-    }
-    // Returns the position of a byte that is a place on a line, and else none.
-    std::optional<position>
-    exact_position_of(encoding units, std::size_t byte_idx,
-                      line_type type = line_type::lf_cr) const noexcept
-    {
-        const str_indices_position there = str_rope_exact_position_by(
-            &handle_, detail::to_c(type), detail::to_c(units), byte_idx);
-        return there.line != SIZE_MAX ? std::optional(detail::from_c(there))
-                                      : std::nullopt;
-    }
-    // Returns the positions of both ends of a part.
-    range range_of(encoding units, bytes part,
-                   line_type type = line_type::lf_cr) const noexcept
-    {
-        return detail::from_c(str_rope_range_by(&handle_, detail::to_c(type),
-                                                detail::to_c(units),
-                                                detail::to_c(part)));
-    }
-    // Returns the byte where the char at a position begins, or the end of its
-    // line or of the text where that comes first.
-    std::size_t byte_of(encoding units, position there,
-                        line_type type = line_type::lf_cr) const noexcept
-    {
-        return str_rope_byte_by(&handle_, detail::to_c(type),
-                                detail::to_c(units), detail::to_c(there));
-    }
-    // Returns the byte of a position that names a place on a line, and else
-    // none.
-    std::optional<std::size_t> exact_byte_of(encoding units,
-                                             position there) const noexcept
-    {
-        const std::size_t byte_idx = str_rope_exact_byte_of(
-            &handle_, detail::to_c(units), detail::to_c(there));
-        return byte_idx != SIZE_MAX ? std::optional(byte_idx) : std::nullopt;
-    }
-    // Returns the bytes of a range, and none where its end is before its start.
-    std::optional<bytes> byte_range(encoding units, range part) const noexcept
-    {
-        const str_indices_bytes found = str_rope_byte_range(
-            &handle_, detail::to_c(units), detail::to_c(part));
-        return found.start != SIZE_MAX ? std::optional(detail::from_c(found))
-                                       : std::nullopt;
-    }
     // Replaces the bytes of a range by a text. Throws not_ordered, too_long,
     // not_utf8 and std::bad_alloc.
     void change(encoding units, range part, std::string_view text)
@@ -503,5 +441,19 @@ private:
 };
 
 } // namespace pauskern
+
+// Ropes of the same bytes have the same hash, however they are cut in chunks. It
+// reads the whole text.
+template <> struct std::hash<pauskern::rope> {
+    std::size_t operator()(const pauskern::rope &text) const noexcept
+    {
+        // FNV-1a
+        std::uint64_t sum = 14695981039346656037u;
+        for (std::string_view chunk : text.chunks())
+            for (char byte : chunk)
+                sum = (sum ^ static_cast<unsigned char>(byte)) * 1099511628211u;
+        return static_cast<std::size_t>(sum);
+    }
+};
 
 #endif

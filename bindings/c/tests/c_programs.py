@@ -10,7 +10,7 @@ from tally import least, sums_of
 TESTS = ROOT / "bindings/c/tests"
 WARNINGS = ["-Wall", "-Wextra", "-Werror", "-pedantic", "-O2"]
 COMPILER = ["cc", "-std=c99", *WARNINGS]
-COMPILER_OF_CLASSES = ["c++", "-std=c++17", *WARNINGS]
+COMPILER_OF_CLASSES = ["c++", "-std=c++17", "-Wshadow", "-Wsign-conversion", *WARNINGS]
 # how CTest names a test by the half that is asked for
 HALVES = {"usual": "", "narrow": "narrow", "wide": "wide"}
 # programs that do less where each access to memory is watched, and how they are watched

@@ -274,7 +274,13 @@ void comparisons()
         other.insert(other.size(), std::string_view(whole).substr(at, 20));
     same(one == other && other == one && !(one != other), "equal texts");
     same(one == whole && std::string_view(whole) == one && !(one != std::string_view(whole)), "equal to a string");
+    const std::hash<rope> sum;
+    same(!(one < other) && one <= other && one >= other && sum(one) == sum(other), "equal texts have one hash");
     other.replace({6000, 6001}, "L");
+    same((whole < other.text()) == (one < other) && (one < other) != (one > other), "their order");
+    same(sum(one) != sum(other) && sum(rope("a")) == 0xaf63dc4c8601ec8c, "their hashes");
+    same(rope("a") < rope("ab") && rope() < rope("a") && rope("a\177") < rope("a\302\200"),
+         "a beginning, and bytes above");
     same(one != other && !(one == other) && one.size() == other.size(), "a byte differs");
     same(other != whole && whole != other && rope("ab") != "abc" && "ab" != rope("b"), "differs from a string");
     same(rope() == rope() && rope() == "" && rope() != one && one != rope(), "no text");
@@ -342,6 +348,10 @@ void indexes()
     owned_index owned("one\ntwo"), other = std::move(owned);
     owned = owned_index("three");
     same(other->text(other->line(1)) == "two" && (*owned).size() == 5, "owned indexes");
+    same(other.text(other.line(1)) == "two" && owned.size() == 5 && owned.text() == "three", "an owned index itself");
+    same(other.position_of(encoding::utf16, 5) == position{1, 1} && other.lines().size() == 2,
+         "its positions and lines");
+    same(str_index_len(other.get()) == 7 && refuses<pauskern::not_ordered>([&] { other.text({2, 1}); }), "its parts");
 }
 
 void types_of_positions()

@@ -63,6 +63,12 @@ inline std::size_t break_size(std::string_view text, line_type type)
     return 0;
 }
 
+// Returns where in a list a place of it is.
+inline std::size_t index_of(const std::vector<std::size_t> &all, std::vector<std::size_t>::const_iterator place)
+{
+    return static_cast<std::size_t>(place - all.begin());
+}
+
 // A text that stays where it is, with how much of each scheme ends at each byte or before it.
 class text {
 public:
@@ -80,9 +86,8 @@ public:
     {
         const std::vector<std::size_t> &all = ended(what);
         if (what == scheme::chars || what == scheme::utf16)
-            return boundary_before(all_, std::upper_bound(all.begin(), all.end(), idx) - all.begin() - 1);
-        const std::size_t found = std::lower_bound(all.begin(), all.end(), idx) - all.begin();
-        return std::min(found, size());
+            return boundary_before(all_, index_of(all, std::upper_bound(all.begin(), all.end(), idx)) - 1);
+        return std::min(index_of(all, std::lower_bound(all.begin(), all.end(), idx)), size());
     }
 
     bytes line(std::size_t number, line_type type) const
