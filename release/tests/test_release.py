@@ -35,7 +35,7 @@ GATE_LINE = "1 passed, 0 failed"
 COMMIT = ["-c", "user.name=test", "-c", "user.email=test", "commit", "-q", "-m", "A copy"]
 WHEN = {"GIT_AUTHOR_DATE": "2026-01-01T00:00:00Z", "GIT_COMMITTER_DATE": "2026-01-01T00:00:00Z"}
 # what pages name that is no file of the archive: requests of a language server, an entry of a package, and what Cargo makes
-NO_FILES = {"pauskern/text", "window/showMessage", "str_indices/inline", "target/release/language_server"}
+NO_FILES = {"pauskern/text", "textDocument/diagnostic", "str_indices/inline", "target/release/language_server"}
 # what stands in the repository in the place of what a release says
 UNFILLED = re.compile(rb"@VERSION@|workspace = true|not released yet")
 # Rattle's command, but for a name that ends as it does

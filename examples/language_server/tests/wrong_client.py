@@ -16,7 +16,7 @@ from language_client import Client, body, changed, event, frame, item, place, pl
 from position_model import Lines
 from tally import least
 
-# drawn anew for each run; a failure names its seed
+# drawn anew for each run
 SEEDS = random.SystemRandom().sample(range(2**32), 3)
 # how many messages are sent by each
 MESSAGES = 100_000
@@ -375,7 +375,7 @@ class WrongClient(Client):
 
 
 @pytest.mark.parametrize("seed", SEEDS)
-def test_a_client_that_speaks_wrongly(seed):
+def test_a_client_that_speaks_wrongly(seed, capsys):
     with WrongClient(seed) as client:
         while client.counts["messages"] < MESSAGES:
             for _ in range(50):
@@ -383,6 +383,7 @@ def test_a_client_that_speaks_wrongly(seed):
             client.settle()
         assert client.memory("VmHWM") <= MOST_MEMORY
         assert client.request("shutdown", None)["result"] is None and client.end("exit") == 0
-    print(json.dumps(client.counts))
+    with capsys.disabled():
+        print(f"seed {seed}: {json.dumps(client.counts)}")
     for what in ["answers", "texts", "changes", "refused changes", "parts"]:
         assert client.counts[what] >= least(f"{what} of wrong_client.py")
