@@ -198,9 +198,11 @@ def test_a_whole_text_of_any_version(client, version):
 @pytest.mark.parametrize("saved, of, text, heard", [
     ("one\ntwo", None, "one\ntwo", []), (None, None, "one\ntwo", []), ("Two", None, "Two", [SHOWN]),
     # a text that the file has with other breaks, and one that has but a break more at its end
-    ("Two\n", "\ufeffTwo\r\n", "Two\n", [SHOWN]), ("one\ntwo\n", "else", "one\ntwo\n", [SHOWN]),
-    # the part to which Emacs narrowed a buffer; and one of another text
-    ("two", "one\ntwo", "one\ntwo", []), ("", "one\ntwo", "one\ntwo", []), ("Two", "one\nTwo", OUT_OF_STEP, [SHOWN]),
+    ("2\n\n", "2\r\n\r\n", "2\n\n", [SHOWN]), ("one\ntwo\n", "else", "one\ntwo\n", [SHOWN]),
+    # the part to which Emacs narrowed a buffer, also one that looks whole; and one of another text
+    ("two", "one\ntwo", "one\ntwo", []), ("", "one\ntwo", "one\ntwo", []), ("\ntwo", "\r\ntwo", "one\ntwo", []),
+    ("Two", "one\nTwo", OUT_OF_STEP, [SHOWN]), ("2\n3", "2\r\n3\n", OUT_OF_STEP, [SHOWN]),
+    ("2\n3\n", "2\r\n3\n", OUT_OF_STEP, [SHOWN]),
 ])
 def test_save(client, saved, of, text, heard):
     client.open(URI, "one\ntwo")
