@@ -1,9 +1,9 @@
 """Times ways to keep a text, in turns, and prints a table. bench/rope and bench/index say of which ways.
 
 The program of what is proved lies beside this file: as any program it is proved before it runs, in a copy of the crates.
-peers/ has the programs of the buffers that people know, in C++, and plain/ that of the other ways, in Rust. Each buffer needs a
-package of Debian. Where that is missing, the way is left out, or is an error where it is named. Where two ways answer
-otherwise, the status is 1.
+The programs of the buffers that people know stand in peers/, in C++, and the program of the other ways in plain/, in Rust. Each
+buffer needs a package of Debian. Where the package is missing, the way is left out, or is an error where it is named. Where two
+ways answer otherwise, the status is 1.
 """
 import argparse
 import os
@@ -23,7 +23,7 @@ sys.path.insert(0, str(BENCH.parent / "scripts"))
 
 from crate_copies import copy_program  # noqa: E402
 
-# Rows in which more is better, and those of memory.
+# The rows in which more is better, and the rows of memory.
 RATES = ("load", "read")
 WEIGHTS = ("loaded", "inserted", "removed")
 
@@ -60,7 +60,7 @@ class Size(NamedTuple):
 
 class Peer(NamedTuple):
     """A buffer that people know: Debian's package, the name that pkg-config has for it or for what it stands on, a header, and
-    libraries beside those of that name."""
+    libraries that the name does not bring."""
 
     package: str
     name: str
@@ -93,7 +93,7 @@ class Table(NamedTuple):
     drawn: tuple = ()
 
 
-# What the lines of the text are made of.
+# The words from which a text is drawn.
 WORDS = (
     "the ", "rope ", "keeps ", "a ", "long ", "text ", "in ", "fn insert(", "&mut self", "); ", "let x = ", "return ", "0x1f ",
     "// ", "if ", "über ", "naïve ", "– ", "せかい ", "文字列 ", "日本 ", "Привет ", "🐸 ",
@@ -102,7 +102,7 @@ WORDS = (
 # No line has more bytes than this.
 LONGEST = 80
 
-# Of a text of so many bytes a shorter one is the beginning.
+# A shorter text is the beginning of a text of this size.
 SHORT = 1_000
 
 
@@ -116,7 +116,7 @@ def line_of(chosen):
 
 
 def text_of(size):
-    """Lines of almost so many bytes together, the same in each run; those of the first megabyte come again and again."""
+    """Returns lines of almost `size.length` bytes, equal in each run. After a megabyte the lines repeat."""
     if size.length < SHORT:
         return text_of(size._replace(length=SHORT))[:size.length].decode(errors="ignore").encode()
     chosen = random.Random(size.length)
@@ -217,7 +217,7 @@ def rows(table, size, figures, sums):
 
 
 def ratios(table, figures):
-    """The time of the rope over that of the B-tree, of each row that is drawn."""
+    """Yields, for each row that is drawn, the rope's time over the B-tree's time."""
     for name in table.drawn:
         rope, btree = (statistics.median(figures[name][way]) for way in ("rope", "btree"))
         yield table.rows[name].rpartition(",")[0], btree / rope if name in RATES else rope / btree

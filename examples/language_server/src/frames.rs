@@ -1,7 +1,7 @@
 //! Frames on a stream: each is a header that tells the length of its body in bytes, an empty line, and the body.
 //!
-//! Between two frames may be blanks. What else is no frame is refused once, and the next frame is looked for. No JSON has a
-//! line that ends in `Content-Length: 12`, since a line break in a string is escaped. So such a line begins a frame wherever
+//! Blanks may stand between two frames. Other bytes there are refused once, and the server looks for the next frame. No JSON
+//! has a line that ends in `Content-Length: 12`, since a line break in a string is escaped. So such a line begins a frame wherever
 //! it stands, also inside a body whose length was told too long.
 use crate::faults::Fault;
 use crate::system;
@@ -43,7 +43,7 @@ pub struct Frames<R> {
     was_refused: bool,
 }
 
-/// What was refused: a message, or bytes that are no frame.
+/// A message that the server refuses, or bytes outside of frames.
 pub struct Refused<'a> {
     pub fault: Fault,
     /// The message, where it is whole. Else several messages may have been in the bytes, or parts of them.
@@ -52,7 +52,7 @@ pub struct Refused<'a> {
     pub is_first: bool,
 }
 
-/// What there is in place of a frame.
+/// Why no frame was read.
 enum Missing {
     /// The input ends.
     End,
@@ -220,7 +220,7 @@ impl<R: BufRead> Frames<R> {
         Ok(())
     }
 
-    /// Looks for the next line that begins a frame, and goes there. What is before it and no blank may have been a message.
+    /// Goes to the next line that begins a frame. Bytes before it that are no blanks may have been a message, and are refused.
     fn find(&mut self) -> Result<(), Missing> {
         loop {
             let found = frame_in(&self.buffer, self.at);

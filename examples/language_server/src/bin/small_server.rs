@@ -1,4 +1,4 @@
-//! The smallest language server that is right: each open document is a rope, and a hover tells what a place is.
+//! A small language server, to be read: each open document is a rope, and a hover shows what a place is.
 //!
 //! It ends with a message where a frame or a message is not the protocol's. The package's other server goes on.
 use serde_json::{json, Value};
