@@ -44,7 +44,7 @@ class Part(NamedTuple):
 
 
 # the crates that they build; each stands on others
-CRATES = ("str_indices_c", "str_indices_c_wide", "text_rope_c", "text_index_c", "idx", "rope_positions")
+CRATES = ("str_indices_c", "text_rope_c", "text_index_c", "idx")
 
 PARTS = (
     Part("crates/text_rope/tests/refused_growths.py", 60),
@@ -56,7 +56,7 @@ PARTS = (
     Part("bindings/rust/tests/test_rust.py", 60),
     Part("bindings/web/tests/test_browser.py", 60, ("bindings/web/README.md",)),
     Part("bindings/c/tests/test_positions.py", 30),
-    Part("crates/rope_positions/tests/position_changes.py", 30),
+    Part("crates/text_rope/tests/position_changes.py", 30),
     Part("examples/language_server/tests/test_editor.py", 60, ("examples/language_server/README.md",)),
 )
 

@@ -9,7 +9,7 @@ import subprocess
 
 from crate_copies import ROOT
 
-ROPE = r"^(crates/(text_rope|text_rope_c|rope_positions)/(src|specs|[A-Z])|bindings/rope/|bindings/c/include/str_rope)"
+ROPE = r"^(crates/(text_rope|text_rope_c)/(src|specs|[A-Z])|bindings/rope/|bindings/c/include/str_rope)"
 SOURCES = r"^(crates|bindings|examples)/.*(/src/|/specs/|/include/|\.md$)|^README\.md$|^docs/[A-CE-Z].*\.md$"
 # where a word is searched, the word, what finds it, and the one that is used
 GIVEN_UP = [

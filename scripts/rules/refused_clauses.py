@@ -2,8 +2,8 @@
 
 Each clause that a public function ensures is named by an edit of refusals/bodies, or stands in refusals/no-edit.txt with the
 reason. A clause of a trait is named by an edit of one implementation. An edit of a function that other crates cannot name
-says why it is there. The wide half of the exports for C has the clauses of the narrow half, as same_clauses.py shows, and
-crates of tests have no public contract. The comparison is tried on edited lists too, in which it must find the fault.
+says why it is there. Crates of tests have no public contract. The comparison is tried on edited lists too, in which it must
+find the fault.
 """
 import fnmatch
 from typing import Dict, Iterator, List, NamedTuple, Set, Tuple
@@ -14,8 +14,8 @@ from refusals import Edit
 from wrong_bodies import edits_of
 
 WITHOUT = ROOT / "refusals/no-edit.txt"
-# crates without a public contract of their own: tests, what is timed, and a half that has another's clauses
-LEFT_OUT = {"str_indices_tests", "text_tests", "rope_tests", "workloads", "str_indices_c_wide"}
+# crates without a public contract of their own: tests, and what is timed
+LEFT_OUT = {"str_indices_tests", "text_tests", "rope_tests", "workloads"}
 
 
 class Clause(NamedTuple):

@@ -1,9 +1,7 @@
 """Shows by their texts that what is said once more is the same: clauses, and what the benchmark calls.
 
-A wrong body is tried at one implementation of a call of `ByteChunk` or `Utf8Chunk` and at one half of the C library. That
-stands for the others where these have the same clauses. So no implementation of these traits may state a clause of its own,
-which would take the place of the trait's; and the exports of the wide half must have those of the narrow half, which the
-browser's are.
+A wrong body is tried at one implementation of a call of `ByteChunk` or `Utf8Chunk`. That stands for the others where these have
+the same clauses. So no implementation of these traits may state a clause of its own, which would take the place of the trait's.
 
 The workloads are timed over the sources of the start too, the commit of bench/start.txt, with another file in the place of
 the one that has all of the libraries' names. So each name in that file must be public there, and no workload may call what is
@@ -15,14 +13,6 @@ import re
 import subprocess
 
 from crate_copies import ROOT
-
-NARROW = ROOT / "crates/str_indices_c/src"
-WIDE = ROOT / "crates/str_indices_c_wide/src"
-# each file of exports, how many the narrow half has there, and what one of its clauses is exchanged for
-FILES = [
-    ("lib.rt", 18, ("count Lf ", "count Crlf ")),
-    ("text_positions.rt", 13, ("LineType.LfCr Utf8 ", "LineType.LfCr Utf16 ")),
-]
 
 START = ROOT / "bench/start.txt"
 PERF = ROOT / "docs/PERF.md"
@@ -38,7 +28,6 @@ NAMED = re.compile(r"^pub\(crate\) use (\w+)::([^;]+);", re.MULTILINE)
 PUBLIC = re.compile(r"^ *pub (?:use|fn|mod|enum|struct|type|const|trait) ([^;({]+(?:\{[\w, \n]*\};)?)", re.MULTILINE)
 # public functions with the name of one of `std` that the workloads call
 NAMES_OF_STD = {"get"}
-EXPORT = re.compile(r'^pub extern "C" fn str_indices_(?:narrow_|wide_)?(\w+)(\(.*?)^\{', re.MULTILINE | re.DOTALL)
 
 
 def read(*paths):
@@ -56,11 +45,6 @@ def own_clauses(text):
     return sum(len(CLAUSE.findall(block)) for block in IMPL.findall(text))
 
 
-def exports(text):
-    """Each export by its name without the half, with its parameters and clauses."""
-    return {name: " ".join(contract.split()) for name, contract in EXPORT.findall(text)}
-
-
 def try_chunks(tally):
     texts = {path.relative_to(ROOT): read(path) for path in sources() if IMPL.search(read(path))}
     tally.result(len(texts) > 5, f"{len(texts)} files implement ByteChunk or Utf8Chunk")
@@ -68,15 +52,6 @@ def try_chunks(tally):
         tally.result(own_clauses(text) == 0, f"{name} states no clause of a call")
         edited = HEAD.sub(r"\g<0>\n        ensures { result ≡ result }\n   ", text)
         tally.result(own_clauses(edited) > 0, f"{name} with a clause is refused")
-
-
-def try_exports(tally, name, number, exchange):
-    narrow, text, path = exports(read(NARROW / name)), read(WIDE / name), (WIDE / name).relative_to(ROOT)
-    tally.result(len(narrow) == number, f"the narrow half has {len(narrow)} exports in {name}")
-    tally.result(exports(text) == narrow, f"{path} has the clauses of the narrow half")
-    for old, new in [exchange, ("    ensures boundary", "    ensures limits")]:
-        edited = text.replace(old, new, 1)
-        tally.result(edited != text and exports(edited) != narrow, f"{path} with {new.strip()} is refused")
 
 
 def sources_of(start, crates):
@@ -126,6 +101,4 @@ def try_start(tally):
 
 def check(tally):
     try_chunks(tally)
-    for name, number, exchange in FILES:
-        try_exports(tally, name, number, exchange)
     try_start(tally)

@@ -16,13 +16,13 @@ use Rattle.str_indices.specs.Relations.{IsBoundary, IsCrlfMiddle}
 use Rattle.str_indices.specs.declared.Scheme.{Scheme}
 use Rattle.str_indices.specs.declared.Scheme.TheVariants as schemes
 use Rattle.positions.specs.declared.line_type.LineType.{LineType}
-use Rattle.positions.specs.declared.line_type.LineType.TheVariants.{Lf, LfCr, All}
+use Rattle.positions.specs.declared.line_type.LineType.TheVariants.{Lf, Crlf, Lines}
 
 -- the scheme that counts these line breaks
 abbrev pub scheme_of : LineType → Scheme
 scheme_of Lf = schemes.Lf
-scheme_of LfCr = schemes.Crlf
-scheme_of All = schemes.Lines
+scheme_of Crlf = schemes.Crlf
+scheme_of Lines = schemes.Lines
 
 -- whether a line break begins with the char
 abbrev pub is_break : LineType → ℕ → Bool

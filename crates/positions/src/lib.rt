@@ -2,8 +2,8 @@
 //! `&str`, a text with an index beside it, or a text in pieces. They are written once, over a trait, for each encoding
 //! and each kind of line break.
 //!
-//! A position is a line and an offset on it, which the methods of [`Encoding`] count in bytes, UTF-16 code units or scalar
-//! values. No position names a place inside or after a break on its line: an offset past the line's end means the line's end,
+//! A position is a line and an offset on it, which an [`Encoding`] counts in bytes, UTF-16 code units or scalar values. No
+//! position names a place inside or after a break on its line: an offset past the line's end means the line's end,
 //! before its break.
 //!
 //! Every text, byte index and position has an answer: nothing panics, nothing allocates.

@@ -53,7 +53,7 @@ pub trait Parts<'a> {
         ensures short { size (state self.now).text < 2 ^ 64 }
         ensures searched { IsSearched (state self.now) };
 
-    /// How many line breaks the text has.
+    /// How many line breaks the text has. It is no search, and no contract counts what it reads.
     fn count(&self, lines: LineType) -> usize
         ensures { result ≡ count (scheme_of lines) (state self.now).text };
 

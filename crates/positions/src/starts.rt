@@ -167,10 +167,11 @@ pub fn line_end<'a, P: Parts<'a>>(parts: &mut P, lines: LineType, line: usize) -
 }
 
 /// Finds the byte indices where a line, counted from 0, begins and where its content ends; for a line past the last
-/// one, the length of the text in bytes twice. It takes at most two searches by the line.
+/// one, the length of the text in bytes twice. The text may be sliced at both. It takes at most two searches by the line.
 pub fn line<'a, P: Parts<'a>>(parts: &mut P, lines: LineType, line: usize) -> ops::Range<usize>
     ensures start { result.start ≡ to_byte_idx (scheme_of lines) (P.state parts.old).text line }
     ensures end { result.end ≡ line_end lines (P.state parts.old).text line }
+    ensures boundaries { let cs = (P.state parts.old).text in IsBoundary cs result.start × IsBoundary cs result.end }
     ensures cost { Searched 0 2 (P.state parts.old) (P.state parts.new) }
 {
     let _len = parts.len();

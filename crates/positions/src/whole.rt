@@ -9,19 +9,29 @@ use crate::texts::len_of;
 use crate::units::{place_of, units_before};
 use crate::{Encoding, LineType, Part, Parts, kernels};
 use byte_chunk::ByteChunk;
-use std::marker::PhantomData;
+use std::marker::{Model, PhantomData};
 
-/// One `&str`, as a text of one part. It is read by chunks of the type `T`.
+/// One `&str`, as a text of one part, which is read by chunks of the type `T`. A contract sees the text. Nothing counts how
+/// often an answer reads it.
 #[derive(Drop)]
 pub struct Whole<'a, T> {
     text: &'a str,
     chunk: PhantomData<T>,
 }
 
+impl<'a, T> Model for Whole<'a, T> {
+    ghost use Rattle.std.specs.Prelude.{chars};
+    ghost use Rattle.str_indices.specs.Text.{Text};
+
+    ghost Value = { Text };
+
+    ghost view = { λ t. chars t.text.now };
+}
+
 impl<'a, T: ByteChunk> Whole<'a, T> {
     /// Takes the text as one part.
     pub fn of(text: &'a str) -> Whole<'a, T>
-        ensures { result.text.now ≡ text.entry.now }
+        ensures { result ≡ chars text.entry.now }
     {
         Whole {
             text,
@@ -33,9 +43,9 @@ impl<'a, T: ByteChunk> Whole<'a, T> {
 impl<'a, T: ByteChunk> Parts<'a> for Whole<'a, T> {
     type Chunk = T;
 
-    ghost state = { λ t. record {
-      text = chars t.text.now;
-      pieces = chars t.text.now ∷ [];
+    ghost state = { λ text. record {
+      text = text;
+      pieces = text ∷ [];
       latest_start = λ _. 0;
       byte_choices = 1;
       count_choices = 1;

@@ -10,10 +10,12 @@ mod random_changes;
 mod snapshots;
 mod two_ropes;
 
+use positions::{LineType, line};
 use std::alloc::{AllocError, Global};
 use std::process::Abort;
 use std::test::Fail;
-use text_rope::{Line, MAX_CHUNK, Refusal, Rope, Scheme};
+use text_rope::{MAX_CHUNK, Refusal, Rope, Scheme};
+use text_tests::questions::KINDS;
 
 /// A line with chars of every length.
 const LINE: &str = "Zeile – über 🐸 und せかい, und so weiter\r\n";
@@ -108,47 +110,45 @@ impl Both {
     }
 }
 
-/// Whether a break of a scheme begins with a char.
-fn begins_break(s: Scheme, c: char) -> bool {
-    match s {
-        Scheme::Chars | Scheme::Utf16 => false,
-        Scheme::Lf => c == '\n',
-        Scheme::Crlf => matches!(c, '\n' | '\r'),
-        Scheme::Lines => matches!(c, '\n'..='\r' | '\u{85}' | '\u{2028}' | '\u{2029}'),
+/// Whether a break of a kind begins with a char.
+fn begins_break(lines: LineType, c: char) -> bool {
+    match lines {
+        LineType::Lf => c == '\n',
+        LineType::Crlf => matches!(c, '\n' | '\r'),
+        LineType::Lines => matches!(c, '\n'..='\r' | '\u{85}' | '\u{2028}' | '\u{2029}'),
     }
 }
 
 /// Where the first break of a text begins; its length where it has none.
-fn first_break(s: Scheme, text: &str) -> usize {
+fn first_break(lines: LineType, text: &str) -> usize {
     for (at, c) in text.char_indices() {
-        if begins_break(s, c) {
+        if begins_break(lines, c) {
             return at;
         }
     }
     text.len()
 }
 
-/// Compares a line by a scheme, which begins at a byte.
-fn assert_same_line(rt: &impl Abort, rope: &Rope, text: &str, s: Scheme, k: usize, from: usize) {
-    let Line { start, end, next } = rope.line(s, k);
-    let to = s.to_byte_idx(text, k.saturating_add(1));
-    let content = first_break(s, text.get(from..to).unwrap_or(""));
-    let wanted = (from, from.saturating_add(content), to);
-    assert!(rt;
-        (start, end, next) == wanted,
-        "{s:?} {k}: {start} {end} {next}"
-    );
-}
-
-/// Compares the answers of one scheme at a byte, where what it counts there begins, and the line that begins there.
+/// Compares the answers of one scheme at a byte, and where what it counts there begins.
 fn assert_same_by(rt: &impl Abort, rope: &Rope, text: &str, s: Scheme, byte_idx: usize) {
     let k = s.from_byte_idx(text, byte_idx);
     let found = (rope.from_byte_idx(s, byte_idx), rope.to_byte_idx(s, k));
     let wanted = (k, s.to_byte_idx(text, k));
     assert!(rt; found == wanted, "{s:?} {byte_idx}: {found:?}");
-    if wanted.1 == byte_idx {
-        assert_same_line(rt, rope, text, s, k, byte_idx);
+}
+
+/// Compares the line of a kind that begins at a byte, if one does.
+fn assert_same_line(rt: &impl Abort, rope: &Rope, text: &str, lines: LineType, byte_idx: usize) {
+    let s = lines.scheme();
+    let k = s.from_byte_idx(text, byte_idx);
+    if s.to_byte_idx(text, k) != byte_idx {
+        return;
     }
+    let next = s.to_byte_idx(text, k.saturating_add(1));
+    let content = first_break(lines, text.get(byte_idx..next).unwrap_or(""));
+    let found = line(&mut rope.view(), lines, k);
+    let wanted = byte_idx..byte_idx.saturating_add(content);
+    assert!(rt; found == wanted, "{lines:?} {k}: {found:?}");
 }
 
 /// Compares the answers at a byte.
@@ -158,12 +158,21 @@ fn assert_same_at(rt: &impl Abort, rope: &Rope, text: &str, byte_idx: usize) {
     for s in Scheme::ALL {
         assert_same_by(rt, rope, text, s, byte_idx);
     }
+    for lines in KINDS {
+        assert_same_line(rt, rope, text, lines, byte_idx);
+    }
 }
 
 fn assert_same_count(rt: &impl Abort, rope: &Rope, text: &str, s: Scheme) {
     let found = rope.count(s);
     assert!(rt; found == s.count(text), "{s:?} {found}");
-    assert_same_line(rt, rope, text, s, found.saturating_add(1), text.len());
+}
+
+/// Compares the line after the last one, which is at the text's end.
+fn assert_past(rt: &impl Abort, rope: &Rope, text: &str, lines: LineType) {
+    let past = rope.count(lines.scheme()).saturating_add(1);
+    let found = line(&mut rope.view(), lines, past);
+    assert!(rt; found == (text.len()..text.len()), "{lines:?} {found:?}");
 }
 
 /// Compares what is answered of the whole text.
@@ -172,6 +181,9 @@ fn assert_same_counts(rt: &impl Abort, rope: &Rope, text: &str) {
     assert!(rt; found == (text.len(), text.is_empty()), "{found:?}");
     for s in Scheme::ALL {
         assert_same_count(rt, rope, text, s);
+    }
+    for lines in KINDS {
+        assert_past(rt, rope, text, lines);
     }
 }
 

@@ -4,7 +4,8 @@
 //! C hands a text over as the address of its first byte and the number of its bytes.
 //! `bindings/c/include/str_indices.h`, at the top of the repository, says what a caller owes. It declares the exports
 //! without the word `narrow`: by that name each function is in `bindings/c/choose_half.c`, which hands a call on to the
-//! one here, or to that of `str_indices_c_wide`.
+//! one here, or to one of the wide half. `bindings/c/build_library` makes that half from this crate, by [`Lanes`] of twice as
+//! many bytes, and proves it.
 #![tactic(auto)]
 
 ghost use Rattle.std.specs.Prelude.{◌≡◌, ◌↔◌, IsCharBoundary, IsTrue, IsUtf8, chars};
@@ -14,14 +15,22 @@ ghost use Rattle.str_indices.specs.declared.Scheme.TheVariants.{Chars, Crlf, Lf,
 
 mod text_positions;
 
-use str_indices::{chars, is_utf8, lines, lines_crlf, lines_lf, utf16, valid_up_to};
+use byte_chunk::{ByteChunk, ByteProbe, Probe};
+use c_values::utf8_of;
+use str_indices::{chars, is_utf8, lines, lines_crlf, lines_lf, utf8, utf16};
+
+/// The vector by which a text is read.
+pub(crate) type Lanes = std::simd::Simd<u8, 16>;
 
 /// Whether the bytes are UTF-8, which all exports but this one and the next want of their text.
 #[unsafe(no_mangle)]
 pub extern "C" fn str_indices_narrow_is_utf8(text: &[u8]) -> bool
     ensures { IsTrue result ↔ IsUtf8 text.now }
 {
-    is_utf8(text)
+    if text.len() < Lanes::SIZE {
+        return is_utf8(text);
+    }
+    utf8::is_utf8_impl(&mut ByteProbe::<Lanes>::of(text), 0)
 }
 
 /// How many bytes there are before the first char that is wrong or that ends too soon.
@@ -29,16 +38,17 @@ pub extern "C" fn str_indices_narrow_is_utf8(text: &[u8]) -> bool
 pub extern "C" fn str_indices_narrow_valid_up_to(text: &[u8]) -> usize
     ensures { result ≡ utf8_valid_len text.now }
 {
-    valid_up_to(text)
+    utf8::valid_up_to_impl(&mut ByteProbe::<Lanes>::of(text), 0)
 }
 
 /// How many chars the text has.
 #[unsafe(no_mangle)]
+#[tactic(auto, using(str_indices::proofs::lemmas::Callers::whole_text))]
 pub extern "C" fn str_indices_narrow_chars_count(text: &[u8]) -> usize
     requires { IsUtf8 text.now }
     ensures { result ≡ count Chars (chars text.now) }
 {
-    chars::count(text_of(text))
+    chars::count_impl(&mut probe_of(text), text.len(), 0)
 }
 
 /// The char that a byte belongs to; past the end, the number of chars.
@@ -47,7 +57,7 @@ pub extern "C" fn str_indices_narrow_chars_from_byte_idx(text: &[u8], byte_idx: 
     requires { IsUtf8 text.now }
     ensures { result ≡ from_byte_idx Chars (chars text.now) byte_idx }
 {
-    chars::from_byte_idx(text_of(text), byte_idx)
+    chars::from_byte_idx_impl(&mut probe_of(text), byte_idx, 0)
 }
 
 /// The byte where a char begins; past the last one, the length of the text.
@@ -57,25 +67,27 @@ pub extern "C" fn str_indices_narrow_chars_to_byte_idx(text: &[u8], char_idx: us
     ensures answer { result ≡ to_byte_idx Chars (chars text.now) char_idx }
     ensures boundary { IsCharBoundary text.now result }
 {
-    chars::to_byte_idx(text_of(text), char_idx)
+    chars::to_byte_idx_impl(&mut probe_of(text), char_idx, 0)
 }
 
 /// How many UTF-16 code units the text would take.
 #[unsafe(no_mangle)]
+#[tactic(auto, using(str_indices::proofs::lemmas::Callers::whole_text))]
 pub extern "C" fn str_indices_narrow_utf16_count(text: &[u8]) -> usize
     requires { IsUtf8 text.now }
     ensures { result ≡ count Utf16 (chars text.now) }
 {
-    utf16::count(text_of(text))
+    utf16::count_impl(&mut probe_of(text), text.len(), 0)
 }
 
 /// How many surrogate pairs the text would have in UTF-16.
 #[unsafe(no_mangle)]
+#[tactic(auto, using(str_indices::proofs::lemmas::Callers::whole_text))]
 pub extern "C" fn str_indices_narrow_utf16_count_surrogates(text: &[u8]) -> usize
     requires { IsUtf8 text.now }
     ensures { result ≡ surrogates (chars text.now) }
 {
-    utf16::count_surrogates(text_of(text))
+    utf16::count_surrogates_impl(&mut probe_of(text), text.len(), 0)
 }
 
 /// The UTF-16 index of the char that a byte belongs to; past the end, the number of code units.
@@ -84,7 +96,7 @@ pub extern "C" fn str_indices_narrow_utf16_from_byte_idx(text: &[u8], byte_idx: 
     requires { IsUtf8 text.now }
     ensures { result ≡ from_byte_idx Utf16 (chars text.now) byte_idx }
 {
-    utf16::from_byte_idx(text_of(text), byte_idx)
+    utf16::from_byte_idx_impl(&mut probe_of(text), byte_idx, 0)
 }
 
 /// The byte where the char of a UTF-16 code unit begins; past the last one, the length of the text.
@@ -94,16 +106,17 @@ pub extern "C" fn str_indices_narrow_utf16_to_byte_idx(text: &[u8], utf16_idx: u
     ensures answer { result ≡ to_byte_idx Utf16 (chars text.now) utf16_idx }
     ensures boundary { IsCharBoundary text.now result }
 {
-    utf16::to_byte_idx(text_of(text), utf16_idx)
+    utf16::to_byte_idx_impl(&mut probe_of(text), utf16_idx, 0)
 }
 
 /// How many line feeds the text has.
 #[unsafe(no_mangle)]
+#[tactic(auto, using(str_indices::proofs::lemmas::Callers::whole_text))]
 pub extern "C" fn str_indices_narrow_lines_lf_count_breaks(text: &[u8]) -> usize
     requires { IsUtf8 text.now }
     ensures { result ≡ count Lf (chars text.now) }
 {
-    lines_lf::count_breaks(text_of(text))
+    lines_lf::count_breaks_impl(&mut probe_of(text), text.len(), 0)
 }
 
 /// The line that a byte is on; past the end, the last line.
@@ -112,7 +125,7 @@ pub extern "C" fn str_indices_narrow_lines_lf_from_byte_idx(text: &[u8], byte_id
     requires { IsUtf8 text.now }
     ensures { result ≡ from_byte_idx Lf (chars text.now) byte_idx }
 {
-    lines_lf::from_byte_idx(text_of(text), byte_idx)
+    lines_lf::from_byte_idx_impl(&mut probe_of(text), byte_idx, 0)
 }
 
 /// The byte where a line begins; past the last one, the length of the text.
@@ -122,16 +135,17 @@ pub extern "C" fn str_indices_narrow_lines_lf_to_byte_idx(text: &[u8], line_idx:
     ensures answer { result ≡ to_byte_idx Lf (chars text.now) line_idx }
     ensures boundary { IsCharBoundary text.now result }
 {
-    lines_lf::to_byte_idx(text_of(text), line_idx)
+    lines_lf::to_byte_idx_impl(&mut probe_of(text), line_idx, 0)
 }
 
 /// How many line breaks the text has: LF, CR and CR LF, which is one break.
 #[unsafe(no_mangle)]
+#[tactic(auto, using(str_indices::proofs::lemmas::Callers::whole_text))]
 pub extern "C" fn str_indices_narrow_lines_crlf_count_breaks(text: &[u8]) -> usize
     requires { IsUtf8 text.now }
     ensures { result ≡ count Crlf (chars text.now) }
 {
-    lines_crlf::count_breaks(text_of(text))
+    lines_crlf::count_breaks_impl(&mut probe_of(text), text.len(), 0)
 }
 
 /// The line that a byte is on; past the end, the last line.
@@ -140,7 +154,7 @@ pub extern "C" fn str_indices_narrow_lines_crlf_from_byte_idx(text: &[u8], byte_
     requires { IsUtf8 text.now }
     ensures { result ≡ from_byte_idx Crlf (chars text.now) byte_idx }
 {
-    lines_crlf::from_byte_idx(text_of(text), byte_idx)
+    lines_crlf::from_byte_idx_impl(&mut probe_of(text), byte_idx, 0)
 }
 
 /// The byte where a line begins; past the last one, the length of the text.
@@ -150,16 +164,17 @@ pub extern "C" fn str_indices_narrow_lines_crlf_to_byte_idx(text: &[u8], line_id
     ensures answer { result ≡ to_byte_idx Crlf (chars text.now) line_idx }
     ensures boundary { IsCharBoundary text.now result }
 {
-    lines_crlf::to_byte_idx(text_of(text), line_idx)
+    lines_crlf::to_byte_idx_impl(&mut probe_of(text), line_idx, 0)
 }
 
 /// How many line breaks the text has, of all those of Unicode.
 #[unsafe(no_mangle)]
+#[tactic(auto, using(str_indices::proofs::lemmas::Callers::whole_text))]
 pub extern "C" fn str_indices_narrow_lines_count_breaks(text: &[u8]) -> usize
     requires { IsUtf8 text.now }
     ensures { result ≡ count Lines (chars text.now) }
 {
-    lines::count_breaks(text_of(text))
+    lines::count_breaks_impl(&mut probe_of(text), text.len(), 0)
 }
 
 /// The line that a byte is on; past the end, the last line.
@@ -168,7 +183,7 @@ pub extern "C" fn str_indices_narrow_lines_from_byte_idx(text: &[u8], byte_idx: 
     requires { IsUtf8 text.now }
     ensures { result ≡ from_byte_idx Lines (chars text.now) byte_idx }
 {
-    lines::from_byte_idx(text_of(text), byte_idx)
+    lines::from_byte_idx_impl(&mut probe_of(text), byte_idx, 0)
 }
 
 /// The byte where a line begins; past the last one, the length of the text.
@@ -178,13 +193,12 @@ pub extern "C" fn str_indices_narrow_lines_to_byte_idx(text: &[u8], line_idx: us
     ensures answer { result ≡ to_byte_idx Lines (chars text.now) line_idx }
     ensures boundary { IsCharBoundary text.now result }
 {
-    lines::to_byte_idx(text_of(text), line_idx)
+    lines::to_byte_idx_impl(&mut probe_of(text), line_idx, 0)
 }
 
-fn text_of(bytes: &[u8]) -> &str
+fn probe_of(bytes: &[u8]) -> Probe<'_, Lanes>
     requires { IsUtf8 bytes.now }
-    ensures { result.now ≡ bytes.now }
+    ensures { result.text ≡ bytes.now }
 {
-    // Checking the bytes here would be a second pass over the text.
-    unsafe { str::from_utf8_unchecked(bytes) }
+    Probe::of(utf8_of(bytes))
 }

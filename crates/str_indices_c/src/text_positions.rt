@@ -1,169 +1,173 @@
-//! Positions and the ends of lines for C. `bindings/c/include/str_indices_positions.h` declares them without the
-//! word `narrow`, as the header beside it does those of `str_indices`.
-ghost use Rattle.std.specs.Prelude.{◌≡◌, ◌^◌, ◌-◌, IfNone, IfSome, IsCharBoundary, IsUtf8, chars, unwrap_or};
-ghost use Rattle.positions.specs.Lines.{line_end};
+//! Lines and positions for C. `bindings/c/include/str_indices_positions.h` declares the exports without the word `narrow`, as
+//! the header beside it does those of `str_indices`.
+ghost use Rattle.std.specs.Prelude.{◌≡◌, ◌^◌, ◌-◌, IfNone, IfSome, IsUtf8, chars, unwrap_or};
+ghost use Rattle.str_indices.specs.Relations.{IsBoundary};
+ghost use Rattle.str_indices.specs.Schemes.{to_byte_idx};
+ghost use Rattle.positions.specs.Lines.{IsPlace, line_end, scheme_of};
 ghost use Rattle.positions.specs.Positions.{byte_at, byte_range_at, exact_byte_at, position_at};
-ghost use Rattle.positions.specs.declared.encodings.Encoding.TheVariants.{Utf8, Utf16, Utf32};
+ghost use Rattle.c_values.specs.Numbers.{encoding_at, line_type_at};
 
-use crate::text_of;
-use positions::{Encoding, LineType, Position, Range};
+use crate::Lanes;
+use c_values::{
+    Bytes, byte_or_none, bytes_or_none, encoding_at, line_type_at, position_or_none, utf8_of,
+};
+use positions::{
+    Position, Range, Whole, byte_of, byte_range, exact_byte_of, exact_position_of, line, line_end,
+    position_of, range_of,
+};
 use std::ops;
 
-/// The bytes of a range: from where it begins up to where it ends.
-#[derive(Clone, Copy)]
-#[repr(C)]
-pub struct Bytes {
-    pub start: usize,
-    pub end: usize,
+/// The byte where the content of a line ends, before its break.
+#[unsafe(no_mangle)]
+pub extern "C" fn str_indices_narrow_line_end(text: &[u8], lines: u32, line_idx: usize) -> usize
+    requires { IsUtf8 text.now }
+    ensures answer { result ≡ line_end (line_type_at lines) (chars text.now) line_idx }
+    ensures boundary { IsBoundary (chars text.now) result }
+{
+    line_end(&mut whole_of(text), line_type_at(lines), line_idx)
 }
 
-/// The position of a byte: its line, and the UTF-16 code units on that line before it.
+/// The bytes of a line's content: without its break, and none at the text's end for a line past the last one.
 #[unsafe(no_mangle)]
-pub extern "C" fn str_indices_narrow_position_of(text: &[u8], byte_idx: usize) -> Position
+pub extern "C" fn str_indices_narrow_line(text: &[u8], lines: u32, line_idx: usize) -> Bytes
     requires { IsUtf8 text.now }
-    ensures { result ≡ position_at LineType.LfCr Utf16 (chars text.now) byte_idx }
+    ensures start { result.start ≡ to_byte_idx (scheme_of (line_type_at lines)) (chars text.now) line_idx }
+    ensures end { result.end ≡ line_end (line_type_at lines) (chars text.now) line_idx }
 {
-    Encoding::Utf16.position_of(text_of(text), byte_idx)
+    let ops::Range { start, end } = line(&mut whole_of(text), line_type_at(lines), line_idx);
+    Bytes { start, end }
+}
+
+/// The position of a byte: its line, and the units of the encoding on that line before it.
+#[unsafe(no_mangle)]
+pub extern "C" fn str_indices_narrow_position_of(
+    text: &[u8],
+    lines: u32,
+    encoding: u32,
+    byte_idx: usize,
+) -> Position
+    requires { IsUtf8 text.now }
+    ensures { result ≡ position_at (line_type_at lines) (encoding_at encoding) (chars text.now) byte_idx }
+{
+    position_of(
+        &mut whole_of(text),
+        line_type_at(lines),
+        encoding_at(encoding),
+        byte_idx,
+    )
+}
+
+/// The position of a byte that is a place on a line; `usize::MAX` twice where it is none.
+#[unsafe(no_mangle)]
+pub extern "C" fn str_indices_narrow_exact_position_of(
+    text: &[u8],
+    lines: u32,
+    encoding: u32,
+    byte_idx: usize,
+) -> Position
+    requires { IsUtf8 text.now }
+    ensures some { IsPlace (line_type_at lines) (chars text.now) byte_idx
+        → result ≡ position_at (line_type_at lines) (encoding_at encoding) (chars text.now) byte_idx }
+    ensures none { ¬ (IsPlace (line_type_at lines) (chars text.now) byte_idx)
+        → result ≡ record { line = 2 ^ 64 - 1; character = 2 ^ 64 - 1 } }
+{
+    let position = exact_position_of(
+        &mut whole_of(text),
+        line_type_at(lines),
+        encoding_at(encoding),
+        byte_idx,
+    );
+    position_or_none(position)
+}
+
+/// The positions of both ends of a span of bytes.
+#[unsafe(no_mangle)]
+pub extern "C" fn str_indices_narrow_range_of(
+    text: &[u8],
+    lines: u32,
+    encoding: u32,
+    span: Bytes,
+) -> Range
+    requires { IsUtf8 text.now }
+    ensures start { result.start ≡ position_at (line_type_at lines) (encoding_at encoding) (chars text.now) span.start }
+    ensures end { result.end ≡ position_at (line_type_at lines) (encoding_at encoding) (chars text.now) span.end }
+{
+    range_of(
+        &mut whole_of(text),
+        line_type_at(lines),
+        encoding_at(encoding),
+        span.start..span.end,
+    )
 }
 
 /// The byte where the char at a position begins; past the end of its line, the line's end.
 #[unsafe(no_mangle)]
-pub extern "C" fn str_indices_narrow_byte_of(text: &[u8], position: Position) -> usize
+pub extern "C" fn str_indices_narrow_byte_of(
+    text: &[u8],
+    lines: u32,
+    encoding: u32,
+    position: Position,
+) -> usize
     requires { IsUtf8 text.now }
-    ensures answer { result ≡ byte_at LineType.LfCr Utf16 (chars text.now) position }
-    ensures boundary { IsCharBoundary text.now result }
+    ensures answer { result ≡ byte_at (line_type_at lines) (encoding_at encoding) (chars text.now) position }
+    ensures boundary { IsBoundary (chars text.now) result }
 {
-    Encoding::Utf16.byte_of(text_of(text), position)
+    byte_of(
+        &mut whole_of(text),
+        line_type_at(lines),
+        encoding_at(encoding),
+        position,
+    )
 }
 
-/// The byte of a position that names a place, whose offset is in UTF-16 code units; `usize::MAX` where it names none.
+/// The byte of a position that names a place; `usize::MAX` where it names none.
 #[unsafe(no_mangle)]
-pub extern "C" fn str_indices_narrow_exact_byte_of(text: &[u8], position: Position) -> usize
+pub extern "C" fn str_indices_narrow_exact_byte_of(
+    text: &[u8],
+    lines: u32,
+    encoding: u32,
+    position: Position,
+) -> usize
     requires { IsUtf8 text.now }
-    ensures { result ≡ unwrap_or (exact_byte_at LineType.LfCr Utf16 (chars text.now) position) (2 ^ 64 - 1) }
+    ensures { result
+        ≡ unwrap_or (exact_byte_at (line_type_at lines) (encoding_at encoding) (chars text.now) position) (2 ^ 64 - 1) }
 {
-    byte_or_none(Encoding::Utf16.exact_byte_of(text_of(text), position))
+    let byte = exact_byte_of(
+        &mut whole_of(text),
+        line_type_at(lines),
+        encoding_at(encoding),
+        position,
+    );
+    byte_or_none(byte)
 }
 
-/// The bytes of a range, whose offsets are in UTF-16 code units; `usize::MAX` twice where its end is before its start.
+/// The bytes of a range; `usize::MAX` twice where its end is before its start.
 #[unsafe(no_mangle)]
-pub extern "C" fn str_indices_narrow_byte_range(text: &[u8], range: Range) -> Bytes
+pub extern "C" fn str_indices_narrow_byte_range(
+    text: &[u8],
+    lines: u32,
+    encoding: u32,
+    range: Range,
+) -> Bytes
     requires { IsUtf8 text.now }
-    ensures some { IfSome (byte_range_at LineType.LfCr Utf16 (chars text.now) range)
+    ensures some { IfSome (byte_range_at (line_type_at lines) (encoding_at encoding) (chars text.now) range)
         (λ bytes. result ≡ record { start = bytes.start; end = bytes.end }) }
-    ensures none { IfNone (byte_range_at LineType.LfCr Utf16 (chars text.now) range)
+    ensures none { IfNone (byte_range_at (line_type_at lines) (encoding_at encoding) (chars text.now) range)
         (result ≡ record { start = 2 ^ 64 - 1; end = 2 ^ 64 - 1 }) }
 {
-    bytes_or_none(Encoding::Utf16.byte_range(text_of(text), range))
+    let part = byte_range(
+        &mut whole_of(text),
+        line_type_at(lines),
+        encoding_at(encoding),
+        range,
+    );
+    bytes_or_none(part)
 }
 
-/// The byte where the content of a line ends, before its break.
-#[unsafe(no_mangle)]
-pub extern "C" fn str_indices_narrow_line_end(text: &[u8], line_idx: usize) -> usize
-    requires { IsUtf8 text.now }
-    ensures answer { result ≡ line_end LineType.LfCr (chars text.now) line_idx }
-    ensures boundary { IsCharBoundary text.now result }
+/// The text of bytes that are UTF-8, as one part.
+fn whole_of(bytes: &[u8]) -> Whole<'_, Lanes>
+    requires { IsUtf8 bytes.now }
+    ensures { result ≡ chars bytes.now }
 {
-    LineType::LfCr.line_end(text_of(text), line_idx)
-}
-
-/// The position of a byte: its line, and the bytes on that line before it, or before the char that it is in.
-#[unsafe(no_mangle)]
-pub extern "C" fn str_indices_narrow_utf8_position_of(text: &[u8], byte_idx: usize) -> Position
-    requires { IsUtf8 text.now }
-    ensures { result ≡ position_at LineType.LfCr Utf8 (chars text.now) byte_idx }
-{
-    Encoding::Utf8.position_of(text_of(text), byte_idx)
-}
-
-/// The byte where the char at a position begins, whose offset is in bytes; past the end of its line, the line's end.
-#[unsafe(no_mangle)]
-pub extern "C" fn str_indices_narrow_utf8_byte_of(text: &[u8], position: Position) -> usize
-    requires { IsUtf8 text.now }
-    ensures answer { result ≡ byte_at LineType.LfCr Utf8 (chars text.now) position }
-    ensures boundary { IsCharBoundary text.now result }
-{
-    Encoding::Utf8.byte_of(text_of(text), position)
-}
-
-/// The byte of a position that names a place, whose offset is in bytes; `usize::MAX` where it names none.
-#[unsafe(no_mangle)]
-pub extern "C" fn str_indices_narrow_utf8_exact_byte_of(text: &[u8], position: Position) -> usize
-    requires { IsUtf8 text.now }
-    ensures { result ≡ unwrap_or (exact_byte_at LineType.LfCr Utf8 (chars text.now) position) (2 ^ 64 - 1) }
-{
-    byte_or_none(Encoding::Utf8.exact_byte_of(text_of(text), position))
-}
-
-/// The bytes of a range, whose offsets are in bytes; `usize::MAX` twice where its end is before its start.
-#[unsafe(no_mangle)]
-pub extern "C" fn str_indices_narrow_utf8_byte_range(text: &[u8], range: Range) -> Bytes
-    requires { IsUtf8 text.now }
-    ensures some { IfSome (byte_range_at LineType.LfCr Utf8 (chars text.now) range)
-        (λ bytes. result ≡ record { start = bytes.start; end = bytes.end }) }
-    ensures none { IfNone (byte_range_at LineType.LfCr Utf8 (chars text.now) range)
-        (result ≡ record { start = 2 ^ 64 - 1; end = 2 ^ 64 - 1 }) }
-{
-    bytes_or_none(Encoding::Utf8.byte_range(text_of(text), range))
-}
-
-/// The position of a byte: its line, and the scalar values on that line before it.
-#[unsafe(no_mangle)]
-pub extern "C" fn str_indices_narrow_utf32_position_of(text: &[u8], byte_idx: usize) -> Position
-    requires { IsUtf8 text.now }
-    ensures { result ≡ position_at LineType.LfCr Utf32 (chars text.now) byte_idx }
-{
-    Encoding::Utf32.position_of(text_of(text), byte_idx)
-}
-
-/// The byte where the char at a position begins, whose offset is in scalar values; past the end of its line, the line's
-/// end.
-#[unsafe(no_mangle)]
-pub extern "C" fn str_indices_narrow_utf32_byte_of(text: &[u8], position: Position) -> usize
-    requires { IsUtf8 text.now }
-    ensures answer { result ≡ byte_at LineType.LfCr Utf32 (chars text.now) position }
-    ensures boundary { IsCharBoundary text.now result }
-{
-    Encoding::Utf32.byte_of(text_of(text), position)
-}
-
-/// The byte of a position that names a place, whose offset is in scalar values; `usize::MAX` where it names none.
-#[unsafe(no_mangle)]
-pub extern "C" fn str_indices_narrow_utf32_exact_byte_of(text: &[u8], position: Position) -> usize
-    requires { IsUtf8 text.now }
-    ensures { result ≡ unwrap_or (exact_byte_at LineType.LfCr Utf32 (chars text.now) position) (2 ^ 64 - 1) }
-{
-    byte_or_none(Encoding::Utf32.exact_byte_of(text_of(text), position))
-}
-
-/// The bytes of a range, whose offsets are in scalar values; `usize::MAX` twice where its end is before its start.
-#[unsafe(no_mangle)]
-pub extern "C" fn str_indices_narrow_utf32_byte_range(text: &[u8], range: Range) -> Bytes
-    requires { IsUtf8 text.now }
-    ensures some { IfSome (byte_range_at LineType.LfCr Utf32 (chars text.now) range)
-        (λ bytes. result ≡ record { start = bytes.start; end = bytes.end }) }
-    ensures none { IfNone (byte_range_at LineType.LfCr Utf32 (chars text.now) range)
-        (result ≡ record { start = 2 ^ 64 - 1; end = 2 ^ 64 - 1 }) }
-{
-    bytes_or_none(Encoding::Utf32.byte_range(text_of(text), range))
-}
-
-/// The byte, or `usize::MAX`, which is past every text.
-fn byte_or_none(byte: Option<usize>) -> usize
-    ensures { result ≡ unwrap_or byte (2 ^ 64 - 1) }
-{
-    byte.unwrap_or(usize::MAX)
-}
-
-/// The bytes from a range's start to its end, or `usize::MAX` twice.
-fn bytes_or_none(range: Option<ops::Range<usize>>) -> Bytes
-    ensures some { IfSome range (λ bytes. result ≡ record { start = bytes.start; end = bytes.end }) }
-    ensures none { IfNone range (result ≡ record { start = 2 ^ 64 - 1; end = 2 ^ 64 - 1 }) }
-{
-    let none = usize::MAX..usize::MAX;
-    let bytes = range.unwrap_or(none);
-    Bytes {
-        start: bytes.start,
-        end: bytes.end,
-    }
+    Whole::of(utf8_of(bytes))
 }

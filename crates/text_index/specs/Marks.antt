@@ -9,8 +9,7 @@
 --     MarksState               `Marks` as contracts see them
 --     begins_at byte           where the stretch of a byte begins at most
 --     parts_of state           the same as a text in parts
---     Asked stretches few old new   how many stretches were read and marks looked at, at most
-use Rattle.std.specs.Prelude.{ℕ, ◌≡◌, ◌+◌, ◌-◌, ◌*◌, ◌/◌, ◌^◌, ◌<◌, ◌≤◌, false, List, [], ◌∷◌, ◌++◌, length, slice_index_or}
+use Rattle.std.specs.Prelude.{ℕ, ◌≡◌, ◌+◌, ◌*◌, ◌/◌, ◌^◌, ◌<◌, ◌≤◌, false, List, [], ◌∷◌, ◌++◌, length, slice_index_or}
 use Rattle.str_indices.specs.Text.{Text, size}
 use Rattle.str_indices.specs.Schemes.{count}
 use Rattle.str_indices.specs.Joins.{joins_crlf}
@@ -77,11 +76,3 @@ parts_of state = record {
   looks = state.looks;
   reads = state.reads;
 }
-
--- at most `stretches` stretches were read, and 2 to the power of the number of looks is at most `few`
-pub record Asked (stretches few : ℕ) (old new : MarksState) : Type 0 where
-  pub text : new.text ≡ old.text
-  pub looks : 2 ^ (new.looks - old.looks) ≤ few
-  pub looks_kept : old.looks ≤ new.looks
-  pub reads : new.reads ≤ old.reads + stretches
-  pub reads_kept : old.reads ≤ new.reads

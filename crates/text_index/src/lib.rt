@@ -7,12 +7,10 @@
 
 mod borrowed;
 mod index;
-mod index_positions;
 mod mark;
 mod marking;
 mod parts;
 mod places;
-mod position_queries;
 mod queries;
 mod stretch;
 mod view;
@@ -21,11 +19,6 @@ pub use borrowed::BorrowedIndex;
 pub use index::TextIndex;
 pub use mark::Mark;
 pub use marking::{fill, marks_for};
-pub use position_queries::{
-    byte_in, byte_range_in, exact_byte_in, exact_position_in, line_end_in, line_in, position_in,
-    range_in,
-};
-pub use positions::LineType;
 pub use queries::{count_in, from_in, to_in};
 pub use str_indices::Scheme;
 pub use view::Marks;

@@ -1,8 +1,9 @@
 //! The index of a text as C holds it.
-ghost use Rattle.std.specs.Prelude.{◌≡◌, IsUtf8};
+ghost use Rattle.std.specs.Prelude.{◌≡◌};
 ghost use Rattle.text_index.specs.Marks.{MarksState};
 ghost use Rattle.text_index_c.specs.Handles.{IsIndex, text_of};
 
+use c_values::utf8_of;
 use text_index::{BorrowedIndex, Mark, Marks};
 
 /// The index of a text as C holds it: the text, which C keeps, its marks, and the one at its end.
@@ -20,15 +21,6 @@ pub(crate) fn index_of<'a>(handle: &'a IndexHandle<'_>) -> BorrowedIndex<'a>
     ensures { result ≡ text_of handle.now }
 {
     BorrowedIndex::of(utf8_of(handle.text), handle.marks, &handle.whole)
-}
-
-/// The text of bytes that are UTF-8.
-pub(crate) fn utf8_of(bytes: &[u8]) -> &str
-    requires { IsUtf8 bytes.now }
-    ensures { result.now ≡ bytes.now }
-{
-    // Checking the bytes here would be a second pass over the text.
-    unsafe { str::from_utf8_unchecked(bytes) }
 }
 
 /// Lends the marks of that index to a query.

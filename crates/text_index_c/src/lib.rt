@@ -7,8 +7,6 @@
 #![tactic(auto)]
 
 mod handle;
-mod index_lines;
 mod index_positions;
 mod making;
-mod numbers;
 mod queries;

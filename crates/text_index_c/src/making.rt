@@ -2,10 +2,10 @@
 ghost use Rattle.std.specs.Prelude.{◌≡◌, ◌≢◌, ◌+◌, ◌*◌, ◌/◌, ◌^◌, ◌<◌, ◌≤◌, ◌↔◌, ◌⊎◌, IsUtf8, chars, length};
 ghost use Rattle.text_index.specs.Marks.{stretch_size};
 ghost use Rattle.text_index_c.specs.Handles.{IsIndex, text_of};
-ghost use Rattle.text_index_c.specs.Numbers.{done, no_room, not_utf8};
+ghost use Rattle.text_index_c.specs.Statuses.{done, no_room, not_utf8};
 
-use crate::handle::{IndexHandle, utf8_of};
-use crate::numbers::{DONE, NO_ROOM, NOT_UTF8};
+use crate::handle::IndexHandle;
+use c_values::utf8_of;
 use std::mem::size_of;
 use str_indices::is_utf8;
 use text_index::{Mark, fill, marks_for};
@@ -14,6 +14,15 @@ use text_index::{Mark, fill, marks_for};
 const HANDLE: usize = size_of::<IndexHandle<'static>>();
 
 const MARK: usize = size_of::<Mark>();
+
+/// The status of a call that did what it was asked.
+const DONE: u32 = 0;
+
+/// The status of bytes that are not UTF-8.
+const NOT_UTF8: u32 = 2;
+
+/// The status of a room for another number of marks.
+const NO_ROOM: u32 = 3;
 
 /// Returns how many bytes a handle takes with the marks of a text of `len` bytes, or 0 if `len` is above `isize::MAX`,
 /// which no text's length is.

@@ -3,11 +3,11 @@ ghost use Rattle.std.specs.Prelude.{◌≡◌, ◌↔◌, IsTrue};
 ghost use Rattle.str_indices.specs.Relations.{IsBoundary};
 ghost use Rattle.str_indices.specs.Schemes.{count, from_byte_idx, to_byte_idx};
 ghost use Rattle.str_indices.specs.Text.{size};
+ghost use Rattle.c_values.specs.Numbers.{scheme_at};
 ghost use Rattle.text_index_c.specs.Handles.{IsIndex, text_of};
-ghost use Rattle.text_index_c.specs.Numbers.{scheme_of};
 
 use crate::handle::{IndexHandle, index_of};
-use crate::numbers::scheme_at;
+use c_values::scheme_at;
 use text_index::{count_in, from_in, to_in};
 
 /// How many bytes the text has.
@@ -23,7 +23,7 @@ pub extern "C" fn str_index_len(handle: &IndexHandle<'_>) -> usize
 #[unsafe(no_mangle)]
 pub extern "C" fn str_index_count(handle: &IndexHandle<'_>, scheme: u32) -> usize
     requires { IsIndex handle.now }
-    ensures { result ≡ count (scheme_of scheme) (text_of handle.now) }
+    ensures { result ≡ count (scheme_at scheme) (text_of handle.now) }
 {
     count_in(&mut index_of(handle).view(), scheme_at(scheme))
 }
@@ -36,7 +36,7 @@ pub extern "C" fn str_index_from_byte_idx(
     byte_idx: usize,
 ) -> usize
     requires { IsIndex handle.now }
-    ensures { result ≡ from_byte_idx (scheme_of scheme) (text_of handle.now) byte_idx }
+    ensures { result ≡ from_byte_idx (scheme_at scheme) (text_of handle.now) byte_idx }
 {
     from_in(&mut index_of(handle).view(), scheme_at(scheme), byte_idx)
 }
@@ -45,7 +45,7 @@ pub extern "C" fn str_index_from_byte_idx(
 #[unsafe(no_mangle)]
 pub extern "C" fn str_index_to_byte_idx(handle: &IndexHandle<'_>, scheme: u32, idx: usize) -> usize
     requires { IsIndex handle.now }
-    ensures { result ≡ to_byte_idx (scheme_of scheme) (text_of handle.now) idx }
+    ensures { result ≡ to_byte_idx (scheme_at scheme) (text_of handle.now) idx }
 {
     to_in(&mut index_of(handle).view(), scheme_at(scheme), idx)
 }

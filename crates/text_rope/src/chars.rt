@@ -8,7 +8,6 @@ ghost use Rattle.text_rope.specs.Looks.{Asks};
 ghost use Rattle.text_rope.specs.States.{RopeState};
 
 use crate::chunks::chunk_in;
-use crate::lines::last_before;
 use crate::rope::costs::View;
 
 /// The char that begins at a byte index; none inside a char, and from the end of the text on. One question, as `chunk_in`.
@@ -59,4 +58,14 @@ fn first_after(text: &str, at: usize) -> Option<char>
     ensures none { IfNone result (at ≡ size (chars text.now)) }
 {
     text[at..].chars().next()
+}
+
+/// The char before a boundary, none at the beginning.
+fn last_before(text: &str, at: usize) -> Option<char>
+    requires { IsBoundary (chars text.now) at }
+    ensures some { IfSome result (λ c. IsEndOf (chars text.now) c at) }
+    ensures none { IfNone result (at ≡ 0) }
+{
+    let start = text.floor_char_boundary(at.saturating_sub(1));
+    text[start..at].chars().next()
 }

@@ -12,10 +12,10 @@ mod edits;
 mod iter;
 mod joins;
 mod leaf;
-mod lines;
 mod loads;
 mod parts;
 mod queries;
+mod ranges;
 mod refusals;
 mod rope;
 mod shifts;
@@ -23,13 +23,11 @@ mod tree;
 
 pub use chars::{char_at_in, char_before_in};
 pub use chunk::{MAX_CHUNK, MIN_CHUNK};
-pub use chunks::{
-    ChunkAt, ChunkAtByte, ChunkAtCount, chunk_at_byte_in, chunk_at_count_in, chunk_in,
-};
+pub use chunks::{ChunkAt, ChunkAtByte, chunk_at_byte_in, chunk_in};
 pub use cursor::ChunkCursor;
 pub use iter::Chunks;
-pub use lines::{Line, line_in};
 pub use queries::{count_in, from_in, is_boundary_in, to_in};
+pub use ranges::Change;
 pub use refusals::Refusal;
 pub use rope::Rope;
 pub use rope::costs::View;

@@ -8,7 +8,6 @@ ghost use Rattle.text_summary.specs.Changes.{IsReplaced};
 ghost use Rattle.text_summary.specs.Pieces.{joined};
 ghost use Rattle.text_rope.specs.Chunks.{IsChunkAt, ChunksState, IsCopied, IsRead};
 ghost use Rattle.text_rope.specs.Edits.{IsCutAt};
-ghost use Rattle.text_rope.specs.Lines.{line_end_by};
 ghost use Rattle.text_rope.specs.Looks.{Asks};
 ghost use Rattle.text_rope.specs.ChunkSizes.{max_chunk, min_chunk, IsFilled, IsFull};
 ghost use Rattle.text_rope.specs.States.{RopeState, unasked};
@@ -24,8 +23,8 @@ use crate::edits::replace_text;
 use crate::loads::tree_from;
 use crate::tree::Tree;
 use crate::{
-    ChunkAt, ChunkCursor, Chunks, Line, Refusal, Scheme, View, char_at_in, char_before_in,
-    chunk_in, count_in, from_in, is_boundary_in, line_in, to_in,
+    ChunkAt, ChunkCursor, Chunks, Refusal, Scheme, View, char_at_in, char_before_in, chunk_in,
+    count_in, from_in, is_boundary_in, to_in,
 };
 use costs::Work;
 use std::alloc::{AllocError, Global};
@@ -38,8 +37,7 @@ const MAX_LEN: usize = isize::MAX as usize;
 
 /// A text that is kept in a balanced tree of its chunks. A contract sees the text, the list of its chars.
 ///
-/// A question looks at a number of nodes that is logarithmic in the number of chunks, and reads one chunk at most; a line asks up to
-/// three.
+/// A question looks at a number of nodes that is logarithmic in the number of chunks, and reads one chunk at most.
 #[derive(Drop)]
 pub struct Rope {
     tree: Tree,
@@ -147,19 +145,6 @@ impl Rope {
         ensures { result ≡ to_byte_idx s self.now idx }
     {
         to_in(&mut self.view(), s, idx)
-    }
-
-    /// The `k`-th line by the scheme's breaks, counted from 0: the byte indices where it begins, where its content ends,
-    /// and where its break does. The last line has no break, and ends where the text does; past it all three are the text's
-    /// length.
-    ///
-    /// `Chars` and `Utf16` know no breaks: there `start`, and `end` with `next`, are the byte indices of `k` and `k + 1`.
-    pub fn line(&self, s: Scheme, k: usize) -> Line
-        ensures start { result.start ≡ to_byte_idx s self.now k }
-        ensures end { result.end ≡ line_end_by s self.now k }
-        ensures next { result.next ≡ to_byte_idx s self.now (k + 1) }
-    {
-        line_in(&mut self.view(), s, k)
     }
 
     /// Whether a byte index is between chars, or at the beginning or end of the text; past the end it is not.

@@ -179,7 +179,7 @@ def try_small(small, tally):
     with tempfile.TemporaryDirectory() as folder:
         folder = pathlib.Path(folder)
         source = source_of("small_chunks", small.numbers)
-        crate = copy_program("small_chunks", ["text_rope"], source, folder, left_out=LEFT_OUT)
+        crate = copy_program("small_chunks", ["positions", "text_rope"], source, folder, left_out=LEFT_OUT)
         shutil.copy(ROOT / "crates/text_tests/src/random.rt", crate / "src")
         for name, numbers in small.sources.items():
             path = folder / f"crates/text_rope/src/{name}.rt"

@@ -3,11 +3,11 @@ ghost use Rattle.std.specs.Prelude.{◌≡◌, ◌↔◌, IsTrue};
 ghost use Rattle.str_indices.specs.Relations.{IsBoundary};
 ghost use Rattle.str_indices.specs.Schemes.{count, from_byte_idx, to_byte_idx};
 ghost use Rattle.str_indices.specs.Text.{size};
-ghost use Rattle.text_rope_c.specs.Numbers.{scheme_of};
+ghost use Rattle.c_values.specs.Numbers.{scheme_at};
 
 use crate::handles::ask;
-use crate::numbers::scheme_at;
 use crate::slot::Slot;
+use c_values::scheme_at;
 use std::alloc::Global;
 
 /// How many bytes the text has.
@@ -22,7 +22,7 @@ pub extern "C" fn str_rope_len(alloc: Global, rope: &mut Slot) -> usize
 /// How many chars, UTF-16 code units or line breaks the text has.
 #[unsafe(no_mangle)]
 pub extern "C" fn str_rope_count(alloc: Global, rope: &mut Slot, scheme: u32) -> usize
-    ensures answer { result ≡ count (scheme_of scheme) rope.old.text }
+    ensures answer { result ≡ count (scheme_at scheme) rope.old.text }
     ensures same { rope.new ≡ rope.old }
 {
     ask(alloc, rope, |text| text.count(scheme_at(scheme)))
@@ -36,7 +36,7 @@ pub extern "C" fn str_rope_from_byte_idx(
     scheme: u32,
     byte_idx: usize,
 ) -> usize
-    ensures answer { result ≡ from_byte_idx (scheme_of scheme) rope.old.text byte_idx }
+    ensures answer { result ≡ from_byte_idx (scheme_at scheme) rope.old.text byte_idx }
     ensures same { rope.new ≡ rope.old }
 {
     ask(
@@ -54,7 +54,7 @@ pub extern "C" fn str_rope_to_byte_idx(
     scheme: u32,
     idx: usize,
 ) -> usize
-    ensures answer { result ≡ to_byte_idx (scheme_of scheme) rope.old.text idx }
+    ensures answer { result ≡ to_byte_idx (scheme_at scheme) rope.old.text idx }
     ensures same { rope.new ≡ rope.old }
 {
     ask(alloc, rope, |text| text.to_byte_idx(scheme_at(scheme), idx))

@@ -3,7 +3,6 @@
 mod answers;
 mod caller;
 mod lines;
-mod protocol;
 mod texts;
 
 /// How many bytes a stretch has.

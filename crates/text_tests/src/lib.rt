@@ -8,6 +8,7 @@
 mod indexes;
 #[cfg(test)]
 mod pieces;
+pub mod questions;
 pub mod random;
 #[cfg(test)]
 mod text_positions;

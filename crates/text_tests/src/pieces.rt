@@ -3,7 +3,7 @@
 
 mod caller;
 mod changes;
-mod kinds;
+mod lines;
 mod long_text;
 mod places;
 mod random_edits;

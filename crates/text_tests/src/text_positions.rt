@@ -5,7 +5,11 @@ ghost use Rattle.str_indices.specs.Schemes.{count};
 ghost use Rattle.str_indices.specs.declared.Scheme.TheVariants.{Crlf};
 ghost use Rattle.positions.specs.Relations.{IsGreatestPlace};
 
-use positions::{Encoding, LineType, Position, Range, laws};
+use byte_chunk::Chunk;
+use positions::{
+    Encoding, LineType, Position, Range, Whole, byte_of, byte_range, exact_byte_of, laws, line_end,
+    position_of,
+};
 use std::process::Abort;
 
 /// A line that ends in CRLF, one with a surrogate pair that ends in CR, one of a char of three bytes, an empty one, and
@@ -18,18 +22,29 @@ fn at(line: usize, character: usize) -> Position {
 
 /// From a byte to its position and back, as a caller writes it, who knows by the law what comes back.
 fn there_and_back(text: &str, byte: usize) -> usize
-    ensures { IsGreatestPlace LineType.LfCr (chars text.now) byte result }
+    ensures { IsGreatestPlace LineType.Crlf (chars text.now) byte result }
 {
-    laws::round_trip(LineType::LfCr, Encoding::Utf16, text, byte);
-    Encoding::Utf16.byte_of(text, Encoding::Utf16.position_of(text, byte))
+    laws::round_trip(LineType::Crlf, Encoding::Utf16, text, byte);
+    let whole = &mut Whole::<Chunk>::of(text);
+    let position = position_of(whole, LineType::Crlf, Encoding::Utf16, byte);
+    byte_of(whole, LineType::Crlf, Encoding::Utf16, position)
 }
 
 /// From a position to its byte and back, so too.
 fn back_from_byte(text: &str, position: Position) -> Position
     ensures { result.line ≡ min position.line (count Crlf (chars text.now)) }
 {
-    laws::position_round_trip(LineType::LfCr, Encoding::Utf16, text, position);
-    Encoding::Utf16.position_of(text, Encoding::Utf16.byte_of(text, position))
+    laws::position_round_trip(LineType::Crlf, Encoding::Utf16, text, position);
+    let whole = &mut Whole::<Chunk>::of(text);
+    let byte = byte_of(whole, LineType::Crlf, Encoding::Utf16, position);
+    position_of(whole, LineType::Crlf, Encoding::Utf16, byte)
+}
+
+/// A text by itself, read by the library's own chunks.
+fn whole(text: &str) -> Whole<'_, Chunk>
+    ensures { result ≡ chars text.now }
+{
+    Whole::of(text)
 }
 
 /// Compares the byte index that a row of a table asks for.
@@ -66,7 +81,12 @@ const LINE_ENDS: [(&str, usize, usize); 16] = [
 fn a_line_ends_before_its_break(rt: HostRuntime) {
     for i in 0..LINE_ENDS.len() {
         let (text, line, end) = LINE_ENDS[i];
-        assert_byte(&rt, LineType::LfCr.line_end(text, line), end, i);
+        assert_byte(
+            &rt,
+            line_end(&mut whole(text), LineType::Crlf, line),
+            end,
+            i,
+        );
     }
 }
 
@@ -97,7 +117,7 @@ fn each_byte_has_a_position(rt: HostRuntime) {
     for i in 0..BYTES.len() {
         let (byte, line, character, back) = BYTES[i];
         let found = (
-            Encoding::Utf16.position_of(TEXT, byte),
+            position_of(&mut whole(TEXT), LineType::Crlf, Encoding::Utf16, byte),
             there_and_back(TEXT, byte),
         );
         assert_both(&rt, found, (at(line, character), back), i);
@@ -138,7 +158,10 @@ fn each_position_has_a_byte(rt: HostRuntime) {
         let wanted = (at(back_line, back_character), byte);
         assert_both(
             &rt,
-            (back, Encoding::Utf16.byte_of(TEXT, position)),
+            (
+                back,
+                byte_of(&mut whole(TEXT), LineType::Crlf, Encoding::Utf16, position),
+            ),
             wanted,
             i,
         );
@@ -149,8 +172,13 @@ fn each_position_has_a_byte(rt: HostRuntime) {
 fn the_empty_text_has_one_position(rt: HostRuntime) {
     for index in [0, 1, usize::MAX] {
         let found = (
-            Encoding::Utf16.position_of("", index),
-            Encoding::Utf16.byte_of("", at(index, index)),
+            position_of(&mut whole(""), LineType::Crlf, Encoding::Utf16, index),
+            byte_of(
+                &mut whole(""),
+                LineType::Crlf,
+                Encoding::Utf16,
+                at(index, index),
+            ),
         );
         assert_both(&rt, found, (at(0, 0), 0), index);
     }
@@ -172,17 +200,23 @@ const OFFSETS: [(usize, usize, usize, usize); 8] = [
 fn an_offset_is_in_the_encoding(rt: HostRuntime) {
     for i in 0..OFFSETS.len() {
         let (byte, in_bytes, in_chars, back) = OFFSETS[i];
-        let position = Encoding::Utf8.position_of(TEXT, byte);
+        let position = position_of(&mut whole(TEXT), LineType::Crlf, Encoding::Utf8, byte);
         assert_both(
             &rt,
-            (position, Encoding::Utf8.byte_of(TEXT, position)),
+            (
+                position,
+                byte_of(&mut whole(TEXT), LineType::Crlf, Encoding::Utf8, position),
+            ),
             (at(position.line, in_bytes), back),
             i,
         );
-        let position = Encoding::Utf32.position_of(TEXT, byte);
+        let position = position_of(&mut whole(TEXT), LineType::Crlf, Encoding::Utf32, byte);
         assert_both(
             &rt,
-            (position, Encoding::Utf32.byte_of(TEXT, position)),
+            (
+                position,
+                byte_of(&mut whole(TEXT), LineType::Crlf, Encoding::Utf32, position),
+            ),
             (at(position.line, in_chars), back),
             i,
         );
@@ -212,31 +246,61 @@ fn assert_place(rt: &impl Abort, found: Option<usize>, wanted: Option<usize>, ro
 fn an_exact_position_names_a_place(rt: HostRuntime) {
     for i in 0..EXACT.len() {
         let (line, character, byte) = EXACT[i];
-        let found = Encoding::Utf16.exact_byte_of(TEXT, at(line, character));
+        let found = exact_byte_of(
+            &mut whole(TEXT),
+            LineType::Crlf,
+            Encoding::Utf16,
+            at(line, character),
+        );
         assert_place(&rt, found, byte, i);
     }
     // A last line that is empty is there, and the one after it is not.
     assert_place(
         &rt,
-        Encoding::Utf8.exact_byte_of("a\n", at(1, 0)),
+        exact_byte_of(&mut whole("a\n"), LineType::Crlf, Encoding::Utf8, at(1, 0)),
         Some(2),
         0,
     );
-    assert_place(&rt, Encoding::Utf8.exact_byte_of("a\n", at(2, 0)), None, 1);
-    assert_place(&rt, Encoding::Utf32.exact_byte_of("", at(0, 0)), Some(0), 2);
+    assert_place(
+        &rt,
+        exact_byte_of(&mut whole("a\n"), LineType::Crlf, Encoding::Utf8, at(2, 0)),
+        None,
+        1,
+    );
+    assert_place(
+        &rt,
+        exact_byte_of(&mut whole(""), LineType::Crlf, Encoding::Utf32, at(0, 0)),
+        Some(0),
+        2,
+    );
 }
 
 /// Offsets in bytes that are inside a char, past the end of a line and past the last line, and their bytes.
 #[test]
 fn a_byte_inside_a_char_belongs_to_it(rt: HostRuntime) {
-    assert_byte(&rt, Encoding::Utf8.byte_of(TEXT, at(1, 3)), 3, 0);
-    assert_byte(&rt, Encoding::Utf8.byte_of(TEXT, at(1, 9)), 8, 1);
-    assert_byte(&rt, Encoding::Utf8.byte_of(TEXT, at(9, 0)), 15, 2);
+    assert_byte(
+        &rt,
+        byte_of(&mut whole(TEXT), LineType::Crlf, Encoding::Utf8, at(1, 3)),
+        3,
+        0,
+    );
+    assert_byte(
+        &rt,
+        byte_of(&mut whole(TEXT), LineType::Crlf, Encoding::Utf8, at(1, 9)),
+        8,
+        1,
+    );
+    assert_byte(
+        &rt,
+        byte_of(&mut whole(TEXT), LineType::Crlf, Encoding::Utf8, at(9, 0)),
+        15,
+        2,
+    );
 }
 
 /// The text of a range, which a caller may slice at the answer.
 fn text_of(encoding: Encoding, text: &str, range: Range) -> Option<&str> {
-    let bytes = encoding.byte_range(text, range)?;
+    let bytes = byte_range(&mut whole(text), LineType::Crlf, encoding, range)?;
     Some(&text[bytes.start..bytes.end])
 }
 
@@ -257,7 +321,7 @@ const RANGES: [((usize, usize), (usize, usize), Option<&str>); 10] = [
 /// Compares the text of a range, and whether it has bytes at all.
 fn assert_part(rt: &impl Abort, range: Range, part: Option<&str>, row: usize) {
     let found = text_of(Encoding::Utf16, TEXT, range);
-    let has_bytes = Encoding::Utf16.byte_range(TEXT, range).is_some();
+    let has_bytes = byte_range(&mut whole(TEXT), LineType::Crlf, Encoding::Utf16, range).is_some();
     assert!(rt;
         found == part && has_bytes == part.is_some(),
         "row {row}: {found:?}"

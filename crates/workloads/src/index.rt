@@ -3,7 +3,10 @@
 
 use crate::digest::Digest;
 use crate::faults::Fault;
-use crate::library::{Encoding, Position, Range, Scheme, TextIndex};
+use crate::library::{
+    Encoding, Position, Range, Scheme, TextIndex, index_byte_range, index_exact_byte_of,
+    index_line, index_position_of,
+};
 use crate::random::Random;
 use crate::texts::{Shape, text_of};
 use std::alloc::Global;
@@ -81,21 +84,22 @@ fn report(
 
 /// The position of a byte, and what a range from there on has.
 fn tell_span(text: &TextIndex<'_>, encoding: Encoding, random: &mut Random, digest: &mut Digest) {
-    let start = text.position_of(encoding, random.below(text.len()));
+    let start = index_position_of(text, encoding, random.below(text.len()));
     digest.take(start.line);
     digest.take(start.character);
     let end = Position {
         line: start.line,
         character: start.character.saturating_add(random.below(20)),
     };
-    if let Some(bytes) = text.byte_range(encoding, Range { start, end }) {
+    if let Some(bytes) = index_byte_range(text, encoding, Range { start, end }) {
         digest.take(bytes.start);
         digest.take(bytes.end);
     }
-    let exact = text.exact_byte_of(encoding, end);
+    let exact = index_exact_byte_of(text, encoding, end);
     digest.mark(exact.is_some());
     digest.take(exact.unwrap_or(0));
-    digest.text(text.line(start.line));
+    let line = index_line(text, start.line);
+    digest.text(text.text().get(line).unwrap_or(""));
 }
 
 /// A count, and a conversion each way at random places.

@@ -3,7 +3,10 @@
 
 use crate::digest::Digest;
 use crate::faults::Fault;
-use crate::library::{Encoding, Position, Range, chars, lines, lines_crlf, lines_lf, utf16};
+use crate::library::{
+    Encoding, Position, Range, chars, lines, lines_crlf, lines_lf, text_byte_range,
+    text_position_of, utf16,
+};
 use crate::random::Random;
 use crate::texts::{Shape, back, front, text_of};
 use std::alloc::Global;
@@ -52,14 +55,14 @@ fn report(
 /// Tells positions of bytes, and finds them again.
 fn tell_spans(text: &str, encoding: Encoding, random: &mut Random, digest: &mut Digest) {
     for _ in 0..SPANS {
-        let start = encoding.position_of(text, random.below(text.len()));
+        let start = text_position_of(text, encoding, random.below(text.len()));
         digest.take(start.line);
         digest.take(start.character);
         let end = Position {
             line: start.line,
             character: start.character.saturating_add(random.below(20)),
         };
-        if let Some(bytes) = encoding.byte_range(text, Range { start, end }) {
+        if let Some(bytes) = text_byte_range(text, encoding, Range { start, end }) {
             digest.take(bytes.start);
             digest.take(bytes.end);
         }

@@ -1,10 +1,10 @@
 -- A place after plain characters of the first line.
-use Rattle.std.specs.Prelude.{false, not, sum_by, All as Each}
+use Rattle.std.specs.Prelude.{false, not, sum_by, All}
 use Rattle.std.proofs.lemmas.Bool.Decides.{nat_tests}
 use Rattle.std.proofs.lemmas.List.Elements.{All-head, All-tail}
 use Rattle.positions.specs.declared.encodings.Encoding.TheVariants.{Utf8, Utf16, Utf32}
 use Rattle.positions.specs.Plain.{IsPlain, BeginsPlain}
-use Rattle.positions.specs.declared.line_type.LineType.TheVariants.{Lf, LfCr, All}
+use Rattle.positions.specs.declared.line_type.LineType.TheVariants.{Lf, Crlf, Lines}
 use Rattle.positions.proofs.lemmas.Encodings.{units_of-some}
 use Rattle.positions.proofs.lemmas.Common.{◌≡◌, ℕ, [], ◌∷◌, ◌++◌, refl, ap, ◌∙◌, arith, before_first, take_while-cons, sum_by-cons, size-cons, Text, size, to_byte_idx-zero, weighed_at, boundary_weighed, boundary_weighed_iff, weighed_is_greatest_boundary, IsBoundary, units_of, scheme_of, is_break, line_content, byte_at, Encoding, LineType}
 use Rattle.positions.proofs.lemmas.Starts.{first_content}
@@ -17,10 +17,10 @@ one_unit Utf32 c is = refl
 
 no_break : (l : LineType) (c : ℕ) → IsPlain c → is_break l c ≡ false
 no_break Lf c is = grind (arith, nat_tests, is)
-no_break LfCr c is = grind (arith, nat_tests, is)
-no_break All c is = grind (arith, nat_tests, is)
+no_break Crlf c is = grind (arith, nat_tests, is)
+no_break Lines c is = grind (arith, nat_tests, is)
 
-units_of_plain : (e : Encoding) (f : Text) → Each IsPlain f → sum_by (units_of e) f ≡ size f
+units_of_plain : (e : Encoding) (f : Text) → All IsPlain f → sum_by (units_of e) f ≡ size f
 units_of_plain e [] plain = refl
 units_of_plain e (c ∷ cs) plain =
     let here = All-head IsPlain c cs plain in
@@ -33,7 +33,7 @@ units_of_plain e (c ∷ cs) plain =
       units_of_plain e cs (All-tail IsPlain c cs plain),
     )
 
-content_of_plain : (l : LineType) (f b : Text) → Each IsPlain f
+content_of_plain : (l : LineType) (f b : Text) → All IsPlain f
     → before_first (is_break l) (f ++ b) ≡ f ++ before_first (is_break l) b
 content_of_plain l [] b plain = refl
 content_of_plain l (c ∷ cs) b plain =

@@ -1,14 +1,15 @@
 //! Positions and changes by positions, of a rope and of a plain text beside it.
 ghost use Rattle.std.specs.Prelude.{chars, IfOk, IfSome};
 ghost use Rattle.text_summary.specs.Changes.{IsReplaced};
-ghost use Rattle.rope_positions.specs.Changes.{part_at};
+ghost use Rattle.text_rope.specs.Ranges.{part_at};
 
-use positions::{Encoding, LineType, Position, Range};
-use rope_positions::{Change, apply, byte_of, byte_range, exact_byte_of, line_end, position_of};
+use byte_chunk::Chunk;
+use positions::{Encoding, LineType, Position, Range, Whole, byte_range};
 use std::alloc::{AllocError, Global};
 use std::process::Abort;
 use std::test::Fail;
-use text_rope::{Refusal, Rope};
+use text_rope::{Change, Refusal, Rope};
+use text_tests::questions::{ENCODINGS, at, differs_at_byte, differs_at_position};
 use text_tests::random::Random;
 
 /// How many changes there are.
@@ -16,8 +17,6 @@ const CHANGES: usize = 2_000;
 
 /// From this length in bytes on, most of the text is taken out.
 const LONG: usize = 4_000;
-
-const ENCODINGS: [Encoding; 3] = [Encoding::Utf8, Encoding::Utf16, Encoding::Utf32];
 
 /// Texts to put in. A CR of one change meets an LF of another.
 const TEXTS: [&str; 9] = [
@@ -43,12 +42,8 @@ fn opened_and_changed(
         IsReplaced (chars text.now) rope part.start part.end (chars change.entry.text.now))) }
 {
     let mut rope = Rope::from_str(alloc, text)?;
-    apply(&mut rope, encoding, change)?;
+    rope.apply(encoding, change)?;
     Ok(rope)
-}
-
-fn at(line: usize, character: usize) -> Position {
-    Position { line, character }
 }
 
 /// The text of a rope.
@@ -73,7 +68,13 @@ fn change_text(
 ) -> Result<String, Fail> {
     let part = match change.range {
         None => 0..text.len(),
-        Some(range) => encoding.byte_range(text, range).ok_or("not ordered")?,
+        Some(range) => byte_range(
+            &mut Whole::<Chunk>::of(text),
+            LineType::Crlf,
+            encoding,
+            range,
+        )
+        .ok_or("not ordered")?,
     };
     let front = text.get(..part.start).ok_or("no boundary")?;
     let back = text.get(part.end..).ok_or("no boundary")?;
@@ -118,49 +119,13 @@ fn next_change(random: &mut Random, text: &str) -> Change<'static> {
     }
 }
 
-/// The answers at a byte and at a position.
-type Answers = (Position, usize, Option<usize>);
-
-fn answers_of_rope(rope: &Rope, encoding: Encoding, byte: usize, position: Position) -> Answers {
-    (
-        position_of(rope, encoding, byte),
-        byte_of(rope, encoding, position),
-        exact_byte_of(rope, encoding, position),
-    )
-}
-
-fn answers_of_text(text: &str, encoding: Encoding, byte: usize, position: Position) -> Answers {
-    (
-        encoding.position_of(text, byte),
-        encoding.byte_of(text, position),
-        encoding.exact_byte_of(text, position),
-    )
-}
-
-fn assert_same_in(
-    rt: &impl Abort,
-    rope: &Rope,
-    text: &str,
-    encoding: Encoding,
-    (byte, position): (usize, Position),
-) {
-    let found = answers_of_rope(rope, encoding, byte, position);
-    let wanted = answers_of_text(text, encoding, byte, position);
-    assert!(rt; found == wanted, "{text:?} {byte} {position:?}: {found:?}");
-}
-
-fn assert_same_line_end(rt: &impl Abort, rope: &Rope, text: &str, line: usize) {
-    let found = line_end(rope, line);
-    let wanted = LineType::LfCr.line_end(text, line);
-    assert!(rt; found == wanted, "{text:?} {line}: {found}");
-}
-
 /// Compares what is answered at a byte and at a position.
 fn assert_same_at(rt: &impl Abort, rope: &Rope, text: &str, byte: usize, position: Position) {
-    assert_same_line_end(rt, rope, text, position.line);
-    for encoding in ENCODINGS {
-        assert_same_in(rt, rope, text, encoding, (byte, position));
-    }
+    let view = &mut rope.view();
+    let found = differs_at_byte(view, text, byte);
+    assert!(rt; found.is_none(), "{text:?} {byte}: {found:?}");
+    let found = differs_at_position(view, text, at(0, 0), position);
+    assert!(rt; found.is_none(), "{text:?} {position:?}: {found:?}");
 }
 
 /// Makes a change of both that is chosen from the seed, and compares what is answered then.
@@ -174,7 +139,7 @@ fn change_both(
     let encoding = ENCODINGS[random.next() % ENCODINGS.len()];
     let change = next_change(random, text);
     *text = change_text(alloc, text, encoding, change)?;
-    apply(rope, encoding, change)?;
+    rope.apply(encoding, change)?;
     let byte = random.below(text.len().saturating_add(3));
     let position = some_position(random, rope.count(text_rope::Scheme::Crlf));
     assert_same_at(rt, rope, text, byte, position);
@@ -233,8 +198,8 @@ fn assert_refused(rt: &impl Abort, rope: &mut Rope, encoding: Encoding, range: R
         range: Some(range),
         text: "c",
     };
-    let found = apply(rope, encoding, change);
-    let bytes = byte_range(rope, encoding, range);
+    let found = rope.apply(encoding, change);
+    let bytes = byte_range(&mut rope.view(), LineType::Crlf, encoding, range);
     assert!(rt;
         found == Err(Refusal::NotOrdered) && bytes.is_none(),
         "{found:?}"

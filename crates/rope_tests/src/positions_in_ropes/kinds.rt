@@ -1,18 +1,9 @@
 //! Positions and lines of each kind of line break, beside those that `positions` answers for a text by itself.
-use byte_chunk::Chunk;
-use positions::{Encoding, LineType, Position, Range, Whole};
-use rope_positions::{
-    byte_by, byte_range_by, exact_byte_by, exact_position_by, exact_position_of, line_end_by,
-    position_by, range_by, range_of,
-};
 use std::alloc::{AllocError, Global};
 use std::process::Abort;
 use std::test::Fail;
 use text_rope::Rope;
-
-const KINDS: [LineType; 3] = [LineType::Lf, LineType::LfCr, LineType::All];
-
-const ENCODINGS: [Encoding; 3] = [Encoding::Utf8, Encoding::Utf16, Encoding::Utf32];
+use text_tests::questions::differs_at_byte;
 
 /// Pairs of texts: the first ends a rope, and the second begins the rope that is put after it.
 const SEAMS: [(&str, &str); 7] = [
@@ -25,86 +16,11 @@ const SEAMS: [(&str, &str); 7] = [
     ("ab", "cd"),
 ];
 
-/// Compares the byte of a position, whether it names a place, and the range to it from the beginning of the text.
-fn assert_position(
-    rt: &impl Abort,
-    (rope, text): (&Rope, &str),
-    l: LineType,
-    e: Encoding,
-    position: Position,
-) {
-    let whole = &mut Whole::<Chunk>::of(text);
-    let start = Position {
-        line: 0,
-        character: 0,
-    };
-    let range = Range {
-        start,
-        end: position,
-    };
-    assert_eq!(rt;
-        byte_by(rope, l, e, position),
-        positions::byte_of(whole, l, e, position),
-        "{l:?} {e:?} {position:?}"
-    );
-    assert_eq!(rt;
-        exact_byte_by(rope, l, e, position),
-        positions::exact_byte_of(whole, l, e, position),
-        "{l:?} {e:?} {position:?}"
-    );
-    assert_eq!(rt;
-        byte_range_by(rope, l, e, range),
-        positions::byte_range(whole, l, e, range),
-        "{l:?} {e:?} {position:?}"
-    );
-}
-
-/// Compares the position of a byte, whether it is a place, the span from there, and where its line ends.
-fn assert_byte(
-    rt: &impl Abort,
-    (rope, text): (&Rope, &str),
-    l: LineType,
-    e: Encoding,
-    byte: usize,
-) {
-    let whole = &mut Whole::<Chunk>::of(text);
-    let position = positions::position_of(whole, l, e, byte);
-    let span = byte..byte.saturating_add(7);
-    assert_eq!(rt;
-        position_by(rope, l, e, byte),
-        position,
-        "{l:?} {e:?} {byte}"
-    );
-    assert_eq!(rt;
-        exact_position_by(rope, l, e, byte),
-        positions::exact_position_of(whole, l, e, byte),
-        "{l:?} {e:?} {byte}"
-    );
-    assert_eq!(rt;
-        range_by(rope, l, e, byte..byte.saturating_add(7)),
-        positions::range_of(whole, l, e, span),
-        "{l:?} {e:?} {byte}"
-    );
-    let Position { line, character } = position;
-    let wanted = positions::line_end(whole, l, line);
-    assert_eq!(rt; line_end_by(rope, l, line), wanted, "{l:?} {line}");
-    for more in 0..2 {
-        let next = Position {
-            line,
-            character: character.saturating_add(more),
-        };
-        assert_position(rt, (rope, text), l, e, next);
-    }
-}
-
-/// Compares what is answered at some bytes, by each kind of line break and in each encoding.
+/// Compares what is answered at some bytes.
 fn assert_bytes(rt: &impl Abort, rope: &Rope, text: &str, bytes: std::ops::Range<usize>) {
-    for l in KINDS {
-        for e in ENCODINGS {
-            for byte in bytes.start..bytes.end {
-                assert_byte(rt, (rope, text), l, e, byte);
-            }
-        }
+    for byte in bytes.start..bytes.end {
+        let found = differs_at_byte(&mut rope.view(), text, byte);
+        assert!(rt; found.is_none(), "{byte}: {found:?}");
     }
 }
 
@@ -173,20 +89,5 @@ fn each_kind_of_line_on_a_long_one(rt: HostRuntime) -> Result<(), Fail> {
         let end = text.len().saturating_sub(4);
         assert_bytes(&rt, &rope, &text, end..text.len());
     }
-    Ok(())
-}
-
-#[test]
-fn the_plain_calls_are_those_of_the_protocol(rt: HostRuntime) -> Result<(), Fail> {
-    let rope = Rope::from_str(rt.alloc(), "a\u{2028}b\r\nc")?;
-    let at = |line, character| Position { line, character };
-    let e = Encoding::Utf16;
-    let range = Range {
-        start: at(0, 1),
-        end: at(1, 1),
-    };
-    assert_eq!(rt; range_of(&rope, e, 1..8), range);
-    assert_eq!(rt; exact_position_of(&rope, e, 5), Some(at(0, 3)));
-    assert_eq!(rt; exact_position_of(&rope, e, 6), None);
     Ok(())
 }

@@ -1,21 +1,17 @@
 //! The lines of a text, with worked answers, and with breaks that lie across two chunks.
 use super::{assert_same, concat};
+use positions::LineType::{self, Crlf, Lf, Lines};
+use positions::line;
 use std::alloc::{AllocError, Global};
 use std::process::Abort;
 use std::test::Fail;
-use text_rope::Scheme::{self, Chars, Crlf, Lf, Lines, Utf16};
-use text_rope::{Line, Refusal, Rope, line_in};
+use text_rope::{Refusal, Rope};
 
-/// A line by a scheme: where it begins, where its content ends, and where its break does.
-type Row = (Scheme, usize, [usize; 3]);
+/// A line of a kind: where it begins, where its content ends, and where the next one begins.
+type Row = (LineType, usize, [usize; 3]);
 
 /// The lines of a text of ten bytes, with CR LF, form feed and U+2028.
-const ROWS: [Row; 19] = [
-    (Chars, 0, [0, 1, 1]),
-    (Chars, 6, [6, 9, 9]),
-    (Chars, 7, [9, 10, 10]),
-    (Chars, 8, [10, 10, 10]),
-    (Utf16, 6, [6, 9, 9]),
+const ROWS: [Row; 14] = [
     (Lf, 0, [0, 2, 3]),
     (Lf, 1, [3, 10, 10]),
     (Lf, 2, [10, 10, 10]),
@@ -33,10 +29,7 @@ const ROWS: [Row; 19] = [
 ];
 
 /// The lines of a text with a surrogate pair, U+0085 and U+2029.
-const WIDE_ROWS: [Row; 8] = [
-    (Utf16, 1, [1, 1, 1]),
-    (Utf16, 2, [1, 5, 5]),
-    (Chars, 1, [1, 5, 5]),
+const WIDE_ROWS: [Row; 5] = [
     (Crlf, 0, [0, 10, 10]),
     (Lines, 0, [0, 5, 7]),
     (Lines, 1, [7, 7, 10]),
@@ -44,16 +37,12 @@ const WIDE_ROWS: [Row; 8] = [
     (Lf, 0, [0, 10, 10]),
 ];
 
-fn assert_found(rt: &impl Abort, found: Line, s: Scheme, k: usize, wanted: [usize; 3]) {
-    let Line { start, end, next } = found;
-    let found = [start, end, next];
-    assert!(rt; found == wanted, "{s:?} {k}: {found:?}");
-}
-
-/// Asks a rope, and its view.
-fn assert_line(rt: &impl Abort, rope: &Rope, (s, k, wanted): Row) {
-    assert_found(rt, rope.line(s, k), s, k, wanted);
-    assert_found(rt, line_in(&mut rope.view(), s, k), s, k, wanted);
+/// Compares a line of a rope with its row.
+fn assert_line(rt: &impl Abort, rope: &Rope, (lines, k, wanted): Row) {
+    let content = line(&mut rope.view(), lines, k);
+    let next = rope.to_byte_idx(lines.scheme(), k.saturating_add(1));
+    let found = [content.start, content.end, next];
+    assert!(rt; found == wanted, "{lines:?} {k}: {found:?}");
 }
 
 /// Compares lines of a text with their rows.

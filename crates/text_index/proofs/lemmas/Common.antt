@@ -10,7 +10,7 @@ pub use Rattle.str_indices.specs.Text.{Text, size, line_feed, carriage_return}
 pub use Rattle.str_indices.specs.declared.Scheme.{Scheme}
 pub use Rattle.str_indices.specs.declared.Scheme.TheVariants.{Chars, Crlf, Lf, Lines, Utf16}
 pub use Rattle.text_summary.proofs.lemmas.Callers.{same_cut, none_of, boundary_upto, same_fields}
-pub use Rattle.text_index.specs.Marks.{stretch_size, stretches_of, count_at, IsMark, IsMarkAt, AreMarks, MarksState, begins_at, parts_of, Asked}
+pub use Rattle.text_index.specs.Marks.{stretch_size, stretches_of, count_at, IsMark, IsMarkAt, AreMarks, MarksState, begins_at, parts_of}
 pub use Rattle.text_index.specs.Places.{IsMarkPlace}
 pub use Rattle.text_index.specs.Stretches.{IsPart, IsStretch, AddsUp, StandsRound, Answers, HasPlace, Reaches, EndsBy}
 pub use Rattle.text_index.specs.declared.mark.Mark.{Mark}

@@ -18,7 +18,7 @@ use Rattle.positions.specs.Units.{unit_scheme}
 use Rattle.positions.specs.declared.parts.PartCounts.{PartCounts}
 use Rattle.positions.specs.declared.line_type.LineType.{LineType}
 use Rattle.positions.specs.declared.parts.Part.{Part}
-use Rattle.text_index.proofs.lemmas.Common.{◌≡◌, ℕ, ◌+◌, ◌-◌, ◌*◌, ◌^◌, ◌≤◌, inl, inr, true, false, [], ◌∷◌, ◌++◌, sym, refl, ap, subst, ◌∙◌, arith, chars, Text, size, Scheme, Chars, Utf16, from_byte_idx, is_joined, stretches_of, count_at, IsBoundary, IsMark, IsPart, IsStretch, HasPlace, Reaches, Mark, Stretch, MarksState, parts_of, Asked}
+use Rattle.text_index.proofs.lemmas.Common.{◌≡◌, ℕ, ◌+◌, ◌-◌, ◌*◌, ◌^◌, ◌≤◌, inl, inr, true, false, [], ◌∷◌, ◌++◌, sym, refl, ap, subst, ◌∙◌, arith, chars, Text, size, Scheme, Chars, Utf16, from_byte_idx, is_joined, stretches_of, count_at, IsBoundary, IsMark, IsPart, IsStretch, HasPlace, Reaches, Mark, Stretch, MarksState, parts_of}
 use Rattle.text_index.proofs.lemmas.Marking.{no_loss}
 use Rattle.positions.proofs.lemmas.Callers.{join_of_middle}
 use Rattle.text_index.proofs.lemmas.Answering.{between}
@@ -175,14 +175,3 @@ module _ (old new : MarksState) (text : new.text ≡ old.text) (kept : old.looks
     reads = omega (arith, reads);
     reads_kept = reads_kept;
   }
-
--- the cost of searches, in looks at marks and reads of stretches
-pub asked : {b c most : ℕ} {old new : MarksState} → Searched b c (parts_of old) (parts_of new)
-    → (4 ^ b) * ((2 * stretches_of old.text) ^ c) ≤ most → Asked (b + c) most old new
-asked {b} {c} {most} {old} {new} took within = record {
-  text = took.text;
-  looks = omega (arith, took.looks, within);
-  looks_kept = took.looks_kept;
-  reads = omega (arith, took.reads);
-  reads_kept = took.reads_kept;
-}

@@ -9,8 +9,8 @@ use positions::{Encoding, LineType, Position, position_of};
 
 /// The position of a byte of a text in pieces, as a language server counts it.
 pub fn place_of(text: &PieceText, byte: usize) -> Position
-    ensures { result ≡ position_at LineType.LfCr Utf16 (joined text.now) byte }
+    ensures { result ≡ position_at LineType.Crlf Utf16 (joined text.now) byte }
 {
     let parts = &mut PieceParts::of(text.view());
-    position_of(parts, LineType::LfCr, Encoding::Utf16, byte)
+    position_of(parts, LineType::Crlf, Encoding::Utf16, byte)
 }

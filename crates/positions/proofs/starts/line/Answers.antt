@@ -1,4 +1,5 @@
-use Rattle.positions.proofs.lemmas.{◌∙◌, ap, arith, chars, to_byte_idx-le-size, line_end, scheme_of, refl, line_end_told, IsBoundary-line_end, boundary_within, part_within, taken_within, taken_after}
+use Rattle.str_indices.proofs.lemmas.Callers.{IsBoundary-to_byte_idx}
+use Rattle.positions.proofs.lemmas.{◌∙◌, sym, subst, ap, arith, chars, to_byte_idx-le-size, line_end, scheme_of, refl, line_end_told, IsBoundary, IsBoundary-line_end, boundary_within, part_within, taken_within, taken_after}
 use Rattle.positions.specs.declared.encodings.Encoding.TheVariants.{Utf8}
 use Rattle.positions.proofs.starts.line.Goals as goal
 
@@ -42,3 +43,18 @@ returns-clause-end g c = c.line_end.ensures.answer ∙ ap (λ t. line_end c.args
 
 pub returns-clause-cost : goal.returns-clause-cost
 returns-clause-cost g c = taken_after c.line_in-start.ensures.cost c.line_end.ensures.cost
+
+pub returns-then-tells-clause-boundaries : goal.returns-then-tells-clause-boundaries
+returns-then-tells-clause-boundaries g c =
+    let cs = (g.P.Parts.state c.args.parts.now).text in
+    let end = returns-then-tells-clause-end g c in (
+      subst (IsBoundary cs) (sym c.line_in-start.ensures.place) (IsBoundary-to_byte_idx (scheme_of c.args.lines) cs c.args.line),
+      subst (IsBoundary cs) (sym end) (IsBoundary-line_end c.args.lines cs c.args.line),
+    )
+
+pub returns-clause-boundaries : goal.returns-clause-boundaries
+returns-clause-boundaries g c =
+    let cs = (g.P.Parts.state c.args.parts.now).text in (
+      subst (IsBoundary cs) (sym c.line_in-start.ensures.place) (IsBoundary-to_byte_idx (scheme_of c.args.lines) cs c.args.line),
+      subst (IsBoundary cs) (sym (returns-clause-end g c)) (IsBoundary-line_end c.args.lines cs c.args.line),
+    )

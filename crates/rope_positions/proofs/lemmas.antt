@@ -1,2 +1,0 @@
-pub mod Changing
-pub use Changing.*

@@ -1,5 +1,0 @@
-use Rattle.text_rope.proofs.lemmas.Callers.{asks}
-use Rattle.rope_positions.proofs.queries.range_of_in.Goals as goal
-
-pub returns-clause-cost : goal.returns-clause-cost
-returns-clause-cost c = asks c.range_of.ensures.cost

@@ -1,5 +1,0 @@
-use Rattle.text_index.proofs.lemmas.{arith, asked}
-use Rattle.text_index.proofs.position_queries.byte_in.Goals as goal
-
-pub returns-clause-cost : goal.returns-clause-cost
-returns-clause-cost c = asked c.byte_of.ensures.cost (omega arith)
