@@ -155,31 +155,18 @@ CONVERT(lines_to_byte_idx)
  * less time for texts that are as many times as long. */
 enum { LONGER_BY_LINE = 6 };
 
-#define OF_LINE(name) \
-    HAND_ON(size_t, LONGER_BY_LINE, name, (const char *text, size_t len, size_t line), (text, len, line))
-#define POSITION_OF(name) \
-    HAND_ON(str_indices_position, LONGER_BY_LINE, name, (const char *text, size_t len, size_t byte_idx), \
-            (text, len, byte_idx))
-#define BYTE_OF(name) \
-    HAND_ON(size_t, LONGER_BY_LINE, name, (const char *text, size_t len, str_indices_position position), \
-            (text, len, position))
-#define BYTE_RANGE(name) \
-    HAND_ON(str_indices_bytes, LONGER_BY_LINE, name, (const char *text, size_t len, str_indices_range range), \
-            (text, len, range))
+#define TEXT const char *text, size_t len, str_indices_line_type lines
+#define OF_LINE(type, name) HAND_ON(type, LONGER_BY_LINE, name, (TEXT, size_t line_idx), (text, len, lines, line_idx))
+#define OF_PLACE(type, name, argument) \
+    HAND_ON(type, LONGER_BY_LINE, name, (TEXT, str_indices_encoding encoding, argument place), \
+            (text, len, lines, encoding, place))
 
-OF_LINE(line_end)
+OF_LINE(str_indices_bytes, line)
+OF_LINE(size_t, line_end)
 
-POSITION_OF(position_of)
-BYTE_OF(byte_of)
-BYTE_OF(exact_byte_of)
-BYTE_RANGE(byte_range)
-
-POSITION_OF(utf8_position_of)
-BYTE_OF(utf8_byte_of)
-BYTE_OF(utf8_exact_byte_of)
-BYTE_RANGE(utf8_byte_range)
-
-POSITION_OF(utf32_position_of)
-BYTE_OF(utf32_byte_of)
-BYTE_OF(utf32_exact_byte_of)
-BYTE_RANGE(utf32_byte_range)
+OF_PLACE(str_indices_position, position_of, size_t)
+OF_PLACE(str_indices_position, exact_position_of, size_t)
+OF_PLACE(str_indices_range, range_of, str_indices_bytes)
+OF_PLACE(size_t, byte_of, str_indices_position)
+OF_PLACE(size_t, exact_byte_of, str_indices_position)
+OF_PLACE(str_indices_bytes, byte_range, str_indices_range)

@@ -14,6 +14,7 @@
 #include <str_rope.hpp>
 
 using pauskern::encoding;
+using pauskern::line_type;
 using pauskern::position;
 using pauskern::rope;
 
@@ -24,9 +25,9 @@ public:
 
     const rope &text() const { return text_; }
     // The line and the UTF-16 column of the cursor, both from 0.
-    position cursor() const { return text_.position_of(encoding::utf16, cursor_); }
-    void go_to(position there) { cursor_ = text_.byte_of(encoding::utf16, there); }
-    std::string line(std::size_t number) const { return text_.text(text_.line(number)); }
+    position cursor() const { return text_.position_of(line_type::crlf, encoding::utf16, cursor_); }
+    void go_to(position there) { cursor_ = text_.byte_of(line_type::crlf, encoding::utf16, there); }
+    std::string line(std::size_t number) const { return text_.text(text_.lines()[number]); }
 
     // Puts letters in at the cursor, which then stands behind them. A refused change throws, and changes nothing.
     void type(std::string_view letters)

@@ -21,11 +21,11 @@ int main(int number, char **words)
     for (std::size_t at = 0; at < lines; at++)
         rope.insert(at / 2 * line.size(), line);
 
-    const std::size_t begin = rope.line(lines / 2).start;
+    const std::size_t begin = rope.lines()[lines / 2].start;
     rope.replace({begin, begin + 4}, "word");
     std::cout << rope.size() << " bytes, " << rope.count(scheme::utf16) << " UTF-16 code units, "
               << rope.count(scheme::crlf) << " line breaks; line " << lines / 2 << ": "
-              << rope.text(rope.line(lines / 2)) << "\n";
+              << rope.text(rope.lines()[lines / 2]) << "\n";
 
     try {
         rope.insert(15, "inside a char");

@@ -29,22 +29,22 @@ static void print(size_t from, size_t to, char mark)
 static str_indices_line_type line_type(const char *word)
 {
     return strcmp(word, "lf") == 0      ? STR_INDICES_LINE_TYPE_LF
-           : strcmp(word, "lines") == 0 ? STR_INDICES_LINE_TYPE_ALL
-                                        : STR_INDICES_LINE_TYPE_LF_CR;
+           : strcmp(word, "lines") == 0 ? STR_INDICES_LINE_TYPE_LINES
+                                        : STR_INDICES_LINE_TYPE_CRLF;
 }
 
 static void report(const str_index *index, str_indices_line_type lines, size_t from, size_t to)
 {
     str_indices_bytes span = {from, to > from ? to : from};
-    str_indices_range range = str_index_range_by(index, lines, STR_INDICES_ENCODING_UTF8, span);
+    str_indices_range range = str_index_range_of(index, lines, STR_INDICES_ENCODING_UTF8, span);
     str_indices_position start = range.start, end = range.end;
-    size_t column = str_index_position_by(index, lines, STR_INDICES_ENCODING_UTF32, from).character;
+    size_t column = str_index_position_of(index, lines, STR_INDICES_ENCODING_UTF32, from).character;
     /* the line that the span ends on, but not where it ends at that line's beginning */
     size_t last = end.line - (end.line > start.line && end.character == 0);
     int width = snprintf(NULL, 0, "%zu", last + 1);
     printf("%zu:%zu\n", start.line + 1, column + 1);
     for (size_t line = start.line; line <= last; line++) {
-        str_indices_bytes content = str_index_line_by(index, lines, line);
+        str_indices_bytes content = str_index_line(index, lines, line);
         size_t left = line == start.line ? content.start + start.character : content.start;
         size_t right = line == end.line ? content.start + end.character : content.end;
         printf("%*zu | ", width, line + 1);

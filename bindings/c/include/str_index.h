@@ -101,7 +101,8 @@ typedef enum str_index_status {
  * program. */
 const char *str_index_status_text(str_index_status status);
 
-/* The version of the library that runs, as STR_INDEX_VERSION has the header's. */
+/* The version of the library that runs, as STR_INDEX_VERSION has the header's.
+ */
 const char *str_index_version(void);
 
 /*
@@ -111,7 +112,8 @@ const char *str_index_version(void);
 /* Makes the index of a text, for which `*index` then stands. It is NULL where
  * the status is another than STR_INDEX_OK. Takes time in the length of the
  * text. May answer STR_INDEX_NO_MEMORY, and then nothing is said of the bytes,
- * STR_INDEX_NOT_UTF8, STR_INDEX_TOO_LONG, and before them STR_INDEX_NULL_TEXT. */
+ * STR_INDEX_NOT_UTF8, STR_INDEX_TOO_LONG, and before them STR_INDEX_NULL_TEXT.
+ */
 STR_INDEX_CHECKED str_index_status str_index_make(str_index **index,
                                                   const char *text, size_t len);
 
@@ -167,91 +169,36 @@ size_t str_index_to_byte_idx(const str_index *index, str_indices_scheme scheme,
  * the text. One past the end is not. */
 bool str_index_is_char_boundary(const str_index *index, size_t byte_idx);
 
-/*
- * Lines and positions of a language server, as in str_indices_positions.h: a
- * line ends in LF, CR or CR LF, and a position is a line and an offset on it,
- * in units of the encoding.
- */
-
-/* The byte index where the content of a line ends: before its break, or the
- * length of the text in bytes where it is the last line or past it. */
-size_t str_index_line_end(const str_index *index, size_t line_idx);
-
-/* The bytes of the content of a line, without its break. Past the last line
- * they are none, at the end of the text. */
-str_indices_bytes str_index_line(const str_index *index, size_t line_idx);
-
-/* From a byte index to its position: the byte's line, and the units from that
- * line's beginning to the byte. A byte inside a char has the position where
- * the char begins, the byte between CR and LF that of the line's end, and a
- * byte past the end that of the text's end. */
+/* The questions of str_indices_positions.h, about lines and the positions of a
+ * language server. Each returns what the function there returns for the whole
+ * text whose name ends alike: str_index_line as str_indices_line, and so on. */
+str_indices_bytes str_index_line(const str_index *index,
+                                 str_indices_line_type lines, size_t line_idx);
+size_t str_index_line_end(const str_index *index, str_indices_line_type lines,
+                          size_t line_idx);
 str_indices_position str_index_position_of(const str_index *index,
-                                           str_indices_encoding encoding,
-                                           size_t byte_idx);
-
-/* From a position to the byte index where the char at it begins. An offset
- * inside a char belongs to it. An offset past the end of the line gives the
- * line's end, before its break, and a line past the last one the length of the
- * text in bytes. */
-size_t str_index_byte_of(const str_index *index, str_indices_encoding encoding,
-                         str_indices_position position);
-
-/* The byte index of a position that names a place: as str_index_byte_of, but
- * SIZE_MAX where the text has no such line, or the offset is past the end of
- * the line or inside a char. */
-size_t str_index_exact_byte_of(const str_index *index,
-                               str_indices_encoding encoding,
-                               str_indices_position position);
-
-/* The byte indices of a range, each as str_index_byte_of answers it; SIZE_MAX
- * twice where the range's end is before its start. */
-str_indices_bytes str_index_byte_range(const str_index *index,
-                                       str_indices_encoding encoding,
-                                       str_indices_range range);
-
-/*
- * Lines and positions by what ends a line. With STR_INDICES_LINE_TYPE_LF_CR a
- * line, a position and its byte are those of str_index_line,
- * str_index_position_of and str_index_byte_of.
- */
-
-/* The bytes of the content of a line, without its break. Past the last line
- * they are none, at the end of the text. */
-str_indices_bytes str_index_line_by(const str_index *index,
-                                    str_indices_line_type lines,
-                                    size_t line_idx);
-
-/* The position of a byte: its line, and the units from that line's beginning
- * to the byte. A byte inside a char has the position where the char begins,
- * the byte between the CR and the LF of one break that of the line's end, and a
- * byte past the end that of the text's end. */
-str_indices_position str_index_position_by(const str_index *index,
                                            str_indices_line_type lines,
                                            str_indices_encoding encoding,
                                            size_t byte_idx);
-
-/* The byte index where the char at a position begins. An offset inside a char
- * belongs to it. An offset past the end of the line gives the line's end,
- * before its break, and a line past the last one the length of the text in
- * bytes. */
-size_t str_index_byte_by(const str_index *index, str_indices_line_type lines,
-                         str_indices_encoding encoding,
-                         str_indices_position position);
-
-/* The position of a byte that is a place on a line: SIZE_MAX twice where it is
- * inside a char, between the CR and the LF of one break, or past the end. So a
- * compiler notices a span that is wrong. */
-str_indices_position str_index_exact_position_by(const str_index *index,
+str_indices_position str_index_exact_position_of(const str_index *index,
                                                  str_indices_line_type lines,
                                                  str_indices_encoding encoding,
                                                  size_t byte_idx);
-
-/* The positions of both ends of a span of bytes, each as str_index_position_by
- * answers it, also where the end is before the start. */
-str_indices_range str_index_range_by(const str_index *index,
+str_indices_range str_index_range_of(const str_index *index,
                                      str_indices_line_type lines,
                                      str_indices_encoding encoding,
                                      str_indices_bytes span);
+size_t str_index_byte_of(const str_index *index, str_indices_line_type lines,
+                         str_indices_encoding encoding,
+                         str_indices_position position);
+size_t str_index_exact_byte_of(const str_index *index,
+                               str_indices_line_type lines,
+                               str_indices_encoding encoding,
+                               str_indices_position position);
+str_indices_bytes str_index_byte_range(const str_index *index,
+                                       str_indices_line_type lines,
+                                       str_indices_encoding encoding,
+                                       str_indices_range range);
 
 #ifdef __cplusplus
 }

@@ -3,8 +3,9 @@
 // what may run at once.
 //
 //     pauskern::text_index index(text); // lives no longer than the text
-//     auto there = index.position_of(pauskern::encoding::utf16, byte_idx);
-//     std::cout << index.text(index.line(there.line)) << '\n';
+//     using namespace pauskern;
+//     auto there = index.position_of(line_type::crlf, encoding::utf16, byte);
+//     std::cout << index.text(index.lines()[there.line]) << '\n';
 //
 // A text_index keeps no copy of its text, and an owned_index has a text of its
 // own. Either is moved and not copied. Threads may ask one index at once.
@@ -34,11 +35,12 @@ struct index_calls {
     static constexpr auto from_byte_idx = str_index_from_byte_idx;
     static constexpr auto to_byte_idx = str_index_to_byte_idx;
     static constexpr auto is_char_boundary = str_index_is_char_boundary;
-    static constexpr auto line_by = str_index_line_by;
-    static constexpr auto position_by = str_index_position_by;
-    static constexpr auto exact_position_by = str_index_exact_position_by;
-    static constexpr auto range_by = str_index_range_by;
-    static constexpr auto byte_by = str_index_byte_by;
+    static constexpr auto line = str_index_line;
+    static constexpr auto line_end = str_index_line_end;
+    static constexpr auto position_of = str_index_position_of;
+    static constexpr auto exact_position_of = str_index_exact_position_of;
+    static constexpr auto range_of = str_index_range_of;
+    static constexpr auto byte_of = str_index_byte_of;
     static constexpr auto exact_byte_of = str_index_exact_byte_of;
     static constexpr auto byte_range = str_index_byte_range;
 };

@@ -52,9 +52,9 @@ enum class encoding {
 // A kind of line, by the breaks that end one. A language server has LF, CR and
 // CR LF.
 enum class line_type {
-    lf = STR_INDICES_LINE_TYPE_LF,       // LF: a CR before it is of the line
-    lf_cr = STR_INDICES_LINE_TYPE_LF_CR, // LF, CR, and CR LF as one break
-    all = STR_INDICES_LINE_TYPE_ALL      // all line breaks of Unicode
+    lf = STR_INDICES_LINE_TYPE_LF,      // LF: a CR before it is of the line
+    crlf = STR_INDICES_LINE_TYPE_CRLF,  // LF, CR, and CR LF as one break
+    lines = STR_INDICES_LINE_TYPE_LINES // all line breaks of Unicode
 };
 
 // A place in a text: the line, and the offset on that line in the units of an
@@ -163,7 +163,7 @@ public:
         using reference = bytes;
 
         iterator() noexcept = default;
-        bytes operator*() const noexcept { return text_->line(number_, type_); }
+        bytes operator*() const noexcept { return text_->line(type_, number_); }
         iterator &operator++() noexcept
         {
             number_++;
@@ -208,7 +208,7 @@ public:
         }
 
         const Text *text_ = nullptr;
-        line_type type_ = line_type::lf_cr;
+        line_type type_ = line_type::crlf;
         std::size_t number_ = 0;
     };
 
@@ -234,7 +234,7 @@ public:
     // text.
     bytes operator[](std::size_t number) const noexcept
     {
-        return text_->line(number, type_);
+        return text_->line(type_, number);
     }
 
 private:
@@ -242,8 +242,8 @@ private:
     line_type type_;
 };
 
-// Turns these types into those of C, and back. What is in `detail` is no part of
-// what is promised, but for the questions below.
+// Turns these types into those of C, and back. What is in `detail` is no part
+// of what is promised, but for the questions below.
 namespace detail {
 
 inline str_indices_scheme to_c(scheme value) noexcept
@@ -321,70 +321,75 @@ public:
     }
 
     //
-    // Lines, and positions of a language server. The kind of line is that of a
-    // language server where none is given.
+    // Lines, and positions of a language server, by what ends a line.
     //
 
     // Returns the bytes of a line's content, without its break: past the last
     // line none, at the end of the text.
-    bytes line(std::size_t number,
-               line_type type = line_type::lf_cr) const noexcept
+    bytes line(line_type type, std::size_t number) const noexcept
     {
-        return from_c(Calls::line_by(handle(), to_c(type), number));
+        return from_c(Calls::line(handle(), to_c(type), number));
     }
-    // Returns the lines in order.
-    line_range<Text> lines(line_type type = line_type::lf_cr) const &noexcept
+    // Returns the byte where a line's content ends: before its break, or the
+    // end of the text if it is the last line or past it.
+    std::size_t line_end(line_type type, std::size_t number) const noexcept
+    {
+        return Calls::line_end(handle(), to_c(type), number);
+    }
+    // Returns the lines in order: those of a language server if no kind is
+    // given.
+    line_range<Text> lines(line_type type = line_type::crlf) const &noexcept
     {
         return {static_cast<const Text &>(*this), type};
     }
-    line_range<Text> lines(line_type type = line_type::lf_cr) const && = delete;
+    line_range<Text> lines(line_type type = line_type::crlf) const && = delete;
 
     // Returns the position of a byte: its line, and the units from that line's
     // beginning to the byte.
-    position position_of(encoding units, std::size_t byte_idx,
-                         line_type type = line_type::lf_cr) const noexcept
+    position position_of(line_type type, encoding units,
+                         std::size_t byte_idx) const noexcept
     {
         return from_c(
-            Calls::position_by(handle(), to_c(type), to_c(units), byte_idx));
+            Calls::position_of(handle(), to_c(type), to_c(units), byte_idx));
     }
     // Returns the position of a byte that is a place on a line, and else none.
     std::optional<position>
-    exact_position_of(encoding units, std::size_t byte_idx,
-                      line_type type = line_type::lf_cr) const noexcept
+    exact_position_of(line_type type, encoding units,
+                      std::size_t byte_idx) const noexcept
     {
-        const str_indices_position there = Calls::exact_position_by(
+        const str_indices_position there = Calls::exact_position_of(
             handle(), to_c(type), to_c(units), byte_idx);
         return there.line != SIZE_MAX ? std::optional(from_c(there))
                                       : std::nullopt;
     }
     // Returns the positions of both ends of a part.
-    range range_of(encoding units, bytes part,
-                   line_type type = line_type::lf_cr) const noexcept
+    range range_of(line_type type, encoding units, bytes part) const noexcept
     {
         return from_c(
-            Calls::range_by(handle(), to_c(type), to_c(units), to_c(part)));
+            Calls::range_of(handle(), to_c(type), to_c(units), to_c(part)));
     }
     // Returns the byte where the char at a position begins, or the end of its
     // line or of the text where that comes first.
-    std::size_t byte_of(encoding units, position there,
-                        line_type type = line_type::lf_cr) const noexcept
+    std::size_t byte_of(line_type type, encoding units,
+                        position there) const noexcept
     {
-        return Calls::byte_by(handle(), to_c(type), to_c(units), to_c(there));
+        return Calls::byte_of(handle(), to_c(type), to_c(units), to_c(there));
     }
     // Returns the byte of a position that names a place on a line, and else
     // none.
-    std::optional<std::size_t> exact_byte_of(encoding units,
+    std::optional<std::size_t> exact_byte_of(line_type type, encoding units,
                                              position there) const noexcept
     {
-        const std::size_t byte_idx =
-            Calls::exact_byte_of(handle(), to_c(units), to_c(there));
+        const std::size_t byte_idx = Calls::exact_byte_of(
+            handle(), to_c(type), to_c(units), to_c(there));
         return byte_idx != SIZE_MAX ? std::optional(byte_idx) : std::nullopt;
     }
     // Returns the bytes of a range, and none where its end is before its start.
-    std::optional<bytes> byte_range(encoding units, range part) const noexcept
+    std::optional<bytes> byte_range(line_type type, encoding units,
+                                    range part) const noexcept
     {
         const str_indices_bytes found =
-            Calls::byte_range(handle(), to_c(units), to_c(part));
+            Calls::byte_range(handle(), to_c(type), to_c(units), to_c(part));
         return found.start != SIZE_MAX ? std::optional(from_c(found))
                                        : std::nullopt;
     }

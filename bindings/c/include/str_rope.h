@@ -27,9 +27,9 @@
  *     these functions alone. A copy of its bytes is not used beside it: both
  *     would be one text. str_rope_snapshot makes a second text. A handle may be
  *     moved, if only one of the two is used afterwards.
- *   - A handle that is no longer used is freed by str_rope_free, also where
- *     its text is empty by then: it may still have memory, which would be lost.
- *     To free one that is zeroed, or that was freed, does nothing.
+ *   - A handle that is no longer used is freed by str_rope_free, also where its
+ *     text is empty by then: it may still have memory, which would be lost. To
+ *     free one that is zeroed, or that was freed, does nothing.
  *   - A handle may be used by every thread, one call after the other: a lock, a
  *     join or the like stands between the calls. Calls that take one handle as
  *     `const` may run at once, in many threads; a call that takes it without
@@ -37,15 +37,15 @@
  *     also where their texts share chunks: so one thread saves a snapshot while
  *     another one types.
  *   - No pointer is null, but `text`, `out` and `chunks` where the number after
- *     them is 0, and what str_rope_free takes. The `len` bytes from `text` on may
- *     be read, and no thread writes to them during the call; the `room` bytes
- *     from `out` on, or chunks from `chunks` on, may be written, and no thread
- *     reads them during the call. They do not overlap with each other or with a
- *     handle, and have at most PTRDIFF_MAX bytes. Of all this a null `text` alone
- *     is checked; and that the bytes of a text are UTF-8, unless the function's
- *     name ends in _utf8.
- *   - malloc, realloc and free are those of one allocator, and align each
- *     block to every power of two up to 16 that divides its size.
+ *     them is 0, and what str_rope_free takes. The `len` bytes from `text` on
+ *     may be read, and no thread writes to them during the call; the `room`
+ *     bytes from `out` on, or chunks from `chunks` on, may be written, and no
+ *     thread reads them during the call. They do not overlap with each other or
+ *     with a handle, and have at most PTRDIFF_MAX bytes. Of all this a null
+ *     `text` alone is checked; and that the bytes of a text are UTF-8, unless
+ *     the function's name ends in _utf8.
+ *   - malloc, realloc and free are those of one allocator, and align each block
+ *     to every power of two up to 16 that divides its size.
  *   - No function is called from a signal handler, or in the forked child of a
  *     process with threads.
  *
@@ -56,15 +56,15 @@
  * The cost of a call, where the text has n chunks, each of at most
  * STR_ROPE_MAX_CHUNK bytes, and of 509 or more where there are several: a
  * question looks at no more nodes of the tree than twice the logarithm to base
- * 2 of n + 1, and reads the text of one chunk at most; one about positions asks
- * up to 8 such questions. A read, or a list of chunks, goes down the tree once
- * for each block of up to 32 chunks. A change takes a number of steps of that
- * order too, and more with the length of what is put in. It copies the text
- * that is put in, and three chunks at most that stand round it, a cut as many
- * for each part. Where one chunk has no room for it, or the text shares its
- * chunks with a snapshot, it makes the way to them anew as well. It frees what
- * goes out and no other text shares, chunk by chunk: 24 milliseconds for 100 MB.
- * To take out all of a text takes no memory.
+ * 2 of n + 1, and reads the text of one chunk at most; one about positions
+ * asks up to 8 such questions. A read, or a list of chunks, goes down the tree
+ * once for each block of up to 32 chunks. A change takes a number of steps of
+ * that order too, and more with the length of what is put in. It copies the
+ * text that is put in, and three chunks at most that stand round it, a cut as
+ * many for each part. Where one chunk has no room for it, or the text shares
+ * its chunks with a snapshot, it makes the way to them anew as well. It frees
+ * what goes out and no other text shares, chunk by chunk: 24 milliseconds for
+ * 100 MB. To take out all of a text takes no memory.
  */
 #ifndef STR_ROPE_H
 #define STR_ROPE_H
@@ -140,7 +140,8 @@ typedef enum str_rope_status {
  * program. */
 const char *str_rope_status_text(str_rope_status status);
 
-/* The version of the library that runs, as STR_ROPE_VERSION has the header's. */
+/* The version of the library that runs, as STR_ROPE_VERSION has the header's.
+ */
 const char *str_rope_version(void);
 
 /*
@@ -157,12 +158,12 @@ void str_rope_free(str_rope *rope);
 STR_ROPE_CHECKED str_rope_status str_rope_assign(str_rope *rope,
                                                  const char *text, size_t len);
 
-/* Makes the text of `copy` the same as that of `rope`, in one step, whatever its
- * length. They share their chunks from then on, and a change of either leaves
- * the other. A count of who shares them is written to, atomically, although
- * `rope` is `const`. The former text of `copy` is freed; where both handles are
- * one, nothing happens. May answer STR_ROPE_NO_MEMORY where the text is not
- * empty, and then `copy` is as before. */
+/* Makes the text of `copy` the same as that of `rope`, in one step, whatever
+ * its length. They share their chunks from then on, and a change of either
+ * leaves the other. A count of who shares them is written to, atomically,
+ * although `rope` is `const`. The former text of `copy` is freed; where both
+ * handles are one, nothing happens. May answer STR_ROPE_NO_MEMORY where the
+ * text is not empty, and then `copy` is as before. */
 STR_ROPE_CHECKED str_rope_status str_rope_snapshot(const str_rope *rope,
                                                    str_rope *copy);
 
@@ -261,10 +262,10 @@ size_t str_rope_chunks_at(const str_rope *rope, size_t byte_idx,
                           str_rope_chunk *chunks, size_t room);
 
 /* Lends the chunk that the byte before an index is in and those before it, the
- * last one first, each as str_rope_chunk_at does. An index past the end is that
- * of the end. Answers how many: fewer than `room` only where the text begins.
- * The rest of the room is chunks of no bytes. This reads a text backwards, chunk
- * by chunk:
+ * last one first, each as str_rope_chunk_at does. An index past the end is
+ * that of the end. Answers how many: fewer than `room` only where the text
+ * begins. The rest of the room is chunks of no bytes. This reads a text
+ * backwards, chunk by chunk:
  *
  *     str_rope_chunk chunks[8];
  *     size_t at = str_rope_len(&rope), n;
@@ -297,51 +298,47 @@ STR_ROPE_CHECKED str_rope_status str_rope_copy_to(const str_rope *rope,
                                                   size_t from, size_t to,
                                                   char *out, size_t room);
 
-/*
- * Positions of a language server, as in str_indices_positions.h: a line ends
- * in LF, CR or CR LF, and a position is a line and an offset on it, in units
- * of the encoding.
- */
-
-/* The byte index where the content of a line ends: before its break, or the
- * length of the text in bytes where it is the last line or past it. */
-size_t str_rope_line_end(const str_rope *rope, size_t line_idx);
-
-/* From a byte index to its position: the byte's line, and the units from that
- * line's beginning to the byte. A byte inside a char has the position where
- * the char begins, the byte between CR and LF that of the line's end, and a
- * byte past the end that of the text's end. */
+/* The questions of str_indices_positions.h, about lines and the positions of a
+ * language server. Each returns what the function there returns for the whole
+ * text whose name ends alike: str_rope_line as str_indices_line, and so on. */
+str_indices_bytes str_rope_line(const str_rope *rope,
+                                str_indices_line_type lines, size_t line_idx);
+size_t str_rope_line_end(const str_rope *rope, str_indices_line_type lines,
+                         size_t line_idx);
 str_indices_position str_rope_position_of(const str_rope *rope,
+                                          str_indices_line_type lines,
                                           str_indices_encoding encoding,
                                           size_t byte_idx);
-
-/* From a position to the byte index where the char at it begins. An offset
- * inside a char belongs to it. An offset past the end of the line gives the
- * line's end, before its break, and a line past the last one the length of the
- * text in bytes. */
-size_t str_rope_byte_of(const str_rope *rope, str_indices_encoding encoding,
+str_indices_position str_rope_exact_position_of(const str_rope *rope,
+                                                str_indices_line_type lines,
+                                                str_indices_encoding encoding,
+                                                size_t byte_idx);
+str_indices_range str_rope_range_of(const str_rope *rope,
+                                    str_indices_line_type lines,
+                                    str_indices_encoding encoding,
+                                    str_indices_bytes span);
+size_t str_rope_byte_of(const str_rope *rope, str_indices_line_type lines,
+                        str_indices_encoding encoding,
                         str_indices_position position);
-
-/* The byte index of a position that names a place: as str_rope_byte_of, but
- * SIZE_MAX where the text has no such line, or the offset is past the end of
- * the line or inside a char. So a server notices a client that is out of step.
- */
-size_t str_rope_exact_byte_of(const str_rope *rope,
+size_t str_rope_exact_byte_of(const str_rope *rope, str_indices_line_type lines,
                               str_indices_encoding encoding,
                               str_indices_position position);
-
-/* The byte indices of a range, each as str_rope_byte_of answers it; SIZE_MAX
- * twice where the range's end is before its start. */
 str_indices_bytes str_rope_byte_range(const str_rope *rope,
+                                      str_indices_line_type lines,
                                       str_indices_encoding encoding,
                                       str_indices_range range);
 
-/* Replaces the bytes of a range, as str_rope_byte_range answers them, by a
- * text: one change as a client sends it. Each change of a message is meant in
- * the text that the one before it left. For a change that has no range, which
- * replaces the whole text, call str_rope_assign. May answer
- * STR_ROPE_NOT_ORDERED, STR_ROPE_TOO_LONG, STR_ROPE_NOT_UTF8 and, where
- * something goes or comes, STR_ROPE_NO_MEMORY. */
+/*
+ * Changes by ranges of positions, as a language server's client sends them.
+ * Lines end in LF, CR or CR LF.
+ */
+
+/* Replaces the bytes of a range, as str_rope_byte_range answers them for
+ * STR_INDICES_LINE_TYPE_CRLF, by a text: one change as a client sends it. Each
+ * change of a message is meant in the text that the one before it left. For a
+ * change that has no range, which replaces the whole text, call
+ * str_rope_assign. May answer STR_ROPE_NOT_ORDERED, STR_ROPE_TOO_LONG,
+ * STR_ROPE_NOT_UTF8 and, where something goes or comes, STR_ROPE_NO_MEMORY. */
 STR_ROPE_CHECKED str_rope_status str_rope_change(str_rope *rope,
                                                  str_indices_encoding encoding,
                                                  str_indices_range range,
@@ -349,65 +346,13 @@ STR_ROPE_CHECKED str_rope_status str_rope_change(str_rope *rope,
 
 /* As str_rope_change, for a range whose positions each name a place, as
  * str_rope_exact_byte_of has it: where one names none, the answer is
- * STR_ROPE_NOT_BOUNDARY, and str_rope_change would cut it. So a server notices a
- * client that is out of step. May answer STR_ROPE_NOT_ORDERED,
+ * STR_ROPE_NOT_BOUNDARY, and str_rope_change would cut it. So a server notices
+ * a client that is out of step. May answer STR_ROPE_NOT_ORDERED,
  * STR_ROPE_NOT_BOUNDARY, STR_ROPE_TOO_LONG, STR_ROPE_NOT_UTF8 and, where
  * something goes or comes, STR_ROPE_NO_MEMORY. */
 STR_ROPE_CHECKED str_rope_status
 str_rope_change_exact(str_rope *rope, str_indices_encoding encoding,
                       str_indices_range range, const char *text, size_t len);
-
-/*
- * Lines and positions by what ends a line. With STR_INDICES_LINE_TYPE_LF_CR the end
- * of a line, a position and its byte are those of str_rope_line_end,
- * str_rope_position_of and str_rope_byte_of.
- */
-
-/* The bytes of the content of a line, without its break. Past the last line
- * they are none, at the end of the text. A call searches the text twice. Where
- * you want lines in order with their breaks, one search for each will do, by the
- * scheme that counts the same breaks:
- *
- *     size_t line = 0, start = 0, end;
- *     for (; start < str_rope_len(&rope); start = end) {
- *         end = str_rope_to_byte_idx(&rope, STR_INDICES_LF, ++line);
- *         show(start, end);
- *     } */
-str_indices_bytes str_rope_line_by(const str_rope *rope,
-                                   str_indices_line_type lines,
-                                   size_t line_idx);
-
-/* The position of a byte: its line, and the units from that line's beginning
- * to the byte. A byte inside a char has the position where the char begins,
- * the byte between the CR and the LF of one break that of the line's end, and a
- * byte past the end that of the text's end. */
-str_indices_position str_rope_position_by(const str_rope *rope,
-                                          str_indices_line_type lines,
-                                          str_indices_encoding encoding,
-                                          size_t byte_idx);
-
-/* The byte index where the char at a position begins. An offset inside a char
- * belongs to it. An offset past the end of the line gives the line's end,
- * before its break, and a line past the last one the length of the text in
- * bytes. */
-size_t str_rope_byte_by(const str_rope *rope, str_indices_line_type lines,
-                        str_indices_encoding encoding,
-                        str_indices_position position);
-
-/* The position of a byte that is a place on a line: SIZE_MAX twice where it is
- * inside a char, between the CR and the LF of one break, or past the end. So a
- * compiler notices a span that is wrong. */
-str_indices_position str_rope_exact_position_by(const str_rope *rope,
-                                                str_indices_line_type lines,
-                                                str_indices_encoding encoding,
-                                                size_t byte_idx);
-
-/* The positions of both ends of a span of bytes, each as str_rope_position_by
- * answers it, also where the end is before the start. */
-str_indices_range str_rope_range_by(const str_rope *rope,
-                                    str_indices_line_type lines,
-                                    str_indices_encoding encoding,
-                                    str_indices_bytes span);
 
 /*
  * Texts that are known to be UTF-8.

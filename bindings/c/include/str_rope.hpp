@@ -3,7 +3,7 @@
 // at once.
 //
 //     pauskern::rope text("one\ntwo\n");
-//     text.insert(text.line(1).start, "and ");
+//     text.insert(text.lines()[1].start, "and ");
 //     pauskern::rope before = text; // a snapshot, in one step
 //     for (pauskern::bytes line : text.lines())
 //         std::cout << text.text(line) << '\n';
@@ -42,11 +42,12 @@ struct rope_calls {
     static constexpr auto from_byte_idx = str_rope_from_byte_idx;
     static constexpr auto to_byte_idx = str_rope_to_byte_idx;
     static constexpr auto is_char_boundary = str_rope_is_char_boundary;
-    static constexpr auto line_by = str_rope_line_by;
-    static constexpr auto position_by = str_rope_position_by;
-    static constexpr auto exact_position_by = str_rope_exact_position_by;
-    static constexpr auto range_by = str_rope_range_by;
-    static constexpr auto byte_by = str_rope_byte_by;
+    static constexpr auto line = str_rope_line;
+    static constexpr auto line_end = str_rope_line_end;
+    static constexpr auto position_of = str_rope_position_of;
+    static constexpr auto exact_position_of = str_rope_exact_position_of;
+    static constexpr auto range_of = str_rope_range_of;
+    static constexpr auto byte_of = str_rope_byte_of;
     static constexpr auto exact_byte_of = str_rope_exact_byte_of;
     static constexpr auto byte_range = str_rope_byte_range;
 };
@@ -442,8 +443,8 @@ private:
 
 } // namespace pauskern
 
-// Ropes of the same bytes have the same hash, however they are cut in chunks. It
-// reads the whole text.
+// Ropes of the same bytes have the same hash, however they are cut in chunks.
+// It reads the whole text.
 template <> struct std::hash<pauskern::rope> {
     std::size_t operator()(const pauskern::rope &text) const noexcept
     {

@@ -24,12 +24,12 @@ LENGTHS = [0, 1, 255, 256, 257, 1535, 1536, 5000, 2**63 - 1]
 # from how many bytes on the wide half answers where it may, and what takes it later than the others
 WORTH_WIDE = 256
 WORTH_WIDE_LATER = 1536
-LATER = re.compile(r".*(position_of|byte_of|byte_range|line_end)")
+LATER = re.compile("line|line_end|range_of|byte_range|(exact_)?(position|byte)_of")
 
 # what has no half: the choice itself, and the version
 WITHOUT = {f"{PREFIX}{name}" for name in ["is_wide", "version"]}
-# the first field of a struct that is answered; both its fields are numbers
-FIRST = {"str_indices_position": ".line", "str_indices_bytes": ".start"}
+# the first number of a struct that is answered
+FIRST = {"str_indices_position": ".line", "str_indices_bytes": ".start", "str_indices_range": ".start.line"}
 
 # what the level of the wide half has and the one below it has not, as qemu names it; and xsave, by which a system keeps
 # the vectors
@@ -81,9 +81,11 @@ def is_wide(name, length, half, may):
     return half == "wide" or length >= (WORTH_WIDE_LATER if LATER.fullmatch(name) else WORTH_WIDE)
 
 
-def zero(kind):
-    """A value of a type, as C."""
-    return "0" if kind == "size_t" else f"({kind}){{{{0, 0}}, {{0, 0}}}}" if kind.endswith("range") else f"({kind}){{0, 0}}"
+def value(kind, first):
+    """A value of a type, as C: that number, or a struct whose first number it is, and the others 0."""
+    inner = f"{{{first}, 0}}"
+    fields = f"{{{inner}, {{0, 0}}}}" if kind == "str_indices_range" else inner
+    return f"({kind}){fields if kind in FIRST else first}"
 
 
 def stand_ins(names):
@@ -96,13 +98,13 @@ def stand_ins(names):
             given = ", ".join(word if "*" in word else f"{word} number_{at}" for at, word in enumerate(words))
             unused = " ".join(f"(void){word.split()[-1].lstrip('*')};" for word in given.split(", "))
             lines.append(f"{function.result} {PREFIX}{half}_{name}({given});")
-            told = f"({function.result}){{{answer}, 0}}" if function.result in FIRST else answer
+            told = value(function.result, answer)
             lines.append(f"{function.result} {PREFIX}{half}_{name}({given}) {{ {unused} return {told}; }}")
     lengths = ", ".join(f"{length}u" for length in LENGTHS)
     lines.append(f"int main(void)\n{{\n    static const size_t lengths[] = {{{lengths}}};")
     lines.append("    for (size_t at = 0; at < sizeof lengths / sizeof lengths[0]; at++) {")
     for name, function in zip(names, functions):
-        rest = "".join(f", {zero(kind)}" for kind in function.parameters.split(", ")[2:])
+        rest = "".join(f", {value(kind, 0)}" for kind in function.parameters.split(", ")[2:])
         told = f'(int){PREFIX}{name}("", lengths[at]{rest}){FIRST.get(function.result, "")}'
         lines.append(f'        printf("{name} %zu %d\\n", lengths[at], {told});')
     lines.append(f'        printf("is_wide %zu %d\\n", lengths[at], {PREFIX}is_wide(lengths[at]));\n    }}')
@@ -169,22 +171,32 @@ def try_halves(tally, library, narrow, worked_answers, folder):
 
 
 def copy_for_builds(folder):
-    """What build_library needs, with the halves as they are built, and a folder with a stand-in of rt, which lists its calls."""
+    """What build_library needs, with the halves as they are built, and a folder with a stand-in of rt, which lists its calls. It
+    fails for the wide half where a file says so.
+    """
     for name in ["bindings/c", "scripts"]:
         shutil.copytree(ROOT / name, folder / name)
-    crates = ["str_indices_c_wide", *[library.crate for library in LIBRARIES]]
+    crates = [library.crate for library in LIBRARIES]
     copy_crates(crates, folder, left_out=("out",))
-    for crate in crates:
-        (folder / "crates" / crate / "out").mkdir(parents=True)
-        shutil.copy(ROOT / "crates" / crate / f"out/lib{crate}.a", folder / "crates" / crate / "out")
+    proved = [f"crates/{crate}/out/lib{crate}.a" for crate in crates]
+    for name in [*proved, f"{PROVED_WIDE}/lib{WIDE}.a"]:
+        (folder / name).parent.mkdir(parents=True)
+        shutil.copy(ROOT / name, folder / name)
     commands = folder / "commands"
     commands.mkdir()
-    for name, text in [("rt", f'echo "$*" >> "{folder}/{CALLS}"'), ("old_cc", CANNOT_ASK)]:
+    stand_in = f'echo "$*" >> "{folder}/{CALLS}"\ncase $PWD in *_wide) ! test -e "{folder}/{REFUSED}" ;; esac'
+    for name, text in [("rt", stand_in), ("old_cc", CANNOT_ASK)]:
         (commands / name).write_text(f"#!/bin/sh\n{text}\n", encoding="utf-8")
         (commands / name).chmod(0o755)
     return commands
 
 
+# the crate of the wide half, and where what is proved of it stays
+WIDE, PROVED_WIDE = "str_indices_c_wide", "out/wide"
+# where the narrow half names its vectors
+LANES = "crates/str_indices_c/src/lib.rt"
+# the file that has the stand-in fail for the wide half
+REFUSED = "refused"
 # the file in which the stand-in lists its calls
 CALLS = "calls"
 # what a library is built from: a crate, a definition, a proof, the handles, C and the toolchain; and the library itself
@@ -212,10 +224,10 @@ def build(folder, commands, compiler, name="str_indices"):
 
 def try_build(tally, folder, commands, compiler, right, said, what):
     """Whether build_library ends so, and whether there is a library then."""
-    shutil.rmtree(folder / "out", ignore_errors=True)
+    library = folder / "out/libstr_indices.a"
+    library.unlink(missing_ok=True)
     done = build(folder, commands, compiler)
-    built = (folder / "out/libstr_indices.a").is_file()
-    if not tally.result((done.returncode == 0) == right == built and said in done.stderr, f"build_library, {what}"):
+    if not tally.result((done.returncode == 0) == right == library.is_file() and said in done.stderr, f"build_library, {what}"):
         print(done.returncode, done.stdout + done.stderr)
 
 
@@ -239,11 +251,27 @@ def try_freshness(tally, folder, commands):
     tally.result(builds_anew(folder, commands, "old_cc"), "build_library, another compiler: the library is built anew")
 
 
+def try_wide_faults(tally, folder, commands):
+    """A wide half that is not proved, and one whose vectors nothing tells."""
+    (folder / REFUSED).touch()
+    try_build(tally, folder, commands, "cc", False, "", "a wide half that is not proved: an error")
+    (folder / REFUSED).unlink()
+    text = (folder / LANES).read_text(encoding="utf-8")
+    (folder / LANES).write_text(text.replace("Simd<u8, 16>", "Chunk"), encoding="utf-8")
+    try_build(tally, folder, commands, "cc", False, "no vector to widen", "a narrow half that names no vector: an error")
+    (folder / LANES).write_text(text, encoding="utf-8")
+    try_build(tally, folder, commands, "cc", True, "", "as it stood before")
+    is_kept = (folder / PROVED_WIDE / f"lib{WIDE}.a").is_file()
+    is_wide = has_wide_half(folder / "out/libstr_indices.a")
+    tally.result(is_kept and is_wide, "the wide half is in the library, and what is proved of it stays")
+
+
 def try_builds(tally, folder, commands):
     """Compilers that cannot do all, and a wide half that does not compile, in the copy in that folder."""
     cannot_ask = "has no cpuid.h to ask a processor by"
     try_build(tally, folder, commands, "cc", True, "", "as it stands")
     try_build(tally, folder, commands, "old_cc", True, cannot_ask, "a compiler without cpuid.h: without the wide half")
+    try_wide_faults(tally, folder, commands)
     absent = "no_such_compiler"
     try_build(tally, folder, commands, absent, False, absent, "a compiler that is not there: an error")
     with open(folder / "bindings/c/choose_half.c", "a", encoding="utf-8") as source:

@@ -29,8 +29,9 @@ IN_C = "void f(const char *text)\n{\n    str_rope rope = STR_ROPE_EMPTY;\n    st
 # statements in C++, and whether the compiler takes each: one enum given for another is refused, and what would be gone at once
 FORBIDDEN = {
     "rope.count(scheme::utf16)": True, "rope.count(encoding::utf16)": False, "rope.count(1)": False,
-    "rope.count(STR_INDICES_UTF16)": False, "rope.lines(line_type::all)": True, "rope.lines(scheme::lines)": False,
-    "rope.position_of(encoding::utf8, 0, line_type::lf)": True, "rope.position_of(line_type::lf, 0, encoding::utf8)": False,
+    "rope.count(STR_INDICES_UTF16)": False, "rope.lines(line_type::lines)": True, "rope.lines(scheme::lines)": False,
+    "rope.position_of(line_type::lf, encoding::utf8, 0)": True, "rope.position_of(encoding::utf8, line_type::lf, 0)": False,
+    "rope.line(line_type::crlf, 0)": True, "rope.line(0)": False,
     "rope.chunks()": True, "pauskern::rope(text).chunks()": False, "rope.text({0, 1})": True, "rope.text(0, 1)": False,
     "text_index(text).count(scheme::chars)": True, "text_index(std::string(text)).count(scheme::chars)": False,
     "rope.insert(0, text)": True, "constant.insert(0, text)": False, "constant.count(scheme::lf)": True,

@@ -39,7 +39,8 @@ void same(bool right, const char *call, std::size_t number = 0)
 
 // The encodings and the kinds of line in the order of the rows, and the schemes that count the breaks of these.
 const encoding units[ENCODINGS] = {encoding::utf16, encoding::utf8, encoding::utf32};
-const line_type types[KINDS] = {line_type::lf_cr, line_type::lf, line_type::all};
+const line_type types[KINDS] = {line_type::crlf, line_type::lf, line_type::lines};
+constexpr line_type crlf = line_type::crlf;
 const scheme schemes[SCHEMES] = {scheme::chars, scheme::utf16, scheme::lf, scheme::crlf, scheme::lines};
 
 const std::string_view of_breaks(breaks, sizeof breaks - 1);
@@ -73,26 +74,28 @@ template <class Text> void positions(const Text &text)
     for (std::size_t i = 0; i < ENCODINGS; i++) {
         for (const auto &row : position_rows) {
             const position there = {row.line, row.character[i]};
-            const auto exact = text.exact_position_of(units[i], row.byte);
-            same(text.position_of(units[i], row.byte) == there, "position_of", row.byte);
+            const auto exact = text.exact_position_of(crlf, units[i], row.byte);
+            same(text.position_of(crlf, units[i], row.byte) == there, "position_of", row.byte);
             same(!exact || *exact == there, "exact_position_of", row.byte);
-            same(exact.has_value() == (row.byte <= text.size() && text.byte_of(units[i], there) == row.byte),
+            same(exact.has_value() == (row.byte <= text.size() && text.byte_of(crlf, units[i], there) == row.byte),
                  "whether a byte is a place", row.byte);
-            same(text.range_of(units[i], {row.byte, 0}) == range{there, position{}}, "range_of", row.byte);
+            same(text.range_of(crlf, units[i], {row.byte, 0}) == range{there, position{}}, "range_of", row.byte);
         }
         for (const auto &row : byte_rows) {
-            const auto exact = text.exact_byte_of(units[i], of(row.position));
-            same(text.byte_of(units[i], of(row.position)) == row.byte[i], "byte_of", row.position.line);
+            const auto exact = text.exact_byte_of(crlf, units[i], of(row.position));
+            same(text.byte_of(crlf, units[i], of(row.position)) == row.byte[i], "byte_of", row.position.line);
             same(exact.value_or(NONE) == row.exact[i], "exact_byte_of", row.position.line);
         }
         for (const auto &row : range_rows) {
-            const auto found = text.byte_range(units[i], {of(row.range.start), of(row.range.end)});
+            const auto found = text.byte_range(crlf, units[i], {of(row.range.start), of(row.range.end)});
             const bytes wanted = {row.bytes[i].start, row.bytes[i].end};
             same(found.value_or(bytes{NONE, NONE}) == wanted, "byte_range", row.range.start.line);
         }
     }
-    for (std::size_t i = 0; i < NUMBER_OF(line_ends); i++)
-        same(text.line(i).end == line_ends[i], "line", i);
+    for (std::size_t i = 0; i < NUMBER_OF(line_rows); i++) {
+        same(text.line(crlf, i) == bytes{line_rows[i].start, line_rows[i].end}, "line", i);
+        same(text.line_end(crlf, i) == line_rows[i].end, "line_end", i);
+    }
 }
 
 // The lines of `breaks` by each kind, in the order of the kinds.
@@ -117,15 +120,22 @@ template <class Text> void lines_by_kind(const Text &text)
         same(std::vector<std::string>(back.rbegin(), back.rend()) == wanted, "lines backwards", i);
         for (std::size_t number = 0; number < wanted.size(); number++) {
             auto line = found.from(number);
-            same(line.number() == number && *line == found[number] && found[number] == text.line(number, types[i]),
-                 "a line by its number", number);
+            const bytes content = text.line(types[i], number);
+            same(line.number() == number && *line == content && found[number] == content, "a line by its number",
+                 number);
             same(line++ != line && *std::prev(line) == found[number] && line-- == found.from(number + 1),
                  "steps over lines", number);
-            const position begin = text.position_of(units[0], found[number].start, types[i]);
-            same(begin == position{number, 0} && text.byte_of(units[0], begin, types[i]) == found[number].start &&
-                     text.exact_position_of(units[0], found[number].start, types[i]) == begin &&
-                     text.range_of(units[0], found[number], types[i]).start == begin,
+            const position begin = {number, 0}, past = {number, NONE};
+            same(text.position_of(types[i], units[0], content.start) == begin &&
+                     text.exact_position_of(types[i], units[0], content.start) == begin &&
+                     text.range_of(types[i], units[0], content).start == begin,
                  "positions by kind of line", number);
+            same(text.byte_of(types[i], units[0], begin) == content.start &&
+                     text.exact_byte_of(types[i], units[0], begin) == content.start &&
+                     !text.exact_byte_of(types[i], units[0], past) &&
+                     text.byte_range(types[i], units[0], {begin, past}) == content &&
+                     text.line_end(types[i], number) == content.end,
+                 "bytes by kind of line", number);
         }
         same(found.from(99) == found.end() && found[99] == bytes{text.size(), text.size()}, "past the last line", i);
     }
@@ -138,14 +148,20 @@ template <class Text> void the_empty_text(const Text &text)
     for (scheme one : schemes)
         same(text.count(one) == 0 && text.from_byte_idx(one, 9) == 0 && text.to_byte_idx(one, 9) == 0, "no text");
     same(text.is_char_boundary(0) && !text.is_char_boundary(1), "no text, boundaries");
-    for (encoding one : units) {
-        same(text.position_of(one, 9) == position{} && text.byte_of(one, {9, 9}) == 0, "no text, positions");
-        same(text.exact_byte_of(one, {}) == 0u && !text.exact_byte_of(one, {0, 1}), "no text, exact bytes");
-        same(text.exact_position_of(one, 0) == position{} && !text.exact_position_of(one, 1), "no text, places");
-        same(text.byte_range(one, {}) == bytes{} && !text.byte_range(one, {{1, 0}, {0, 0}}), "no text, ranges");
-    }
+    for (encoding one : units)
+        for (line_type type : types) {
+            same(text.position_of(type, one, 9) == position{} && text.byte_of(type, one, {9, 9}) == 0,
+                 "no text, positions");
+            same(text.exact_byte_of(type, one, {}) == 0u && !text.exact_byte_of(type, one, {0, 1}),
+                 "no text, exact bytes");
+            same(text.exact_position_of(type, one, 0) == position{} && !text.exact_position_of(type, one, 1),
+                 "no text, places");
+            same(text.byte_range(type, one, {}) == bytes{} && !text.byte_range(type, one, {{1, 0}, {0, 0}}),
+                 "no text, ranges");
+        }
     for (line_type one : types)
-        same(text.lines(one).size() == 1 && *text.lines(one).begin() == bytes{}, "no text, lines");
+        same(text.lines(one).size() == 1 && *text.lines(one).begin() == bytes{} && text.line_end(one, 9) == 0,
+             "no text, lines");
     same(text.text({0, 0}).empty(), "no text, a part");
 }
 
@@ -323,9 +339,9 @@ void changes_by_positions()
     text.change(encoding::utf16, {{1, 2}, {1, 3}}, "c");
     same(text == "a\r\n" FROG "c\r\343\201\233\n\nx", "change");
     text.change(encoding::utf8, {{0, 1}, {0, 99}}, "b");
-    same(text.text(text.line(0)) == "ab", "change past the end of a line");
+    same(text.text(text.lines()[0]) == "ab", "change past the end of a line");
     text.change_exact(encoding::utf32, {{1, 0}, {1, 1}}, "");
-    same(text.text(text.line(1)) == "c", "change_exact");
+    same(text.text(text.lines()[1]) == "c", "change_exact");
 }
 
 //
@@ -344,12 +360,13 @@ void indexes()
     text_index moved(std::move(index));
     same(moved.count(scheme::crlf) == 4, "a moved index");
     index = std::move(moved);
-    same(index.text(index.line(1)) == FROG "b", "an index by assignment");
+    same(index.text(index.lines()[1]) == FROG "b", "an index by assignment");
     owned_index owned("one\ntwo"), other = std::move(owned);
     owned = owned_index("three");
-    same(other->text(other->line(1)) == "two" && (*owned).size() == 5, "owned indexes");
-    same(other.text(other.line(1)) == "two" && owned.size() == 5 && owned.text() == "three", "an owned index itself");
-    same(other.position_of(encoding::utf16, 5) == position{1, 1} && other.lines().size() == 2,
+    same(other->text(other->lines()[1]) == "two" && (*owned).size() == 5, "owned indexes");
+    same(other.text(other.lines()[1]) == "two" && owned.size() == 5 && owned.text() == "three",
+         "an owned index itself");
+    same(other.position_of(crlf, encoding::utf16, 5) == position{1, 1} && other.lines().size() == 2,
          "its positions and lines");
     same(str_index_len(other.get()) == 7 && refuses<pauskern::not_ordered>([&] { other.text({2, 1}); }), "its parts");
 }

@@ -178,8 +178,9 @@ void taking_none()
     rope moved = std::move(text), empty, none = empty;
     swap(moved, empty);
     text = std::move(empty);
-    same(text == whole && text == rest && none.empty() && text.line(0).size() == whole.size(), "questions");
-    same(index.position_of(encoding::utf8, 9) == pauskern::position{0, 9}, "questions of an index");
+    same(text == whole && text == rest && none.empty() && text.lines()[0].size() == whole.size(), "questions");
+    same(index.position_of(pauskern::line_type::crlf, encoding::utf8, 9) == pauskern::position{0, 9},
+         "questions of an index");
     text.remove({0, whole.size()});
     rest.clear();
     same(text.empty() && rest.empty() && allocations == before, "what is taken by calls that take none");

@@ -61,8 +61,9 @@ static void try_made(make_function *make, size_t len)
     same(str_index_len(index) == len && str_index_count(index, STR_INDICES_CRLF) == lines, "len and count", len);
     same(str_index_to_byte_idx(index, STR_INDICES_CRLF, lines) == lines * LINE, "to_byte_idx", len);
     same(str_index_from_byte_idx(index, STR_INDICES_LINES, len) == lines, "from_byte_idx", len);
-    same(str_index_byte_of(index, STR_INDICES_ENCODING_UTF8, end) == len, "byte_of", len);
-    same(str_index_position_of(index, STR_INDICES_ENCODING_UTF16, len).line == lines, "position_of", len);
+    same(str_index_byte_of(index, STR_INDICES_LINE_TYPE_CRLF, STR_INDICES_ENCODING_UTF8, end) == len, "byte_of", len);
+    same(str_index_position_of(index, STR_INDICES_LINE_TYPE_CRLF, STR_INDICES_ENCODING_UTF16, len).line == lines,
+         "position_of", len);
     same(allocations == 1, "what questions take", len);
     str_index_free(index);
     refused = NEVER;

@@ -2,8 +2,8 @@
  * The functions of str_indices.h beside a plain model, over texts that end, and
  * texts that begin, at a page that may not be read: a read past a text ends the
  * program by a signal. There is a text of each length to 5,000 bytes, and some
- * to 70,000. Of positions the line is compared, and that the way back leads to
- * no later place. It tells for which texts the wide half answers, and the last
+ * to 70,000. Of positions the line is compared, and that the way back leads
+ * where it should. It tells for which texts the wide half answers, and the last
  * line printed is 'N passed, M failed'. With the word `past` it reads a byte
  * past a text itself, and must not come to an end.
  */
@@ -185,27 +185,62 @@ static const struct {
     {"lines", LINES, str_indices_lines_from_byte_idx, str_indices_lines_to_byte_idx},
 };
 
+/* The kinds of line, and the breaks of each. */
 static const struct {
     const char *name;
-    str_indices_position (*position_of)(const char *, size_t, size_t);
-    size_t (*byte_of)(const char *, size_t, str_indices_position);
-} encodings[] = {
-    {"UTF-8 position", str_indices_utf8_position_of, str_indices_utf8_byte_of},
-    {"UTF-16 position", str_indices_position_of, str_indices_byte_of},
-    {"UTF-32 position", str_indices_utf32_position_of, str_indices_utf32_byte_of},
+    str_indices_line_type type;
+    int kind;
+} line_types[] = {
+    {"LF lines", STR_INDICES_LINE_TYPE_LF, LF},
+    {"CR LF lines", STR_INDICES_LINE_TYPE_CRLF, CRLF},
+    {"Unicode lines", STR_INDICES_LINE_TYPE_LINES, LINES},
 };
 
-/* The line of a byte's position, and the way back by the position and its line. */
-static void place(const char *text, size_t len, size_t byte)
+/* Whether a byte is a place on a line: no char and no break has it inside. */
+static int is_place(const char *text, size_t len, int kind, size_t byte)
 {
-    for (size_t row = 0; row < sizeof encodings / sizeof encodings[0]; row++) {
-        str_indices_position position = encodings[row].position_of(text, len, byte);
-        size_t back = encodings[row].byte_of(text, len, position);
-        size_t end = str_indices_line_end(text, len, position.line);
+    int is_middle = kind != LF && byte > 0 && byte < len && text[byte] == '\n' && text[byte - 1] == '\r';
+    return byte <= len && to_byte(CHARS, len, from_byte(CHARS, byte)) == byte && !is_middle;
+}
 
-        same(encodings[row].name, len, byte, position.line, from_byte(CRLF, byte));
-        same("way back", len, byte, back <= byte && back <= end && end <= len, 1);
+/* The line of a byte's position, and the way back by the position and its line. */
+static void place(const char *text, size_t len, size_t byte, size_t row, str_indices_encoding encoding)
+{
+    str_indices_line_type type = line_types[row].type;
+    const char *name = line_types[row].name;
+    int kind = line_types[row].kind;
+    str_indices_position position = str_indices_position_of(text, len, type, encoding, byte);
+    str_indices_position exact = str_indices_exact_position_of(text, len, type, encoding, byte);
+    str_indices_bytes line = str_indices_line(text, len, type, position.line);
+    size_t back = str_indices_byte_of(text, len, type, encoding, position);
+    str_indices_range to_here = {{position.line, 0}, position};
+    str_indices_bytes span = {back, byte}, found = str_indices_byte_range(text, len, type, encoding, to_here);
+    str_indices_range range = str_indices_range_of(text, len, type, encoding, span);
+
+    same(name, len, byte, position.line, from_byte(kind, byte));
+    same("line", len, byte, line.start, to_byte(kind, len, position.line));
+    same("line_end", len, byte, str_indices_line_end(text, len, type, position.line), line.end);
+    if (is_place(text, len, kind, byte)) {
+        same("exact_position_of", len, byte, exact.line, position.line);
+        same("way back", len, byte, back, byte);
+    } else {
+        same("exact_position_of", len, byte, exact.line, SIZE_MAX);
+        same("way back", len, byte, back < byte, 1);
     }
+    same("on its line", len, byte, line.start <= back && back <= line.end && line.end <= len, 1);
+    same("exact_byte_of", len, byte, str_indices_exact_byte_of(text, len, type, encoding, position), back);
+    same("byte_range", len, byte, found.start == line.start && found.end == back, 1);
+    same("range_of", len, byte, range.start.character == range.end.character, 1);
+}
+
+/* The same of each kind of line and each encoding. */
+static void places(const char *text, size_t len, size_t byte)
+{
+    static const str_indices_encoding encodings[] = {STR_INDICES_ENCODING_UTF8, STR_INDICES_ENCODING_UTF16,
+                                                     STR_INDICES_ENCODING_UTF32};
+    for (size_t row = 0; row < sizeof line_types / sizeof line_types[0]; row++)
+        for (size_t i = 0; i < sizeof encodings / sizeof encodings[0]; i++)
+            place(text, len, byte, row, encodings[i]);
 }
 
 static void convert(size_t row, const char *text, size_t len, size_t byte, size_t index)
@@ -234,9 +269,9 @@ static void compare(const char *text, size_t len)
             for (int some = 0; some < SOME; some++)
                 convert(row, text, len, below(len), below(most + 1));
     }
-    place(text, len, len);
-    place(text, len, below(len + 1));
-    place(text, len, SIZE_MAX);
+    places(text, len, len);
+    places(text, len, below(len + 1));
+    places(text, len, SIZE_MAX);
 }
 
 /* A text that is cut off at some byte, or has one there that no text has: it is

@@ -20,16 +20,10 @@
  * UTF-16 no more units. */
 enum { APART = 1024, MOST_BYTES = 200000, MOST_TOLD = 20 };
 
-/* Past the end by so many indices a question is asked too. */
-enum { PAST = 3 };
-
-/* The kinds of line break, and what counts them. */
-static const size_t breaks_of_kind[KINDS] = {STR_INDICES_CRLF, STR_INDICES_LF, STR_INDICES_LINES};
+/* Past the end by so many indices a question is asked too. Where some are asked for, that is one of so many. */
+enum { PAST = 3, SOME = 7 };
 
 static size_t passed, failed, every = 1;
-
-/* What ends the lines of the model. */
-static size_t kind;
 
 static void same(int right, const char *call, size_t first, size_t second)
 {
@@ -134,53 +128,84 @@ static int model_is_boundary(size_t byte)
     return byte == model_len || (byte < model_len && (model_text[byte] & 0xC0) != 0x80);
 }
 
-/* The scheme that counts the breaks of the model's lines. */
-static size_t line_scheme(void)
+/* The scheme that counts the breaks of a kind of line. */
+static size_t line_scheme(str_indices_line_type type)
 {
-    return breaks_of_kind[kind < KINDS ? kind : KINDS - 1];
+    return type == STR_INDICES_LINE_TYPE_LF     ? STR_INDICES_LF
+           : type == STR_INDICES_LINE_TYPE_CRLF ? STR_INDICES_CRLF
+                                                : STR_INDICES_LINES;
 }
 
-/* Whether a break of the model's lines begins at a char. */
-static int model_is_break(size_t at)
+/* How many breaks of a kind the model has. */
+static size_t model_breaks(str_indices_line_type type)
 {
-    char here = model_text[at];
-    return here == '\n' || (line_scheme() != STR_INDICES_LF && here == '\r') ||
-           (line_scheme() == STR_INDICES_LINES &&
-            is_one_of(model_text + at, size_of(here), unicode, NUMBER_OF(unicode)));
+    return before[line_scheme(type)][model_len];
 }
 
-static str_indices_bytes model_line(size_t line)
+/* Whether a break begins at a char: it ends with that char, or is a CR LF. */
+static int model_is_break(str_indices_line_type type, size_t at)
+{
+    size_t scheme = line_scheme(type);
+    return before[scheme][at + size_of(model_text[at])] != before[scheme][at] ||
+           (scheme != STR_INDICES_LF && model_text[at] == '\r');
+}
+
+/* The units between two boundaries. */
+static size_t model_units(str_indices_encoding encoding, size_t from, size_t to)
+{
+    size_t scheme = encoding == STR_INDICES_ENCODING_UTF16 ? STR_INDICES_UTF16 : STR_INDICES_CHARS;
+    return encoding == STR_INDICES_ENCODING_UTF8 ? to - from : before[scheme][to] - before[scheme][from];
+}
+
+static str_indices_bytes model_line(str_indices_line_type type, size_t line)
 {
     str_indices_bytes bytes;
-    bytes.start = bytes.end = model_to_byte(line_scheme(), line);
-    while (bytes.end < model_len && !model_is_break(bytes.end))
+    bytes.start = bytes.end = model_to_byte(line_scheme(type), line);
+    while (bytes.end < model_len && !model_is_break(type, bytes.end))
         bytes.end += size_of(model_text[bytes.end]);
     return bytes;
 }
 
-/* The units between two boundaries. */
-static size_t model_units(size_t encoding, size_t from, size_t to)
+static size_t model_line_end(str_indices_line_type type, size_t line)
 {
-    size_t scheme = encodings[encoding] == STR_INDICES_ENCODING_UTF16 ? STR_INDICES_UTF16 : STR_INDICES_CHARS;
-    return encodings[encoding] == STR_INDICES_ENCODING_UTF8 ? to - from : before[scheme][to] - before[scheme][from];
+    return model_line(type, line).end;
 }
 
-static str_indices_position model_position(size_t encoding, size_t byte)
+static str_indices_position model_position_of(str_indices_line_type type, str_indices_encoding encoding, size_t byte)
 {
     size_t place = byte < model_len ? byte : model_len;
-    str_indices_position position = {model_from_byte(line_scheme(), byte), 0};
-    str_indices_bytes content = model_line(position.line);
+    str_indices_position position = {model_from_byte(line_scheme(type), byte), 0};
+    str_indices_bytes content = model_line(type, position.line);
     while (!model_is_boundary(place))
         place--;
     position.character = model_units(encoding, content.start, place < content.end ? place : content.end);
     return position;
 }
 
-static size_t model_byte_of(size_t encoding, str_indices_position position)
+/* The position of a byte that is a place on a line, or none. */
+static str_indices_position model_exact_position_of(str_indices_line_type type, str_indices_encoding encoding,
+                                                    size_t byte)
 {
-    str_indices_bytes content = model_line(position.line);
+    static const str_indices_position none = {NONE, NONE};
+    int is_middle = line_scheme(type) != STR_INDICES_LF && byte > 0 && byte < model_len && model_text[byte] == '\n' &&
+                    model_text[byte - 1] == '\r';
+    return byte > model_len || !model_is_boundary(byte) || is_middle ? none : model_position_of(type, encoding, byte);
+}
+
+static str_indices_range model_range_of(str_indices_line_type type, str_indices_encoding encoding,
+                                        str_indices_bytes span)
+{
+    str_indices_range range;
+    range.start = model_position_of(type, encoding, span.start);
+    range.end = model_position_of(type, encoding, span.end);
+    return range;
+}
+
+static size_t model_byte_of(str_indices_line_type type, str_indices_encoding encoding, str_indices_position position)
+{
+    str_indices_bytes content = model_line(type, position.line);
     size_t place = content.start;
-    if (position.line > before[line_scheme()][model_len])
+    if (position.line > model_breaks(type))
         return model_len;
     for (size_t at = place; at <= content.end; at += at < model_len ? size_of(model_text[at]) : 1)
         if (model_units(encoding, content.start, at) <= position.character)
@@ -188,32 +213,31 @@ static size_t model_byte_of(size_t encoding, str_indices_position position)
     return place;
 }
 
-static size_t model_exact_byte_of(size_t encoding, str_indices_position position)
+static size_t model_exact_byte_of(str_indices_line_type type, str_indices_encoding encoding,
+                                  str_indices_position position)
 {
-    size_t byte = model_byte_of(encoding, position);
-    str_indices_position there = model_position(encoding, byte);
+    size_t byte = model_byte_of(type, encoding, position);
+    str_indices_position there = model_position_of(type, encoding, byte);
     return there.line == position.line && there.character == position.character ? byte : NONE;
 }
 
-/* The position of a byte that is a place on a line, or none. */
-static str_indices_position model_exact_position(size_t encoding, size_t byte)
+static str_indices_bytes model_byte_range(str_indices_line_type type, str_indices_encoding encoding,
+                                          str_indices_range range)
 {
-    static const str_indices_position none = {NONE, NONE};
-    int is_middle = line_scheme() != STR_INDICES_LF && byte > 0 && byte < model_len && model_text[byte] == '\n' &&
-                    model_text[byte - 1] == '\r';
-    return byte > model_len || !model_is_boundary(byte) || is_middle ? none : model_position(encoding, byte);
+    str_indices_bytes bytes = {NONE, NONE};
+    int is_reversed = range.end.line < range.start.line ||
+                      (range.end.line == range.start.line && range.end.character < range.start.character);
+    if (!is_reversed) {
+        bytes.start = model_byte_of(type, encoding, range.start);
+        bytes.end = model_byte_of(type, encoding, range.end);
+    }
+    return bytes;
 }
 
-static int same_positions(str_indices_position one, str_indices_position other)
-{
-    return one.line == other.line && one.character == other.character;
-}
-
-static int model_is_reversed(str_indices_range range)
-{
-    return range.end.line < range.start.line ||
-           (range.end.line == range.start.line && range.end.character < range.start.character);
-}
+/* The worked answers are asked of an index, and where it is null of the model. */
+#define TEXT const str_index *index
+#define ASK(name, ...) (index == NULL ? model_##name(__VA_ARGS__) : str_index_##name(index, __VA_ARGS__))
+#include "worked_positions.h"
 
 /*
  * One question each, beside the model.
@@ -224,11 +248,10 @@ static void try_byte(const str_index *index, size_t byte)
     for (size_t scheme = 0; scheme <= SCHEMES; scheme++)
         same(str_index_from_byte_idx(index, (str_indices_scheme)scheme, byte) == model_from_byte(scheme, byte),
              "from_byte_idx", scheme, byte);
-    for (size_t encoding = 0; encoding <= ENCODINGS; encoding++) {
-        str_indices_position here = str_index_position_of(index, encodings[encoding], byte);
-        str_indices_position wanted = model_position(encoding, byte);
-        same(here.line == wanted.line && here.character == wanted.character, "position_of", encoding, byte);
-    }
+    for (size_t number = 0; number <= ENCODINGS; number++)
+        same(same_positions(str_index_position_of(index, STR_INDICES_LINE_TYPE_CRLF, encodings[number], byte),
+                            model_position_of(STR_INDICES_LINE_TYPE_CRLF, encodings[number], byte)),
+             "position_of", number, byte);
     same(str_index_is_char_boundary(index, byte) == model_is_boundary(byte), "is_char_boundary", byte, 0);
 }
 
@@ -238,87 +261,95 @@ static void try_index(const str_index *index, size_t scheme, size_t idx)
          scheme, idx);
 }
 
-static void try_line(const str_index *index, size_t line)
+static void try_line(const str_index *index, size_t kind, size_t line)
 {
-    str_indices_bytes bytes = str_index_line(index, line), wanted = model_line(line);
-    same(bytes.start == wanted.start && bytes.end == wanted.end, "line", line, bytes.start);
-    same(str_index_line_end(index, line) == wanted.end, "line_end", line, wanted.end);
+    str_indices_line_type type = line_types[kind];
+    str_indices_bytes wanted = model_line(type, line);
+    same(same_bytes(str_index_line(index, type, line), wanted), "line", kind, line);
+    same(str_index_line_end(index, type, line) == wanted.end, "line_end", kind, line);
 }
 
-static void try_position(const str_index *index, size_t number, str_indices_position position)
+static void try_position(const str_index *index, size_t kind, size_t number, str_indices_position position)
 {
+    str_indices_line_type type = line_types[kind];
     str_indices_encoding encoding = encodings[number];
-    same(str_index_byte_of(index, encoding, position) == model_byte_of(number, position), "byte_of", position.line,
-         position.character);
-    same(str_index_exact_byte_of(index, encoding, position) == model_exact_byte_of(number, position), "exact_byte_of",
+    same(str_index_byte_of(index, type, encoding, position) == model_byte_of(type, encoding, position), "byte_of",
          position.line, position.character);
+    same(str_index_exact_byte_of(index, type, encoding, position) == model_exact_byte_of(type, encoding, position),
+         "exact_byte_of", position.line, position.character);
 }
 
-static void try_range(const str_index *index, size_t encoding, str_indices_range range)
+static void try_range(const str_index *index, size_t kind, size_t number, str_indices_range range)
 {
-    str_indices_bytes bytes = str_index_byte_range(index, encodings[encoding], range), wanted = {NONE, NONE};
-    if (!model_is_reversed(range)) {
-        wanted.start = model_byte_of(encoding, range.start);
-        wanted.end = model_byte_of(encoding, range.end);
-    }
-    same(bytes.start == wanted.start && bytes.end == wanted.end, "byte_range", encoding, range.start.line);
+    str_indices_line_type type = line_types[kind];
+    str_indices_encoding encoding = encodings[number];
+    same(same_bytes(str_index_byte_range(index, type, encoding, range), model_byte_range(type, encoding, range)),
+         "byte_range", kind, range.start.line);
 }
 
 /* Each offset on a line, each with a range from it to a place on the line before, on this one or on the next. */
-static void try_positions(const str_index *index, size_t encoding, size_t line)
+static void try_positions(const str_index *index, size_t kind, size_t number, size_t line)
 {
-    str_indices_bytes content = model_line(line);
-    size_t units = model_units(encoding, content.start, content.end);
+    str_indices_bytes content = model_line(line_types[kind], line);
+    size_t units = model_units(encodings[number], content.start, content.end);
     for (size_t at = 0; at <= units + PAST; at += every) {
         str_indices_position here = {line, at == units + PAST ? MOST : at};
         str_indices_position there = {line + at % 3 - (line > 0), at * 7 % 11};
         str_indices_range range = {here, there};
-        try_position(index, encoding, here);
-        try_range(index, encoding, range);
+        try_position(index, kind, number, here);
+        try_range(index, kind, number, range);
     }
 }
 
-/* Lines of a kind: the place of a byte and of the byte of its position, and of a span from there. */
-static void try_byte_by(const str_index *index, size_t byte)
+/* The place of a byte, of a span from there, and the byte of its position and of the next one. */
+static void try_place(const str_index *index, size_t kind, size_t byte)
 {
-    str_indices_line_type lines = line_types[kind];
+    str_indices_line_type type = line_types[kind];
     for (size_t number = 0; number <= ENCODINGS; number++) {
         str_indices_encoding encoding = encodings[number];
-        str_indices_position wanted = model_position(number, byte), next = wanted;
         str_indices_bytes span = {byte, byte < MOST - 9 ? byte + 9 : MOST};
-        str_indices_range range = str_index_range_by(index, lines, encoding, span);
-        same(same_positions(str_index_position_by(index, lines, encoding, byte), wanted), "position_by", kind, byte);
-        same(same_positions(str_index_exact_position_by(index, lines, encoding, byte),
-                            model_exact_position(number, byte)),
-             "exact_position_by", kind, byte);
-        same(same_positions(range.start, wanted) && same_positions(range.end, model_position(number, span.end)),
-             "range_by", kind, byte);
-        for (size_t more = 0; more < 2; more++, next.character++)
-            same(str_index_byte_by(index, lines, encoding, next) == model_byte_of(number, next), "byte_by", kind, byte);
+        str_indices_range range = str_index_range_of(index, type, encoding, span);
+        str_indices_range wanted = model_range_of(type, encoding, span);
+        str_indices_position next = {wanted.start.line, wanted.start.character + 1};
+        same(same_positions(str_index_position_of(index, type, encoding, byte), wanted.start), "position_of", kind,
+             byte);
+        same(same_positions(str_index_exact_position_of(index, type, encoding, byte),
+                            model_exact_position_of(type, encoding, byte)),
+             "exact_position_of", kind, byte);
+        same(same_positions(range.start, wanted.start) && same_positions(range.end, wanted.end), "range_of", kind,
+             byte);
+        try_position(index, kind, number, wanted.start);
+        try_position(index, kind, number, next);
     }
 }
 
-/* All lines by what ends them, and the place of each byte on them. */
-static void try_lines_by(const str_index *index)
+/* Lines of a kind, some places on them, and those far past the end. Each offset is asked for on each of the protocol's
+ * lines, and on some of the others. */
+static void try_lines(const str_index *index, size_t kind)
 {
-    for (kind = 0; kind <= KINDS; kind++) {
-        str_indices_line_type lines = line_types[kind];
-        for (size_t byte = 0; byte <= model_len + PAST; byte += 7 * every)
-            try_byte_by(index, byte);
-        try_byte_by(index, model_len);
-        try_byte_by(index, MOST);
-        for (size_t line = 0; line <= before[line_scheme()][model_len] + PAST; line += every) {
-            str_indices_bytes bytes = str_index_line_by(index, lines, line), wanted = model_line(line);
-            same(bytes.start == wanted.start && bytes.end == wanted.end, "line_by", kind, line);
-        }
+    static const str_indices_position far[] = {{MOST, 0}, {0, MOST}, {MOST, MOST}};
+    size_t step = line_types[kind] == STR_INDICES_LINE_TYPE_CRLF ? every : SOME * every;
+    for (size_t byte = 0; byte <= model_len + PAST; byte += SOME * every)
+        try_place(index, kind, byte);
+    try_place(index, kind, model_len);
+    try_place(index, kind, MOST);
+    for (size_t line = 0; line <= model_breaks(line_types[kind]) + PAST; line += every) {
+        try_line(index, kind, line);
+        for (size_t number = 0; number <= ENCODINGS && line % step == 0; number++)
+            try_positions(index, kind, number, line);
     }
-    kind = 0;
+    try_line(index, kind, MOST);
+    for (size_t number = 0; number <= ENCODINGS; number++)
+        for (size_t i = 0; i < NUMBER_OF(far); i++) {
+            str_indices_range range = {far[0], far[i]};
+            try_position(index, kind, number, far[i]);
+            try_range(index, kind, number, range);
+        }
 }
 
 /* All questions of a text, and those far past its end. */
 static void try_questions(const str_index *index)
 {
-    static const str_indices_position far[] = {{MOST, 0}, {0, MOST}, {MOST, MOST}};
     same(str_index_len(index) == model_len, "len", model_len, 0);
     for (size_t byte = 0; byte <= model_len + PAST; byte += every)
         try_byte(index, byte);
@@ -332,18 +363,8 @@ static void try_questions(const str_index *index)
         try_index(index, scheme, MOST - 1);
         try_index(index, scheme, MOST);
     }
-    for (size_t line = 0; line <= before[STR_INDICES_CRLF][model_len] + PAST; line += every) {
-        try_line(index, line);
-        for (size_t encoding = 0; encoding <= ENCODINGS; encoding++)
-            try_positions(index, encoding, line);
-    }
-    try_line(index, MOST);
-    for (size_t encoding = 0; encoding <= ENCODINGS; encoding++)
-        for (size_t i = 0; i < NUMBER_OF(far); i++) {
-            str_indices_range range = {far[0], far[i]};
-            try_position(index, encoding, far[i]);
-            try_range(index, encoding, range);
-        }
+    for (size_t kind = 0; kind <= KINDS; kind++)
+        try_lines(index, kind);
 }
 
 /* An index of the text, of which a copy without a byte to spare is made. */
@@ -398,7 +419,6 @@ static void try_text(const char *text, size_t len)
     str_index *index = indexed(text, len, &copy);
     make_model(copy, len);
     try_questions(index);
-    try_lines_by(index);
     try_in_room(copy, len);
     try_known(copy, len);
     str_index_free(index);
@@ -427,8 +447,9 @@ static void no_text_and_a_long_one(void)
     str_index *index = NULL;
     same(str_index_make(&index, NULL, 0) == STR_INDEX_OK && index != NULL, "make of no text", 0, 0);
     same(index != NULL && str_index_len(index) == 0 && str_index_count(index, STR_INDICES_LINES) == 0, "no text", 0, 0);
-    same(index != NULL && str_index_position_of(index, STR_INDICES_ENCODING_UTF16, 1).line == 0, "position of no text",
-         0, 0);
+    same(index != NULL &&
+             str_index_position_of(index, STR_INDICES_LINE_TYPE_CRLF, STR_INDICES_ENCODING_UTF16, 1).line == 0,
+         "position of no text", 0, 0);
     str_index_free(index);
     for (size_t len = (size_t)PTRDIFF_MAX + 1, i = 0; i < 2; len = SIZE_MAX, i++) {
         index = (str_index *)&index;
@@ -491,69 +512,19 @@ static void worked_positions(void)
     char *copy;
     str_index *index = indexed(lines, sizeof lines - 1, &copy);
     make_model(lines, sizeof lines - 1);
-    for (size_t number = 0; number <= ENCODINGS; number++) {
-        str_indices_encoding encoding = encodings[number];
-        for (size_t i = 0; i < NUMBER_OF(position_rows); i++) {
-            size_t byte = position_rows[i].byte, wanted = position_rows[i].character[number];
-            str_indices_position here = str_index_position_of(index, encoding, byte);
-            same(here.line == position_rows[i].line && here.character == wanted, "position_of", number, byte);
-            here = model_position(number, byte);
-            same(here.line == position_rows[i].line && here.character == wanted, "the model's position_of", number,
-                 byte);
-        }
-        for (size_t i = 0; i < NUMBER_OF(byte_rows); i++) {
-            str_indices_position position = byte_rows[i].position;
-            size_t byte = byte_rows[i].byte[number], exact = byte_rows[i].exact[number];
-            same(str_index_byte_of(index, encoding, position) == byte, "byte_of", number, i);
-            same(str_index_exact_byte_of(index, encoding, position) == exact, "exact_byte_of", number, i);
-            same(model_byte_of(number, position) == byte, "the model's byte_of", number, i);
-            same(model_exact_byte_of(number, position) == exact, "the model's exact_byte_of", number, i);
-        }
-        for (size_t i = 0; i < NUMBER_OF(range_rows); i++) {
-            str_indices_bytes bytes = str_index_byte_range(index, encoding, range_rows[i].range);
-            str_indices_bytes wanted = range_rows[i].bytes[number];
-            same(bytes.start == wanted.start && bytes.end == wanted.end, "byte_range", number, i);
-        }
-    }
+    ask_for_positions(index);
+    ask_for_positions(NULL);
     str_index_free(index);
     free(copy);
 }
 
-static void worked_lines(void)
-{
-    static const size_t starts[] = {0, 3, 9, 13, 14, 15};
-    char *copy;
-    str_index *index = indexed(lines, sizeof lines - 1, &copy);
-    for (size_t line = 0; line < NUMBER_OF(line_ends); line++) {
-        str_indices_bytes bytes = str_index_line(index, line);
-        same(bytes.start == starts[line] && bytes.end == line_ends[line], "line", line, bytes.start);
-        same(str_index_line_end(index, line) == line_ends[line], "line_end", line, line_ends[line]);
-    }
-    str_index_free(index);
-    free(copy);
-}
-
-/* A text with a break of each kind, by what ends its lines: where their contents are, and positions. */
 static void worked_kinds(void)
 {
-    static const char text[] = "a\342\200\250b\fc\rd\r\ne\nf";
-    static const size_t line_ends_of[KINDS][7] = {
-        {7, 9, 12, 14, 14, 14, 14}, {10, 12, 14, 14, 14, 14, 14}, {1, 5, 7, 9, 12, 14, 14}};
-    static const size_t bytes[] = {2, 5, 8, 10, 11};
-    static const str_indices_position positions[KINDS][5] = {{{0, 1}, {0, 3}, {1, 0}, {1, 1}, {2, 0}},
-                                                             {{0, 1}, {0, 3}, {0, 6}, {0, 8}, {1, 0}},
-                                                             {{0, 1}, {1, 1}, {3, 0}, {3, 1}, {4, 0}}};
     char *copy;
-    str_index *index = indexed(text, sizeof text - 1, &copy);
-    for (size_t number = 0; number < KINDS; number++) {
-        str_indices_line_type lines = line_types[number];
-        for (size_t line = 0; line < 7; line++)
-            same(str_index_line_by(index, lines, line).end == line_ends_of[number][line], "line_by", number, line);
-        for (size_t i = 0; i < NUMBER_OF(bytes); i++)
-            same(same_positions(str_index_position_by(index, lines, STR_INDICES_ENCODING_UTF16, bytes[i]),
-                                positions[number][i]),
-                 "position_by", number, bytes[i]);
-    }
+    str_index *index = indexed(kinds, sizeof kinds - 1, &copy);
+    make_model(kinds, sizeof kinds - 1);
+    ask_by_kind(index);
+    ask_by_kind(NULL);
     str_index_free(index);
     free(copy);
 }
@@ -634,7 +605,6 @@ int main(int number, char **words)
     every = number > 1 ? (size_t)strtoull(words[1], NULL, 10) : 1;
     worked_indices();
     worked_positions();
-    worked_lines();
     worked_kinds();
     refused_bytes();
     null_texts_with_bytes();

@@ -55,7 +55,7 @@ inline std::size_t break_size(std::string_view text, line_type type)
         return 0;
     if (starts_with(text, "\r"))
         return starts_with(text, "\r\n") ? 2 : 1;
-    if (type == line_type::lf_cr)
+    if (type == line_type::crlf)
         return 0;
     for (std::string_view one : {"\v", "\f", "\302\205", "\342\200\250", "\342\200\251"})
         if (starts_with(text, one))
@@ -90,7 +90,7 @@ public:
         return std::min(index_of(all, std::lower_bound(all.begin(), all.end(), idx)), size());
     }
 
-    bytes line(std::size_t number, line_type type) const
+    bytes line(line_type type, std::size_t number) const
     {
         const std::size_t start = to_byte_idx(static_cast<scheme>(type), number);
         std::size_t end = start;
@@ -98,25 +98,26 @@ public:
             end++;
         return {start, end};
     }
-    position position_of(encoding units, std::size_t at, line_type type) const
+    std::size_t line_end(line_type type, std::size_t number) const { return line(type, number).end; }
+    position position_of(line_type type, encoding units, std::size_t at) const
     {
         const std::size_t number = from_byte_idx(static_cast<scheme>(type), at);
-        const bytes content = line(number, type);
+        const bytes content = line(type, number);
         return {number, count_units(units, content.start, std::min(boundary_before(all_, at), content.end))};
     }
-    std::optional<position> exact_position_of(encoding units, std::size_t at, line_type type) const
+    std::optional<position> exact_position_of(line_type type, encoding units, std::size_t at) const
     {
-        if (!is_char_boundary(at) || at > line(from_byte_idx(static_cast<scheme>(type), at), type).end)
+        if (!is_char_boundary(at) || at > line_end(type, from_byte_idx(static_cast<scheme>(type), at)))
             return std::nullopt;
-        return position_of(units, at, type);
+        return position_of(type, units, at);
     }
-    range range_of(encoding units, bytes part, line_type type) const
+    range range_of(line_type type, encoding units, bytes part) const
     {
-        return {position_of(units, part.start, type), position_of(units, part.end, type)};
+        return {position_of(type, units, part.start), position_of(type, units, part.end)};
     }
-    std::size_t byte_of(encoding units, position there, line_type type) const
+    std::size_t byte_of(line_type type, encoding units, position there) const
     {
-        const bytes content = line(there.line, type);
+        const bytes content = line(type, there.line);
         std::size_t found = content.start;
         for (std::size_t at = found; at <= content.end && count_units(units, content.start, at) <= there.character;
              at++)
@@ -124,16 +125,16 @@ public:
                 found = at;
         return found;
     }
-    std::optional<std::size_t> exact_byte_of(encoding units, position there) const
+    std::optional<std::size_t> exact_byte_of(line_type type, encoding units, position there) const
     {
-        const std::size_t at = byte_of(units, there, line_type::lf_cr);
-        return position_of(units, at, line_type::lf_cr) == there ? std::optional(at) : std::nullopt;
+        const std::size_t at = byte_of(type, units, there);
+        return position_of(type, units, at) == there ? std::optional(at) : std::nullopt;
     }
-    std::optional<bytes> byte_range(encoding units, range part) const
+    std::optional<bytes> byte_range(line_type type, encoding units, range part) const
     {
         if (part.end < part.start)
             return std::nullopt;
-        return bytes{byte_of(units, part.start, line_type::lf_cr), byte_of(units, part.end, line_type::lf_cr)};
+        return bytes{byte_of(type, units, part.start), byte_of(type, units, part.end)};
     }
 
 private:

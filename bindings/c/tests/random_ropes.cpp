@@ -1,7 +1,7 @@
 // Random programs over ropes and indexes beside plain strings, with each call of str_rope.hpp, str_index.hpp, str_rope.h and
 // str_index.h. Each program has a few texts, which it changes, cuts, joins, copies, moves and drops in any order, by the
 // classes and by the functions for C, also where a call is to be refused. After each step it asks one of them everything at
-// random places, and an index of the same text.
+// random places, and an index of the same text; and the functions of str_indices_positions.h about lines and positions.
 //
 // random_ropes SEEDS STEPS FIRST says how many programs there are, of how many steps, and the number of the first. The last
 // line printed is 'N passed, M failed'.
@@ -37,7 +37,7 @@ using pauskern::text_index;
 constexpr std::size_t most = std::numeric_limits<std::size_t>::max();
 constexpr scheme schemes[] = {scheme::chars, scheme::utf16, scheme::lf, scheme::crlf, scheme::lines};
 constexpr encoding encodings[] = {encoding::utf16, encoding::utf8, encoding::utf32};
-constexpr line_type types[] = {line_type::lf_cr, line_type::lf, line_type::all};
+constexpr line_type types[] = {line_type::crlf, line_type::lf, line_type::lines};
 
 std::size_t passed, failed, seed, step;
 
@@ -134,9 +134,9 @@ public:
         return {from, once_in(20) ? to : plain::boundary_before(plain, std::max(from, to))};
     }
     // Returns a position that names a place, or is near one, or is far away.
-    position place(const plain::text &model, encoding units, line_type type)
+    position place(const plain::text &model, line_type type, encoding units)
     {
-        position there = model.position_of(units, below(model.size() + 1), type);
+        position there = model.position_of(type, units, below(model.size() + 1));
         if (once_in(3))
             there.character += below(4);
         if (once_in(10))
@@ -151,76 +151,6 @@ private:
 };
 
 //
-// The calls of the headers for C that the classes do not make, and numbers past those of an enum.
-//
-
-std::size_t line_end(const rope &text, std::size_t number)
-{
-    return str_rope_line_end(text.get(), number);
-}
-std::size_t line_end(const text_index &text, std::size_t number)
-{
-    return str_index_line_end(text.get(), number);
-}
-
-str_indices_position position_of(const rope &text, str_indices_encoding units, std::size_t at)
-{
-    return str_rope_position_of(text.get(), units, at);
-}
-str_indices_position position_of(const text_index &text, str_indices_encoding units, std::size_t at)
-{
-    return str_index_position_of(text.get(), units, at);
-}
-
-std::size_t byte_of(const rope &text, str_indices_encoding units, str_indices_position there)
-{
-    return str_rope_byte_of(text.get(), units, there);
-}
-std::size_t byte_of(const text_index &text, str_indices_encoding units, str_indices_position there)
-{
-    return str_index_byte_of(text.get(), units, there);
-}
-
-std::size_t from_byte_idx(const rope &text, str_indices_scheme what, std::size_t at)
-{
-    return str_rope_from_byte_idx(text.get(), what, at);
-}
-std::size_t from_byte_idx(const text_index &text, str_indices_scheme what, std::size_t at)
-{
-    return str_index_from_byte_idx(text.get(), what, at);
-}
-
-str_indices_bytes line_by(const rope &text, str_indices_line_type type, std::size_t number)
-{
-    return str_rope_line_by(text.get(), type, number);
-}
-str_indices_bytes line_by(const text_index &text, str_indices_line_type type, std::size_t number)
-{
-    return str_index_line_by(text.get(), type, number);
-}
-
-template <class Text> void ask_in_c(const Text &text, const plain::text &model, numbers &draw)
-{
-    const std::size_t number = draw.below(8), at = draw.below(model.size() + 4);
-    const auto what = static_cast<scheme>(std::min<std::size_t>(number, STR_INDICES_LINES));
-    const bool is_type = number == STR_INDICES_LINE_TYPE_LF || number == STR_INDICES_LINE_TYPE_LF_CR;
-    const line_type type = is_type ? static_cast<line_type>(number) : line_type::all;
-    const bool is_encoding = number == STR_INDICES_ENCODING_UTF16 || number == STR_INDICES_ENCODING_UTF8;
-    const encoding units = is_encoding ? static_cast<encoding>(number) : encoding::utf32;
-    const position there = draw.place(model, units, line_type::lf_cr);
-    const std::size_t line = draw.below(model.count(scheme::lines) + 3);
-    const auto in_c = static_cast<str_indices_encoding>(number);
-    const str_indices_position found = position_of(text, in_c, at);
-    const str_indices_bytes content = line_by(text, static_cast<str_indices_line_type>(number), line);
-    same(from_byte_idx(text, static_cast<str_indices_scheme>(number), at) == model.from_byte_idx(what, at), "a scheme");
-    same(position{found.line, found.character} == model.position_of(units, at, line_type::lf_cr), "position_of in C");
-    same(byte_of(text, in_c, {there.line, there.character}) == model.byte_of(units, there, line_type::lf_cr),
-         "byte_of in C");
-    same(bytes{content.start, content.end} == model.line(line, type), "line_by");
-    same(line_end(text, line) == model.line(line, line_type::lf_cr).end, "line_end");
-}
-
-//
 // Questions.
 //
 
@@ -233,24 +163,53 @@ template <class Text> void ask_indices(const Text &text, const plain::text &mode
         same(text.from_byte_idx(what, at) == model.from_byte_idx(what, at), "from_byte_idx");
         same(text.to_byte_idx(what, number) == model.to_byte_idx(what, number), "to_byte_idx");
     }
+    const std::size_t number = draw.below(8);
+    const auto what = static_cast<scheme>(std::min<std::size_t>(number, STR_INDICES_LINES));
+    same(text.from_byte_idx(static_cast<scheme>(number), at) == model.from_byte_idx(what, at),
+         "a scheme by its number");
     same(text.is_char_boundary(at) == model.is_char_boundary(at), "is_char_boundary");
 }
 
+// What ends a line, and the unit of an offset.
+struct terms {
+    line_type type;
+    encoding units;
+};
+
+// Asks about lines and positions in the terms given, which are meant as others where a number is past those of an enum.
+template <class Text>
+void ask_in_terms(const Text &text, const plain::text &model, numbers &draw, terms given, terms meant)
+{
+    const auto [type, units] = meant;
+    const std::size_t at = draw.once_in(20) ? most : draw.below(model.size() + 4);
+    const std::size_t line = draw.once_in(20) ? most : draw.below(model.count(static_cast<scheme>(type)) + 3);
+    const bytes span = {at, draw.below(model.size() + 4)};
+    const position there = draw.place(model, type, units);
+    const range part = {there, draw.place(model, type, units)};
+    same(text.line(given.type, line) == model.line(type, line), "line");
+    same(text.line_end(given.type, line) == model.line_end(type, line), "line_end");
+    same(text.position_of(given.type, given.units, at) == model.position_of(type, units, at), "position_of");
+    same(text.exact_position_of(given.type, given.units, at) == model.exact_position_of(type, units, at),
+         "exact_position_of");
+    same(text.range_of(given.type, given.units, span) == model.range_of(type, units, span), "range_of");
+    same(text.byte_of(given.type, given.units, there) == model.byte_of(type, units, there), "byte_of");
+    same(text.exact_byte_of(given.type, given.units, there) == model.exact_byte_of(type, units, there),
+         "exact_byte_of");
+    same(text.byte_range(given.type, given.units, part) == model.byte_range(type, units, part), "byte_range");
+}
+
+// Asks by each kind of line, and by any numbers, as a caller in C may hand them over.
 template <class Text> void ask_positions(const Text &text, const plain::text &model, numbers &draw)
 {
-    const std::size_t at = draw.once_in(20) ? most : draw.below(model.size() + 4);
     const encoding units = draw.one_of(encodings);
-    for (line_type type : types) {
-        const bytes part = {at, draw.below(model.size() + 4)};
-        const position there = draw.place(model, units, type);
-        same(text.position_of(units, at, type) == model.position_of(units, at, type), "position_of");
-        same(text.exact_position_of(units, at, type) == model.exact_position_of(units, at, type), "exact_position_of");
-        same(text.range_of(units, part, type) == model.range_of(units, part, type), "range_of");
-        same(text.byte_of(units, there, type) == model.byte_of(units, there, type), "byte_of");
-    }
-    const range part = {draw.place(model, units, line_type::lf_cr), draw.place(model, units, line_type::lf_cr)};
-    same(text.exact_byte_of(units, part.start) == model.exact_byte_of(units, part.start), "exact_byte_of");
-    same(text.byte_range(units, part) == model.byte_range(units, part), "byte_range");
+    for (line_type type : types)
+        ask_in_terms(text, model, draw, {type, units}, {type, units});
+    const std::size_t number = draw.below(8), other = draw.below(8);
+    const bool is_type = number == STR_INDICES_LINE_TYPE_LF || number == STR_INDICES_LINE_TYPE_CRLF;
+    const bool is_encoding = other == STR_INDICES_ENCODING_UTF16 || other == STR_INDICES_ENCODING_UTF8;
+    const terms given = {static_cast<line_type>(number), static_cast<encoding>(other)};
+    ask_in_terms(text, model, draw, given,
+                 {is_type ? given.type : line_type::lines, is_encoding ? given.units : encoding::utf32});
 }
 
 // Goes over lines from one of them on, to and fro.
@@ -267,7 +226,7 @@ template <class Text> void walk_lines(const Text &text, const plain::text &model
         else if (number > 0)
             number--, draw.once_in(2) ? --line : line--;
         same(line.number() == number && (line == lines.end()) == (number == size), "a step over lines");
-        same(*line == model.line(number, type) && lines[number] == *line, "a line");
+        same(*line == model.line(type, number) && lines[number] == *line, "a line");
     }
     same(lines.size() == size && (lines.begin() == lines.from(0)) && lines.from(size + 2) == lines.end(), "lines");
 }
@@ -278,7 +237,6 @@ template <class Text> void ask(const Text &text, const plain::text &model, numbe
     for (std::size_t turns = 0; turns < 4; turns++) {
         ask_indices(text, model, draw);
         ask_positions(text, model, draw);
-        ask_in_c(text, model, draw);
     }
     walk_lines(text, model, draw);
 }
@@ -298,10 +256,36 @@ void ask_indexes(const std::string &plain, const plain::text &model, numbers &dr
     if (!same(str_index_make_in(&index, room.data(), size, plain.data(), plain.size()) == STR_INDEX_OK, "make_in"))
         return;
     const std::size_t at = draw.below(plain.size() + 4);
-    const str_indices_bytes line = str_index_line(index, at);
-    same(bytes{line.start, line.end} == model.line(at, line_type::lf_cr), "line of an index");
+    const str_indices_bytes line = str_index_line(index, STR_INDICES_LINE_TYPE_CRLF, at);
+    same(bytes{line.start, line.end} == model.line(line_type::crlf, at), "line of an index");
     same(str_index_len(index) == plain.size(), "len of an index");
 }
+
+// A function of C that is handed a text, by a view of it.
+template <auto function>
+constexpr auto of_view =
+    [](const std::string_view *text, auto... asked) { return function(text->data(), text->size(), asked...); };
+
+struct view_calls {
+    static constexpr auto line = of_view<str_indices_line>;
+    static constexpr auto line_end = of_view<str_indices_line_end>;
+    static constexpr auto position_of = of_view<str_indices_position_of>;
+    static constexpr auto exact_position_of = of_view<str_indices_exact_position_of>;
+    static constexpr auto range_of = of_view<str_indices_range_of>;
+    static constexpr auto byte_of = of_view<str_indices_byte_of>;
+    static constexpr auto exact_byte_of = of_view<str_indices_exact_byte_of>;
+    static constexpr auto byte_range = of_view<str_indices_byte_range>;
+};
+
+// A plain text with those of the classes' questions that str_indices_positions.h has.
+class text_view : public pauskern::detail::questions<text_view, view_calls> {
+public:
+    explicit text_view(std::string_view text) : text_(text) {}
+    const std::string_view *get() const { return &text_; }
+
+private:
+    std::string_view text_;
+};
 
 //
 // A text, and the plain string that it should be.
@@ -500,6 +484,7 @@ private:
     {
         const plain::text model(one.plain);
         ask(one.text, model, draw_);
+        ask_positions(text_view(one.plain), model, draw_);
         walk_chunks(one.text, one.plain, draw_);
         read_chunks(one.text, one.plain, draw_);
         read_part(one, draw_);
@@ -585,13 +570,14 @@ private:
     sent send(std::string_view plain, encoding units, bool is_exact)
     {
         const plain::text model(plain);
-        range part = {draw_.place(model, units, line_type::lf_cr), draw_.place(model, units, line_type::lf_cr)};
+        range part = {draw_.place(model, line_type::crlf, units), draw_.place(model, line_type::crlf, units)};
         if (part.end < part.start && draw_.below(8) != 0)
             std::swap(part.start, part.end);
-        const bytes meant = model.byte_range(units, part).value_or(bytes{1, 0});
+        const bytes meant = model.byte_range(line_type::crlf, units, part).value_or(bytes{1, 0});
         str_rope_status right = wanted(plain, meant);
         if (right == STR_ROPE_OK && is_exact &&
-            !(model.exact_byte_of(units, part.start) && model.exact_byte_of(units, part.end)))
+            !(model.exact_byte_of(line_type::crlf, units, part.start) &&
+              model.exact_byte_of(line_type::crlf, units, part.end)))
             right = STR_ROPE_NOT_BOUNDARY;
         return {part, meant, right};
     }

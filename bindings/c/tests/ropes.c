@@ -9,8 +9,6 @@
 
 #include <str_rope.h>
 
-#include "worked_rows.h"
-
 enum { ROOM = 8 * STR_ROPE_MAX_CHUNK };
 
 static int passed, failed;
@@ -24,6 +22,10 @@ static void same(int right, const char *call, size_t first, size_t second)
     failed++;
     printf("%s of %zu, %zu\n", call, first, second);
 }
+
+#define TEXT const str_rope *rope
+#define ASK(name, ...) str_rope_##name(rope, __VA_ARGS__)
+#include "worked_positions.h"
 
 static void has(str_rope *rope, const char *text, size_t len, const char *call)
 {
@@ -43,11 +45,6 @@ static str_rope with(const char *text, size_t len)
 }
 
 #define WITH(text) with(text, sizeof text - 1)
-
-static int are_same(str_indices_position one, str_indices_position other)
-{
-    return one.line == other.line && one.character == other.character;
-}
 
 static void counts(void)
 {
@@ -100,18 +97,20 @@ static void ask_the_empty_text(str_rope *rope)
                  str_rope_to_byte_idx(rope, scheme, 9) == 0,
              "no text, by scheme", i, 0);
     }
-    for (size_t i = 0; i < ENCODINGS; i++) {
-        str_indices_encoding encoding = encodings[i];
-        str_indices_position end = str_rope_position_of(rope, encoding, 9);
-        same(end.line == 0 && end.character == 0 && str_rope_byte_of(rope, encoding, behind) == 0 &&
-                 str_rope_exact_byte_of(rope, encoding, begin) == 0 &&
-                 str_rope_exact_byte_of(rope, encoding, behind) == NONE,
-             "no text, by encoding", i, 0);
-        str_indices_bytes bytes = str_rope_line_by(rope, line_types[i], 9);
-        end = str_rope_exact_position_by(rope, line_types[i], encoding, 1);
-        same(bytes.start == 0 && bytes.end == 0 && end.line == NONE && end.character == NONE, "no text, by line", i, 0);
+    for (size_t i = 0; i < ENCODINGS * KINDS; i++) {
+        str_indices_line_type type = line_types[i / ENCODINGS];
+        str_indices_encoding encoding = encodings[i % ENCODINGS];
+        str_indices_position end = str_rope_position_of(rope, type, encoding, 9);
+        str_indices_bytes bytes = str_rope_line(rope, type, 9);
+        same(end.line == 0 && end.character == 0 && str_rope_byte_of(rope, type, encoding, behind) == 0 &&
+                 str_rope_exact_byte_of(rope, type, encoding, begin) == 0 &&
+                 str_rope_exact_byte_of(rope, type, encoding, behind) == NONE,
+             "no text, positions", i, 0);
+        end = str_rope_exact_position_of(rope, type, encoding, 1);
+        same(end.line == NONE && end.character == NONE, "no text, exact_position_of", i, 0);
+        same(bytes.start == 0 && bytes.end == 0 && str_rope_line_end(rope, type, 9) == 0, "no text, lines", i, 0);
     }
-    same(str_rope_len(rope) == 0 && str_rope_line_end(rope, 9) == 0, "no text, len and line_end", 0, 0);
+    same(str_rope_len(rope) == 0, "no text, len", 0, 0);
     same(str_rope_is_char_boundary(rope, 0) && !str_rope_is_char_boundary(rope, 1), "no text, is_char_boundary", 0, 0);
 }
 
@@ -274,7 +273,7 @@ static void a_break_over_two_chunks(void)
     same(str_rope_from_byte_idx(&rope, STR_INDICES_CRLF, HALF) == 0, "from_byte_idx", HALF, 0);
     same(str_rope_from_byte_idx(&rope, STR_INDICES_CRLF, HALF + 1) == 1, "from_byte_idx", HALF + 1, 1);
     same(str_rope_to_byte_idx(&rope, STR_INDICES_CRLF, 1) == HALF + 1, "to_byte_idx", 1, HALF + 1);
-    same(str_rope_line_end(&rope, 0) == HALF - 1, "line_end", 0, HALF - 1);
+    same(str_rope_line_end(&rope, STR_INDICES_LINE_TYPE_CRLF, 0) == HALF - 1, "line_end", 0, HALF - 1);
     same(str_rope_insert(&rope, HALF, "x", 1) == STR_ROPE_OK && str_rope_count(&rope, STR_INDICES_CRLF) == 2, "insert",
          1, 2);
     same(str_rope_remove(&rope, HALF, HALF + 1) == STR_ROPE_OK && str_rope_count(&rope, STR_INDICES_CRLF) == 1,
@@ -286,98 +285,35 @@ static void a_break_over_two_chunks(void)
 }
 
 /*
- * Positions; by encoding, in the order of `encodings`.
+ * Lines and positions.
  */
 
-static void positions_of_bytes(void)
+static void positions(void)
 {
     str_rope rope = WITH(lines);
-    for (size_t i = 0; i < NUMBER_OF(position_rows); i++)
-        for (size_t encoding = 0; encoding <= ENCODINGS; encoding++) {
-            str_indices_position here = str_rope_position_of(&rope, encodings[encoding], position_rows[i].byte);
-            same(here.line == position_rows[i].line && here.character == position_rows[i].character[encoding],
-                 "position_of", encoding, position_rows[i].byte);
-        }
-    str_rope_free(&rope);
-}
-
-static void bytes_of_positions(void)
-{
-    str_rope rope = WITH(lines);
-    for (size_t i = 0; i < NUMBER_OF(byte_rows); i++)
-        for (size_t number = 0; number <= ENCODINGS; number++) {
-            str_indices_encoding encoding = encodings[number];
-            str_indices_position position = byte_rows[i].position;
-            same(str_rope_byte_of(&rope, encoding, position) == byte_rows[i].byte[number], "byte_of", number, i);
-            same(str_rope_exact_byte_of(&rope, encoding, position) == byte_rows[i].exact[number], "exact_byte_of",
-                 number, i);
-        }
-    str_rope_free(&rope);
-}
-
-static void ranges_and_lines(void)
-{
-    str_rope rope = WITH(lines);
-    for (size_t i = 0; i < NUMBER_OF(range_rows); i++)
-        for (size_t encoding = 0; encoding <= ENCODINGS; encoding++) {
-            str_indices_bytes bytes = str_rope_byte_range(&rope, encodings[encoding], range_rows[i].range);
-            str_indices_bytes wanted = range_rows[i].bytes[encoding];
-            same(bytes.start == wanted.start && bytes.end == wanted.end, "byte_range", encoding, i);
-        }
-    for (size_t line = 0; line < NUMBER_OF(line_ends); line++)
-        same(str_rope_line_end(&rope, line) == line_ends[line], "line_end", line, line_ends[line]);
-    same(str_rope_line_end(&rope, MOST) == 15, "line_end", MOST, 15);
+    ask_for_positions(&rope);
     str_rope_free(&rope);
 }
 
 /* Each line begins where the search by its scheme says. */
-static void lines_in_order(const str_rope *rope, str_indices_scheme scheme, const str_indices_bytes *lines)
+static void lines_in_order(const str_rope *rope, size_t kind, str_indices_scheme scheme)
 {
     size_t line = 0, start = 0;
     while (start < str_rope_len(rope)) {
-        same(start == lines[line].start, "lines in order", scheme, line);
+        same(start == line_rows_by_kind[line][kind].start, "lines in order", scheme, line);
         start = str_rope_to_byte_idx(rope, scheme, ++line);
     }
-    same(start == lines[line].end, "the end of the last line", scheme, line);
+    same(start == line_rows_by_kind[line][kind].end, "the end of the last line", scheme, line);
 }
 
-/* By what ends a line, in the order of `line_types`, of a text with a break of each kind. */
 static void lines_by_kind(void)
 {
-    static const char text[] = "a\342\200\250b\fc\rd\r\ne\nf";
-    static const struct {
-        str_indices_bytes lines[7];
-        str_indices_position at_form_feed, at_line_feed, exact;
-        size_t byte;
-    } rows[] = {
-        {{{0, 7}, {8, 9}, {11, 12}, {13, 14}, {14, 14}, {14, 14}, {14, 14}}, {0, 3}, {1, 1}, {NONE, NONE}, 9},
-        {{{0, 10}, {11, 12}, {13, 14}, {14, 14}, {14, 14}, {14, 14}, {14, 14}}, {0, 3}, {0, 8}, {0, 8}, 12},
-        {{{0, 1}, {4, 5}, {6, 7}, {8, 9}, {11, 12}, {13, 14}, {14, 14}}, {1, 1}, {3, 1}, {NONE, NONE}, 5},
-    };
-    static const str_indices_scheme schemes[] = {STR_INDICES_CRLF, STR_INDICES_LF, STR_INDICES_LINES};
-    str_rope rope = WITH(text);
-    for (size_t kind = 0; kind <= NUMBER_OF(rows); kind++) {
-        str_indices_line_type lines = line_types[kind];
-        size_t row = kind < NUMBER_OF(rows) ? kind : NUMBER_OF(rows) - 1;
-        str_indices_position far_right = {1, 9};
-        str_indices_bytes span = {5, 10};
-        str_indices_range range = str_rope_range_by(&rope, lines, STR_INDICES_ENCODING_UTF16, span);
-        for (size_t line = 0; line < NUMBER_OF(rows[row].lines); line++) {
-            str_indices_bytes bytes = str_rope_line_by(&rope, lines, line), wanted = rows[row].lines[line];
-            same(bytes.start == wanted.start && bytes.end == wanted.end, "line_by", kind, line);
-        }
-        lines_in_order(&rope, schemes[row], rows[row].lines);
-        same(are_same(str_rope_position_by(&rope, lines, STR_INDICES_ENCODING_UTF16, 5), rows[row].at_form_feed),
-             "position_by", kind, 5);
-        same(are_same(str_rope_position_by(&rope, lines, STR_INDICES_ENCODING_UTF16, 10), rows[row].at_line_feed),
-             "position_by", kind, 10);
-        same(are_same(str_rope_exact_position_by(&rope, lines, STR_INDICES_ENCODING_UTF16, 10), rows[row].exact),
-             "exact_position_by", kind, 10);
-        same(are_same(range.start, rows[row].at_form_feed) && are_same(range.end, rows[row].at_line_feed), "range_by",
-             kind, 10);
-        same(str_rope_byte_by(&rope, lines, STR_INDICES_ENCODING_UTF16, far_right) == rows[row].byte, "byte_by", kind,
-             9);
-    }
+    static const str_indices_scheme schemes[KINDS + 1] = {STR_INDICES_CRLF, STR_INDICES_LF, STR_INDICES_LINES,
+                                                          STR_INDICES_LINES};
+    str_rope rope = WITH(kinds);
+    ask_by_kind(&rope);
+    for (size_t kind = 0; kind <= KINDS; kind++)
+        lines_in_order(&rope, kind, schemes[kind]);
     str_rope_free(&rope);
 }
 
@@ -653,9 +589,7 @@ int main(void)
     refusals_of_changes();
     reading();
     a_break_over_two_chunks();
-    positions_of_bytes();
-    bytes_of_positions();
-    ranges_and_lines();
+    positions();
     lines_by_kind();
     changes_by_positions();
     exact_changes();

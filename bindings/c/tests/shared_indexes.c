@@ -45,18 +45,20 @@ static void ask(struct found *found, const str_index *index, size_t at)
     size_t start = at * LINE;
     str_indices_position frog = {at, FROG}, after = {at, FROG + 2}, there;
     str_indices_range range = {frog, after};
-    str_indices_bytes bytes = str_index_line(index, at);
+    str_indices_bytes bytes = str_index_line(index, STR_INDICES_LINE_TYPE_CRLF, at);
     same(found, bytes.start == start && bytes.end == start + CONTENT);
-    same(found, str_index_line_end(index, at) == start + CONTENT);
+    same(found, str_index_line_end(index, STR_INDICES_LINE_TYPE_CRLF, at) == start + CONTENT);
     same(found, str_index_to_byte_idx(index, STR_INDICES_CRLF, at) == start);
     same(found, str_index_to_byte_idx(index, STR_INDICES_CHARS, CHARS * at) == start);
     same(found, str_index_from_byte_idx(index, STR_INDICES_UTF16, start + AFTER_FROG) == UNITS * at + FROG + 2);
     same(found, str_index_from_byte_idx(index, STR_INDICES_LINES, start + LINE - 1) == at);
-    there = str_index_position_of(index, STR_INDICES_ENCODING_UTF16, start + AFTER_FROG);
+    there = str_index_position_of(index, STR_INDICES_LINE_TYPE_CRLF, STR_INDICES_ENCODING_UTF16, start + AFTER_FROG);
     same(found, there.line == at && there.character == FROG + 2);
-    same(found, str_index_byte_of(index, STR_INDICES_ENCODING_UTF16, after) == start + AFTER_FROG);
-    same(found, str_index_exact_byte_of(index, STR_INDICES_ENCODING_UTF32, frog) == start + FROG);
-    bytes = str_index_byte_range(index, STR_INDICES_ENCODING_UTF16, range);
+    same(found,
+         str_index_byte_of(index, STR_INDICES_LINE_TYPE_CRLF, STR_INDICES_ENCODING_UTF16, after) == start + AFTER_FROG);
+    same(found,
+         str_index_exact_byte_of(index, STR_INDICES_LINE_TYPE_CRLF, STR_INDICES_ENCODING_UTF32, frog) == start + FROG);
+    bytes = str_index_byte_range(index, STR_INDICES_LINE_TYPE_CRLF, STR_INDICES_ENCODING_UTF16, range);
     same(found, bytes.start == start + FROG && bytes.end == start + AFTER_FROG);
     same(found, str_index_is_char_boundary(index, start + FROG) && !str_index_is_char_boundary(index, start + 14));
     same(found, str_index_count(index, STR_INDICES_CRLF) == LINES && str_index_len(index) == len);

@@ -90,16 +90,18 @@ static void ask(struct found *found, const str_rope *rope, size_t at)
     size_t start = at * LINE;
     str_rope_chunk chunk, chunks[2];
     str_indices_position frog = {at, FROG}, after = {at, FROG + 2}, there;
-    str_indices_bytes bytes = str_rope_line_by(rope, STR_INDICES_LINE_TYPE_LF_CR, at);
+    str_indices_bytes bytes = str_rope_line(rope, STR_INDICES_LINE_TYPE_CRLF, at);
     same(found, bytes.start == start && bytes.end == start + CONTENT);
-    same(found, str_rope_line_end(rope, at) == start + CONTENT);
+    same(found, str_rope_line_end(rope, STR_INDICES_LINE_TYPE_CRLF, at) == start + CONTENT);
     same(found, str_rope_to_byte_idx(rope, STR_INDICES_CRLF, at) == start);
     same(found, str_rope_to_byte_idx(rope, STR_INDICES_CHARS, CHARS * at) == start);
     same(found, str_rope_from_byte_idx(rope, STR_INDICES_UTF16, start + AFTER_FROG) == UNITS * at + FROG + 2);
-    there = str_rope_position_of(rope, STR_INDICES_ENCODING_UTF16, start + AFTER_FROG);
+    there = str_rope_position_of(rope, STR_INDICES_LINE_TYPE_CRLF, STR_INDICES_ENCODING_UTF16, start + AFTER_FROG);
     same(found, there.line == at && there.character == FROG + 2);
-    same(found, str_rope_byte_of(rope, STR_INDICES_ENCODING_UTF16, after) == start + AFTER_FROG);
-    same(found, str_rope_exact_byte_of(rope, STR_INDICES_ENCODING_UTF32, frog) == start + FROG);
+    same(found,
+         str_rope_byte_of(rope, STR_INDICES_LINE_TYPE_CRLF, STR_INDICES_ENCODING_UTF16, after) == start + AFTER_FROG);
+    same(found,
+         str_rope_exact_byte_of(rope, STR_INDICES_LINE_TYPE_CRLF, STR_INDICES_ENCODING_UTF32, frog) == start + FROG);
     same(found, str_rope_is_char_boundary(rope, start + FROG) && !str_rope_is_char_boundary(rope, start + 14));
     same(found, str_rope_count(rope, STR_INDICES_CRLF) == LINES && str_rope_len(rope) == sizeof text);
     same(found, str_rope_read(rope, start, copy, LINE) == LINE && memcmp(copy, line, LINE) == 0);

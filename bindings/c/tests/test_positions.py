@@ -1,10 +1,10 @@
 #!/usr/bin/env python3
 """Compares the positions of the library with a model of the Language Server Protocol, over random texts.
 
-position_model.py is the model. The texts come from a fixed seed and are of the characters that matter; each is asked in
-each encoding at every byte index and at every position, past the end of each line and of the text too, and for ranges
-between such positions. The static library is linked as a shared object, in a temporary folder. The last line printed is
-'N passed, M failed'.
+position_model.py is the model, whose lines end as in the protocol; random_ropes.cpp asks about the other kinds. The texts come
+from a fixed seed and are of the characters that matter; each is asked in each encoding at every byte index and at every
+position, past the end of each line and of the text too, and for ranges and spans between such. The static library is linked as
+a shared object, in a temporary folder. The last line printed is 'N passed, M failed'.
 """
 import ctypes
 import pathlib
@@ -24,8 +24,9 @@ RANGES = 12
 # what C is answered where there is no byte
 NONE = GREATEST
 
-# how the names of an encoding's functions begin
-PREFIXES = {8: "str_indices_utf8_", 16: "str_indices_", 32: "str_indices_utf32_"}
+# the numbers of the header: the protocol's kind of line, and of each encoding
+CRLF = 3
+NUMBERS = {8: 5, 16: 1, 32: 0}
 
 tally = Tally()
 
@@ -42,9 +43,13 @@ class Bytes(ctypes.Structure):
     _fields_ = [("start", ctypes.c_size_t), ("end", ctypes.c_size_t)]
 
 
-def functions(library, encoding):
-    names = ("position_of", "byte_of", "exact_byte_of", "byte_range")
-    return [getattr(library, PREFIXES[encoding] + name) for name in names]
+# each question: the type of what is asked, and that of the answer
+QUESTIONS = {
+    "position_of": (ctypes.c_size_t, Position), "exact_position_of": (ctypes.c_size_t, Position),
+    "range_of": (Bytes, Range), "byte_of": (Position, ctypes.c_size_t), "exact_byte_of": (Position, ctypes.c_size_t),
+    "byte_range": (Range, Bytes),
+}
+QUESTIONS_OF_LINES = {"line": Bytes, "line_end": ctypes.c_size_t}
 
 
 def link(library, folder):
@@ -56,16 +61,21 @@ def link(library, folder):
         print(done.stderr)
         return None
     loaded = ctypes.CDLL(str(shared))
-    text = [ctypes.c_char_p, ctypes.c_size_t]
-    for encoding in ENCODINGS:
-        position_of, byte_of, exact_byte_of, range_of = functions(loaded, encoding)
-        position_of.argtypes, position_of.restype = [*text, ctypes.c_size_t], Position
-        byte_of.argtypes, byte_of.restype = [*text, Position], ctypes.c_size_t
-        exact_byte_of.argtypes, exact_byte_of.restype = [*text, Position], ctypes.c_size_t
-        range_of.argtypes, range_of.restype = [*text, Range], Bytes
-    loaded.str_indices_line_end.argtypes = [*text, ctypes.c_size_t]
-    loaded.str_indices_line_end.restype = ctypes.c_size_t
+    text = [ctypes.c_char_p, ctypes.c_size_t, ctypes.c_int]
+    for name, (given, answered) in QUESTIONS.items():
+        function = getattr(loaded, f"str_indices_{name}")
+        function.argtypes, function.restype = [*text, ctypes.c_int, given], answered
+    for name, answered in QUESTIONS_OF_LINES.items():
+        function = getattr(loaded, f"str_indices_{name}")
+        function.argtypes, function.restype = [*text, ctypes.c_size_t], answered
     return loaded
+
+
+def plain(answer):
+    """An answer of C as numbers and pairs of them."""
+    if not isinstance(answer, ctypes.Structure):
+        return answer
+    return tuple(plain(getattr(answer, name)) for name, _ in answer._fields_)
 
 
 class Asked:
@@ -77,24 +87,27 @@ class Asked:
         self.wrong = []
         self.calls = 0
 
-    def compare(self, call, answer, expected):
+    def compare(self, name, given, expected, encoding=None):
+        """Asks a question, of an encoding where the question has one, and compares the answer."""
         self.calls += 1
+        numbers = [CRLF] if encoding is None else [CRLF, NUMBERS[encoding]]
+        function = getattr(self.library, f"str_indices_{name}")
+        answer = plain(function(self.model.data, len(self.model.data), *numbers, given))
         if answer != expected:
-            self.wrong.append(f"{call} of {self.model.data!r}: {answer}, not {expected}")
+            self.wrong.append(f"{encoding}: {name} {plain(given)} of {self.model.data!r}: {answer}, not {expected}")
 
-    def text(self):
-        return self.model.data, len(self.model.data)
-
-    def ends(self):
+    def lines(self):
         for index in [*range(len(self.model.lines) + 1), GREATEST]:
-            self.compare(f"line_end {index}", self.library.str_indices_line_end(*self.text(), index), self.model.end(index))
+            end = self.model.end(index)
+            self.compare("line", index, (self.model.line(index)[0], end))
+            self.compare("line_end", index, end)
 
     def places(self, encoding):
-        position_of, *_ = functions(self.library, encoding)
         for byte in [*range(len(self.model.data) + 2), GREATEST]:
-            answer = position_of(*self.text(), byte)
-            expected = self.model.position(byte, encoding)
-            self.compare(f"{encoding}: position_of {byte}", (answer.line, answer.character), expected)
+            position = self.model.position(byte, encoding)
+            is_place = self.model.exact_byte(position, encoding) == byte
+            self.compare("position_of", byte, position, encoding)
+            self.compare("exact_position_of", byte, position if is_place else (NONE, NONE), encoding)
 
     def positions(self, encoding):
         """The positions of each line, up to three past its end, and past the last line."""
@@ -104,21 +117,18 @@ class Asked:
                 yield index, character
 
     def bytes(self, encoding):
-        _, byte_of, exact_byte_of, _ = functions(self.library, encoding)
         for position in self.positions(encoding):
-            answer = byte_of(*self.text(), Position(*position))
-            self.compare(f"{encoding}: byte_of {position}", answer, self.model.byte(position, encoding))
-            answer = exact_byte_of(*self.text(), Position(*position))
             exact = self.model.exact_byte(position, encoding)
-            self.compare(f"{encoding}: exact_byte_of {position}", answer, NONE if exact is None else exact)
+            self.compare("byte_of", Position(*position), self.model.byte(position, encoding), encoding)
+            self.compare("exact_byte_of", Position(*position), NONE if exact is None else exact, encoding)
 
     def ranges(self, encoding, source):
-        *_, range_of = functions(self.library, encoding)
         positions = list(self.positions(encoding))
         for start, end in (source.choices(positions, k=2) for _ in range(RANGES)):
-            answer = range_of(*self.text(), Range(Position(*start), Position(*end)))
             expected = self.model.byte_range(start, end, encoding) or (NONE, NONE)
-            self.compare(f"{encoding}: byte_range {start} to {end}", (answer.start, answer.end), expected)
+            self.compare("byte_range", Range(Position(*start), Position(*end)), expected, encoding)
+        for span in (source.choices(range(len(self.model.data) + 2), k=2) for _ in range(RANGES)):
+            self.compare("range_of", Bytes(*span), tuple(self.model.position(byte, encoding) for byte in span), encoding)
 
 
 def compare(library):
@@ -127,7 +137,7 @@ def compare(library):
     calls = 0
     for _ in range(TEXTS):
         asked = Asked(library, "".join(source.choices(CHARACTERS, k=source.randint(0, MOST_CHARACTERS))))
-        asked.ends()
+        asked.lines()
         for encoding in ENCODINGS:
             asked.places(encoding)
             asked.bytes(encoding)
