@@ -4,7 +4,7 @@ use crate::options::Scale;
 use crate::table::Table;
 use crate::timing::{Best, Input, Work};
 use original::Function;
-use str_indices_positions::position_of;
+use str_indices_positions::{position_of, Encoding, LineType};
 
 /// A line, with its break.
 const LINE: &str = "    let position = position_of(text, 7)\n";
@@ -48,7 +48,7 @@ fn row(text: &str, scale: &Scale, rounds: usize) -> Vec<String> {
 
 /// The position as one number, so that both functions are called in the same way.
 fn position(text: &str, byte: usize) -> usize {
-    let position = position_of(text, byte);
+    let position = position_of(text, LineType::Crlf, Encoding::Utf16, byte);
     position.line ^ position.character
 }
 

@@ -7,7 +7,7 @@ use std::{env, fs, ops};
 use str_indices_index::{Encoding, LineType, NoMemory, OwnedIndex};
 
 /// A line ends in LF, CR or CR LF, as in most editors.
-const LINES: LineType = LineType::LfCr;
+const LINES: LineType = LineType::Crlf;
 
 /// The program checks this text if no file is given.
 const EXAMPLE: &str = "fn main() {\n\tlet é = [\"🐸\", (\"世界\"];  \r\n}}\n";
@@ -53,7 +53,7 @@ impl Source {
     fn check_ends(&self) -> Vec<Diagnostic> {
         let lines = 0..self.index.len_lines(LINES);
         let spans = lines.map(|line| {
-            let content = self.index.line_content(line, LINES);
+            let content = self.index.line_content(LINES, line);
             let text = self.index.text()[content.clone()].trim_end();
             content.start + text.len()..content.end
         });
@@ -66,8 +66,8 @@ impl Source {
     /// A diagnostic as people read it: line and column from 1, and the column in chars.
     fn report(&self, diagnostic: &Diagnostic) -> String {
         let (index, span) = (&self.index, &diagnostic.span);
-        let start = index.position_by(LINES, Encoding::Utf32, span.start);
-        let content = index.line_content(start.line, LINES);
+        let start = index.position_of(LINES, Encoding::Utf32, span.start);
+        let content = index.line_content(LINES, start.line);
         // The carets stand below the first line of the span alone.
         let [from, to] = [span.start, span.end].map(|byte| byte.clamp(content.start, content.end));
         let [before, below] = [content.start..from, from..to].map(|part| columns(&index.text()[part]));

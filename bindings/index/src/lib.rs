@@ -24,14 +24,14 @@
 //! # fn main() -> Result<(), NoMemory> {
 //! let text = "let x = 1;\r\n🐸.push(\"世界\");\r\n";
 //! let index = TextIndex::new(text)?;
-//! assert_eq!(index.len_lines(LineType::LfCr), 3);
+//! assert_eq!(index.len_lines(LineType::Crlf), 3);
 //!
 //! let byte = text.find("世").unwrap();
-//! let position = index.position_of(Encoding::Utf16, byte);
+//! let position = index.position_of(LineType::Crlf, Encoding::Utf16, byte);
 //! assert_eq!(position, Position { line: 1, character: 9 });
-//! assert_eq!(index.byte_of(Encoding::Utf16, position), byte);
-//! assert_eq!(index.line(position.line, LineType::LfCr), Some("🐸.push(\"世界\");\r\n"));
-//! assert_eq!(&text[index.line_content(position.line, LineType::LfCr)], "🐸.push(\"世界\");");
+//! assert_eq!(index.byte_of(LineType::Crlf, Encoding::Utf16, position), byte);
+//! assert_eq!(index.line(position.line, LineType::Crlf), Some("🐸.push(\"世界\");\r\n"));
+//! assert_eq!(&text[index.line_content(LineType::Crlf, position.line)], "🐸.push(\"世界\");");
 //! # Ok(())
 //! # }
 //! ```
@@ -40,11 +40,10 @@
 extern crate alloc;
 
 mod index;
-mod indices;
 mod library;
 mod lines;
+mod methods;
 mod owned;
-mod positions;
 
 pub use index::{NoMemory, TextIndex};
 pub use lines::Lines;

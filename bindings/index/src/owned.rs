@@ -1,7 +1,6 @@
 //! An index that has its text.
-use crate::indices::index_methods;
-use crate::lines::line_methods;
-use crate::positions::position_methods;
+use crate::library::Opaque;
+use crate::methods::{index_methods, index_questions, line_methods};
 use crate::{NoMemory, TextIndex};
 use alloc::sync::Arc;
 use core::fmt;
@@ -15,8 +14,8 @@ use core::fmt;
 /// # fn main() -> Result<(), NoMemory> {
 /// let index = OwnedIndex::new("one\ntwo")?;
 /// let shared = index.clone();
-/// std::thread::spawn(move || assert_eq!(shared.len_lines(LineType::LfCr), 2)).join().unwrap();
-/// assert_eq!(index.line(1, LineType::LfCr), Some("two"));
+/// std::thread::spawn(move || assert_eq!(shared.len_lines(LineType::Crlf), 2)).join().unwrap();
+/// assert_eq!(index.line(1, LineType::Crlf), Some("two"));
 /// # Ok(())
 /// # }
 /// ```
@@ -29,7 +28,7 @@ use core::fmt;
 /// let line;
 /// {
 ///     let index = OwnedIndex::new("one\ntwo")?;
-///     line = index.line(1, LineType::LfCr);
+///     line = index.line(1, LineType::Crlf);
 /// }
 /// assert_eq!(line, Some("two"));
 /// # Ok(())
@@ -92,25 +91,30 @@ impl OwnedIndex {
         &self.text
     }
 
+    /// The index for a question.
+    fn handle(&self) -> *const Opaque {
+        self.index.handle()
+    }
+
     /// The index alone, for methods that it has too.
     fn whole(&self) -> &TextIndex<'_> {
         &self.index
     }
 }
 
-/// Counts and conversions.
+/// Questions, as a [`TextIndex`] has them.
+impl OwnedIndex {
+    index_questions!();
+}
+
+/// Counts, conversions and char boundaries, by ropey's names.
 impl OwnedIndex {
     index_methods!();
 }
 
-/// Lines by a [`LineType`](crate::LineType).
+/// Lines by a `LineType`.
 impl OwnedIndex {
     line_methods!('_);
-}
-
-/// Positions of the Language Server Protocol, and by a [`LineType`](crate::LineType).
-impl OwnedIndex {
-    position_methods!();
 }
 
 /// Lends the text.

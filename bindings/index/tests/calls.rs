@@ -79,7 +79,7 @@ fn worked_lines_by_lf() {
         [0, 0, 1, 1, 2]
     );
     assert_eq!(
-        [0, 1, 2, MOST].map(|line| index.line_content(line, LineType::Lf)),
+        [0, 1, 2, MOST].map(|line| index.line_content(LineType::Lf, line)),
         [0..2, 3..13, 14..14, 14..14]
     );
 }
@@ -88,14 +88,14 @@ fn worked_lines_by_lf() {
 fn worked_lines_of_the_protocol() {
     let index = index(TEXT);
     let lines = [Some("a\r\n"), Some("🐸é\u{2028}b\n"), Some(""), None];
-    assert_eq!([0, 1, 2, 3].map(|line| index.line(line, LineType::LfCr)), lines);
-    assert_eq!(index.line(MOST, LineType::LfCr), None);
+    assert_eq!([0, 1, 2, 3].map(|line| index.line(line, LineType::Crlf)), lines);
+    assert_eq!(index.line(MOST, LineType::Crlf), None);
     assert_eq!(
-        [0, 1, 2, MOST].map(|line| index.line_content(line, LineType::LfCr)),
+        [0, 1, 2, MOST].map(|line| index.line_content(LineType::Crlf, line)),
         [0..1, 3..13, 14..14, 14..14]
     );
     assert_eq!(
-        [0, 1, 2, MOST].map(|line| index.line_end(line, LineType::LfCr)),
+        [0, 1, 2, MOST].map(|line| index.line_end(LineType::Crlf, line)),
         [1, 13, 14, 14]
     );
 }
@@ -104,14 +104,14 @@ fn worked_lines_of_the_protocol() {
 fn worked_lines_by_every_break() {
     let index = index(TEXT);
     let lines = [Some("a\r\n"), Some("🐸é\u{2028}"), Some("b\n"), Some(""), None];
-    assert_eq!(index.len_lines(LineType::All), 4);
-    assert_eq!([0, 1, 2, 3, 4].map(|line| index.line(line, LineType::All)), lines);
+    assert_eq!(index.len_lines(LineType::Lines), 4);
+    assert_eq!([0, 1, 2, 3, 4].map(|line| index.line(line, LineType::Lines)), lines);
     assert_eq!(
-        [2, 3, 11, 12, 14, MOST].map(|byte| index.byte_to_line_idx(byte, LineType::All)),
+        [2, 3, 11, 12, 14, MOST].map(|byte| index.byte_to_line_idx(byte, LineType::Lines)),
         [0, 1, 1, 2, 3, 3]
     );
     assert_eq!(
-        [0, 1, 2, 3, 4].map(|line| index.line_content(line, LineType::All)),
+        [0, 1, 2, 3, 4].map(|line| index.line_content(LineType::Lines, line)),
         [0..1, 3..9, 12..13, 14..14, 14..14]
     );
 }
@@ -123,7 +123,7 @@ fn worked_lines_of_an_empty_text() {
         assert_eq!(index.len_lines(line_type), 1);
         assert!(index.lines(line_type).eq([""]));
         assert_eq!((index.line(0, line_type), index.line(1, line_type)), (Some(""), None));
-        assert_eq!(index.line_content(0, line_type), 0..0);
+        assert_eq!(index.line_content(line_type, 0), 0..0);
     }
 }
 
@@ -193,8 +193,8 @@ macro_rules! assert_lines {
             let (start, line) = found.unwrap_or((text.len(), ""));
             let end = start + plain::content(line_type, line).len();
             assert_eq!(index.line_to_byte_idx(line_idx, line_type), start);
-            assert_eq!(index.line_content(line_idx, line_type), start..end);
-            assert_eq!(index.line_end(line_idx, line_type), end);
+            assert_eq!(index.line_content(line_type, line_idx), start..end);
+            assert_eq!(index.line_end(line_type, line_idx), end);
         }
     };
 }
@@ -218,44 +218,29 @@ where
     assert_eq!((items.len(), items.next(), items.next_back()), (0, None, None));
 }
 
-/// Asks about the position of a byte by a kind of line, and the byte of that position and of another one.
+/// Asks about the position of a byte by a kind of line, and the bytes of that position and of another one.
 macro_rules! assert_positions {
-    ($index:expr, $text:expr, $line_type:expr, $byte:expr, $position:expr) => {
-        let (index, text, line_type, byte) = (&$index, $text, $line_type, $byte);
+    ($index:expr, $text:expr, $lines:expr, $byte:expr, $position:expr) => {
+        let (index, text, lines, byte) = (&$index, $text, $lines, $byte);
         for encoding in ENCODINGS {
-            let here = index.position_by(line_type, encoding, byte);
-            assert_eq!(here, plain::position_by(line_type, encoding, text, byte));
-            let exact = plain::exact_position_by(line_type, encoding, text, byte);
-            assert_eq!(index.exact_position_by(line_type, encoding, byte), exact);
+            let here = plain::position_of(text, lines, encoding, byte);
+            assert_eq!(index.position_of(lines, encoding, byte), here);
+            let exact = plain::exact_position_of(text, lines, encoding, byte);
+            assert_eq!(index.exact_position_of(lines, encoding, byte), exact);
             for position in [here, $position] {
-                let of_position = plain::byte_by(line_type, encoding, text, position);
-                assert_eq!(index.byte_by(line_type, encoding, position), of_position);
-                let range = index.range_by(line_type, encoding, byte..of_position);
-                let end = plain::position_by(line_type, encoding, text, of_position);
-                assert_eq!((range.start, range.end), (here, end));
+                let of_position = plain::byte_of(text, lines, encoding, position);
+                assert_eq!(index.byte_of(lines, encoding, position), of_position);
+                let exact = plain::exact_byte_of(text, lines, encoding, position);
+                assert_eq!(index.exact_byte_of(lines, encoding, position), exact);
+                let range = plain::range_of(text, lines, encoding, byte..of_position);
+                assert_eq!(index.range_of(lines, encoding, byte..of_position), range);
+                let range = Range {
+                    start: here,
+                    end: position,
+                };
+                let bytes = plain::byte_range(text, lines, encoding, range);
+                assert_eq!(index.byte_range(lines, encoding, range), bytes);
             }
-        }
-    };
-}
-
-/// Asks about positions of the protocol: of a byte, and the bytes of a position.
-macro_rules! assert_positions_of_the_protocol {
-    ($index:expr, $text:expr, $byte:expr, $position:expr) => {
-        let (index, text, byte, position) = (&$index, $text, $byte, $position);
-        for encoding in ENCODINGS {
-            let here = plain::position_of(encoding, text, byte);
-            assert_eq!(index.position_of(encoding, byte), here);
-            let of_position = plain::byte_of(encoding, text, position);
-            assert_eq!(index.byte_of(encoding, position), of_position);
-            let exact = plain::exact_byte_of(encoding, text, position);
-            assert_eq!(index.exact_byte_of(encoding, position), exact);
-            let range = Range {
-                start: here,
-                end: position,
-            };
-            let bytes = plain::byte_of(encoding, text, here)..of_position;
-            let wanted = (here <= position).then_some(bytes);
-            assert_eq!(index.byte_range(encoding, range), wanted);
         }
     };
 }
@@ -282,8 +267,6 @@ fn every_answer_is_that_of_a_walk() {
                 assert_positions!(lent, &*text, line_type, number, position);
                 assert_positions!(owned, &*text, line_type, number, position);
             }
-            assert_positions_of_the_protocol!(lent, &*text, number, position);
-            assert_positions_of_the_protocol!(owned, &*text, number, position);
         }
     }
 }
@@ -292,9 +275,9 @@ fn every_answer_is_that_of_a_walk() {
 fn clones_share_an_index_and_outlive_it() {
     let text = TEXT.repeat(1000);
     let one = index(&text);
-    let (other, lines) = (one.clone(), one.lines(LineType::All));
+    let (other, lines) = (one.clone(), one.lines(LineType::Lines));
     drop(one);
-    assert_eq!(other.len_lines(LineType::All), 3001);
+    assert_eq!(other.len_lines(LineType::Lines), 3001);
     drop(other);
     assert_eq!(lines.count(), 3001);
 }
@@ -306,7 +289,7 @@ fn owned_indexes_go_to_threads_and_share_their_text() {
     let threads: Vec<_> = (0..8)
         .map(|number| {
             let index = index.clone();
-            thread::spawn(move || index.line(3 * number, LineType::All).map(String::from))
+            thread::spawn(move || index.line(3 * number, LineType::Lines).map(String::from))
         })
         .collect();
     assert!(Arc::ptr_eq(index.text(), &text));
@@ -327,7 +310,7 @@ fn owned_indexes_take_a_text_of_each_type() {
     for index in indexes {
         let index = index.unwrap();
         assert_eq!((&**index.text(), index.as_index().text()), (TEXT, TEXT));
-        assert_eq!(index.exact_position_by(LineType::LfCr, Encoding::Utf8, 2), None);
+        assert_eq!(index.exact_position_of(LineType::Crlf, Encoding::Utf8, 2), None);
     }
 }
 

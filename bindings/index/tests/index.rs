@@ -6,6 +6,7 @@ use plain::{Numbers, ENCODINGS, SCHEMES};
 use std::thread;
 use str_indices::{chars, lines, lines_crlf, lines_lf, utf16};
 use str_indices_index::{Encoding, LineType, Position, Range, Scheme, TextIndex};
+use str_indices_positions as whole;
 
 /// 17 bytes: CR LF, a surrogate pair, CR, a char of three bytes, LF and LS.
 const BREAKS: &str = "a\r\n🐸b\rせ\n\u{2028}x";
@@ -80,7 +81,7 @@ fn worked_positions() {
     ] {
         let positions = characters.map(|character| Position { line, character });
         assert_eq!(
-            ENCODINGS.map(|encoding| index.position_of(encoding, byte)),
+            ENCODINGS.map(|encoding| index.position_of(LineType::Crlf, encoding, byte)),
             positions,
             "{byte}"
         );
@@ -97,12 +98,12 @@ fn worked_positions() {
     ] {
         let position = Position { line, character };
         assert_eq!(
-            ENCODINGS.map(|encoding| index.byte_of(encoding, position)),
+            ENCODINGS.map(|encoding| index.byte_of(LineType::Crlf, encoding, position)),
             bytes,
             "{position:?}"
         );
         assert_eq!(
-            ENCODINGS.map(|encoding| index.exact_byte_of(encoding, position)),
+            ENCODINGS.map(|encoding| index.exact_byte_of(LineType::Crlf, encoding, position)),
             exact,
             "{position:?}"
         );
@@ -112,18 +113,18 @@ fn worked_positions() {
 #[test]
 fn worked_lines_and_ranges() {
     let index = index(LINES);
-    let contents = [0, 1, 2, 3, 4, 5, MOST].map(|line| &LINES[index.line_content(line, LineType::LfCr)]);
+    let contents = [0, 1, 2, 3, 4, 5, MOST].map(|line| &LINES[index.line_content(LineType::Crlf, line)]);
     assert_eq!(contents, ["a", "🐸b", "せ", "", "x", "", ""]);
     assert_eq!(
-        [0, 1, 2, 3, 4, 5, MOST].map(|line| index.line_end(line, LineType::LfCr)),
+        [0, 1, 2, 3, 4, 5, MOST].map(|line| index.line_end(LineType::Crlf, line)),
         [1, 8, 12, 13, 15, 15, 15]
     );
     let (start, end) = (Position { line: 1, character: 1 }, Position { line: 2, character: 2 });
-    let ranges = ENCODINGS.map(|encoding| index.byte_range(encoding, Range { start, end }));
+    let ranges = ENCODINGS.map(|encoding| index.byte_range(LineType::Crlf, encoding, Range { start, end }));
     assert_eq!(ranges, [Some(3..9), Some(3..12), Some(7..12)]);
     let reversed = Range { start: end, end: start };
     assert_eq!(
-        ENCODINGS.map(|encoding| index.byte_range(encoding, reversed)),
+        ENCODINGS.map(|encoding| index.byte_range(LineType::Crlf, encoding, reversed)),
         [None, None, None]
     );
 }
@@ -135,7 +136,7 @@ fn worked_kinds_of_lines() {
     let at = |line, character| Position { line, character };
     for (lines, contents, positions, middle) in [
         (
-            LineType::LfCr,
+            LineType::Crlf,
             ["a\u{2028}b\u{C}c", "d", "e"],
             [at(0, 1), at(0, 3), at(1, 0), at(2, 0)],
             None,
@@ -147,7 +148,7 @@ fn worked_kinds_of_lines() {
             Some(at(0, 8)),
         ),
         (
-            LineType::All,
+            LineType::Lines,
             ["a", "b", "c"],
             [at(0, 1), at(1, 1), at(3, 0), at(4, 0)],
             None,
@@ -155,21 +156,26 @@ fn worked_kinds_of_lines() {
     ] {
         let e = Encoding::Utf16;
         assert_eq!(
-            [0, 1, 2].map(|line| &index.text()[index.line_content(line, lines)]),
+            [0, 1, 2].map(|line| &index.text()[index.line_content(lines, line)]),
             contents
         );
-        assert_eq!([2, 5, 8, 11].map(|byte| index.position_by(lines, e, byte)), positions);
-        assert_eq!(index.exact_position_by(lines, e, 10), middle);
+        assert_eq!([2, 5, 8, 11].map(|byte| index.position_of(lines, e, byte)), positions);
+        assert_eq!(index.exact_position_of(lines, e, 10), middle);
         assert_eq!(
-            [2, MOST].map(|byte| index.exact_position_by(lines, e, byte)),
+            [2, MOST].map(|byte| index.exact_position_of(lines, e, byte)),
             [None, None]
         );
         let range = Range {
             start: positions[1],
             end: positions[3],
         };
-        assert_eq!(index.range_by(lines, e, 5..11), range);
-        assert_eq!([1, 2, 3].map(|i| index.byte_by(lines, e, positions[i])), [5, 8, 11]);
+        assert_eq!(index.range_of(lines, e, 5..11), range);
+        assert_eq!(index.byte_range(lines, e, range), Some(5..11));
+        assert_eq!([1, 2, 3].map(|i| index.byte_of(lines, e, positions[i])), [5, 8, 11]);
+        let exact = [1, 2, 3].map(|i| index.exact_byte_of(lines, e, positions[i]));
+        assert_eq!(exact, [Some(5), Some(8), Some(11)]);
+        // past the end of the second line
+        assert_eq!(index.exact_byte_of(lines, e, at(1, 4)), None);
     }
 }
 
@@ -214,10 +220,10 @@ fn try_number(index: &TextIndex, at: usize) {
         assert_eq!(index.to_byte_idx(scheme, at), to, "{scheme:?} {at}");
     }
     assert_eq!(index.is_char_boundary(at), text.is_char_boundary(at), "{at}");
-    let end = str_indices_positions::line_end(text, at);
-    assert_eq!(index.line_end(at, LineType::LfCr), end, "{at}");
-    let (start, end) = plain::line(text, at);
-    assert_eq!(index.line_content(at, LineType::LfCr), start..end, "{at}");
+    let end = whole::line_end(text, LineType::Crlf, at);
+    assert_eq!(index.line_end(LineType::Crlf, at), end, "{at}");
+    let content = plain::line(text, LineType::Crlf, at);
+    assert_eq!(index.line_content(LineType::Crlf, at), content, "{at}");
     for encoding in ENCODINGS {
         try_positions(index, encoding, at);
     }
@@ -225,8 +231,12 @@ fn try_number(index: &TextIndex, at: usize) {
 
 fn try_positions(index: &TextIndex, encoding: Encoding, at: usize) {
     let text = index.text();
-    let here = index.position_of(encoding, at);
-    assert_eq!(here, encoding.position_of(text, at), "{encoding:?} {at}");
+    let here = index.position_of(LineType::Crlf, encoding, at);
+    assert_eq!(
+        here,
+        whole::position_of(text, LineType::Crlf, encoding, at),
+        "{encoding:?} {at}"
+    );
     let start = Position {
         line: at % 61,
         character: at % 13,
@@ -241,19 +251,19 @@ fn try_positions(index: &TextIndex, encoding: Encoding, at: usize) {
         Position { line: at, character: 1 },
     ] {
         assert_eq!(
-            index.byte_of(encoding, end),
-            encoding.byte_of(text, end),
+            index.byte_of(LineType::Crlf, encoding, end),
+            whole::byte_of(text, LineType::Crlf, encoding, end),
             "{encoding:?} {end:?}"
         );
         assert_eq!(
-            index.exact_byte_of(encoding, end),
-            encoding.exact_byte_of(text, end),
+            index.exact_byte_of(LineType::Crlf, encoding, end),
+            whole::exact_byte_of(text, LineType::Crlf, encoding, end),
             "{encoding:?} {end:?}"
         );
         let range = Range { start, end };
         assert_eq!(
-            index.byte_range(encoding, range),
-            encoding.byte_range(text, range),
+            index.byte_range(LineType::Crlf, encoding, range),
+            whole::byte_range(text, LineType::Crlf, encoding, range),
             "{encoding:?} {range:?}"
         );
     }
@@ -302,14 +312,17 @@ fn random_texts_beside_a_walk() {
                 assert_eq!(index.to_byte_idx(scheme, at), plain::to_byte_idx(scheme, &text, at));
             }
             for encoding in ENCODINGS {
-                assert_eq!(index.position_of(encoding, at), plain::position_of(encoding, &text, at));
                 assert_eq!(
-                    index.byte_of(encoding, position),
-                    plain::byte_of(encoding, &text, position)
+                    index.position_of(LineType::Crlf, encoding, at),
+                    plain::position_of(&text, LineType::Crlf, encoding, at)
                 );
                 assert_eq!(
-                    index.exact_byte_of(encoding, position),
-                    plain::exact_byte_of(encoding, &text, position)
+                    index.byte_of(LineType::Crlf, encoding, position),
+                    plain::byte_of(&text, LineType::Crlf, encoding, position)
+                );
+                assert_eq!(
+                    index.exact_byte_of(LineType::Crlf, encoding, position),
+                    plain::exact_byte_of(&text, LineType::Crlf, encoding, position)
                 );
             }
         }
@@ -327,10 +340,10 @@ fn threads_ask_one_index_and_another_frees_it() {
                 for number in (first..5000).step_by(8) {
                     let line = 4 * number;
                     let start = number * LINES.len();
-                    assert_eq!(index.line(line + 1, LineType::LfCr), Some("🐸b\r"));
+                    assert_eq!(index.line(line + 1, LineType::Crlf), Some("🐸b\r"));
                     assert_eq!(index.to_byte_idx(Scheme::Crlf, line + 1), start + 3);
                     assert_eq!(index.from_byte_idx(Scheme::Lf, start + 13), 3 * number + 2);
-                    let position = index.position_of(Encoding::Utf16, start + 7);
+                    let position = index.position_of(LineType::Crlf, Encoding::Utf16, start + 7);
                     assert_eq!(
                         position,
                         Position {

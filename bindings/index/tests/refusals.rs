@@ -14,10 +14,14 @@ const LINES: usize = 2000;
 /// A few questions, of lines that are all alike.
 fn ask(index: &TextIndex<'_>) {
     assert_eq!((index.len(), index.count(Scheme::Utf16)), (20 * LINES, 18 * LINES));
-    assert_eq!(index.line(7, LineType::LfCr), Some(LINE));
-    assert_eq!(index.lines(LineType::All).rev().count(), LINES + 1);
+    assert_eq!(index.line(7, LineType::Crlf), Some(LINE));
+    assert_eq!(index.lines(LineType::Lines).rev().count(), LINES + 1);
     assert_eq!(
-        index.byte_of(Encoding::Utf16, index.position_of(Encoding::Utf16, 37)),
+        index.byte_of(
+            LineType::Crlf,
+            Encoding::Utf16,
+            index.position_of(LineType::Crlf, Encoding::Utf16, 37)
+        ),
         37
     );
     assert_eq!(index.floor_char_boundary(35), 33);

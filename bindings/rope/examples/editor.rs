@@ -40,12 +40,14 @@ impl Editor {
     /// Puts the cursor on a line, counted from 0, at a column in UTF-16 code units; past the end of the line, at that end.
     fn go_to(&mut self, line: usize, character: usize) {
         let position = Position { line, character };
-        self.now.cursor = self.now.text.byte_of(Encoding::Utf16, position);
+        self.now.cursor = self.now.text.byte_of(LineType::Crlf, Encoding::Utf16, position);
     }
 
     /// The cursor's line and its column in UTF-16 code units, as a language server gets them.
     fn position(&self) -> Position {
-        self.now.text.position_of(Encoding::Utf16, self.now.cursor)
+        self.now
+            .text
+            .position_of(LineType::Crlf, Encoding::Utf16, self.now.cursor)
     }
 
     /// Types a char at the cursor.
@@ -138,7 +140,7 @@ fn has_position(editor: &Editor, model: &str) -> bool {
 
 /// Saves the text and types meanwhile. The file has to be the text as it was when saving began.
 fn save_while_typing(editor: &mut Editor, model: &mut String, path: &Path, first: usize) -> Result<(), Box<dyn Error>> {
-    let lines = editor.now.text.len_lines(LineType::LfCr);
+    let lines = editor.now.text.len_lines(LineType::Crlf);
     let (wanted, saving) = (model.clone(), editor.save(path));
     for word in first..first + WORDS {
         type_word(editor, model, word * 7919 % lines)?;
@@ -175,7 +177,7 @@ fn main() -> Result<(), Box<dyn Error>> {
     check(editor.now.text == text, "the text is as it was, when all is undone")?;
     while editor.redo() {}
     check(editor.now.text == model, "the text is the `String`, when all is redone")?;
-    let (bytes, lines) = (model.len(), editor.now.text.len_lines(LineType::LfCr));
+    let (bytes, lines) = (model.len(), editor.now.text.len_lines(LineType::Crlf));
     println!(
         "{bytes} bytes, {lines} lines: saved {SAVES} times while typing, {undone} changes undone and redone, all right"
     );

@@ -1,66 +1,8 @@
-//! Counts, conversions and places, which a rope and its slices have alike.
+//! Chars and bytes at an index, which a rope and its slices have alike.
 
-/// Methods over `len`, `count`, `from_byte_idx`, `to_byte_idx` and `whole`.
+/// Methods over `len`, `slice` and `whole`.
 macro_rules! index_methods {
     () => {
-        /// Tells whether the text has no byte. Takes O(1).
-        pub fn is_empty(&self) -> bool {
-            self.len() == 0
-        }
-
-        /// Returns how many chars (Unicode scalar values) the text has. Takes O(1) for a rope, O(log n) for a slice.
-        pub fn len_chars(&self) -> usize {
-            self.count($crate::Scheme::Chars)
-        }
-
-        /// Returns how many UTF-16 code units the text has. Takes O(1) for a rope, O(log n) for a slice.
-        pub fn len_utf16(&self) -> usize {
-            self.count($crate::Scheme::Utf16)
-        }
-
-        /// Returns the char index of the char that a byte is in; past the end, `len_chars()`. Takes one search, O(log n).
-        ///
-        /// ```
-        /// let rope = str_rope::Rope::from("é🐸b");
-        /// assert_eq!([0, 1, 2, 5, 6, 99].map(|byte| rope.byte_to_char_idx(byte)), [0, 0, 1, 1, 2, 3]);
-        /// ```
-        pub fn byte_to_char_idx(&self, byte_idx: usize) -> usize {
-            self.from_byte_idx($crate::Scheme::Chars, byte_idx)
-        }
-
-        /// Returns the byte index where the char of a char index begins; past the last char, `len()`. Takes one search,
-        /// O(log n).
-        ///
-        /// ```
-        /// let rope = str_rope::Rope::from("é🐸b");
-        /// assert_eq!([0, 1, 2, 3, 99].map(|char| rope.char_to_byte_idx(char)), [0, 2, 6, 7, 7]);
-        /// ```
-        pub fn char_to_byte_idx(&self, char_idx: usize) -> usize {
-            self.to_byte_idx($crate::Scheme::Chars, char_idx)
-        }
-
-        /// Returns the index of the UTF-16 code unit with which the char that a byte is in begins; past the end,
-        /// `len_utf16()`. Takes one search, O(log n).
-        ///
-        /// ```
-        /// let rope = str_rope::Rope::from("é🐸b");
-        /// assert_eq!([0, 1, 2, 5, 6, 99].map(|byte| rope.byte_to_utf16_idx(byte)), [0, 0, 1, 1, 3, 4]);
-        /// ```
-        pub fn byte_to_utf16_idx(&self, byte_idx: usize) -> usize {
-            self.from_byte_idx($crate::Scheme::Utf16, byte_idx)
-        }
-
-        /// Returns the byte index where the char of a UTF-16 code unit begins; past the last unit, `len()`. Both units of
-        /// a surrogate pair belong to one char. Takes one search, O(log n).
-        ///
-        /// ```
-        /// let rope = str_rope::Rope::from("é🐸b");
-        /// assert_eq!([0, 1, 2, 3, 99].map(|unit| rope.utf16_to_byte_idx(unit)), [0, 2, 2, 6, 7]);
-        /// ```
-        pub fn utf16_to_byte_idx(&self, utf16_idx: usize) -> usize {
-            self.to_byte_idx($crate::Scheme::Utf16, utf16_idx)
-        }
-
         /// Returns the greatest char boundary at a byte index or before it; past the end, `len()`. Takes one search,
         /// O(log n), and reads a char.
         ///

@@ -28,10 +28,10 @@
 //! # fn main() -> Result<(), str_rope::Error> {
 //! let mut rope = Rope::from_str("fn main() {\n}\n")?;
 //!
-//! let at = rope.line_to_byte_idx(1, LineType::LfCr);
+//! let at = rope.line_to_byte_idx(1, LineType::Crlf);
 //! rope.insert(at, "    print!(\"🐸\");\n")?;
-//! assert_eq!(rope.len_lines(LineType::LfCr), 4);
-//! assert_eq!(rope.line(1, LineType::LfCr).unwrap().trim(), "print!(\"🐸\");");
+//! assert_eq!(rope.len_lines(LineType::Crlf), 4);
+//! assert_eq!(rope.line(1, LineType::Crlf).unwrap().trim(), "print!(\"🐸\");");
 //!
 //! // The client writes "ln" before the exclamation mark; its offsets are UTF-16 code units.
 //! let mark = Position { line: 1, character: 9 };
@@ -57,7 +57,6 @@ mod io;
 mod iter;
 mod library;
 mod lines;
-mod positions;
 mod rope;
 mod slice;
 mod traits;

@@ -5,7 +5,7 @@
 //! `&str` do, and are UTF-8, which an export named `.._utf8` does not check.
 use core::ffi::c_void;
 use core::ptr;
-use str_indices_positions::{Position, Range};
+use str_indices_positions::{Encoding, Range};
 
 /// A rope of the library. A zeroed one is the empty text.
 #[repr(C)]
@@ -39,22 +39,10 @@ impl LentChunk {
     };
 }
 
-/// The byte indices of a part, as the library has them.
-#[repr(C)]
-pub struct Bytes {
-    pub start: usize,
-    pub end: usize,
-}
-
 extern "C" {
     pub fn str_rope_free(rope: *mut Handle);
     pub fn str_rope_assign_utf8(rope: *mut Handle, text: *const u8, len: usize) -> u32;
     pub fn str_rope_snapshot(rope: *const Handle, copy: *mut Handle) -> u32;
-    pub fn str_rope_len(rope: *const Handle) -> usize;
-    pub fn str_rope_count(rope: *const Handle, scheme: u32) -> usize;
-    pub fn str_rope_from_byte_idx(rope: *const Handle, scheme: u32, byte_idx: usize) -> usize;
-    pub fn str_rope_to_byte_idx(rope: *const Handle, scheme: u32, idx: usize) -> usize;
-    pub fn str_rope_is_char_boundary(rope: *const Handle, byte_idx: usize) -> bool;
 
     pub fn str_rope_insert_utf8(rope: *mut Handle, at: usize, text: *const u8, len: usize) -> u32;
     pub fn str_rope_remove(rope: *mut Handle, from: usize, to: usize) -> u32;
@@ -67,15 +55,18 @@ extern "C" {
     pub fn str_rope_chunks_before(rope: *const Handle, byte_idx: usize, chunks: *mut LentChunk, room: usize) -> usize;
     pub fn str_rope_copy_to(rope: *const Handle, from: usize, to: usize, out: *mut u8, room: usize) -> u32;
 
-    pub fn str_rope_position_of(rope: *const Handle, encoding: u32, byte_idx: usize) -> Position;
-    pub fn str_rope_byte_of(rope: *const Handle, encoding: u32, position: Position) -> usize;
-    pub fn str_rope_exact_byte_of(rope: *const Handle, encoding: u32, position: Position) -> usize;
-    pub fn str_rope_byte_range(rope: *const Handle, encoding: u32, range: Range) -> Bytes;
-    pub fn str_rope_line_by(rope: *const Handle, lines: u32, line_idx: usize) -> Bytes;
-    pub fn str_rope_position_by(rope: *const Handle, lines: u32, encoding: u32, byte_idx: usize) -> Position;
-    pub fn str_rope_exact_position_by(rope: *const Handle, lines: u32, encoding: u32, byte_idx: usize) -> Position;
-    pub fn str_rope_byte_by(rope: *const Handle, lines: u32, encoding: u32, position: Position) -> usize;
-    pub fn str_rope_range_by(rope: *const Handle, lines: u32, encoding: u32, span: Bytes) -> Range;
-    pub fn str_rope_change_utf8(rope: *mut Handle, encoding: u32, range: Range, text: *const u8, len: usize) -> u32;
-    pub fn str_rope_change_exact(rope: *mut Handle, encoding: u32, range: Range, text: *const u8, len: usize) -> u32;
+    pub fn str_rope_change_utf8(
+        rope: *mut Handle,
+        encoding: Encoding,
+        range: Range,
+        text: *const u8,
+        len: usize,
+    ) -> u32;
+    pub fn str_rope_change_exact(
+        rope: *mut Handle,
+        encoding: Encoding,
+        range: Range,
+        text: *const u8,
+        len: usize,
+    ) -> u32;
 }

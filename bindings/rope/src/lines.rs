@@ -2,106 +2,25 @@
 use crate::walk::Steps;
 use crate::{LineType, RopeSlice, Scheme};
 
-/// The scheme that counts the breaks of a kind of line.
-pub(crate) fn breaks(line_type: LineType) -> Scheme {
-    match line_type {
-        LineType::Lf => Scheme::Lf,
-        LineType::LfCr => Scheme::Crlf,
-        LineType::All => Scheme::Lines,
-    }
-}
-
 /// Whether a scheme takes CR LF for one break, and a CR alone for one too.
 pub(crate) fn takes_pairs(scheme: Scheme) -> bool {
     matches!(scheme, Scheme::Crlf | Scheme::Lines)
 }
 
-/// Methods over `count`, `from_byte_idx`, `to_byte_idx` and `whole`, which answer for the lifetime of the text.
+/// Methods over `len_lines` and `whole`, which lend for the lifetime of the text.
 macro_rules! line_methods {
     ($life:lifetime) => {
-        /// Returns how many lines the text has: one more than its line breaks. A text that ends in a break has an empty
-        /// last line. Takes O(1) for a rope, O(log n) for a slice.
-        ///
-        /// ```
-        /// use str_rope::{LineType, Rope};
-        ///
-        /// let rope = Rope::from("a\r\nb\rc\u{2028}");
-        /// let types = [LineType::Lf, LineType::LfCr, LineType::All];
-        /// assert_eq!(types.map(|line_type| rope.len_lines(line_type)), [2, 3, 4]);
-        /// ```
-        pub fn len_lines(&self, line_type: $crate::LineType) -> usize {
-            // No sum that wraps: a text has at most `isize::MAX` bytes.
-            self.count($crate::lines::breaks(line_type)) + 1
-        }
-
-        /// Returns the line index of the line that a byte is on; past the end, that of the last line. A byte inside a break
-        /// is on the line that the break ends. Takes one search, O(log n).
-        ///
-        /// ```
-        /// use str_rope::{LineType, Rope};
-        ///
-        /// let rope = Rope::from("a\r\nb");
-        /// let line = |byte| rope.byte_to_line_idx(byte, LineType::LfCr);
-        /// assert_eq!([0, 1, 2, 3, 99].map(line), [0, 0, 0, 1, 1]);
-        /// ```
-        pub fn byte_to_line_idx(&self, byte_idx: usize, line_type: $crate::LineType) -> usize {
-            self.from_byte_idx($crate::lines::breaks(line_type), byte_idx)
-        }
-
-        /// Returns the byte index where a line begins; past the last line, `len()`. Takes one search, O(log n).
-        ///
-        /// ```
-        /// use str_rope::{LineType, Rope};
-        ///
-        /// let rope = Rope::from("a\r\nb");
-        /// let byte = |line| rope.line_to_byte_idx(line, LineType::LfCr);
-        /// assert_eq!([0, 1, 2].map(byte), [0, 3, 4]);
-        /// ```
-        pub fn line_to_byte_idx(&self, line_idx: usize, line_type: $crate::LineType) -> usize {
-            self.to_byte_idx($crate::lines::breaks(line_type), line_idx)
-        }
-
         /// Returns a line with its break, lent; past the last line, `None`. Takes two searches, O(log n).
         ///
         /// ```
         /// use str_rope::{LineType, Rope};
         ///
         /// let rope = Rope::from("a\r\nb\n");
-        /// let line = |line| rope.line(line, LineType::LfCr).map(String::from);
+        /// let line = |line| rope.line(line, LineType::Crlf).map(String::from);
         /// assert_eq!([0, 1, 2, 3].map(line), [Some("a\r\n".into()), Some("b\n".into()), Some("".into()), None]);
         /// ```
         pub fn line(&self, line_idx: usize, line_type: $crate::LineType) -> Option<$crate::RopeSlice<$life>> {
             self.lines_at(line_idx, line_type).next()
-        }
-
-        /// Returns the byte indices of a line without its break; past the last line, an empty range at the end of the text.
-        /// Takes a few searches, O(log n).
-        ///
-        /// ```
-        /// use str_rope::{LineType, Rope};
-        ///
-        /// let rope = Rope::from("a\u{2028}b\r\nc");
-        /// let types = [LineType::Lf, LineType::LfCr, LineType::All];
-        /// assert_eq!(types.map(|line_type| rope.line_content(0, line_type)), [0..6, 0..5, 0..1]);
-        /// assert_eq!(rope.line_content(9, LineType::Lf), 8..8);
-        /// ```
-        pub fn line_content(&self, line_idx: usize, line_type: $crate::LineType) -> core::ops::Range<usize> {
-            let slice = self.whole();
-            let before = slice.count_before($crate::lines::breaks(line_type));
-            slice.cut(slice.rope().content(before.saturating_add(line_idx), line_type))
-        }
-
-        /// Returns the byte index where a line ends, before its break; for the last line, and past it, `len()`. Takes a few
-        /// searches, O(log n).
-        ///
-        /// ```
-        /// use str_rope::{LineType, Rope};
-        ///
-        /// let rope = Rope::from("one\r\ntwo");
-        /// assert_eq!([0, 1, 2].map(|line| rope.line_end(line, LineType::LfCr)), [3, 8, 8]);
-        /// ```
-        pub fn line_end(&self, line_idx: usize, line_type: $crate::LineType) -> usize {
-            self.line_content(line_idx, line_type).end
         }
 
         /// Goes over the lines in order, each with its break. The last line has none, and is empty if the text ends in a
@@ -153,7 +72,7 @@ pub(crate) struct LineSteps<'a> {
 
 impl<'a> LineSteps<'a> {
     pub fn new(slice: RopeSlice<'a>, line_type: LineType) -> LineSteps<'a> {
-        let scheme = breaks(line_type);
+        let scheme = line_type.into();
         LineSteps {
             slice,
             scheme,

@@ -5,8 +5,9 @@ use crate::iter::iterator_methods;
 use crate::library::*;
 use crate::lines::line_methods;
 use crate::slice::bytes_of;
-use crate::{Error, LineType, RopeSlice, Scheme};
-use core::ops::{self, RangeBounds};
+use crate::{Encoding, Error, Range, RopeSlice};
+use core::ops::RangeBounds;
+use str_indices_positions::{conversions, questions};
 
 /// A text in a balanced tree of chunks. A question looks at a number of places that is logarithmic in the number of chunks.
 /// A change goes down the tree too, and copies what it puts in. A clone shares the chunks, and takes one step.
@@ -61,13 +62,6 @@ impl Rope {
         RopeSlice::new(self, 0, self.len())
     }
 
-    /// The bytes of the content of a line. Past the last line they are none, at the end of the text.
-    pub(crate) fn content(&self, line_idx: usize, line_type: LineType) -> ops::Range<usize> {
-        // SAFETY: as `library` says.
-        let bytes = unsafe { str_rope_line_by(self.handle(), line_type as u32, line_idx) };
-        bytes.start..bytes.end
-    }
-
     /// Makes a rope of a text, which it copies. Takes time in the length of the text. Returns [`Error::NoMemory`] if memory is
     /// refused; `Rope::from` ends the program then.
     ///
@@ -118,75 +112,6 @@ impl Rope {
         // SAFETY: as `library` says; the new rope is another one.
         result_of(unsafe { str_rope_snapshot(self.handle(), copy.handle_mut()) })?;
         Ok(copy)
-    }
-
-    /// Returns how many bytes the text has. Takes O(1).
-    pub fn len(&self) -> usize {
-        // SAFETY: as `library` says.
-        unsafe { str_rope_len(self.handle()) }
-    }
-
-    /// Counts the chars, UTF-16 code units or line breaks of the text. Takes O(1).
-    ///
-    /// ```
-    /// use str_rope::{Rope, Scheme};
-    ///
-    /// # fn main() -> Result<(), str_rope::Error> {
-    /// let rope: Rope = "a\r\n🐸\u{2028}b".parse()?;
-    /// let schemes = [Scheme::Chars, Scheme::Utf16, Scheme::Lf, Scheme::Crlf, Scheme::Lines];
-    /// assert_eq!(schemes.map(|scheme| rope.count(scheme)), [6, 7, 1, 1, 2]);
-    /// # Ok(())
-    /// # }
-    /// ```
-    pub fn count(&self, scheme: Scheme) -> usize {
-        // SAFETY: as `library` says.
-        unsafe { str_rope_count(self.handle(), scheme as u32) }
-    }
-
-    /// Counts the chars, UTF-16 code units or line breaks that end at a byte index or before it; past the end, all of them.
-    /// Takes one search, O(log n).
-    ///
-    /// ```
-    /// use str_rope::{Rope, Scheme};
-    ///
-    /// # fn main() -> Result<(), str_rope::Error> {
-    /// let rope: Rope = "a\r\n🐸b".parse()?;
-    /// assert_eq!(rope.from_byte_idx(Scheme::Utf16, 7), 5);
-    /// assert_eq!(rope.from_byte_idx(Scheme::Crlf, 2), 0);
-    /// assert_eq!(rope.from_byte_idx(Scheme::Crlf, 3), 1);
-    /// assert_eq!(rope.from_byte_idx(Scheme::Chars, 99), 5);
-    /// # Ok(())
-    /// # }
-    /// ```
-    pub fn from_byte_idx(&self, scheme: Scheme, byte_idx: usize) -> usize {
-        // SAFETY: as `library` says.
-        unsafe { str_rope_from_byte_idx(self.handle(), scheme as u32, byte_idx) }
-    }
-
-    /// Returns the byte index where the char, the char of the UTF-16 code unit, or the line of an index begins; past the last
-    /// one, [`Rope::len`]. Takes one search, O(log n).
-    ///
-    /// ```
-    /// use str_rope::{Rope, Scheme};
-    ///
-    /// # fn main() -> Result<(), str_rope::Error> {
-    /// let rope: Rope = "a\r\n🐸b".parse()?;
-    /// assert_eq!(rope.to_byte_idx(Scheme::Utf16, 4), 3);
-    /// assert_eq!(rope.to_byte_idx(Scheme::Utf16, 5), 7);
-    /// assert_eq!(rope.to_byte_idx(Scheme::Lf, 1), 3);
-    /// assert_eq!(rope.to_byte_idx(Scheme::Lf, 2), 8);
-    /// # Ok(())
-    /// # }
-    /// ```
-    pub fn to_byte_idx(&self, scheme: Scheme, idx: usize) -> usize {
-        // SAFETY: as `library` says.
-        unsafe { str_rope_to_byte_idx(self.handle(), scheme as u32, idx) }
-    }
-
-    /// Tells whether a char begins at a byte index, or the text ends there; past the end, `false`. Takes one search, O(log n).
-    pub fn is_char_boundary(&self, byte_idx: usize) -> bool {
-        // SAFETY: as `library` says.
-        unsafe { str_rope_is_char_boundary(self.handle(), byte_idx) }
     }
 
     /// Inserts a text at a byte index; past the end, and inside a char, returns [`Error::NotBoundary`]. Takes O(log n), and
@@ -329,13 +254,146 @@ impl Rope {
         result_of(unsafe { str_rope_copy_to(self.handle(), bytes.start, bytes.end, out, len) })?;
         Ok(bytes.len())
     }
+
+    /// Replaces the text in a range by another: one entry of the protocol's `contentChanges`, whose lines are those of
+    /// `LineType::Crlf`. Positions past the end of a line or of the text are cut as by [`Rope::byte_of`], so it never returns
+    /// [`Error::NotBoundary`].
+    ///
+    /// Each entry is meant in the text that the one before it left; a clone before the first brings the text back. If the entry
+    /// has no range, its text is the whole one: call [`Rope::assign`]. Returns [`Error::NotOrdered`] if the range ends before
+    /// it starts, and [`Error::TooLong`] and [`Error::NoMemory`] as [`Rope::replace`] does; after an error the text is as it
+    /// was.
+    ///
+    /// ```
+    /// use str_rope::{Encoding, Position, Range, Rope};
+    ///
+    /// # fn main() -> Result<(), str_rope::Error> {
+    /// let mut rope: Rope = "a\r\n🐸b".parse()?;
+    /// let (start, end) = (Position { line: 1, character: 2 }, Position { line: 1, character: 99 });
+    /// rope.change(Encoding::Utf16, Range { start, end }, "ye")?;
+    /// assert_eq!(rope, "a\r\n🐸ye");
+    /// # Ok(())
+    /// # }
+    /// ```
+    pub fn change(&mut self, encoding: Encoding, range: Range, text: &str) -> Result<(), Error> {
+        // SAFETY: as `library` says.
+        result_of(unsafe { str_rope_change_utf8(self.handle_mut(), encoding, range, text.as_ptr(), text.len()) })
+    }
+
+    /// Replaces the text in a range by another, as [`Rope::change`], if each of its positions names a place. If one names none,
+    /// as [`Rope::exact_byte_of`] has it, returns [`Error::NotBoundary`], and the text is as it was.
+    ///
+    /// So a server notices a client that is out of step, and asks it for the whole text.
+    ///
+    /// ```
+    /// use str_rope::{Encoding, Error, Position, Range, Rope};
+    ///
+    /// # fn main() -> Result<(), Error> {
+    /// let mut rope: Rope = "one\ntwo".parse()?;
+    /// let (start, past) = (Position { line: 1, character: 0 }, Position { line: 1, character: 4 });
+    /// let refused = rope.change_exact(Encoding::Utf16, Range { start, end: past }, "2");
+    /// assert_eq!(refused, Err(Error::NotBoundary));
+    ///
+    /// let end = Position { line: 1, character: 3 };
+    /// rope.change_exact(Encoding::Utf16, Range { start, end }, "2")?;
+    /// assert_eq!(rope, "one\n2");
+    /// # Ok(())
+    /// # }
+    /// ```
+    pub fn change_exact(&mut self, encoding: Encoding, range: Range, text: &str) -> Result<(), Error> {
+        // SAFETY: as `library` says.
+        result_of(unsafe { str_rope_change_exact(self.handle_mut(), encoding, range, text.as_ptr(), text.len()) })
+    }
 }
 
+/// Questions. Those about lines and positions take a `LineType` first, which says what ends a line: the Language Server
+/// Protocol 3.17 has `Crlf`. Their answers are those of the crate `str_indices_positions` for the whole text.
+///
+/// ```
+/// use str_rope::{Encoding, LineType, Position, Range, Rope, Scheme};
+///
+/// # fn main() -> Result<(), str_rope::Error> {
+/// let rope: Rope = "a\r\n🐸\u{2028}b".parse()?;
+/// let schemes = [Scheme::Chars, Scheme::Utf16, Scheme::Lf, Scheme::Crlf, Scheme::Lines];
+/// assert_eq!(schemes.map(|scheme| rope.count(scheme)), [6, 7, 1, 1, 2]);
+/// assert_eq!([2, 3, 99].map(|byte| rope.from_byte_idx(Scheme::Crlf, byte)), [0, 1, 1]);
+/// assert_eq!([6, 7, 99].map(|byte| rope.from_byte_idx(Scheme::Utf16, byte)), [3, 5, 7]);
+/// assert_eq!([4, 5, 99].map(|unit| rope.to_byte_idx(Scheme::Utf16, unit)), [3, 7, 11]);
+/// assert_eq!([1, 2].map(|line| rope.to_byte_idx(Scheme::Lf, line)), [3, 11]);
+/// assert_eq!([2, 5, 11, 12].map(|byte| rope.is_char_boundary(byte)), [true, false, true, false]);
+///
+/// let (lines, encoding) = (LineType::Crlf, Encoding::Utf16);
+/// assert_eq!([0, 1, 9].map(|line| rope.line_content(lines, line)), [0..1, 3..11, 11..11]);
+/// assert_eq!([0, 1, 9].map(|line| rope.line_end(lines, line)), [1, 11, 11]);
+/// let types = [LineType::Lf, LineType::Crlf, LineType::Lines];
+/// assert_eq!(types.map(|lines| rope.line_content(lines, 0)), [0..2, 0..1, 0..1]);
+/// assert_eq!(types.map(|lines| rope.line_end(lines, 1)), [11, 11, 7]);
+///
+/// let at = |line, character| Position { line, character };
+/// assert_eq!([2, 6, 7, 99].map(|byte| rope.position_of(lines, encoding, byte)), [at(0, 1), at(1, 0), at(1, 2), at(1, 4)]);
+/// assert_eq!(rope.position_of(lines, Encoding::Utf8, 7), at(1, 4));
+/// assert_eq!(rope.position_of(LineType::Lines, encoding, 10), at(2, 0));
+/// let exact = [1, 2, 6, 7].map(|byte| rope.exact_position_of(lines, encoding, byte));
+/// assert_eq!(exact, [Some(at(0, 1)), None, None, Some(at(1, 2))]);
+///
+/// let places = [at(1, 2), at(1, 1), at(0, 2), at(9, 0)];
+/// assert_eq!(places.map(|place| rope.byte_of(lines, encoding, place)), [7, 3, 1, 11]);
+/// assert_eq!(places.map(|place| rope.exact_byte_of(lines, encoding, place)), [Some(7), None, None, None]);
+///
+/// let frog = Range { start: at(1, 0), end: at(1, 2) };
+/// assert_eq!(rope.range_of(lines, encoding, 3..7), frog);
+/// assert_eq!(rope.byte_range(lines, encoding, frog), Some(3..7));
+/// assert_eq!(rope.byte_range(lines, encoding, Range { start: frog.end, end: frog.start }), None);
+/// # Ok(())
+/// # }
+/// ```
+impl Rope {
+    questions! {
+        "str_rope_",
+        Handle,
+        count: "O(1)",
+        from_byte_idx: "one search, O(log n)",
+        to_byte_idx: "one search, O(log n)",
+        is_char_boundary: "one search, O(log n)",
+        line_content: "at most eight searches, O(log n)",
+        line_end: "at most eight searches, O(log n)",
+        position_of: "at most eight searches, O(log n)",
+        exact_position_of: "at most eight searches, O(log n)",
+        range_of: "at most eight searches, O(log n)",
+        byte_of: "at most eight searches, O(log n)",
+        exact_byte_of: "at most eight searches, O(log n)",
+        byte_range: "at most eight searches, O(log n)",
+    }
+}
+
+/// Counts and conversions, by ropey's names.
+///
+/// ```
+/// use str_rope::{LineType, Rope};
+///
+/// let rope = Rope::from("é🐸b");
+/// assert_eq!((rope.len(), rope.len_chars(), rope.len_utf16()), (7, 3, 4));
+/// assert_eq!([0, 1, 2, 5, 6, 99].map(|byte| rope.byte_to_char_idx(byte)), [0, 0, 1, 1, 2, 3]);
+/// assert_eq!([0, 1, 2, 3, 99].map(|char| rope.char_to_byte_idx(char)), [0, 2, 6, 7, 7]);
+/// assert_eq!([0, 1, 2, 5, 6, 99].map(|byte| rope.byte_to_utf16_idx(byte)), [0, 0, 1, 1, 3, 4]);
+/// assert_eq!([0, 1, 2, 3, 99].map(|unit| rope.utf16_to_byte_idx(unit)), [0, 2, 2, 6, 7]);
+///
+/// let rope = Rope::from("a\r\nb\rc\u{2028}");
+/// let types = [LineType::Lf, LineType::Crlf, LineType::Lines];
+/// assert_eq!(types.map(|line_type| rope.len_lines(line_type)), [2, 3, 4]);
+/// assert_eq!([0, 1, 2, 3, 99].map(|byte| rope.byte_to_line_idx(byte, LineType::Crlf)), [0, 0, 0, 1, 2]);
+/// assert_eq!([0, 1, 2, 3].map(|line| rope.line_to_byte_idx(line, LineType::Crlf)), [0, 3, 5, 9]);
+/// ```
+impl Rope {
+    conversions! { count: "O(1)", from_byte_idx: "one search, O(log n)", to_byte_idx: "one search, O(log n)" }
+}
+
+/// Chars and bytes at an index.
 impl Rope {
     index_methods!();
 }
 
-/// Lines by a [`LineType`].
+/// Lines by a `LineType`.
 impl Rope {
     line_methods!('_);
 }

@@ -2,8 +2,9 @@
 use crate::indices::index_methods;
 use crate::iter::iterator_methods;
 use crate::lines::{line_methods, takes_pairs};
-use crate::{Error, Rope, Scheme};
+use crate::{Error, LineType, Rope, Scheme};
 use core::ops::{self, Bound, RangeBounds};
+use str_indices_positions::conversions;
 
 /// A part of a rope's text, which borrows the rope and copies nothing. Its methods answer for this part as a [`Rope`] with that
 /// text alone answers: each index counts from where the part begins.
@@ -19,7 +20,7 @@ use core::ops::{self, Bound, RangeBounds};
 /// let slice = rope.slice(5..13)?;
 /// assert_eq!(slice, "two 🐸");
 /// assert_eq!((slice.len(), slice.len_chars(), slice.len_utf16()), (8, 5, 6));
-/// assert_eq!(rope.slice(..4)?.len_lines(LineType::LfCr), 2);
+/// assert_eq!(rope.slice(..4)?.len_lines(LineType::Crlf), 2);
 /// # Ok(())
 /// # }
 /// ```
@@ -100,6 +101,21 @@ impl<'a> RopeSlice<'a> {
         byte_idx <= self.len() && self.rope.is_char_boundary(self.start + byte_idx)
     }
 
+    /// Returns the byte indices of a line without its break; past the last line, an empty range at the end of the slice. Takes
+    /// at most nine searches, O(log n).
+    pub fn line_content(&self, lines: LineType, line_idx: usize) -> ops::Range<usize> {
+        let before = self.count_before(lines.into());
+        let bytes = self.rope.line_content(lines, before.saturating_add(line_idx));
+        let inside = |byte: usize| byte.clamp(self.start, self.end) - self.start;
+        inside(bytes.start)..inside(bytes.end)
+    }
+
+    /// Returns the byte index where the content of a line ends: before its break; for the last line, and past it,
+    /// [`RopeSlice::len`]. Takes at most nine searches, O(log n).
+    pub fn line_end(&self, lines: LineType, line_idx: usize) -> usize {
+        self.line_content(lines, line_idx).end
+    }
+
     /// Copies the bytes between two byte indices to the beginning of a room, and returns how many they are. Takes O(log n), and
     /// time in their number.
     ///
@@ -153,12 +169,6 @@ impl<'a> RopeSlice<'a> {
         self.start.saturating_add(byte_idx).min(self.end)
     }
 
-    /// The bytes of a range that the rope answered, as far as the slice has them, counted from where it begins.
-    pub(crate) fn cut(&self, bytes: ops::Range<usize>) -> ops::Range<usize> {
-        let inside = |byte: usize| byte.clamp(self.start, self.end) - self.start;
-        inside(bytes.start)..inside(bytes.end)
-    }
-
     /// The part of the slice that a range of it means.
     pub(crate) fn part(self, bytes: ops::Range<usize>) -> Result<RopeSlice<'a>, Error> {
         if bytes.end < bytes.start {
@@ -194,14 +204,26 @@ impl<'a> RopeSlice<'a> {
     }
 }
 
+/// Counts and conversions, by ropey's names.
+impl RopeSlice<'_> {
+    conversions! {
+        count: "two searches, O(log n)",
+        from_byte_idx: "two searches, O(log n)",
+        to_byte_idx: "two searches, O(log n)",
+    }
+}
+
+/// Chars and bytes at an index.
 impl<'a> RopeSlice<'a> {
     index_methods!();
 }
 
+/// Lines by a `LineType`.
 impl<'a> RopeSlice<'a> {
     line_methods!('a);
 }
 
+/// Parts and iterators.
 impl<'a> RopeSlice<'a> {
     iterator_methods!('a);
 }

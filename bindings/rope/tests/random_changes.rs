@@ -123,13 +123,12 @@ impl Pair {
             character: 6 + numbers.below(6),
         };
         let text = numbers.text(60);
-        let bytes = byte_of(encoding, &self.text, start)..byte_of(encoding, &self.text, end);
-        assert_eq!(
-            self.rope.byte_range(encoding, Range { start, end }),
-            Some(bytes.clone())
-        );
+        let byte = |position| byte_of(&self.text, LineType::Crlf, encoding, position);
+        let bytes = byte(start)..byte(end);
         let range = Range { start, end };
-        let is_exact = |position| exact_byte_of(encoding, &self.text, position).is_some();
+        let of_range = self.rope.byte_range(LineType::Crlf, encoding, range);
+        assert_eq!(of_range, Some(bytes.clone()));
+        let is_exact = |position| exact_byte_of(&self.text, LineType::Crlf, encoding, position).is_some();
         if is_exact(start) && is_exact(end) {
             self.rope.change_exact(encoding, range, &text).unwrap();
         } else {
@@ -208,41 +207,38 @@ impl Pair {
         for line_type in LINE_TYPES {
             of_rope::assert_line(rope, text, line_type, index);
         }
-        assert_eq!(rope.line_end(index, LineType::LfCr), line_end(text, index));
-        for encoding in ENCODINGS {
-            self.assert_positions(encoding, index);
+        for (lines, encoding) in LINE_TYPES
+            .into_iter()
+            .flat_map(|lines| ENCODINGS.map(|encoding| (lines, encoding)))
+        {
+            self.assert_positions(lines, encoding, index);
         }
     }
 
     /// Asks for positions by a number that is a byte index, and a line and an offset on it.
-    fn assert_positions(&self, encoding: Encoding, number: usize) {
+    fn assert_positions(&self, lines: LineType, encoding: Encoding, number: usize) {
         let (rope, text) = (&self.rope, &self.text);
-        assert_eq!(rope.position_of(encoding, number), position_of(encoding, text, number));
-        let breaks = count(Scheme::Crlf, text);
-        let position = Position {
-            line: number % (breaks + 2),
+        let here = position_of(text, lines, encoding, number);
+        assert_eq!(rope.position_of(lines, encoding, number), here);
+        let exact = rope.exact_position_of(lines, encoding, number);
+        assert_eq!(exact, exact_position_of(text, lines, encoding, number));
+        let there = Position {
+            line: number % (count(breaks(lines), text) + 2),
             character: number % 7,
         };
-        assert_eq!(
-            rope.byte_of(encoding, position),
-            byte_of(encoding, text, position),
-            "{position:?}"
-        );
-        assert_eq!(
-            rope.exact_byte_of(encoding, position),
-            exact_byte_of(encoding, text, position),
-            "{position:?}"
-        );
-        for lines in LINE_TYPES {
-            let here = position_by(lines, encoding, text, number);
-            assert_eq!(rope.position_by(lines, encoding, number), here);
-            let exact = rope.exact_position_by(lines, encoding, number);
-            assert_eq!(exact, exact_position_by(lines, encoding, text, number));
-            let byte = rope.byte_by(lines, encoding, position);
-            assert_eq!(byte, byte_by(lines, encoding, text, position), "{position:?}");
-            let end = position_by(lines, encoding, text, byte);
-            assert_eq!(rope.range_by(lines, encoding, number..byte), Range { start: here, end });
-        }
+        let byte = rope.byte_of(lines, encoding, there);
+        assert_eq!(byte, byte_of(text, lines, encoding, there), "{there:?}");
+        let exact = rope.exact_byte_of(lines, encoding, there);
+        assert_eq!(exact, exact_byte_of(text, lines, encoding, there), "{there:?}");
+        let span = number..byte;
+        let range = range_of(text, lines, encoding, span.clone());
+        assert_eq!(rope.range_of(lines, encoding, span), range);
+        let range = Range {
+            start: here,
+            end: there,
+        };
+        let bytes = byte_range(text, lines, encoding, range);
+        assert_eq!(rope.byte_range(lines, encoding, range), bytes, "{range:?}");
     }
 
     /// Compares a part with another text, by slices, ropes and plain texts.
@@ -284,7 +280,7 @@ impl Pair {
 fn random_range(encoding: Encoding, text: &str, numbers: &mut Numbers) -> Option<Range> {
     let from = numbers.boundary(text);
     let to = floor(text, text.len().min(from + numbers.below(40)));
-    let (start, end) = (position_of(encoding, text, from), position_of(encoding, text, to));
+    let [start, end] = [from, to].map(|byte| position_of(text, LineType::Crlf, encoding, byte));
     let further = |position: Position, more| Position {
         character: position.character + more,
         ..position
@@ -309,8 +305,8 @@ fn part_of(encoding: Encoding, is_exact: bool, text: &str, range: Option<Range>)
         return Err(Error::NotOrdered);
     }
     let byte = |position| match is_exact {
-        true => exact_byte_of(encoding, text, position).ok_or(Error::NotBoundary),
-        false => Ok(byte_of(encoding, text, position)),
+        true => exact_byte_of(text, LineType::Crlf, encoding, position).ok_or(Error::NotBoundary),
+        false => Ok(byte_of(text, LineType::Crlf, encoding, position)),
     };
     Ok(byte(start)?..byte(end)?)
 }

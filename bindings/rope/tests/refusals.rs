@@ -254,10 +254,17 @@ fn what_takes_no_memory_succeeds_where_all_is_refused() {
             (slice.count(Scheme::Lines), slice.len_chars()),
             (LINES - 1, 17 * (LINES - 1))
         );
-        assert_eq!(rope.lines(LineType::All).rev().count(), LINES + 1);
+        assert_eq!(rope.lines(LineType::Lines).rev().count(), LINES + 1);
         assert!(slice.chars().eq(whole[20..].chars()) && rope.chars().rev().eq(whole.chars().rev()));
-        assert_eq!(rope.line_content(7, LineType::Lf), 140..159);
-        assert_eq!(rope.byte_of(Encoding::Utf16, rope.position_of(Encoding::Utf16, 37)), 37);
+        assert_eq!(rope.line_content(LineType::Lf, 7), 140..159);
+        assert_eq!(
+            rope.byte_of(
+                LineType::Crlf,
+                Encoding::Utf16,
+                rope.position_of(LineType::Crlf, Encoding::Utf16, 37)
+            ),
+            37
+        );
         assert!(rope == clone && slice.trim_end() == whole[20..].trim_end() && slice < clone.slice(..).unwrap());
         assert_eq!(rope.copy_to(..20, &mut [0; 20]), Ok(20));
         rope.remove(..).unwrap();

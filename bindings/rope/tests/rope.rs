@@ -4,6 +4,7 @@ use model::{joined, Numbers, ENCODINGS};
 use std::error::Error as _;
 use std::fs;
 use std::ops;
+use str_indices_positions as whole;
 use str_rope::{Encoding, Error, LineType, Position, Range, Rope, MAX_CHUNK};
 
 /// Nine bytes: a break of two, and a char of four.
@@ -31,7 +32,7 @@ fn a_change_is_refused_and_the_text_stays() {
     assert_eq!(rope.replace(11.., "x"), Err(Error::NotOrdered));
     assert_eq!(rope.split_off(6).unwrap_err(), Error::NotBoundary);
     assert_eq!(rope.change(Encoding::Utf16, reversed, "x"), Err(Error::NotOrdered));
-    assert_eq!(rope.byte_range(Encoding::Utf16, reversed), None);
+    assert_eq!(rope.byte_range(LineType::Crlf, Encoding::Utf16, reversed), None);
     assert_eq!(rope, TEXT);
 }
 
@@ -87,12 +88,15 @@ fn the_empty_text() {
     assert_eq!(
         (
             rope.len_chars(),
-            rope.len_lines(LineType::All),
+            rope.len_lines(LineType::Lines),
             rope.char_to_byte_idx(7)
         ),
         (0, 1, 0)
     );
-    assert_eq!(rope.position_of(Encoding::Utf16, 7), Position { line: 0, character: 0 });
+    assert_eq!(
+        rope.position_of(LineType::Crlf, Encoding::Utf16, 7),
+        Position { line: 0, character: 0 }
+    );
     rope.assign(TEXT).unwrap();
     rope.remove(..).unwrap();
     assert_eq!((&rope, rope.to_string()), (&Rope::new(), String::new()));
@@ -183,9 +187,10 @@ fn positions_are_those_of_the_whole_text() {
     for _ in 0..500 {
         let byte = numbers.below(text.len() + 2);
         for encoding in ENCODINGS {
-            let position = rope.position_of(encoding, byte);
-            assert_eq!(position, encoding.position_of(&text, byte));
-            assert_eq!(rope.byte_of(encoding, position), encoding.byte_of(&text, position));
+            let position = rope.position_of(LineType::Crlf, encoding, byte);
+            assert_eq!(position, whole::position_of(&text, LineType::Crlf, encoding, byte));
+            let of_position = whole::byte_of(&text, LineType::Crlf, encoding, position);
+            assert_eq!(rope.byte_of(LineType::Crlf, encoding, position), of_position);
         }
     }
 }
@@ -245,25 +250,30 @@ fn worked_kinds_of_lines() {
             Some(at(0, 8)),
         ),
         (
-            LineType::All,
+            LineType::Lines,
             [0..1, 4..5, 6..7],
             [at(0, 1), at(1, 1), at(3, 0), at(4, 0)],
             None,
         ),
     ] {
         let e = Encoding::Utf16;
-        assert_eq!([0, 1, 2].map(|line| rope.line_content(line, lines)), contents);
-        assert_eq!([2, 5, 8, 11].map(|byte| rope.position_by(lines, e, byte)), positions);
-        assert_eq!(rope.exact_position_by(lines, e, 10), middle);
+        assert_eq!([0, 1, 2].map(|line| rope.line_content(lines, line)), contents);
+        assert_eq!([2, 5, 8, 11].map(|byte| rope.position_of(lines, e, byte)), positions);
+        assert_eq!(rope.exact_position_of(lines, e, 10), middle);
         assert_eq!(
-            [2, usize::MAX].map(|byte| rope.exact_position_by(lines, e, byte)),
+            [2, usize::MAX].map(|byte| rope.exact_position_of(lines, e, byte)),
             [None, None]
         );
         let range = Range {
             start: positions[1],
             end: positions[3],
         };
-        assert_eq!(rope.range_by(lines, e, 5..11), range);
-        assert_eq!([1, 2, 3].map(|i| rope.byte_by(lines, e, positions[i])), [5, 8, 11]);
+        assert_eq!(rope.range_of(lines, e, 5..11), range);
+        assert_eq!(rope.byte_range(lines, e, range), Some(5..11));
+        assert_eq!([1, 2, 3].map(|i| rope.byte_of(lines, e, positions[i])), [5, 8, 11]);
+        let exact = [1, 2, 3].map(|i| rope.exact_byte_of(lines, e, positions[i]));
+        assert_eq!(exact, [Some(5), Some(8), Some(11)]);
+        // past the end of the second line
+        assert_eq!(rope.exact_byte_of(lines, e, at(1, 4)), None);
     }
 }

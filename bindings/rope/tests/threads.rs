@@ -23,13 +23,16 @@ fn at(line: usize, character: usize) -> Position {
 /// Asks about a line, and about the bytes before and after its frog.
 fn ask(rope: &Rope, line: usize) {
     let start = line * LINE.len();
-    assert_eq!(rope.line_content(line, LineType::LfCr), start..start + 18);
-    assert!(rope.line(line, LineType::All).unwrap() == *LINE);
+    assert_eq!(rope.line_content(LineType::Crlf, line), start..start + 18);
+    assert!(rope.line(line, LineType::Lines).unwrap() == *LINE);
     assert_eq!(rope.to_byte_idx(Scheme::Chars, 17 * line), start);
     assert_eq!(rope.from_byte_idx(Scheme::Utf16, start + 17), 18 * line + 15);
-    assert_eq!(rope.position_of(Encoding::Utf16, start + 17), at(line, 15));
-    assert_eq!(rope.byte_of(Encoding::Utf16, at(line, 15)), start + 17);
-    assert_eq!(rope.exact_byte_of(Encoding::Utf16, at(line, 14)), None);
+    assert_eq!(
+        rope.position_of(LineType::Crlf, Encoding::Utf16, start + 17),
+        at(line, 15)
+    );
+    assert_eq!(rope.byte_of(LineType::Crlf, Encoding::Utf16, at(line, 15)), start + 17);
+    assert_eq!(rope.exact_byte_of(LineType::Crlf, Encoding::Utf16, at(line, 14)), None);
     assert_eq!(rope.chars_at(start + 13).next(), Some('🐸'));
     assert_eq!(rope.slice(start + 14..), Err(Error::NotBoundary));
     assert!(rope.slice(start..start + LINE.len()).unwrap() == *LINE);
@@ -62,7 +65,7 @@ struct Typing {
 impl Typing {
     fn change(&mut self, nth: usize) -> Result<(), Error> {
         if nth % 8 == 0 {
-            self.at = self.rope.line_to_byte_idx(nth * 7919 % LINES, LineType::LfCr);
+            self.at = self.rope.line_to_byte_idx(nth * 7919 % LINES, LineType::Crlf);
         }
         if nth % 8 < 5 {
             self.rope.insert(self.at, "#")?;
@@ -139,7 +142,7 @@ fn threads_walk_slices_of_one_rope() {
         rope.chars(),
         rope.char_indices(),
         rope.chunks(),
-        rope.lines(LineType::All),
+        rope.lines(LineType::Lines),
     ));
     thread::scope(|scope| {
         for nth in 0..4 {

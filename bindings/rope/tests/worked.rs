@@ -98,28 +98,31 @@ fn worked_boundaries_bytes_and_chars() {
 #[test]
 fn worked_lines() {
     let rope = Rope::from(TEXT);
-    let types = [LineType::Lf, LineType::LfCr, LineType::All];
+    let types = [LineType::Lf, LineType::Crlf, LineType::Lines];
     assert_eq!(types.map(|lines| rope.len_lines(lines)), [3, 3, 4]);
     let starts = |lines| [0, 1, 2, 3, 4].map(|line| rope.line_to_byte_idx(line, lines));
-    assert_eq!(starts(LineType::LfCr), [0, 3, 14, 14, 14]);
-    assert_eq!(starts(LineType::All), [0, 3, 12, 14, 14]);
+    assert_eq!(starts(LineType::Crlf), [0, 3, 14, 14, 14]);
+    assert_eq!(starts(LineType::Lines), [0, 3, 12, 14, 14]);
     assert_eq!(
-        at_each(|byte| rope.byte_to_line_idx(byte, LineType::All)),
+        at_each(|byte| rope.byte_to_line_idx(byte, LineType::Lines)),
         [0, 0, 0, 1, 1, 1, 1, 1, 1, 1, 1, 1, 2, 2, 3, 3]
     );
-    assert_eq!(strings(rope.lines(LineType::All)), ["a\r\n", "🐸é\u{2028}", "b\n", ""]);
     assert_eq!(
-        strings(rope.lines(LineType::LfCr).rev()),
+        strings(rope.lines(LineType::Lines)),
+        ["a\r\n", "🐸é\u{2028}", "b\n", ""]
+    );
+    assert_eq!(
+        strings(rope.lines(LineType::Crlf).rev()),
         ["", "🐸é\u{2028}b\n", "a\r\n"]
     );
-    assert_eq!(strings(rope.lines_at(1, LineType::All).reversed()), ["a\r\n"]);
-    assert_eq!(rope.line(3, LineType::All).unwrap(), "");
-    assert_eq!(rope.line(4, LineType::All), None);
+    assert_eq!(strings(rope.lines_at(1, LineType::Lines).reversed()), ["a\r\n"]);
+    assert_eq!(rope.line(3, LineType::Lines).unwrap(), "");
+    assert_eq!(rope.line(4, LineType::Lines), None);
     assert_eq!(rope.line(usize::MAX, LineType::Lf), None);
-    let contents = |lines| [0, 1, 2, 9].map(|line| rope.line_content(line, lines));
+    let contents = |lines| [0, 1, 2, 9].map(|line| rope.line_content(lines, line));
     assert_eq!(contents(LineType::Lf), [0..2, 3..13, 14..14, 14..14]);
-    assert_eq!(contents(LineType::All), [0..1, 3..9, 12..13, 14..14]);
-    assert_eq!([0, 1, 9].map(|line| rope.line_end(line, LineType::LfCr)), [1, 13, 14]);
+    assert_eq!(contents(LineType::Lines), [0..1, 3..9, 12..13, 14..14]);
+    assert_eq!([0, 1, 9].map(|line| rope.line_end(LineType::Crlf, line)), [1, 13, 14]);
 }
 
 /// A part that begins or ends between CR and LF has a break there.
@@ -127,30 +130,30 @@ fn worked_lines() {
 fn worked_lines_of_slices_through_a_break() {
     let rope = Rope::from("a\r\nb");
     let (front, back) = (rope.slice(..2).unwrap(), rope.slice(2..).unwrap());
-    let types = [LineType::Lf, LineType::LfCr, LineType::All];
+    let types = [LineType::Lf, LineType::Crlf, LineType::Lines];
     assert_eq!(types.map(|lines| front.len_lines(lines)), [1, 2, 2]);
     assert_eq!(types.map(|lines| back.len_lines(lines)), [2, 2, 2]);
-    assert_eq!(strings(front.lines(LineType::LfCr)), ["a\r", ""]);
+    assert_eq!(strings(front.lines(LineType::Crlf)), ["a\r", ""]);
     assert_eq!(strings(front.lines(LineType::Lf)), ["a\r"]);
-    assert_eq!(strings(back.lines(LineType::All)), ["\n", "b"]);
+    assert_eq!(strings(back.lines(LineType::Lines)), ["\n", "b"]);
     assert_eq!(
-        [0, 1, 2, 9].map(|byte| front.byte_to_line_idx(byte, LineType::LfCr)),
+        [0, 1, 2, 9].map(|byte| front.byte_to_line_idx(byte, LineType::Crlf)),
         [0, 0, 1, 1]
     );
     assert_eq!(
-        [0, 1, 2].map(|line| front.line_to_byte_idx(line, LineType::LfCr)),
+        [0, 1, 2].map(|line| front.line_to_byte_idx(line, LineType::Crlf)),
         [0, 2, 2]
     );
     assert_eq!(
-        [0, 1].map(|line| front.line_content(line, LineType::LfCr)),
+        [0, 1].map(|line| front.line_content(LineType::Crlf, line)),
         [0..1, 2..2]
     );
-    assert_eq!([0, 1].map(|line| back.line_content(line, LineType::LfCr)), [0..0, 1..2]);
+    assert_eq!([0, 1].map(|line| back.line_content(LineType::Crlf, line)), [0..0, 1..2]);
     let between = rope.slice(2..2).unwrap();
     assert_eq!(types.map(|lines| between.len_lines(lines)), [1, 1, 1]);
-    assert_eq!(strings(between.lines(LineType::All)), [""]);
+    assert_eq!(strings(between.lines(LineType::Lines)), [""]);
     let middle = rope.slice(1..3).unwrap();
-    assert_eq!(strings(middle.lines(LineType::LfCr)), ["\r\n", ""]);
+    assert_eq!(strings(middle.lines(LineType::Crlf)), ["\r\n", ""]);
 }
 
 #[test]
@@ -249,10 +252,10 @@ fn the_empty_text_has_no_item_and_one_line() {
         (None, None, None, Some(""))
     );
     assert_eq!((rope.floor_char_boundary(3), rope.ceil_char_boundary(3)), (0, 0));
-    for lines in [LineType::Lf, LineType::LfCr, LineType::All] {
+    for lines in [LineType::Lf, LineType::Crlf, LineType::Lines] {
         assert_eq!(strings(rope.lines(lines)), [""]);
         assert_eq!(strings(rope.lines(lines).rev()), [""]);
-        assert_eq!((rope.len_lines(lines), rope.line_content(0, lines)), (1, 0..0));
+        assert_eq!((rope.len_lines(lines), rope.line_content(lines, 0)), (1, 0..0));
         assert_eq!((rope.line(0, lines).unwrap().len(), rope.line(1, lines)), (0, None));
     }
     let slice = rope.slice(..).unwrap();

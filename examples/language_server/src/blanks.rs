@@ -95,7 +95,7 @@ pub fn blanks_in(
 ) -> Result<Vec<Span>, Fault> {
     let start_of = |line| rope.line_to_byte_idx(line, units.lines);
     let tail_of = |line| {
-        let end = rope.line_end(line, units.lines);
+        let end = rope.line_end(units.lines, line);
         let start = end.saturating_sub(longest).max(start_of(line));
         rope.floor_char_boundary(start)..end
     };
@@ -175,7 +175,7 @@ mod tests {
     fn all_units() -> impl Iterator<Item = Units> {
         let encodings = [Encoding::Utf8, Encoding::Utf16, Encoding::Utf32];
         let by_lines = move |lines| encodings.map(|encoding| Units { encoding, lines });
-        [LineType::LfCr, LineType::Lf].into_iter().flat_map(by_lines)
+        [LineType::Crlf, LineType::Lf].into_iter().flat_map(by_lines)
     }
 
     #[test]

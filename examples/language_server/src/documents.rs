@@ -179,12 +179,12 @@ impl Text {
     fn place(&self, position: Position) -> Option<usize> {
         let Units { encoding, lines } = self.units;
         let len_lines = self.rope.len_lines(lines);
-        let byte = self.rope.byte_by(lines, encoding, position);
+        let byte = self.rope.byte_of(lines, encoding, position);
         let is_end =
             position == Position::from_u32(GREATEST, GREATEST) || (position.line, position.character) == (len_lines, 0);
         let is_past_line =
-            position.line < len_lines && byte == self.rope.line_end(position.line, lines) && !self.has_lone_return();
-        let names_one = is_end || is_past_line || self.rope.position_by(lines, encoding, byte) == position;
+            position.line < len_lines && byte == self.rope.line_end(lines, position.line) && !self.has_lone_return();
+        let names_one = is_end || is_past_line || self.rope.position_of(lines, encoding, byte) == position;
         names_one.then_some(byte)
     }
 
@@ -206,7 +206,7 @@ impl Text {
     /// What a place is by each index, and the range of its char, as a `Hover`.
     pub fn hover(&self, place: Place) -> Result<Value, Fault> {
         let Units { encoding, lines } = self.units;
-        let byte = self.rope.byte_by(lines, encoding, place.position());
+        let byte = self.rope.byte_of(lines, encoding, place.position());
         let index = |scheme| self.rope.from_byte_idx(scheme, byte);
         let (char, unit, line) = (
             index(Scheme::Chars),

@@ -62,7 +62,7 @@ fn options(words: Vec<OsString>) -> Option<Options> {
             "--lines" => {
                 options.lines = Some(match words.next()?.to_str()? {
                     "lf" => LineType::Lf,
-                    "protocol" => LineType::LfCr,
+                    "protocol" => LineType::Crlf,
                     _ => return None,
                 })
             }

@@ -30,7 +30,7 @@ pub struct Units {
 
 impl Units {
     fn place(self, rope: &Rope, byte: usize) -> Result<Place, Fault> {
-        let (line, character) = rope.position_by(self.lines, self.encoding, byte).to_u32()?;
+        let (line, character) = rope.position_of(self.lines, self.encoding, byte).to_u32()?;
         Ok(Place { line, character })
     }
 
@@ -147,7 +147,7 @@ impl Initialize<'_> {
         let info: Option<ClientInfo> = self.client_info.and_then(|info| serde_json::from_str(info.get()).ok());
         match info.is_some_and(|info| LF_CLIENTS.contains(&&*info.name)) {
             true => LineType::Lf,
-            false => LineType::LfCr,
+            false => LineType::Crlf,
         }
     }
 

@@ -54,7 +54,7 @@ impl Server {
             lines,
             units: Units {
                 encoding: Encoding::default(),
-                lines: LineType::LfCr,
+                lines: LineType::Crlf,
             },
             is_asked_for_warnings: false,
             phase: Phase::Started,

@@ -2,13 +2,14 @@
 //! The tests of those crates take it in.
 // Each file of tests takes what it needs.
 #![allow(dead_code)]
-use str_indices_positions::{Encoding, LineType, Position, Scheme};
+use core::ops;
+use str_indices_positions::{Encoding, LineType, Position, Range, Scheme};
 
 pub const SCHEMES: [Scheme; 5] = [Scheme::Chars, Scheme::Utf16, Scheme::Lf, Scheme::Crlf, Scheme::Lines];
 
 pub const ENCODINGS: [Encoding; 3] = [Encoding::Utf8, Encoding::Utf16, Encoding::Utf32];
 
-pub const LINE_TYPES: [LineType; 3] = [LineType::Lf, LineType::LfCr, LineType::All];
+pub const LINE_TYPES: [LineType; 3] = [LineType::Lf, LineType::Crlf, LineType::Lines];
 
 /// Every kind of line break, chars of every length, combining chars, and chars whose bytes look like a break's.
 const CHARS: &str =
@@ -124,60 +125,55 @@ pub fn to_byte_idx(scheme: Scheme, text: &str, index: usize) -> usize {
     }
 }
 
-/// Where a line begins, by the protocol's rules, and where its content ends.
-pub fn line(text: &str, line: usize) -> (usize, usize) {
-    line_by(LineType::LfCr, text, line)
+/// The bytes of a line without its break.
+pub fn line(text: &str, lines: LineType, line: usize) -> ops::Range<usize> {
+    let [start, end] = [line, line.saturating_add(1)].map(|line| to_byte_idx(breaks(lines), text, line));
+    start..start + content(lines, &text[start..end]).len()
 }
 
-pub fn line_end(text: &str, index: usize) -> usize {
-    line(text, index).1
+pub fn position_of(text: &str, lines: LineType, encoding: Encoding, byte: usize) -> Position {
+    let number = from_byte_idx(breaks(lines), text, byte);
+    let bytes = line(text, lines, number);
+    Position {
+        line: number,
+        character: units(encoding, &text[bytes.start..floor(text, byte).min(bytes.end)]),
+    }
 }
 
-pub fn position_of(encoding: Encoding, text: &str, byte: usize) -> Position {
-    position_by(LineType::LfCr, encoding, text, byte)
+pub fn exact_position_of(text: &str, lines: LineType, encoding: Encoding, byte: usize) -> Option<Position> {
+    let position = position_of(text, lines, encoding, byte);
+    (byte_of(text, lines, encoding, position) == byte).then_some(position)
 }
 
-pub fn byte_of(encoding: Encoding, text: &str, position: Position) -> usize {
-    byte_by(LineType::LfCr, encoding, text, position)
+pub fn range_of(text: &str, lines: LineType, encoding: Encoding, span: ops::Range<usize>) -> Range {
+    let [start, end] = [span.start, span.end].map(|byte| position_of(text, lines, encoding, byte));
+    Range { start, end }
 }
 
-pub fn exact_byte_of(encoding: Encoding, text: &str, position: Position) -> Option<usize> {
-    let byte = byte_of(encoding, text, position);
-    (position_of(encoding, text, byte) == position).then_some(byte)
-}
-
-/// Where a line begins, and where its content ends.
-pub fn line_by(line_type: LineType, text: &str, line: usize) -> (usize, usize) {
-    let [start, end] = [line, line.saturating_add(1)].map(|line| to_byte_idx(breaks(line_type), text, line));
-    (start, start + content(line_type, &text[start..end]).len())
-}
-
-pub fn position_by(line_type: LineType, encoding: Encoding, text: &str, byte: usize) -> Position {
-    let line = from_byte_idx(breaks(line_type), text, byte);
-    let (start, end) = line_by(line_type, text, line);
-    let character = units(encoding, &text[start..floor(text, byte).min(end)]);
-    Position { line, character }
-}
-
-pub fn byte_by(line_type: LineType, encoding: Encoding, text: &str, position: Position) -> usize {
-    if position.line > count(breaks(line_type), text) {
+pub fn byte_of(text: &str, lines: LineType, encoding: Encoding, position: Position) -> usize {
+    if position.line > count(breaks(lines), text) {
         return text.len();
     }
-    let (start, end) = line_by(line_type, text, position.line);
-    start + boundary_within(encoding, &text[start..end], position.character)
+    let bytes = line(text, lines, position.line);
+    bytes.start + boundary_within(encoding, &text[bytes], position.character)
 }
 
-pub fn exact_position_by(line_type: LineType, encoding: Encoding, text: &str, byte: usize) -> Option<Position> {
-    let position = position_by(line_type, encoding, text, byte);
-    (byte_by(line_type, encoding, text, position) == byte).then_some(position)
+pub fn exact_byte_of(text: &str, lines: LineType, encoding: Encoding, position: Position) -> Option<usize> {
+    let byte = byte_of(text, lines, encoding, position);
+    (position_of(text, lines, encoding, byte) == position).then_some(byte)
+}
+
+pub fn byte_range(text: &str, lines: LineType, encoding: Encoding, range: Range) -> Option<ops::Range<usize>> {
+    let byte = |position| byte_of(text, lines, encoding, position);
+    (range.start <= range.end).then(|| byte(range.start)..byte(range.end))
 }
 
 /// The scheme of a line type's breaks.
 pub fn breaks(line_type: LineType) -> Scheme {
     match line_type {
         LineType::Lf => Scheme::Lf,
-        LineType::LfCr => Scheme::Crlf,
-        LineType::All => Scheme::Lines,
+        LineType::Crlf => Scheme::Crlf,
+        LineType::Lines => Scheme::Lines,
     }
 }
 

@@ -100,11 +100,11 @@ macro_rules! answers {
                 let content = content(line_type, wanted.unwrap_or_default());
                 let range = start..start + content.len();
                 assert_eq!(
-                    lent.line_content(number, line_type),
+                    lent.line_content(line_type, number),
                     range,
                     "{line_type:?} {text:?}"
                 );
-                assert_eq!(lent.line_end(number, line_type), range.end);
+                assert_eq!(lent.line_end(line_type, number), range.end);
             }
 
             /// Goes over bytes and chars.

@@ -14,7 +14,7 @@ type Result<T> = std::result::Result<T, Box<dyn Error>>;
 const ENCODING: Encoding = Encoding::Utf16;
 
 /// A line ends in LF, CR or CR LF, by the protocol.
-const LINES: LineType = LineType::LfCr;
+const LINES: LineType = LineType::Crlf;
 
 /// The protocol's `RequestFailed` and `MethodNotFound`.
 const FAILED: i32 = -32803;
@@ -145,7 +145,7 @@ impl Server {
     fn hover(&self, params: &Value) -> Result<Value> {
         let document = self.documents.get(&uri(params)?).ok_or("the document is not open")?;
         let rope = document.as_ref().ok_or("the document is out of step: open it again")?;
-        let byte = rope.byte_of(ENCODING, position(&params["position"])?);
+        let byte = rope.byte_of(LINES, ENCODING, position(&params["position"])?);
         let char = rope.from_byte_idx(Scheme::Chars, byte);
         let line = rope.byte_to_line_idx(byte, LINES);
         Ok(json!({ "contents": format!("byte {byte}, char {char}, line {line}") }))
