@@ -101,7 +101,7 @@ export class LongText {
     const within = Math.min(byte, this.length);
     const end = this.#blockOf("bytes", within);
     const text = this.#indices.text(this.bytes(begins, end ? end.before.bytes + end.own.bytes : 0));
-    const found = text.positions[encoding].positionOf(within - begins);
+    const found = text.positionOf("crlf", encoding, within - begins);
     return { line: line + found.line, character: found.character };
   }
 

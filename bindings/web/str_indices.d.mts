@@ -4,7 +4,13 @@ export type Source = string | Uint8Array;
 /** A whole number from 0 on, or `Infinity`; anything else is a `RangeError`. */
 export type Index = number | bigint;
 
-/** A position of a language server: a line, by LF, CR or CR LF, and the units on it before the place. */
+/** What ends a line: LF; LF, CR or CR LF, as a language server has it; or any line break of Unicode. */
+export type LineType = "lf" | "crlf" | "lines";
+
+/** What an offset on a line counts: bytes; UTF-16 code units, as a language server has them by default; or chars. */
+export type Encoding = "utf8" | "utf16" | "utf32";
+
+/** A position of a language server: a line, and the units on it before the place. */
 export interface Position {
   readonly line: number;
   readonly character: number;
@@ -67,29 +73,26 @@ export interface Lines<Text extends First> extends Conversions<Text> {
   readonly countBreaks: (...args: Text) => number;
 }
 
-export interface Encoding<Text extends First> {
-  /** The position of a byte; past the end, that of the end. */
-  readonly positionOf: (...args: [...text: Text, byteIndex: Index]) => Position;
-  /** The byte of a position; past the end of its line, the line's end, before its break. */
-  readonly byteOf: (...args: [...text: Text, position: Place]) => number;
-  /** The byte of a position that names a place; `null` where there is no such line, past the line's end or inside a char. */
-  readonly exactByteOf: (...args: [...text: Text, position: Place]) => number | null;
-  /** The bytes of a range, each as `byteOf` answers it; `null` where the end is before the start. */
-  readonly byteRange: (...args: [...text: Text, range: Places]) => Bytes | null;
-}
-
-export interface Positions<Text extends First> {
+export interface Questions<Text extends First> {
+  /** The bytes of a line without its break; past the last line none, at the end of the text. */
+  readonly line: (...args: [...text: Text, lines: LineType, line: Index]) => Bytes;
   /** The byte where the content of a line ends, before its break. */
-  readonly lineEnd: (...args: [...text: Text, line: Index]) => number;
-  /** Offsets on a line in bytes. */
-  readonly utf8: Encoding<Text>;
-  /** Offsets on a line in UTF-16 code units, as a language server has them by default. */
-  readonly utf16: Encoding<Text>;
-  /** Offsets on a line in chars. */
-  readonly utf32: Encoding<Text>;
+  readonly lineEnd: (...args: [...text: Text, lines: LineType, line: Index]) => number;
+  /** The position of a byte; past the end, that of the end. */
+  readonly positionOf: (...args: [...text: Text, lines: LineType, encoding: Encoding, byteIndex: Index]) => Position;
+  /** The position of a byte that is a place on a line; `null` inside a char or a break, and past the end. */
+  readonly exactPositionOf: (...args: [...text: Text, lines: LineType, encoding: Encoding, byteIndex: Index]) => Position | null;
+  /** The positions of both ends of a span of bytes, each as `positionOf` answers it. */
+  readonly rangeOf: (...args: [...text: Text, lines: LineType, encoding: Encoding, bytes: Span]) => Range;
+  /** The byte of a position; past the end of its line, the line's end, before its break. */
+  readonly byteOf: (...args: [...text: Text, lines: LineType, encoding: Encoding, position: Place]) => number;
+  /** The byte of a position that names a place; `null` where there is no such line, past the line's end or inside a char. */
+  readonly exactByteOf: (...args: [...text: Text, lines: LineType, encoding: Encoding, position: Place]) => number | null;
+  /** The bytes of a range, each as `byteOf` answers it; `null` where the end is before the start. */
+  readonly byteRange: (...args: [...text: Text, lines: LineType, encoding: Encoding, range: Places]) => Bytes | null;
 }
 
-export interface Functions<Text extends First> {
+export interface Functions<Text extends First> extends Questions<Text> {
   readonly chars: Chars<Text>;
   readonly utf16: Utf16<Text>;
   /** Lines that end in LF. */
@@ -98,33 +101,10 @@ export interface Functions<Text extends First> {
   readonly linesCrlf: Lines<Text>;
   /** Lines that end in any line break of Unicode. */
   readonly lines: Lines<Text>;
-  readonly positions: Positions<Text>;
-}
-
-export interface KnownLines extends Lines<[]> {
-  /** The bytes of a line without its break; past the last line none, at the end of the text. */
-  readonly lineContent: (line: Index) => Bytes;
-}
-
-export interface KnownEncoding extends Encoding<[]> {
-  /** The position of a byte that is a place on a line; `null` inside a char, between CR and LF, and past the end. */
-  readonly exactPositionOf: (byteIndex: Index) => Position | null;
-  /** The positions of both ends of a span of bytes, each as `positionOf` answers it. */
-  readonly rangeOf: (bytes: Span) => Range;
-}
-
-export interface KnownPositions extends Positions<[]> {
-  readonly utf8: KnownEncoding;
-  readonly utf16: KnownEncoding;
-  readonly utf32: KnownEncoding;
 }
 
 /** A text with its index, for many questions, none of which goes over the text. */
 export interface KnownText extends Functions<[]> {
-  readonly linesLf: KnownLines;
-  readonly linesCrlf: KnownLines;
-  readonly lines: KnownLines;
-  readonly positions: KnownPositions;
   /** How many bytes the text takes in UTF-8. */
   readonly length: number;
   /** These bytes, as an array of the caller's own. */

@@ -1,6 +1,6 @@
 // Counts the chars, UTF-16 code units and line breaks of a text, converts between those indices and byte indices of its
-// UTF-8 form, and maps byte indices to and from positions of a language server, by the proved functions of `str_indices`,
-// `positions` and `text_index` as WebAssembly.
+// UTF-8 form, tells its lines, and maps byte indices to and from positions of a language server, by the proved functions of
+// `str_indices`, `positions` and `text_index` as WebAssembly.
 //
 //     import { load } from "./str_indices.mjs";
 //
@@ -8,11 +8,12 @@
 //     indices.utf16.toByteIdx("a🐸b", 3);             // 5
 //     const text = indices.text("one\r\ntwo");        // gets an index, for many questions
 //     text.linesCrlf.toByteIdx(1);                    // 5
-//     text.positions.utf16.positionOf(6);             // { line: 1, character: 1 }
+//     text.positionOf("crlf", "utf16", 6);            // { line: 1, character: 1 }
 //
 // A text is a string, or its bytes as a `Uint8Array`. A string is encoded as UTF-8, where a lone surrogate becomes
 // U+FFFD; bytes that are not UTF-8 are a `TypeError`. An index is a number or a BigInt from 0 on, or `Infinity`, and
-// anything else a `RangeError`; each index past the end has an answer. Answers are numbers; `exactByteOf`, `byteRange` and
+// anything else a `RangeError`; each index past the end has an answer. What ends a line is "lf", "crlf" or "lines", and what
+// an offset on a line counts is "utf8", "utf16" or "utf32". Answers are numbers; `exactByteOf`, `byteRange` and
 // `exactPositionOf` answer `null` where there is none.
 
 const GREATEST = 2n ** 64n - 1n;
@@ -29,12 +30,24 @@ const FILLED = 0;
 // a module that has one page of memory with 64-bit addresses
 const WIDE_MEMORY = new Uint8Array([0, 0x61, 0x73, 0x6d, 1, 0, 0, 0, 5, 3, 1, 4, 1]);
 
-// the numbers by which the exports over an index know what is counted, and in which units
+// the numbers by which the exports know what is counted, what ends a line, and what an offset on a line counts
 const SCHEME_NUMBERS = { chars: 0, utf16: 1, linesLf: 2, linesCrlf: 3, lines: 4 };
-const ENCODING_NUMBERS = { utf8: 5, utf16: 1, utf32: 0 };
-const LINES = ["linesLf", "linesCrlf", "lines"];
+const LINE_TYPE_NUMBERS = new Map([["lf", 2], ["crlf", 3], ["lines", 4]]);
+const ENCODING_NUMBERS = new Map([["utf8", 5], ["utf16", 1], ["utf32", 0]]);
 
-// each function by its name here, its name in the exports, and what it takes beside the text
+// each question about lines and positions by its name here, its name in the exports, and what it takes beside the text
+const QUESTIONS = [
+  ["line", "line", askLine],
+  ["lineEnd", "line_end", askLineEnd],
+  ["positionOf", "position_of", askPositionOf],
+  ["exactPositionOf", "exact_position_of", askExactPositionOf],
+  ["rangeOf", "range_of", askRangeOf],
+  ["byteOf", "byte_of", askByteOf],
+  ["exactByteOf", "exact_byte_of", askExactByteOf],
+  ["byteRange", "byte_range", askByteRange],
+];
+
+// each function over a text, in the same way
 const FUNCTIONS = [
   ["chars.count", "chars_count", askCount],
   ["chars.fromByteIdx", "chars_from_byte_idx", askIndex],
@@ -52,39 +65,18 @@ const FUNCTIONS = [
   ["lines.countBreaks", "lines_count_breaks", askCount],
   ["lines.fromByteIdx", "lines_from_byte_idx", askIndex],
   ["lines.toByteIdx", "lines_to_byte_idx", askIndex],
-  ["positions.lineEnd", "line_end", askIndex],
-  ["positions.utf8.positionOf", "utf8_position_of", askPositionOf],
-  ["positions.utf8.byteOf", "utf8_byte_of", askByteOf],
-  ["positions.utf8.exactByteOf", "utf8_exact_byte_of", askExactByteOf],
-  ["positions.utf8.byteRange", "utf8_byte_range", askByteRange],
-  ["positions.utf16.positionOf", "position_of", askPositionOf],
-  ["positions.utf16.byteOf", "byte_of", askByteOf],
-  ["positions.utf16.exactByteOf", "exact_byte_of", askExactByteOf],
-  ["positions.utf16.byteRange", "byte_range", askByteRange],
-  ["positions.utf32.positionOf", "utf32_position_of", askPositionOf],
-  ["positions.utf32.byteOf", "utf32_byte_of", askByteOf],
-  ["positions.utf32.exactByteOf", "utf32_exact_byte_of", askExactByteOf],
-  ["positions.utf32.byteRange", "utf32_byte_range", askByteRange],
+  ...QUESTIONS,
 ];
 
-// each function over a text that is known: the same, with the numbers that its export over an index takes after that
+// each function over a text that is known: the same, with the number that its export over an index takes after that
 const KNOWN_FUNCTIONS = [
   ...Object.entries(SCHEME_NUMBERS).flatMap(([module, scheme]) => [
-    [`${module}.${LINES.includes(module) ? "countBreaks" : "count"}`, "count", askKnownCount, scheme],
+    [`${module}.${module.startsWith("lines") ? "countBreaks" : "count"}`, "count", askKnownCount, scheme],
     [`${module}.fromByteIdx`, "from_byte_idx", askIndex, scheme],
     [`${module}.toByteIdx`, "to_byte_idx", askIndex, scheme],
   ]),
   ["utf16.countSurrogates", "count", askKnownSurrogates],
-  ...LINES.map((module) => [`${module}.lineContent`, "line_by", askBytes, SCHEME_NUMBERS[module]]),
-  ["positions.lineEnd", "line_end", askIndex],
-  ...Object.entries(ENCODING_NUMBERS).flatMap(([encoding, number]) => [
-    [`positions.${encoding}.positionOf`, "position_of", askPositionOf, number],
-    [`positions.${encoding}.exactPositionOf`, "exact_position_by", askExactPositionOf, SCHEME_NUMBERS.linesCrlf, number],
-    [`positions.${encoding}.rangeOf`, "range_by", askRangeOf, SCHEME_NUMBERS.linesCrlf, number],
-    [`positions.${encoding}.byteOf`, "byte_of", askByteOf, number],
-    [`positions.${encoding}.exactByteOf`, "exact_byte_of", askExactByteOf, number],
-    [`positions.${encoding}.byteRange`, "byte_range", askByteRange, number],
-  ]),
+  ...QUESTIONS,
 ];
 
 /** Whether this engine has WebAssembly with 64-bit memory, which the functions want. */
@@ -356,38 +348,56 @@ function askIndex(machine, asked, text, index) {
   return machine.number(asked, text, wideIndex(index));
 }
 
-function askBytes(machine, asked, text, index) {
-  return bytesOf(machine.numbers(2, asked, text, wideIndex(index)));
+function askLine(machine, asked, text, lines, line) {
+  return bytesOf(machine.numbers(2, asked, text, lineType(lines), wideIndex(line)));
 }
 
-function askPositionOf(machine, asked, text, byte) {
-  return positionOf(machine.numbers(2, asked, text, wideIndex(byte)));
+function askLineEnd(machine, asked, text, lines, line) {
+  return machine.number(asked, text, lineType(lines), wideIndex(line));
 }
 
-function askExactPositionOf(machine, asked, text, byte) {
-  const numbers = machine.numbers(2, asked, text, wideIndex(byte));
+function askPositionOf(machine, asked, text, lines, encoding, byte) {
+  return positionOf(machine.numbers(2, asked, text, lineType(lines), encodingOf(encoding), wideIndex(byte)));
+}
+
+function askExactPositionOf(machine, asked, text, lines, encoding, byte) {
+  const numbers = machine.numbers(2, asked, text, lineType(lines), encodingOf(encoding), wideIndex(byte));
   return numbers[0] === GREATEST ? null : positionOf(numbers);
 }
 
-function askRangeOf(machine, asked, text, bytes) {
+function askRangeOf(machine, asked, text, lines, encoding, bytes) {
   const { start, end } = rangeFrom(bytes);
   const span = machine.write([wideIndex(start, "start"), wideIndex(end, "end")]);
-  const numbers = machine.numbers(4, asked, text, span);
+  const numbers = machine.numbers(4, asked, text, lineType(lines), encodingOf(encoding), span);
   return { start: positionOf(numbers.slice(0, 2)), end: positionOf(numbers.slice(2)) };
 }
 
-function askByteOf(machine, asked, text, position) {
-  return machine.number(asked, text, machine.write(numbersOf(position)));
+function askByteOf(machine, asked, text, lines, encoding, position) {
+  return machine.number(asked, text, lineType(lines), encodingOf(encoding), machine.write(numbersOf(position)));
 }
 
-function askExactByteOf(machine, asked, text, position) {
-  return machine.numberOrNull(asked, text, machine.write(numbersOf(position)));
+function askExactByteOf(machine, asked, text, lines, encoding, position) {
+  return machine.numberOrNull(asked, text, lineType(lines), encodingOf(encoding), machine.write(numbersOf(position)));
 }
 
-function askByteRange(machine, asked, text, range) {
+function askByteRange(machine, asked, text, lines, encoding, range) {
   const { start, end } = rangeFrom(range);
-  const numbers = machine.numbers(2, asked, text, machine.write([...numbersOf(start), ...numbersOf(end)]));
+  const places = machine.write([...numbersOf(start), ...numbersOf(end)]);
+  const numbers = machine.numbers(2, asked, text, lineType(lines), encodingOf(encoding), places);
   return numbers[0] === GREATEST ? null : bytesOf(numbers);
+}
+
+const lineType = (name) => numberNamed(LINE_TYPE_NUMBERS, name, "kind of line");
+
+const encodingOf = (name) => numberNamed(ENCODING_NUMBERS, name, "encoding");
+
+/** The number by which the exports know what has this name. */
+function numberNamed(numbers, name, what) {
+  const number = numbers.get(name);
+  if (number === undefined) {
+    throw new RangeError(`${shown(name)} is no ${what}, which is one of ${[...numbers.keys()].join(", ")}`);
+  }
+  return number;
 }
 
 const positionOf = ([line, character]) => ({ line: Number(line), character: Number(character) });
@@ -443,7 +453,7 @@ function functionsBy(table, library, machine) {
     const last = names.pop();
     const place = names.reduce((place, name) => (place[name] ??= {}), all);
     const asked = machine.asked(`${library}_${exported}`, numbers);
-    place[last] = (text, argument) => ask(machine, asked, text, argument);
+    place[last] = (text, ...words) => ask(machine, asked, text, ...words);
   }
   return frozen(all);
 }
@@ -459,7 +469,7 @@ function frozen(functions) {
 function boundTo(text, functions) {
   const bound = {};
   for (const [name, inner] of Object.entries(functions)) {
-    bound[name] = typeof inner === "object" ? boundTo(text, inner) : (argument) => inner(text, argument);
+    bound[name] = typeof inner === "object" ? boundTo(text, inner) : (...words) => inner(text, ...words);
   }
   return Object.freeze(bound);
 }

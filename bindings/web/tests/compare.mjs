@@ -6,9 +6,12 @@ import { inField, ofField } from "./field.mjs";
 
 const FROGS = "Hel🐸lo world! こん🐸にち🐸🐸は!";
 const EVERY_BREAK = "\nHello\r\n\rせ\vか\fい\u0085. There\u2028is something.\u2029";
+// a CR at byte 1, a line separator at 2, chars of two and four bytes at 5 and 7, and one at 11
+const EACH_KIND = "a\r\u2028é🐸b";
 const LARGE = [2n ** 32n - 1n, 2n ** 32n, 2n ** 32n + 1n, 2n ** 53n, 2n ** 63n - 1n, 2n ** 63n, 2n ** 64n - 1n, 2n ** 64n, 2n ** 70n];
 
-// a function, a text, what it takes beside that, and the answer; no two functions have the same answers throughout
+// a function, a text, what it takes beside that, or a list of these, and the answer; no two functions have the same answers
+// throughout, and none has them for another kind of line or another encoding
 const WORKED = [
   ["chars.count", FROGS, null, 23],
   ["chars.fromByteIdx", "せかい", 8, 2],
@@ -43,57 +46,80 @@ const WORKED = [
   ["lines.toByteIdx", "a\u2028b", 1, 4],
   ["chars.count", "\ud83d", null, 1],
   ["utf16.toByteIdx", "\ud83d", 1, 3],
-  ["positions.lineEnd", "a\r\nbé\n", 0, 1],
-  ["positions.lineEnd", "a\r\nbé\n", 1, 6],
-  ["positions.lineEnd", "a\r\nbé\n", 9, 7],
-  ["positions.utf8.positionOf", "a\ré🐸b", 8, "1:6"],
-  ["positions.utf16.positionOf", "a\ré🐸b", 8, "1:3"],
-  ["positions.utf32.positionOf", "a\ré🐸b", 8, "1:2"],
-  ["positions.utf8.byteOf", "a\ré🐸b", { line: 1, character: 6 }, 8],
-  ["positions.utf16.byteOf", "a\ré🐸b", { line: 1, character: 3 }, 8],
-  ["positions.utf32.byteOf", "a\ré🐸b", { line: 1, character: 2 }, 8],
-  ["positions.utf16.byteOf", "ab\r\nc", { line: 0, character: 99 }, 2],
-  ["positions.utf16.byteOf", "ab\r\nc", { line: 2n ** 64n, character: 0 }, 5],
-  ["positions.utf16.byteOf", "ab\r\nc", { line: 1n, character: 2n ** 63n }, 5],
-  ["positions.utf8.exactByteOf", "a\ré🐸b", { line: 1, character: 6 }, 8],
-  ["positions.utf8.exactByteOf", "a\ré🐸b", { line: 1, character: 3 }, null],
-  ["positions.utf16.exactByteOf", "a\ré🐸b", { line: 1, character: 3 }, 8],
-  ["positions.utf16.exactByteOf", "a\ré🐸b", { line: 1, character: 2 }, null],
-  ["positions.utf32.exactByteOf", "a\ré🐸b", { line: 1, character: 2 }, 8],
-  ["positions.utf32.exactByteOf", "a\ré🐸b", { line: 1, character: 4 }, null],
-  ["positions.utf16.exactByteOf", "ab\r\nc", { line: 0, character: 2 }, 2],
-  ["positions.utf16.exactByteOf", "ab\r\nc", { line: 0, character: 3 }, null],
-  ["positions.utf16.exactByteOf", "ab\r\nc", { line: 2, character: 0 }, null],
-  ["positions.utf8.byteRange", "a\ré🐸b", places(1, 0, 1, 6), "2..8"],
-  ["positions.utf16.byteRange", "a\ré🐸b", places(1, 0, 1, 3), "2..8"],
-  ["positions.utf32.byteRange", "a\ré🐸b", places(1, 0, 1, 2), "2..8"],
-  ["positions.utf16.byteRange", "ab\r\nc", places(0, 1, 0, 99), "1..2"],
-  ["positions.utf16.byteRange", "ab\r\nc", places(0, 1, 2n ** 64n, 0), "1..5"],
-  ["positions.utf16.byteRange", "ab\r\nc", places(0, 2, 0, 1), null],
-  ["positions.utf16.byteRange", "ab\r\nc", places(1, 0, 0, 9), null],
-];
-
-// the same for what only a text that is known answers
-const WORKED_BY_INDEX = [
-  ["linesLf.lineContent", "a\r\nb\u2028c", 0, "0..2"],
-  ["linesLf.lineContent", "a\r\nb\u2028c", 1, "3..8"],
-  ["linesCrlf.lineContent", "a\r\nb\u2028c", 0, "0..1"],
-  ["linesCrlf.lineContent", "a\r\nb\u2028c", 1, "3..8"],
-  ["linesCrlf.lineContent", "a\r\nb\u2028c", 2, "8..8"],
-  ["lines.lineContent", "a\r\nb\u2028c", 1, "3..4"],
-  ["lines.lineContent", "a\r\nb\u2028c", 2n, "7..8"],
-  ["lines.lineContent", "a\r\nb\u2028c", Infinity, "8..8"],
-  ["positions.utf8.exactPositionOf", "a\ré🐸b", 8, "1:6"],
-  ["positions.utf16.exactPositionOf", "a\ré🐸b", 8, "1:3"],
-  ["positions.utf32.exactPositionOf", "a\ré🐸b", 8, "1:2"],
-  ["positions.utf16.exactPositionOf", "a\ré🐸b", 5, null],
-  ["positions.utf16.exactPositionOf", "a\r\nb", 2, null],
-  ["positions.utf16.exactPositionOf", "a\r\nb", 4, "1:1"],
-  ["positions.utf16.exactPositionOf", "a\r\nb", 5, null],
-  ["positions.utf8.rangeOf", "a\ré🐸b", { start: 2, end: 8 }, "1:0-1:6"],
-  ["positions.utf16.rangeOf", "a\ré🐸b", { start: 2, end: 8 }, "1:0-1:3"],
-  ["positions.utf32.rangeOf", "a\ré🐸b", { start: 2, end: 8 }, "1:0-1:2"],
-  ["positions.utf16.rangeOf", "a\r\nb", { start: Infinity, end: 2 }, "1:1-0:1"],
+  ["lineEnd", "a\r\nbé\n", ["crlf", 0], 1],
+  ["lineEnd", "a\r\nbé\n", ["crlf", 1], 6],
+  ["lineEnd", "a\r\nbé\n", ["crlf", 9], 7],
+  ["positionOf", "a\ré🐸b", ["crlf", "utf8", 8], "1:6"],
+  ["positionOf", "a\ré🐸b", ["crlf", "utf16", 8], "1:3"],
+  ["positionOf", "a\ré🐸b", ["crlf", "utf32", 8], "1:2"],
+  ["byteOf", "a\ré🐸b", ["crlf", "utf8", { line: 1, character: 6 }], 8],
+  ["byteOf", "a\ré🐸b", ["crlf", "utf16", { line: 1, character: 3 }], 8],
+  ["byteOf", "a\ré🐸b", ["crlf", "utf32", { line: 1, character: 2 }], 8],
+  ["byteOf", "ab\r\nc", ["crlf", "utf16", { line: 0, character: 99 }], 2],
+  ["byteOf", "ab\r\nc", ["crlf", "utf16", { line: 2n ** 64n, character: 0 }], 5],
+  ["byteOf", "ab\r\nc", ["crlf", "utf16", { line: 1n, character: 2n ** 63n }], 5],
+  ["exactByteOf", "a\ré🐸b", ["crlf", "utf8", { line: 1, character: 6 }], 8],
+  ["exactByteOf", "a\ré🐸b", ["crlf", "utf8", { line: 1, character: 3 }], null],
+  ["exactByteOf", "a\ré🐸b", ["crlf", "utf16", { line: 1, character: 3 }], 8],
+  ["exactByteOf", "a\ré🐸b", ["crlf", "utf16", { line: 1, character: 2 }], null],
+  ["exactByteOf", "a\ré🐸b", ["crlf", "utf32", { line: 1, character: 2 }], 8],
+  ["exactByteOf", "a\ré🐸b", ["crlf", "utf32", { line: 1, character: 4 }], null],
+  ["exactByteOf", "ab\r\nc", ["crlf", "utf16", { line: 0, character: 2 }], 2],
+  ["exactByteOf", "ab\r\nc", ["crlf", "utf16", { line: 0, character: 3 }], null],
+  ["exactByteOf", "ab\r\nc", ["crlf", "utf16", { line: 2, character: 0 }], null],
+  ["byteRange", "a\ré🐸b", ["crlf", "utf8", places(1, 0, 1, 6)], "2..8"],
+  ["byteRange", "a\ré🐸b", ["crlf", "utf16", places(1, 0, 1, 3)], "2..8"],
+  ["byteRange", "a\ré🐸b", ["crlf", "utf32", places(1, 0, 1, 2)], "2..8"],
+  ["byteRange", "ab\r\nc", ["crlf", "utf16", places(0, 1, 0, 99)], "1..2"],
+  ["byteRange", "ab\r\nc", ["crlf", "utf16", places(0, 1, 2n ** 64n, 0)], "1..5"],
+  ["byteRange", "ab\r\nc", ["crlf", "utf16", places(0, 2, 0, 1)], null],
+  ["byteRange", "ab\r\nc", ["crlf", "utf16", places(1, 0, 0, 9)], null],
+  ["line", "a\r\nb\u2028c", ["lf", 0], "0..2"],
+  ["line", "a\r\nb\u2028c", ["lf", 1], "3..8"],
+  ["line", "a\r\nb\u2028c", ["crlf", 0], "0..1"],
+  ["line", "a\r\nb\u2028c", ["crlf", 1], "3..8"],
+  ["line", "a\r\nb\u2028c", ["crlf", 2], "8..8"],
+  ["line", "a\r\nb\u2028c", ["lines", 1], "3..4"],
+  ["line", "a\r\nb\u2028c", ["lines", 2n], "7..8"],
+  ["line", "a\r\nb\u2028c", ["lines", Infinity], "8..8"],
+  ["exactPositionOf", "a\ré🐸b", ["crlf", "utf8", 8], "1:6"],
+  ["exactPositionOf", "a\ré🐸b", ["crlf", "utf16", 8], "1:3"],
+  ["exactPositionOf", "a\ré🐸b", ["crlf", "utf32", 8], "1:2"],
+  ["exactPositionOf", "a\ré🐸b", ["crlf", "utf16", 5], null],
+  ["exactPositionOf", "a\r\nb", ["crlf", "utf16", 2], null],
+  ["exactPositionOf", "a\r\nb", ["crlf", "utf16", 4], "1:1"],
+  ["exactPositionOf", "a\r\nb", ["crlf", "utf16", 5], null],
+  ["rangeOf", "a\ré🐸b", ["crlf", "utf8", { start: 2, end: 8 }], "1:0-1:6"],
+  ["rangeOf", "a\ré🐸b", ["crlf", "utf16", { start: 2, end: 8 }], "1:0-1:3"],
+  ["rangeOf", "a\ré🐸b", ["crlf", "utf32", { start: 2, end: 8 }], "1:0-1:2"],
+  ["rangeOf", "a\r\nb", ["crlf", "utf16", { start: Infinity, end: 2 }], "1:1-0:1"],
+  // by each kind of line a byte of this text has another position
+  ["lineEnd", EACH_KIND, ["lf", 0], 12],
+  ["lineEnd", EACH_KIND, ["crlf", 0], 1],
+  ["lineEnd", EACH_KIND, ["crlf", 1], 12],
+  ["lineEnd", EACH_KIND, ["lines", 1], 2],
+  ["positionOf", EACH_KIND, ["lf", "utf16", 11], "0:6"],
+  ["positionOf", EACH_KIND, ["crlf", "utf16", 11], "1:4"],
+  ["positionOf", EACH_KIND, ["lines", "utf16", 11], "2:3"],
+  ["positionOf", EACH_KIND, ["lines", "utf8", Infinity], "2:7"],
+  ["exactPositionOf", EACH_KIND, ["lf", "utf16", 11], "0:6"],
+  ["exactPositionOf", EACH_KIND, ["crlf", "utf16", 11], "1:4"],
+  ["exactPositionOf", EACH_KIND, ["lines", "utf16", 11], "2:3"],
+  ["exactPositionOf", "a\r\nb", ["lf", "utf16", 2], "0:2"],
+  ["rangeOf", EACH_KIND, ["lf", "utf16", { start: 5, end: 11 }], "0:3-0:6"],
+  ["rangeOf", EACH_KIND, ["crlf", "utf16", { start: 5, end: 11 }], "1:1-1:4"],
+  ["rangeOf", EACH_KIND, ["lines", "utf16", { start: 5, end: 11 }], "2:0-2:3"],
+  ["byteOf", EACH_KIND, ["lf", "utf16", { line: 0, character: 6 }], 11],
+  ["byteOf", EACH_KIND, ["crlf", "utf16", { line: 1, character: 4 }], 11],
+  ["byteOf", EACH_KIND, ["lines", "utf16", { line: 2, character: 3 }], 11],
+  ["byteOf", EACH_KIND, ["lines", "utf16", { line: 1, character: 4 }], 2],
+  ["exactByteOf", EACH_KIND, ["lf", "utf16", { line: 0, character: 6 }], 11],
+  ["exactByteOf", EACH_KIND, ["crlf", "utf16", { line: 1, character: 4 }], 11],
+  ["exactByteOf", EACH_KIND, ["lines", "utf16", { line: 2, character: 3 }], 11],
+  ["exactByteOf", EACH_KIND, ["lines", "utf16", { line: 1, character: 4 }], null],
+  ["byteRange", EACH_KIND, ["lf", "utf16", places(0, 3, 0, 6)], "5..11"],
+  ["byteRange", EACH_KIND, ["crlf", "utf16", places(1, 1, 1, 4)], "5..11"],
+  ["byteRange", EACH_KIND, ["lines", "utf16", places(2, 0, 2, 3)], "5..11"],
 ];
 
 /** A range from a line and a character to another. */
@@ -117,6 +143,8 @@ const BREAKS = {
   lines: /\r\n|[\n\v\f\r\u0085\u2028\u2029]/g,
 };
 const MODULES = ["chars", "utf16", ...Object.keys(BREAKS)];
+// what ends a line, by the names of the questions about lines and positions
+const LINE_TYPES = { lf: BREAKS.linesLf, crlf: BREAKS.linesCrlf, lines: BREAKS.lines };
 const ENCODINGS = { utf8: (char) => sizeOf(char), utf16: (char) => char.length, utf32: () => 1 };
 
 const encoder = new TextEncoder();
@@ -215,25 +243,36 @@ function compareText(indices, string, places) {
 /** The positions of a text's chars, from its lines as the engine splits them. */
 function comparePositions(indices, string) {
   const text = indices.text(string);
-  const parts = string.split(/(\r\n|\n|\r)/);
-  let byte = 0;
-  for (let line = 0; line * 2 < parts.length; line++) {
-    const content = parts[line * 2];
-    for (const [encoding, unitsOf] of Object.entries(ENCODINGS)) {
-      let [at, character] = [byte, 0];
-      for (const char of [...Array.from(content), ""]) {
-        const place = text.positions[encoding].positionOf(at);
-        same(`${place.line}:${place.character}`, `${line}:${character}`, `${encoding} position of ${at} in ${JSON.stringify(string)}`);
-        same(text.positions[encoding].byteOf({ line, character: BigInt(character) }), at, `${encoding} byte of ${line}:${character} in ${JSON.stringify(string)}`);
-        same(text.positions[encoding].exactByteOf({ line, character }), at, `${encoding} exact byte of ${line}:${character} in ${JSON.stringify(string)}`);
-        same(shownAnswer(text.positions[encoding].byteRange(places(0, 0, line, character))), `0..${at}`, `${encoding} bytes up to ${line}:${character} in ${JSON.stringify(string)}`);
-        at += sizeOf(char);
-        character += unitsOf(char);
+  for (const [lines, breaks] of Object.entries(LINE_TYPES)) {
+    const parts = string.split(new RegExp(`(${breaks.source})`));
+    let byte = 0;
+    for (let line = 0; line * 2 < parts.length; line++) {
+      const content = parts[line * 2];
+      const what = (call) => `${call} on line ${line} by ${lines} of ${JSON.stringify(string)}`;
+      for (const encoding of Object.keys(ENCODINGS)) {
+        compareLine(text, lines, encoding, line, byte, content, what);
       }
+      const end = byte + sizeOf(content);
+      same(text.lineEnd(lines, line), end, what("the end"));
+      same(shownAnswer(indices.line(string, lines, line)), `${byte}..${end}`, what("the content"));
+      byte = end + sizeOf(parts[line * 2 + 1] ?? "");
     }
-    byte += sizeOf(content);
-    same(text.positions.lineEnd(line), byte, `the end of line ${line} of ${JSON.stringify(string)}`);
-    byte += sizeOf(parts[line * 2 + 1] ?? "");
+  }
+}
+
+/** The positions of the chars of a line, which begins at that byte, and their bytes. */
+function compareLine(text, lines, encoding, line, byte, content, what) {
+  let [at, character] = [byte, 0];
+  for (const char of [...Array.from(content), ""]) {
+    const here = `${line}:${character}`;
+    same(shownAnswer(text.positionOf(lines, encoding, at)), here, what(`${encoding} position of ${at}`));
+    same(shownAnswer(text.exactPositionOf(lines, encoding, at)), here, what(`${encoding} exact position of ${at}`));
+    same(text.byteOf(lines, encoding, { line, character: BigInt(character) }), at, what(`${encoding} byte of ${here}`));
+    same(text.exactByteOf(lines, encoding, { line, character }), at, what(`${encoding} exact byte of ${here}`));
+    same(shownAnswer(text.byteRange(lines, encoding, places(0, 0, line, character))), `0..${at}`, what(`${encoding} bytes up to ${here}`));
+    same(shownAnswer(text.rangeOf(lines, encoding, { start: 0, end: at })), `0:0-${here}`, what(`${encoding} range up to ${at}`));
+    at += sizeOf(char);
+    character += ENCODINGS[encoding](char);
   }
 }
 
@@ -242,13 +281,10 @@ const named = (functions, path) => path.split(".").reduce((place, name) => place
 
 function compareWorked(indices) {
   for (const [path, text, argument, answer] of WORKED) {
-    const call = named(indices, path);
-    same(shownAnswer(argument === null ? call(text) : call(text, argument)), answer, `${path} of ${JSON.stringify(text)}`);
-  }
-  for (const [path, text, argument, answer] of [...WORKED, ...WORKED_BY_INDEX]) {
-    const known = named(indices.text(text), path);
-    const found = argument === null ? known() : known(argument);
-    same(shownAnswer(found), answer, `${path} of ${JSON.stringify(text)} that is known`);
+    const words = argument === null ? [] : [argument].flat();
+    const what = `${path} of ${JSON.stringify(text)} by ${words.filter((word) => typeof word === "string")}`;
+    same(shownAnswer(named(indices, path)(text, ...words)), answer, what);
+    same(shownAnswer(named(indices.text(text), path)(...words)), answer, `${what} that is known`);
   }
 }
 
@@ -304,38 +340,50 @@ function compareIndex(indices) {
         }
       }
     }
-    for (const encoding of Object.keys(ENCODINGS)) {
-      for (const byte of bytes) comparePlace(indices.positions, text.positions, string, encoding, byte, what);
+    for (const lines of Object.keys(LINE_TYPES)) {
+      for (const encoding of Object.keys(ENCODINGS)) {
+        for (const byte of bytes) comparePlace(indices, text, string, [lines, encoding], byte, what);
+      }
     }
-    compareLines(text, string, what);
+    compareLines(indices, text, string, what);
   }
 }
 
-/** The position of a byte, and the bytes of positions near it. */
-function comparePlace(plain, known, string, encoding, byte, what) {
-  const position = plain[encoding].positionOf(string, byte);
+/** The position of a byte, and the bytes of positions near it, by a kind of line and an encoding. */
+function comparePlace(plain, known, string, by, byte, what) {
+  const position = plain.positionOf(string, ...by, byte);
   const past = { line: position.line, character: position.character + 3 };
   const range = { start: position, end: past };
-  same(shownAnswer(known[encoding].positionOf(byte)), shownAnswer(position), what(`${encoding} position of ${byte}`));
+  const answers = (call, ...words) => {
+    const wanted = shownAnswer(plain[call](string, ...by, ...words));
+    same(shownAnswer(known[call](...by, ...words)), wanted, what(`${call} by ${by} at ${byte}`));
+    return wanted;
+  };
+  answers("positionOf", byte);
   for (const near of [position, past, { line: position.line + 1, character: 0 }]) {
-    same(known[encoding].byteOf(near), plain[encoding].byteOf(string, near), what(`${encoding} byte of ${shownAnswer(near)}`));
-    same(known[encoding].exactByteOf(near), plain[encoding].exactByteOf(string, near), what(`${encoding} exact byte of ${shownAnswer(near)}`));
+    answers("byteOf", near);
+    answers("exactByteOf", near);
   }
-  same(shownAnswer(known[encoding].byteRange(range)), shownAnswer(plain[encoding].byteRange(string, range)), what(`${encoding} bytes of ${shownAnswer(range)}`));
-  const isPlace = plain[encoding].exactByteOf(string, position) === byte;
-  same(shownAnswer(known[encoding].exactPositionOf(byte)), isPlace ? shownAnswer(position) : null, what(`${encoding} exact position of ${byte}`));
-  same(shownAnswer(known[encoding].rangeOf({ start: byte, end: 0 })), `${shownAnswer(position)}-0:0`, what(`${encoding} range of ${byte}`));
+  answers("byteRange", range);
+  const isPlace = plain.exactByteOf(string, ...by, position) === byte;
+  same(answers("exactPositionOf", byte), isPlace ? shownAnswer(position) : null, what(`exact position by ${by} of ${byte}`));
+  same(answers("rangeOf", { start: byte, end: 0 }), `${shownAnswer(position)}-0:0`, what(`range by ${by} of ${byte}`));
 }
 
 /** Each line's content, as the engine splits the text. */
-function compareLines(text, string, what) {
-  for (const [module, breaks] of Object.entries(BREAKS)) {
+function compareLines(indices, text, string, what) {
+  for (const [lines, breaks] of Object.entries(LINE_TYPES)) {
     let byte = 0;
-    string.split(breaks).forEach((content, line) => {
-      byte = text[module].toByteIdx(line);
-      same(shownAnswer(text[module].lineContent(line)), `${byte}..${byte + sizeOf(content)}`, what(`${module} content of line ${line}`));
-    });
-    same(shownAnswer(text[module].lineContent(text[module].countBreaks() + 1)), `${text.length}..${text.length}`, what(`${module} content past the last line`));
+    const parts = string.split(new RegExp(`(${breaks.source})`));
+    for (let line = 0; line * 2 < parts.length; line++) {
+      const end = byte + sizeOf(parts[line * 2]);
+      same(shownAnswer(text.line(lines, line)), `${byte}..${end}`, what(`content by ${lines} of line ${line}`));
+      same(text.lineEnd(lines, line), end, what(`the end by ${lines} of line ${line}`));
+      byte = end + sizeOf(parts[line * 2 + 1] ?? "");
+    }
+    const past = `${text.length}..${text.length}`;
+    same(shownAnswer(text.line(lines, (parts.length + 1) / 2)), past, what(`content by ${lines} past the last line`));
+    same(shownAnswer(indices.line(string, lines, Infinity)), past, what(`content by ${lines} past the last line`));
   }
 }
 
@@ -349,7 +397,7 @@ function compareLongest(indices) {
     same(long.chars.count(), LONGEST_KNOWN - 1, "chars of the longest text with an index");
     same(long.chars.toByteIdx(LONGEST_KNOWN - 3), LONGEST_KNOWN - 3, "the byte of its last but one char");
     same(long.linesLf.toByteIdx(1), LONGEST_KNOWN, "where its last line begins");
-    same(shownAnswer(long.positions.utf16.positionOf(LONGEST_KNOWN - 1)), `0:${LONGEST_KNOWN - 2}`, "the position of its break");
+    same(shownAnswer(long.positionOf("crlf", "utf16", LONGEST_KNOWN - 1)), `0:${LONGEST_KNOWN - 2}`, "the position of its break");
     same(other.linesLf.toByteIdx(2000), 4000, "a line of another text");
   }
 }
@@ -361,25 +409,29 @@ async function compareRefusals(indices) {
     [TypeError, /not UTF-8/, () => indices.chars.count(new Uint8Array([0xe3, 0x81]))],
     [TypeError, /not UTF-8/, () => indices.text(new Uint8Array([0x61, 0xff]))],
     [TypeError, /a string or a Uint8Array/, () => indices.chars.count(7)],
-    [TypeError, /a line and a character/, () => indices.positions.utf16.byteOf("a", 3)],
-    [TypeError, /a start and an end/, () => indices.positions.utf16.byteRange("a", null)],
-    [TypeError, /a line and a character/, () => indices.positions.utf16.byteRange("a", { start: { line: 0, character: 0 } })],
+    [TypeError, /a line and a character/, () => indices.byteOf("a", "crlf", "utf16", 3)],
+    [TypeError, /a start and an end/, () => indices.byteRange("a", "crlf", "utf16", null)],
+    [TypeError, /a line and a character/, () => indices.byteRange("a", "crlf", "utf16", { start: { line: 0, character: 0 } })],
     [RangeError, /^-1 is no index/, () => indices.chars.toByteIdx("a", -1)],
     [RangeError, /^-1n is no index/, () => indices.chars.toByteIdx("a", -1n)],
     [RangeError, /^0.5 is no index/, () => indices.chars.toByteIdx("a", 0.5)],
     [RangeError, /^NaN is no index/, () => indices.lines.fromByteIdx("a", NaN)],
     [RangeError, /^the string "3" is no index/, () => indices.chars.toByteIdx("a", "3")],
     [RangeError, /^undefined is no index/, () => indices.chars.toByteIdx("a")],
-    [RangeError, /^the string "1" is no line/, () => indices.positions.utf8.byteOf("a", { line: "1", character: 0 })],
-    [RangeError, /^undefined is no character/, () => indices.positions.utf8.byteOf("a", { line: 1 })],
+    [RangeError, /^the string "1" is no line/, () => indices.byteOf("a", "crlf", "utf8", { line: "1", character: 0 })],
+    [RangeError, /^undefined is no character/, () => indices.byteOf("a", "crlf", "utf8", { line: 1 })],
     [RangeError, new RegExp(`does not fit the memory: at most ${LONGEST} bytes`), () => indices.chars.count(new Uint8Array(LONGEST + 1))],
     [RangeError, /does not fit the memory/, () => indices.chars.count("é".repeat(LONGEST / 2 + 1))],
     [RangeError, new RegExp(`does not fit the memory: at most ${LONGEST_KNOWN} bytes`), () => indices.text(new Uint8Array(LONGEST_KNOWN + 1))],
     [RangeError, /does not fit the memory/, () => indices.text("é".repeat(LONGEST_KNOWN / 2 + 1))],
     [TypeError, /takes no argument/, () => indices.text("a").chars.count("other")],
     [TypeError, /takes no argument/, () => indices.text("a").utf16.countSurrogates("other")],
-    [TypeError, /a start and an end/, () => indices.text("a").positions.utf16.rangeOf(1)],
-    [RangeError, /^undefined is no end/, () => indices.text("a").positions.utf16.rangeOf({ start: 0 })],
+    [TypeError, /a start and an end/, () => indices.text("a").rangeOf("crlf", "utf16", 1)],
+    [RangeError, /^undefined is no end/, () => indices.text("a").rangeOf("crlf", "utf16", { start: 0 })],
+    [RangeError, /^the string "linesLf" is no kind of line, which is one of lf, crlf, lines$/, () => indices.line("a", "linesLf", 0)],
+    [RangeError, /^the string "utf16" is no kind of line/, () => indices.text("a").positionOf("utf16", "crlf", 0)],
+    [RangeError, /^0 is no encoding, which is one of utf8, utf16, utf32$/, () => indices.positionOf("a", "crlf", 0)],
+    [RangeError, /^undefined is no index/, () => indices.text("a").lineEnd("crlf")],
     [Error, /missing\.wasm cannot be read/, missing],
     [Error, /compare\.mjs is not the WebAssembly of str_indices/, () => load(new URL("compare.mjs", import.meta.url))],
     [Error, /handed over is not the WebAssembly/, () => load(new Uint8Array(8))],
@@ -454,7 +506,7 @@ function compareLongText(indices) {
     }
     for (const encoding of Object.keys(ENCODINGS)) {
       const byte = next(text.length + 2);
-      const [ours, theirs] = [long.positionOf(encoding, byte), text.positions[encoding].positionOf(byte)];
+      const [ours, theirs] = [long.positionOf(encoding, byte), text.positionOf("crlf", encoding, byte)];
       same(`${ours.line}:${ours.character}`, `${theirs.line}:${theirs.character}`, `${encoding} position of ${byte}, round ${round}`);
     }
   }

@@ -1,24 +1,30 @@
 // Exchanges each two functions of the module that are asked alike, and answers which exchanges the worked answers do not
-// see. Node runs it. The functions are those of one WebAssembly, handed to the module under each other's names; of those over
-// an index, which several functions of the module have in common, one number is taken for another too.
+// see. Node runs it. The functions are those of one WebAssembly, handed to the module under each other's names; where several
+// functions of the module have one in common, by a number, one number is taken for another too.
 import { readFile } from "node:fs/promises";
 import { failuresOfWorked } from "./compare.mjs";
 import { load } from "./str_indices.mjs";
 
 const ROW = /^ {2}\["[\w.]+", "(\w+)", (ask\w+)\],$/gm;
 
-// the functions over an index: those that are asked alike, the numbers of what is counted, of a kind of line or of an encoding
-// that they take, and behind how many arguments
-const BY_INDEX = [
-  { names: ["from_byte_idx", "to_byte_idx"], numbers: [0, 1, 2, 3, 4], behind: 1 },
-  { names: ["count"], numbers: [0, 1, 2, 3, 4], behind: 1 },
-  { names: ["line_by"], numbers: [2, 3, 4], behind: 2 },
-  { names: ["byte_of", "exact_byte_of"], numbers: [0, 1, 5], behind: 1 },
-  { names: ["position_of"], numbers: [0, 1, 5], behind: 2 },
-  { names: ["byte_range"], numbers: [0, 1, 5], behind: 2 },
-  { names: ["exact_position_by"], numbers: [0, 1, 5], behind: 3 },
-  { names: ["range_by"], numbers: [0, 1, 5], behind: 3 },
+// the functions over an index that take the number of what is counted, behind one argument: those that are asked alike
+const COUNTED = [["from_byte_idx", "to_byte_idx"], ["count"]];
+const SCHEMES = [0, 1, 2, 3, 4];
+
+// the questions about lines and positions: those that are asked alike, and whether their answer has an address, which comes
+// before the text; behind that they take the number of a kind of line, and some of an encoding
+const QUESTIONS = [
+  { names: ["line"], byAddress: true },
+  { names: ["line_end"], byAddress: false },
+  { names: ["position_of", "exact_position_of"], byAddress: true, hasEncoding: true },
+  { names: ["range_of"], byAddress: true, hasEncoding: true },
+  { names: ["byte_of", "exact_byte_of"], byAddress: false, hasEncoding: true },
+  { names: ["byte_range"], byAddress: true, hasEncoding: true },
 ];
+const LINE_TYPES = [2, 3, 4];
+const ENCODINGS = [0, 1, 5];
+// how many arguments a text takes, and an index
+const LIBRARIES = { str_indices: 2, str_index: 1 };
 
 const beside = (name) => readFile(new URL(name, import.meta.url));
 
@@ -34,16 +40,34 @@ async function ofTexts(exports) {
     .map(([one, other]) => [`${one} by ${other}`, { [one]: exports[other] }]);
 }
 
-/** Exchanges of a function over an index for another one, and of a number that it takes. */
-function ofIndex(exports) {
-  return BY_INDEX.flatMap(({ names, numbers, behind }) => {
-    const all = names.map((name) => `str_index_${name}`);
-    const byNumber = (name, from, to) => (...args) => exports[name](...args.with(behind, args[behind] === from ? to : args[behind]));
-    return [
-      ...pairs(all).map(([one, other]) => [`${one} by ${other}`, { [one]: exports[other] }]),
-      ...all.flatMap((name) => pairs(numbers).map(([from, to]) => [`${name} of ${from} by ${to}`, { [name]: byNumber(name, from, to) }])),
-    ];
-  });
+/** Exchanges of a number that these functions take behind so many arguments. */
+function ofNumbers(exports, names, numbers, behind) {
+  const byNumber = (name, from, to) => (...args) => exports[name](...args.with(behind, args[behind] === from ? to : args[behind]));
+  return names.flatMap((name) =>
+    pairs(numbers).map(([from, to]) => [`${name} of ${from} by ${to}, behind ${behind}`, { [name]: byNumber(name, from, to) }]));
+}
+
+/** Exchanges of these functions for each other. */
+const ofNames = (exports, names) => pairs(names).map(([one, other]) => [`${one} by ${other}`, { [one]: exports[other] }]);
+
+/** Exchanges of the functions over an index that count, and of what they count. */
+function ofCounts(exports) {
+  return COUNTED.map((names) => names.map((name) => `str_index_${name}`))
+    .flatMap((names) => [...ofNames(exports, names), ...ofNumbers(exports, names, SCHEMES, 1)]);
+}
+
+/** Exchanges of the questions about lines and positions, of a text and of an index, and of their numbers. */
+function ofQuestions(exports) {
+  return Object.entries(LIBRARIES).flatMap(([library, size]) =>
+    QUESTIONS.flatMap(({ names, byAddress, hasEncoding }) => {
+      const all = names.map((name) => `${library}_${name}`);
+      const behind = size + Number(byAddress);
+      return [
+        ...ofNames(exports, all),
+        ...ofNumbers(exports, all, LINE_TYPES, behind),
+        ...(hasEncoding ? ofNumbers(exports, all, ENCODINGS, behind + 1) : []),
+      ];
+    }));
 }
 
 export async function tryExchanges() {
@@ -52,7 +76,7 @@ export async function tryExchanges() {
   WebAssembly.instantiate = async () => ({ instance: { exports: { ...instance.exports, ...exchanged } } });
   const right = failuresOfWorked(await load(new Uint8Array())) === 0;
   const unseen = [];
-  const tried = [...await ofTexts(instance.exports), ...ofIndex(instance.exports)];
+  const tried = [...await ofTexts(instance.exports), ...ofCounts(instance.exports), ...ofQuestions(instance.exports)];
   for (const [name, changed] of tried) {
     exchanged = changed;
     if (failuresOfWorked(await load(new Uint8Array())) === 0) {

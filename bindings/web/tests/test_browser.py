@@ -117,8 +117,8 @@ def compare_in_node(folder, built):
     shutil.copytree(folder, folder / "project/node_modules/str_indices", ignore=shutil.ignore_patterns("project"))
     use = (
         'import { load, isSupported } from "str_indices";'
-        "try { const { positions } = await load();"
-        ' console.log(isSupported(), positions.utf16.positionOf("one\\r\\ntwo", 6).line);'
+        "try { const { positionOf } = await load();"
+        ' console.log(isSupported(), positionOf("one\\r\\ntwo", "crlf", "utf16", 6).line);'
         "} catch (error) { console.log(isSupported(), error.message); }"
     )
     without = node_answer(folder / "project", use).stdout

@@ -31,8 +31,9 @@ OF_TYPES = 2 * len(RESOLUTIONS) + 1
 OF_BUNDLER = len(ENTRIES) * len(FORMATS)
 
 APP = """import { load } from "./%s";
-load(%s).then(({ linesCrlf, positions }) => {
-  console.log(linesCrlf.toByteIdx("one\\r\\ntwo", 1), positions.utf16.exactByteOf("one\\r\\ntwo", { line: 0, character: 4 }));
+load(%s).then(({ linesCrlf, exactByteOf }) => {
+  const place = { line: 0, character: 4 };
+  console.log(linesCrlf.toByteIdx("one\\r\\ntwo", 1), exactByteOf("one\\r\\ntwo", "crlf", "utf16", place));
 }, (error) => console.log(error.message));
 """
 
