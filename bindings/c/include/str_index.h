@@ -33,8 +33,8 @@
  *   - Any number of threads may ask one index at once: a question writes
  *     nothing. Whatever frees it, or writes to its memory or its text, runs
  *     beside no question. Another thread may free an index than made it.
- *   - calloc and free are those of one allocator, and align a block as the C
- *     standard says.
+ *   - One allocator has calloc and free, and aligns a block as the C standard
+ *     says.
  *   - An index is not made and not freed in a signal handler, or in the forked
  *     child of a process with threads.
  *
@@ -170,8 +170,8 @@ size_t str_index_to_byte_idx(const str_index *index, str_indices_scheme scheme,
 bool str_index_is_char_boundary(const str_index *index, size_t byte_idx);
 
 /* The questions of str_indices_positions.h, about lines and the positions of a
- * language server. Each returns what the function there returns for the whole
- * text whose name ends alike: str_index_line as str_indices_line, and so on. */
+ * language server. For the whole text, str_index_line returns what
+ * str_indices_line returns there, and so on for each name. */
 str_indices_bytes str_index_line(const str_index *index,
                                  str_indices_line_type lines, size_t line_idx);
 size_t str_index_line_end(const str_index *index, str_indices_line_type lines,

@@ -2,11 +2,11 @@
  * Lines of a UTF-8 text, and the positions of the Language Server Protocol
  * 3.17: from a byte index to a position, and back.
  *
- * What ends a line is said by a str_indices_line_type. In the protocol that is
- * STR_INDICES_LINE_TYPE_CRLF: LF, CR or CR LF, which is one break. A position
- * is a line and an offset on it, both from 0. What an offset counts is said by
- * a str_indices_encoding: UTF-16 code units, the protocol's default, bytes, or
- * chars, which are Unicode scalar values. No position names a place inside a
+ * A str_indices_line_type says what ends a line. The protocol's lines end by
+ * STR_INDICES_LINE_TYPE_CRLF: by LF, CR or CR LF, which is one break. A
+ * position is a line and an offset on it, both from 0. A str_indices_encoding
+ * says what an offset counts: UTF-16 code units, the protocol's default, bytes,
+ * or chars, which are Unicode scalar values. No position names a place inside a
  * break, or after it on its line: an offset past the end of the line means the
  * line's end, before its break. An offset inside a char belongs to the char's
  * start.

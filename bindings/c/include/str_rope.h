@@ -44,8 +44,8 @@
  *     with a handle, and have at most PTRDIFF_MAX bytes. Of all this a null
  *     `text` alone is checked; and that the bytes of a text are UTF-8, unless
  *     the function's name ends in _utf8.
- *   - malloc, realloc and free are those of one allocator, and align each block
- *     to every power of two up to 16 that divides its size.
+ *   - One allocator has malloc, realloc and free, and aligns each block to
+ *     every power of two up to 16 that divides its size.
  *   - No function is called from a signal handler, or in the forked child of a
  *     process with threads.
  *
@@ -158,12 +158,12 @@ void str_rope_free(str_rope *rope);
 STR_ROPE_CHECKED str_rope_status str_rope_assign(str_rope *rope,
                                                  const char *text, size_t len);
 
-/* Makes the text of `copy` the same as that of `rope`, in one step, whatever
- * its length. They share their chunks from then on, and a change of either
- * leaves the other. A count of who shares them is written to, atomically,
- * although `rope` is `const`. The former text of `copy` is freed; where both
- * handles are one, nothing happens. May answer STR_ROPE_NO_MEMORY where the
- * text is not empty, and then `copy` is as before. */
+/* Gives `copy` the text of `rope`, in one step, whatever the text's length. The
+ * two share their chunks from then on, and a change of either leaves the other.
+ * A count of who shares them is written to, atomically, although `rope` is
+ * `const`. The former text of `copy` is freed; where both handles are one,
+ * nothing happens. May answer STR_ROPE_NO_MEMORY where the text is not empty,
+ * and then `copy` is as before. */
 STR_ROPE_CHECKED str_rope_status str_rope_snapshot(const str_rope *rope,
                                                    str_rope *copy);
 
@@ -262,8 +262,8 @@ size_t str_rope_chunks_at(const str_rope *rope, size_t byte_idx,
                           str_rope_chunk *chunks, size_t room);
 
 /* Lends the chunk that the byte before an index is in and those before it, the
- * last one first, each as str_rope_chunk_at does. An index past the end is
- * that of the end. Answers how many: fewer than `room` only where the text
+ * last one first, each as str_rope_chunk_at does. An index past the end means
+ * the end. Returns how many it lends: fewer than `room` only where the text
  * begins. The rest of the room is chunks of no bytes. This reads a text
  * backwards, chunk by chunk:
  *
@@ -299,8 +299,8 @@ STR_ROPE_CHECKED str_rope_status str_rope_copy_to(const str_rope *rope,
                                                   char *out, size_t room);
 
 /* The questions of str_indices_positions.h, about lines and the positions of a
- * language server. Each returns what the function there returns for the whole
- * text whose name ends alike: str_rope_line as str_indices_line, and so on. */
+ * language server. For the whole text, str_rope_line returns what
+ * str_indices_line returns there, and so on for each name. */
 str_indices_bytes str_rope_line(const str_rope *rope,
                                 str_indices_line_type lines, size_t line_idx);
 size_t str_rope_line_end(const str_rope *rope, str_indices_line_type lines,

@@ -43,7 +43,7 @@ class Bytes(ctypes.Structure):
     _fields_ = [("start", ctypes.c_size_t), ("end", ctypes.c_size_t)]
 
 
-# each question: the type of what is asked, and that of the answer
+# each question, with the type of its argument and the type of its answer
 QUESTIONS = {
     "position_of": (ctypes.c_size_t, Position), "exact_position_of": (ctypes.c_size_t, Position),
     "range_of": (Bytes, Range), "byte_of": (Position, ctypes.c_size_t), "exact_byte_of": (Position, ctypes.c_size_t),

@@ -128,7 +128,7 @@ static const str_indices_bytes line_rows_by_kind[][KINDS + 1] = {
     {{14, 14}, {14, 14}, {14, 14}, {14, 14}},
 };
 
-/* A position that is the answer of position_of, and whether it is that of exact_position_of too. */
+/* A position that position_of returns, and whether exact_position_of returns it too. */
 static const struct {
     size_t byte;
     struct {

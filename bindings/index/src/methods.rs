@@ -1,4 +1,4 @@
-//! What a `TextIndex` and an `OwnedIndex` have alike.
+//! The methods that both `TextIndex` and `OwnedIndex` have.
 
 /// Questions, over `handle`.
 macro_rules! index_questions {

@@ -1,4 +1,4 @@
-//! What the libraries answer, for this crate and those of a rope and of an index.
+//! The answers of the libraries, as this crate, a rope and an index hand them on.
 use crate::Position;
 use core::ops;
 

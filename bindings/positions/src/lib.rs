@@ -88,7 +88,7 @@ pub struct Range {
     pub end: Position,
 }
 
-/// A thing to count in a text, for the crates of a rope and of an index. Each number is that of the headers for C.
+/// A thing to count in a text, for a rope and an index. Each has the number that the headers for C give it.
 #[derive(Clone, Copy, Debug, PartialEq, Eq, Hash)]
 #[repr(u32)]
 pub enum Scheme {
@@ -104,7 +104,7 @@ pub enum Scheme {
     Lines = 4,
 }
 
-/// What ends a line. Each number is that of the headers for C.
+/// What ends a line. Each kind has the number that the headers for C give it.
 #[derive(Clone, Copy, Debug, Default, PartialEq, Eq, Hash)]
 #[repr(u32)]
 pub enum LineType {

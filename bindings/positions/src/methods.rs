@@ -1,4 +1,4 @@
-//! The methods that a rope and an index have alike, for their crates.
+//! The methods that both a rope and an index have, for their crates.
 
 /// Defines the methods that ask a library one question each. `handle()` of their type is what the library wants, for as long as
 /// `self` is borrowed; the names of its exports begin with the prefix. Behind a name stands what the method takes.
