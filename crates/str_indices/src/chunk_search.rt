@@ -7,9 +7,9 @@ ghost use Rattle.std.specs.Prelude.{◌≡◌, ◌+◌, ◌-◌, ◌*◌, ◌<�
 ghost use Rattle.std.specs.Simd.Lanes.{Each1};
 ghost use Rattle.str_indices.specs.Prelude.{is_between, sum_below, CountsUpTo, FitsIn, HasLanes, Reads, SearchesOn};
 
-use crate::passes::walk;
 use crate::place_counts::{Cursor, PlaceCounts};
 use crate::rest::lanes_up_to;
+use crate::walks::walk;
 use byte_chunk::{ByteChunk, Probe};
 
 /// The greatest sum of lanes that can be compared with another.

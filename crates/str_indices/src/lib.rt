@@ -28,6 +28,7 @@ pub mod utf16;
 pub mod utf8;
 mod utf8_faults;
 mod utf8_lanes;
+mod walks;
 mod weights;
 
 pub use all_counts::counts;

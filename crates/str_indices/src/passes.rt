@@ -6,8 +6,8 @@ ghost use Rattle.str_indices.specs.Prelude.{sum_below, FitsIn, IsSteady, Reads, 
 
 use crate::chunk_search::find_in_last;
 use crate::place_counts::{Cursor, PlaceCounts, count_chunks, skip_chunks};
-use crate::places::byte_before;
 use crate::rest::lanes_up_to;
+use crate::walks::{Walked, walk};
 use byte_chunk::{ByteChunk, Probe};
 
 /// The fewest chunks that a search counts in one go, without comparing with `idx` in between.
@@ -143,54 +143,6 @@ fn find_from<C: PlaceCounts<T>, T: ByteChunk>(
     let after_groups = skip_groups::<C, T>(probe, after_sure, idx);
     let after_chunks = skip_chunks::<C, T>(probe, after_groups, idx, 1, 1);
     find_in_last::<C, T>(probe, after_chunks, idx)
-}
-
-/// The place that a walk found, and its count where it ended.
-#[derive(Clone, Copy)]
-pub(crate) struct Walked {
-    pub(crate) place: usize,
-    pub(crate) count: usize,
-}
-
-/// Walks the bytes from `from` to `to` and finds the one that takes the count above `idx`, or `to`. It takes one turn
-/// for each byte, and one for the byte before `from`.
-///
-/// If `C::IS_DENSE`, it does not stop at the byte it finds: a few bytes more cost less than a branch that no processor
-/// predicts. Bytes from `end` on are not read.
-#[inline(always)]
-pub(crate) fn walk<C: PlaceCounts<T>, T: ByteChunk>(
-    probe: &mut Probe<'_, T>,
-    from: usize,
-    mut count: usize,
-    to: usize,
-    end: usize,
-    idx: usize,
-) -> Walked
-    requires ordered { from ≤ to }
-    requires seen { (to ≤ end) × (end ≤ length probe.old.text) }
-    requires fits { FitsIn (sum_below (C.counted_at end probe.old.text)) (length probe.old.text) }
-    requires counted { count ≡ sum_below (C.counted_at end probe.old.text) from }
-    requires at_most { count ≤ idx }
-    ensures reached { (from ≤ result.place) × (result.place ≤ to) }
-    ensures counted { let counted = sum_below (C.counted_at end probe.old.text) to in
-        counted ≤ idx → result.count ≡ counted }
-    ensures at_most { sum_below (C.counted_at end probe.old.text) result.place ≤ idx }
-    ensures stopped { result.place < to → idx < sum_below (C.counted_at end probe.old.text) (result.place + 1) }
-    ensures reads { Reads probe.old probe.new 0 (to - from + 1) 0 0 }
-{
-    prove!(end <= probe.len());
-    let mut place = from;
-    let mut before = byte_before(probe, from);
-    for i in from..to {
-        let byte = probe.turn(i);
-        count += C::count_byte(probe, before, byte, i, end);
-        if !C::IS_DENSE && count > idx {
-            return Walked { place, count };
-        }
-        place += usize::from(count <= idx);
-        before = byte;
-    }
-    Walked { place, count }
 }
 
 /// Counts whole chunks from `from` on, as long as they cannot take the count above `idx`: in `n` bytes at most `n + 1`

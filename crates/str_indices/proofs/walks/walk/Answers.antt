@@ -1,5 +1,5 @@
 use Rattle.str_indices.proofs.lemmas.{sym, add-one, ap, ◌∙◌, ◌≡◌, ◌+◌, length, arith, byte_before, sum_below, FitsIn, sum_below-next, sum_below-le-sum_below, byte_made, then_, weaken, walked_on}
-use Rattle.str_indices.proofs.passes.walk.Goals as goal
+use Rattle.str_indices.proofs.walks.walk.Goals as goal
 
 pub overflow_add-count : goal.overflow_add-count
 overflow_add-count g c =

@@ -1,5 +1,5 @@
 use Rattle.str_indices.proofs.lemmas.{◌≡◌, ◌-◌, ◌≤◌, byte_before, sum_below, IsWalked, Reads}
-use Rattle.str_indices.proofs.passes.walk.Given as goal
+use Rattle.str_indices.proofs.walks.walk.Given as goal
 
 abbrev pub invariant-loop-i : goal.invariant-loop-i
 invariant-loop-i g l =
