@@ -1,24 +1,28 @@
 pub mod Common
-pub mod texts
-pub mod laws
-pub mod bytes
-pub mod schemes
-pub mod lanes
-pub mod utf8
-pub mod faults
-pub mod passes
-pub mod kinds
-pub mod utf8_lanes
+pub mod Texts
+pub mod Seams
+pub mod Bytes
+pub mod Laws
+pub mod Passes
+pub mod Schemes
+pub mod Lanes
+pub mod Rest
+pub mod Utf8
+pub mod Faults
+pub mod Kinds
+pub mod Utf8Lanes
 pub mod Callers
 unfoldable pub use Common.*
-pub use texts.*
-pub use laws.*
-unfoldable pub use bytes.*
-pub use utf8.*
-pub use schemes.*
-pub use schemes.UnitBytes.{count-le-size}
-pub use lanes.*
-pub use faults.*
-pub use passes.*
-pub use kinds.*
+pub use Texts.*
+pub use Seams.*
+pub use Laws.*
+unfoldable pub use Bytes.*
+pub use Utf8.{IsUtf8-follows, IsUtf8-take_follows, valid_len-at_fault, valid_len-whole}
+pub use Schemes.*
+pub use Schemes.{count-le-size}
+pub use Lanes.*
+pub use Rest.*
+pub use Faults.*
+pub use Passes.*
+pub use Kinds.*
 pub use Callers.*

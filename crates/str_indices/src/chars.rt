@@ -8,7 +8,7 @@ use crate::weights::{CharStarts, Weights};
 use byte_chunk::{ByteChunk, Chunk, Probe};
 
 /// Counts the chars of the text. An empty text has none.
-#[tactic(auto, using(crate::proofs::lemmas::bytes::Walks::whole_text))]
+#[tactic(auto, using(crate::proofs::lemmas::Bytes::whole_text))]
 pub fn count(text: &str) -> usize
     ensures { result ≡ count Chars (chars text.now) }
 {
@@ -51,7 +51,7 @@ pub fn count_impl<T: ByteChunk>(probe: &mut Probe<'_, T>, end: usize, lead: usiz
 /// Converts a byte index to a char index, as [`from_byte_idx`], over chunks of any type.
 ///
 /// `lead` bytes, or as many of them as the pass covers, are walked one by one before the first chunk.
-#[tactic(auto, using(crate::proofs::lemmas::schemes::CharBytes::chars_up_to))]
+#[tactic(auto, using(crate::proofs::lemmas::Schemes::chars_up_to))]
 pub fn from_byte_idx_impl<T: ByteChunk>(
     probe: &mut Probe<'_, T>,
     byte_idx: usize,

@@ -7,7 +7,7 @@ ghost use Rattle.str_indices.specs.Prelude.{cut, Scheme, Chars, Utf16, Lf, Crlf,
 /// is past it.
 ///
 /// An editor's go to line could use it: the line that it goes to is the line that it then shows.
-#[tactic(auto, using(crate::proofs::lemmas::laws::CharacterLaws::index_laws))]
+#[tactic(auto, using(crate::proofs::lemmas::Laws::index_laws))]
 pub fn round_trip(text: &str, k: usize)
     ensures { (s : Scheme) → s ≢ Utf16 → let cs = chars text.now in
         from_byte_idx s cs (to_byte_idx s cs k) ≡ min k (count s cs) }
@@ -17,7 +17,7 @@ pub fn round_trip(text: &str, k: usize)
 /// `k` is at most the index at byte `b`.
 ///
 /// A span reporter could use it: the line and the column of a byte are the greatest that begin at or before it.
-#[tactic(auto, using(crate::proofs::lemmas::laws::EndLaws::to_le_iff))]
+#[tactic(auto, using(crate::proofs::lemmas::Laws::to_le_iff))]
 pub fn end_adjunction(text: &str, b: usize, k: usize)
     ensures { (s : Scheme) → s ≢ Utf16 → let cs = chars text.now in
         k ≤ count s cs → (to_byte_idx s cs k ≤ b) ↔ (k ≤ from_byte_idx s cs b) }
@@ -28,7 +28,7 @@ pub fn end_adjunction(text: &str, b: usize, k: usize)
 ///
 /// A position mapper of a language server could use it: a position inside a surrogate pair goes to the pair's
 /// beginning.
-#[tactic(auto, using(crate::proofs::lemmas::laws::CharacterLaws::boundary_adjunction))]
+#[tactic(auto, using(crate::proofs::lemmas::Laws::boundary_adjunction))]
 pub fn boundary_adjunction(text: &str, b: usize, k: usize)
     ensures { (s : Scheme) → IsCharacterScheme s → let cs = chars text.now in
         IsBoundary cs b → (b ≤ to_byte_idx s cs k) ↔ (from_byte_idx s cs b ≤ k) }
@@ -57,7 +57,7 @@ pub fn start_of_line(text: &str, b: usize)
 ///
 /// A position mapper of a language server could use it: only a position inside a pair moves, by one unit, and one past
 /// the end, to the end.
-#[tactic(auto, using(crate::proofs::lemmas::laws::UnitLaws::units_or_second_unit))]
+#[tactic(auto, using(crate::proofs::lemmas::Laws::units_or_second_unit))]
 pub fn utf16_round_trip(text: &str, k: usize)
     ensures second_unit { let cs = chars text.now in
         IsSecondUnit cs k → from_byte_idx Utf16 cs (to_byte_idx Utf16 cs k) + 1 ≡ k }
@@ -68,7 +68,7 @@ pub fn utf16_round_trip(text: &str, k: usize)
 /// The text has one UTF-16 code unit for each char, and one more for each surrogate pair.
 ///
 /// It checks the modules `chars` and `utf16` against each other.
-#[tactic(auto, using(crate::proofs::lemmas::laws::CountLaws::count_laws))]
+#[tactic(auto, using(crate::proofs::lemmas::Laws::count_laws))]
 pub fn units(text: &str)
     ensures { let cs = chars text.now in count Utf16 cs ≡ count Chars cs + surrogates cs }
 {}
@@ -76,7 +76,7 @@ pub fn units(text: &str)
 /// Two texts, joined, have the chars, the UTF-16 code units, the surrogate pairs and the line feeds of both.
 ///
 /// A rope with summed counts could use it: it adds up the counts of its pieces.
-#[tactic(auto, using(crate::proofs::lemmas::laws::CountLaws::joined_sums))]
+#[tactic(auto, using(crate::proofs::lemmas::Laws::joined_sums))]
 pub fn joined_sums(a: &str, b: &str)
     ensures chars { count Chars (chars (a.now ++ b.now)) ≡ count Chars (chars a.now) + count Chars (chars b.now) }
     ensures utf16 { count Utf16 (chars (a.now ++ b.now)) ≡ count Utf16 (chars a.now) + count Utf16 (chars b.now) }
@@ -89,7 +89,7 @@ pub fn joined_sums(a: &str, b: &str)
 ///
 /// A rope with summed counts could use it: beside its counts it keeps whether a piece ends in CR and whether it starts
 /// with LF.
-#[tactic(auto, using(crate::proofs::lemmas::laws::CountLaws::joined_breaks))]
+#[tactic(auto, using(crate::proofs::lemmas::Laws::joined_breaks))]
 pub fn joined_breaks(a: &str, b: &str)
     ensures lines_crlf { let joined = chars (a.now ++ b.now) in
         count Crlf joined + (if joins_crlf (chars a.now) (chars b.now) then 1 else 0)
@@ -120,7 +120,7 @@ pub fn joined_places(a: &str, b: &str, i: usize, k: usize)
 /// Each larger set of break chars gives at least as many line breaks.
 ///
 /// It checks the modules `lines_lf`, `lines_crlf` and `lines` against each other.
-#[tactic(auto, using(crate::proofs::lemmas::laws::CountLaws::count_laws))]
+#[tactic(auto, using(crate::proofs::lemmas::Laws::count_laws))]
 pub fn order_of_counts(text: &str)
     ensures lf_to_crlf { count Lf (chars text.now) ≤ count Crlf (chars text.now) }
     ensures crlf_to_lines { count Crlf (chars text.now) ≤ count Lines (chars text.now) }
@@ -130,7 +130,7 @@ pub fn order_of_counts(text: &str)
 /// never a lesser byte index.
 ///
 /// An editor's go to line could use it: a later line never begins before an earlier one.
-#[tactic(auto, using(crate::proofs::lemmas::laws::CharacterLaws::index_laws))]
+#[tactic(auto, using(crate::proofs::lemmas::Laws::index_laws))]
 pub fn monotone(text: &str, i: usize, j: usize)
     ensures from { (s : Scheme) → i ≤ j → from_byte_idx s (chars text.now) i ≤ from_byte_idx s (chars text.now) j }
     ensures to { (s : Scheme) → i ≤ j → to_byte_idx s (chars text.now) i ≤ to_byte_idx s (chars text.now) j }
@@ -140,7 +140,7 @@ pub fn monotone(text: &str, i: usize, j: usize)
 /// line breaks than bytes.
 ///
 /// A caller that adds to an index could use it: if the sum does not fit `usize`, `usize::MAX` goes to the same byte.
-#[tactic(auto, using(crate::proofs::lemmas::laws::PastEnds::past_ends))]
+#[tactic(auto, using(crate::proofs::lemmas::Laws::past_ends))]
 pub fn past_end(text: &str)
     ensures { (s : Scheme) (k : ℕ) → length text.now ≤ k → to_byte_idx s (chars text.now) k ≡ length text.now }
 {}
@@ -151,7 +151,7 @@ pub fn past_end(text: &str)
 ///
 /// A position mapper of a language server could use it: the text may be split at each byte index that a conversion
 /// answers.
-#[tactic(auto, using(crate::proofs::lemmas::laws::CharacterLaws::end_laws))]
+#[tactic(auto, using(crate::proofs::lemmas::Laws::end_laws))]
 pub fn boundaries(text: &str, k: usize)
     ensures boundary { (s : Scheme) → IsBoundary (chars text.now) (to_byte_idx s (chars text.now) k) }
     ensures sliceable { (p : ℕ) → IsBoundary (chars text.now) p ↔ IsCharBoundary text.now p }

@@ -16,7 +16,7 @@ use byte_chunk::{ByteChunk, Chunk, Probe};
 /// Counts the line breaks of the text.
 ///
 /// That is one less than its lines: after a break at the end of the text an empty line begins.
-#[tactic(auto, using(crate::proofs::lemmas::bytes::Walks::whole_text))]
+#[tactic(auto, using(crate::proofs::lemmas::Bytes::whole_text))]
 pub fn count_breaks(text: &str) -> usize
     ensures { result ≡ count Lines (chars text.now) }
 {
@@ -57,7 +57,7 @@ pub fn count_breaks_impl<T: ByteChunk>(probe: &mut Probe<'_, T>, end: usize, lea
 }
 
 /// Converts a byte index to a line index, over chunks of any type, after `lead` bytes that are walked one by one.
-#[tactic(auto, using(crate::proofs::lemmas::schemes::LineBytes::lines_up_to))]
+#[tactic(auto, using(crate::proofs::lemmas::Schemes::lines_up_to))]
 pub fn from_byte_idx_impl<T: ByteChunk>(
     probe: &mut Probe<'_, T>,
     byte_idx: usize,
@@ -207,7 +207,7 @@ fn count_breaks_in_chunk<T: ByteChunk>(
 ///
 /// It peeks at the last byte only if some lane is CR, and at the byte after it only if the last one is CR.
 #[inline(always)]
-#[tactic(auto, using(crate::proofs::lemmas::lanes::BreakChunks::last_is_counted))]
+#[tactic(auto, using(crate::proofs::lemmas::Lanes::last_is_counted))]
 fn count_narrow_breaks<T: ByteChunk>(probe: &mut Probe<'_, T>, chunk: T, at: usize, end: usize) -> T
     requires seen { (at + T.SIZE ≤ end) × (end ≤ length probe.old.text) }
     requires chunk { IsChunk (take end probe.old.text) at T.SIZE (T.lanes chunk) }

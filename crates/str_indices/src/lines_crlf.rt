@@ -15,7 +15,7 @@ use byte_chunk::{ByteChunk, Chunk, Probe};
 /// Counts the line breaks of the text: LF, CR and CRLF, which is one break.
 ///
 /// That is one less than its lines: after a break at the end of the text an empty line begins.
-#[tactic(auto, using(crate::proofs::lemmas::bytes::Walks::whole_text))]
+#[tactic(auto, using(crate::proofs::lemmas::Bytes::whole_text))]
 pub fn count_breaks(text: &str) -> usize
     ensures { result ≡ count Crlf (chars text.now) }
 {
@@ -57,7 +57,7 @@ pub fn count_breaks_impl<T: ByteChunk>(probe: &mut Probe<'_, T>, end: usize, lea
 }
 
 /// Converts a byte index to a line index, over chunks of any type, after `lead` bytes that are walked one by one.
-#[tactic(auto, using(crate::proofs::lemmas::schemes::CrlfBytes::breaks_by_cut))]
+#[tactic(auto, using(crate::proofs::lemmas::Schemes::breaks_by_cut))]
 pub fn from_byte_idx_impl<T: ByteChunk>(
     probe: &mut Probe<'_, T>,
     byte_idx: usize,

@@ -12,7 +12,7 @@ use byte_chunk::{ByteChunk, Chunk, Probe};
 /// Counts the line breaks of the text.
 ///
 /// A text has one line more: after a break at its end an empty line begins.
-#[tactic(auto, using(crate::proofs::lemmas::bytes::Walks::whole_text))]
+#[tactic(auto, using(crate::proofs::lemmas::Bytes::whole_text))]
 pub fn count_breaks(text: &str) -> usize
     ensures { result ≡ count Lf (chars text.now) }
 {
@@ -53,7 +53,7 @@ pub fn count_breaks_impl<T: ByteChunk>(probe: &mut Probe<'_, T>, end: usize, lea
 }
 
 /// Converts a byte index to a line index, over chunks of any type, after `lead` bytes that are walked one by one.
-#[tactic(auto, using(crate::proofs::lemmas::schemes::LineFeedBytes::line_of_byte))]
+#[tactic(auto, using(crate::proofs::lemmas::Schemes::line_of_byte))]
 pub fn from_byte_idx_impl<T: ByteChunk>(
     probe: &mut Probe<'_, T>,
     byte_idx: usize,

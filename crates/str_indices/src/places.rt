@@ -9,7 +9,7 @@ use byte_chunk::{ByteChunk, Probe};
 const MOST_TRAILING_BYTES: usize = 3;
 
 /// Returns the greatest boundary at or before `byte`, with at most three peeks; the text's length if `byte` is past it.
-#[tactic(auto, using(crate::proofs::lemmas::bytes::BoundaryBytes::places))]
+#[tactic(auto, using(crate::proofs::lemmas::Bytes::places))]
 pub(crate) fn boundary_at_or_before<T: ByteChunk>(probe: &mut Probe<'_, T>, byte: usize) -> usize
     ensures boundary { result ≡ size (cut (chars probe.old.text) byte) }
     ensures within { result ≤ min byte (length probe.old.text) }
@@ -54,7 +54,7 @@ pub(crate) fn is_not_crlf_middle<T: ByteChunk>(probe: &mut Probe<'_, T>, byte_id
 }
 
 /// Returns the least boundary at or after `byte`, with at most three peeks.
-#[tactic(auto, using(crate::proofs::lemmas::bytes::BoundaryBytes::places))]
+#[tactic(auto, using(crate::proofs::lemmas::Bytes::places))]
 pub(crate) fn boundary_at_or_after<T: ByteChunk>(probe: &mut Probe<'_, T>, byte: usize) -> usize
     requires { byte ≤ length probe.old.text }
     ensures boundary { IsBoundary (chars probe.old.text) result }

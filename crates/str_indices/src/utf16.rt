@@ -11,7 +11,7 @@ use crate::weights::{FourByteStarts, Units, Weights};
 use byte_chunk::{ByteChunk, Chunk, Probe};
 
 /// Counts the UTF-16 code units that the text would take.
-#[tactic(auto, using(crate::proofs::lemmas::bytes::Walks::whole_text))]
+#[tactic(auto, using(crate::proofs::lemmas::Bytes::whole_text))]
 pub fn count(text: &str) -> usize
     ensures { result ≡ count Utf16 (chars text.now) }
 {
@@ -19,7 +19,7 @@ pub fn count(text: &str) -> usize
 }
 
 /// Counts the surrogate pairs that the text would have in UTF-16, one for each char of four bytes.
-#[tactic(auto, using(crate::proofs::lemmas::bytes::Walks::whole_text))]
+#[tactic(auto, using(crate::proofs::lemmas::Bytes::whole_text))]
 pub fn count_surrogates(text: &str) -> usize
     ensures { result ≡ surrogates (chars text.now) }
 {
@@ -82,7 +82,7 @@ pub fn count_surrogates_impl<T: ByteChunk>(
 
 /// Converts a byte index to a UTF-16 code unit index, over chunks of any type, after `lead` bytes that are walked one
 /// by one.
-#[tactic(auto, using(crate::proofs::lemmas::schemes::UnitBytes::units_up_to))]
+#[tactic(auto, using(crate::proofs::lemmas::Schemes::units_up_to))]
 pub fn from_byte_idx_impl<T: ByteChunk>(
     probe: &mut Probe<'_, T>,
     byte_idx: usize,

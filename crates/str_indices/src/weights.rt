@@ -104,7 +104,7 @@ impl ByteWeight for CharStarts {
         usize::from(is_leading_byte(byte))
     }
 
-    #[tactic(auto, using(crate::proofs::lemmas::lanes::EachLane::leading_lanes))]
+    #[tactic(auto, using(crate::proofs::lemmas::Lanes::leading_lanes))]
     fn in_lanes<T: ByteChunk>(chunk: T) -> T {
         T::splat(1).sub(count_trailing_chunk(chunk))
     }

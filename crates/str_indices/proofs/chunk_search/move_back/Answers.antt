@@ -1,5 +1,5 @@
 use Rattle.str_indices.proofs.lemmas.Common.{◌+◌, ◌*◌, ap, arith, get_or, get_or_past}
-use Rattle.str_indices.proofs.lemmas.lanes.EachLane.{lanes_same, lanes_shift}
+use Rattle.str_indices.proofs.lemmas.Lanes.{lanes_same, lanes_shift}
 use Rattle.str_indices.proofs.chunk_search.move_back.Goals as goal
 
 pub fours-preserved : goal.fours-preserved

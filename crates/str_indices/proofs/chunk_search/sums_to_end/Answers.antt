@@ -1,6 +1,6 @@
 use Rattle.str_indices.proofs.lemmas.Common.{◌*◌, arith, subst, HasLanes}
-use Rattle.str_indices.proofs.lemmas.lanes.Exchanges.{room_exchanged, sums_exchanged}
-use Rattle.str_indices.proofs.lemmas.lanes.Tails.{window, windows_of_one, windows_moved, windows_there, windows_addable, windows_added, windows_to_end}
+use Rattle.str_indices.proofs.lemmas.Lanes.{room_exchanged, sums_exchanged}
+use Rattle.str_indices.proofs.lemmas.Rest.{window, windows_of_one, windows_moved, windows_there, windows_addable, windows_added, windows_to_end}
 use Rattle.str_indices.proofs.chunk_search.sums_to_end.Goals as goal
 
 pub add-twos-requires : goal.add-twos-requires

@@ -1,5 +1,5 @@
 use Rattle.str_indices.proofs.lemmas.Common.{◌*◌, ◌-◌, ◌<◌, ◌≤◌, HasLanes}
-use Rattle.str_indices.proofs.lemmas.lanes.Tails.{window}
+use Rattle.str_indices.proofs.lemmas.Rest.{window}
 use Rattle.str_indices.proofs.chunk_search.sums_to_end.Given as goal
 
 abbrev pub invariant-widths : goal.invariant-widths

@@ -1,7 +1,6 @@
-use Rattle.str_indices.proofs.lemmas.{◌≡◌, ◌+◌, chars, to_byte_idx, IsCharBoundary-to_byte_idx, Crlf, arith, break_start-le, ones_steady}
-use Rattle.str_indices.proofs.lemmas.schemes.CrlfBytes.{line_begins}
-use Rattle.str_indices.proofs.lines_crlf.to_byte_idx_impl.Goals as goal
+use Rattle.str_indices.proofs.lemmas.{◌≡◌, ◌+◌, chars, to_byte_idx, IsCharBoundary-to_byte_idx, Crlf, arith, break_start-le, ones_steady, crlf_line_begins}
 use Rattle.str_indices.proofs.lines_crlf.to_byte_idx_impl.Goals.{Then-is_not_crlf_middle, Else-is_not_crlf_middle}
+use Rattle.str_indices.proofs.lines_crlf.to_byte_idx_impl.Goals as goal
 
 pub find_first-place-requires-clause-steady : goal.find_first-place-requires-clause-steady
 find_first-place-requires-clause-steady g c = ones_steady _ (break_start-le c.args.probe.now.text) _
@@ -12,7 +11,7 @@ at_place : (g : _) (c : Then-is_not_crlf_middle g)
 at_place g c =
     let place = c.find_first-place in
     let outside = rw place.ensures.reads.text_kept at c.is_not_crlf_middle.ensures.middle in
-    let begins = line_begins c.args.probe.now.text c.len.ensures.utf8 c.args.idx place.result place.ensures.reached
+    let begins = crlf_line_begins c.args.probe.now.text c.len.ensures.utf8 c.args.idx place.result place.ensures.reached
     place.ensures.stopped place.ensures.first in
     grind (arith, outside, c.if-is_not_crlf_middle.true, begins)
 
@@ -22,7 +21,7 @@ after_place : (g : _) (c : Else-is_not_crlf_middle g)
 after_place g c =
     let place = c.find_first-place in
     let inside = rw place.ensures.reads.text_kept at c.is_not_crlf_middle.ensures.middle in
-    let begins = line_begins c.args.probe.now.text c.len.ensures.utf8 c.args.idx place.result place.ensures.reached
+    let begins = crlf_line_begins c.args.probe.now.text c.len.ensures.utf8 c.args.idx place.result place.ensures.reached
     place.ensures.stopped place.ensures.first in
     grind (arith, inside, c.if-is_not_crlf_middle.false, begins)
 

@@ -1,5 +1,5 @@
 use Rattle.str_indices.proofs.lemmas.{ℕ, get_or, is_trailing}
-use Rattle.str_indices.proofs.lemmas.utf8_lanes.{flags_room, short_room, begun_room, right_room, wrong_room, due_shown}
+use Rattle.str_indices.proofs.lemmas.Utf8Lanes.{flags_room, short_room, begun_room, right_room, wrong_room, due_shown}
 use Rattle.str_indices.specs.Utf8Lanes.{is_masked}
 use Rattle.str_indices.proofs.utf8_lanes.due_faults.Goals as goal
 

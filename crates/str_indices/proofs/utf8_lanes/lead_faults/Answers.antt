@@ -1,5 +1,5 @@
 use Rattle.str_indices.proofs.lemmas.{ℕ, get_or}
-use Rattle.str_indices.proofs.lemmas.utf8_lanes.{flags_room, flags_added}
+use Rattle.str_indices.proofs.lemmas.Utf8Lanes.{flags_room, flags_added}
 use Rattle.str_indices.specs.Utf8Lanes.{is_masked}
 use Rattle.str_indices.proofs.utf8_lanes.lead_faults.Goals as goal
 

@@ -1,4 +1,4 @@
-use Rattle.str_indices.proofs.lemmas.utf8_lanes.{long_lanes}
+use Rattle.str_indices.proofs.lemmas.Utf8Lanes.{long_lanes}
 use Rattle.str_indices.proofs.utf8_lanes.long_bits.Goals as goal
 
 pub returns : goal.returns

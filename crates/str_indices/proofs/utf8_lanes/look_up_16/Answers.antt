@@ -1,4 +1,4 @@
-use Rattle.str_indices.proofs.lemmas.utf8_lanes.{table_ok, looked_up_once}
+use Rattle.str_indices.proofs.lemmas.Utf8Lanes.{table_ok, looked_up_once}
 use Rattle.str_indices.proofs.utf8_lanes.look_up_16.Goals as goal
 
 pub swizzle : goal.swizzle

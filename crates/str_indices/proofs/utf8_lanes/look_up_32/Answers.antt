@@ -1,5 +1,5 @@
 use Rattle.str_indices.proofs.lemmas.{arith}
-use Rattle.str_indices.proofs.lemmas.utf8_lanes.{table_ok, looked_up_twice}
+use Rattle.str_indices.proofs.lemmas.Utf8Lanes.{table_ok, looked_up_twice}
 use Rattle.str_indices.proofs.utf8_lanes.look_up_32.Goals as goal
 
 pub swizzle : goal.swizzle

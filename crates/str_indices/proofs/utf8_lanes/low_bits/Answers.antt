@@ -1,4 +1,4 @@
-use Rattle.str_indices.proofs.lemmas.utf8_lanes.{low_nibbles}
+use Rattle.str_indices.proofs.lemmas.Utf8Lanes.{low_nibbles}
 use Rattle.str_indices.proofs.utf8_lanes.low_bits.Goals as goal
 
 pub returns : goal.returns

@@ -1,5 +1,5 @@
 use Rattle.str_indices.proofs.lemmas.{◌+◌, get_or, lanes_zip2, lanes_same}
-use Rattle.str_indices.proofs.lemmas.utf8_lanes.{flags_room, lanes_eq, bytes_below, short_lane}
+use Rattle.str_indices.proofs.lemmas.Utf8Lanes.{flags_room, lanes_eq, bytes_below, short_lane}
 use Rattle.str_indices.specs.Utf8Lanes.{is_masked}
 use Rattle.str_indices.proofs.utf8_lanes.mark_short.Goals as goal
 

@@ -1,5 +1,5 @@
 use Rattle.str_indices.proofs.lemmas.{arith}
-use Rattle.str_indices.proofs.lemmas.utf8_lanes.{ascii_of_mask}
+use Rattle.str_indices.proofs.lemmas.Utf8Lanes.{ascii_of_mask}
 use Rattle.str_indices.proofs.utf8_lanes.SimdU816Utf8Chunk.is_ascii.Goals as goal
 
 pub returns : goal.returns

@@ -1,4 +1,4 @@
-use Rattle.str_indices.proofs.lemmas.utf8_lanes.{table_bytes, table_tells}
+use Rattle.str_indices.proofs.lemmas.Utf8Lanes.{table_bytes, table_tells}
 use Rattle.str_indices.proofs.utf8_lanes.SimdU832Utf8Chunk.faults.Goals as goal
 
 pub returns-clause-bytes : goal.returns-clause-bytes

@@ -1,5 +1,5 @@
 use Rattle.str_indices.proofs.lemmas.{arith, get_or}
-use Rattle.str_indices.proofs.lemmas.utf8_lanes.{faults_room, faults_added, faults_are_bytes, faults_tell, bytes_below, compared_fits}
+use Rattle.str_indices.proofs.lemmas.Utf8Lanes.{faults_room, faults_added, faults_are_bytes, faults_tell, bytes_below, compared_fits}
 use Rattle.str_indices.specs.Utf8Lanes.{is_long}
 use Rattle.str_indices.proofs.utf8_lanes.Utf8Chunk.faults.Goals as goal
 

@@ -1,4 +1,0 @@
-pub mod Kinds
-pub mod Absent
-pub use Kinds.*
-pub use Absent.*
