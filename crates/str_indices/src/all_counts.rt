@@ -23,6 +23,7 @@ pub fn counts(text: &str) -> Counts
 }
 
 /// Counts the chars of a text: its bytes, if each is ASCII.
+#[tactic(auto, using(crate::proofs::lemmas::Kinds::characters_of_ascii))]
 fn characters_of(text: &str, kinds: Kinds) -> usize
     requires { AreKinds kinds text.now }
     ensures { result ≡ count Chars (chars text.now) }
@@ -35,6 +36,7 @@ fn characters_of(text: &str, kinds: Kinds) -> usize
 }
 
 /// Counts the UTF-16 code units of a text: its chars, if none takes two.
+#[tactic(auto, using(crate::proofs::lemmas::Kinds::units_without_pairs))]
 fn units_of(text: &str, kinds: Kinds, characters: usize) -> usize
     requires kinds { AreKinds kinds text.now }
     requires characters { characters ≡ count Chars (chars text.now) }

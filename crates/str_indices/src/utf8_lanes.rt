@@ -237,6 +237,7 @@ fn high_bits<const N: usize>(bytes: Simd<u8, N>) -> Simd<u8, N>
 }
 
 /// Returns the lower four bits of each lane.
+#[tactic(auto, using(crate::proofs::lemmas::Utf8Lanes::low_nibbles))]
 #[inline(always)]
 fn low_bits<const N: usize>(bytes: Simd<u8, N>) -> Simd<u8, N>
     ensures { IsNibbles N (λ j. bit_and (slice_index bytes.entry j) 15) result }
