@@ -1,16 +1,20 @@
--- Parts of which something is known: that each char is one byte, or that no line ends in them.
-use Rattle.positions.proofs.lemmas.Cuts.{boundary_within}
-use Rattle.positions.proofs.lemmas.Firsts.{split_at_first}
+-- Parts of which something is known: that a char is a byte or a unit, or that no line ends in them.
+use Rattle.str_indices.specs.declared.Scheme.TheVariants as schemes
+use Rattle.positions.proofs.lemmas.Lines.{boundary_within, split_at_first, line_end_past, not_utf16, none_before}
 use Rattle.positions.specs.Characters.{IsBackOf}
 use Rattle.positions.specs.Units.{HasSameUnits}
 use Rattle.positions.specs.Parts.{HasPartCounts}
 use Rattle.positions.specs.declared.parts.PartCounts.{PartCounts}
-use Rattle.positions.proofs.lemmas.Common.{◌≡◌, ℕ, ◌+◌, ◌≤◌, [], ◌++◌, sym, refl, ap, ◌∙◌, arith, append_assoc, append-nil, sum_by, sum_by-append, sum_by-le-sum_by, cut, cut_is_longest, is_joined, Text, size, count, from_byte_idx, from-to, IsBoundary, Option, Some, None, subst, to_byte_idx, to_byte_idx-zero, weighed, boundary_weighed, boundary_weighed_is_greatest, boundary_weighed_iff, units_of, scheme_of, is_break, line_content, byte_at, chars, IsPart, Part, Encoding, LineType}
-use Rattle.positions.proofs.lemmas.Lines.{line_end_past}
+use Rattle.positions.proofs.lemmas.Common.{◌≡◌, ℕ, ◌+◌, ◌≤◌, [], ◌++◌, sym, refl, ap, ◌∙◌, arith, append_assoc, append-nil, sum_by, sum_by-append, sum_by-le-sum_by, cut, cut_is_longest, is_joined, Text, size, count, from_byte_idx, from-to, IsBoundary, Option, Some, None, subst, to_byte_idx, to_byte_idx-zero, weighed, boundary_weighed, boundary_weighed_is_greatest, boundary_weighed_iff, units_of, scheme_of, is_break, line_content, byte_at, chars, IsPart, Part, Encoding, LineType, min, IsGreatestBoundary, unit_scheme, Scheme}
 use Rattle.std.specs.Prelude.{IfSome, IsSome}
-use Rattle.positions.proofs.lemmas.Kinds.{not_utf16, none_before}
-use Rattle.positions.proofs.lemmas.Starts.{weighed_all, weighed_none, first_content}
-use Rattle.positions.proofs.lemmas.Units.{byte_of_units}
+use Rattle.positions.proofs.lemmas.Parts.{weighed_all, weighed_none, first_content}
+use Rattle.positions.proofs.lemmas.Laws.{byte_of_units}
+use Rattle.positions.specs.declared.encodings.Encoding.TheVariants.{Utf8, Utf16, Utf32}
+use Rattle.str_indices.proofs.lemmas.Callers.{count-units, count_characters}
+use Rattle.text_summary.proofs.lemmas.Callers.{each_byte_is_boundary}
+use Rattle.positions.proofs.lemmas.Encodings.{weighed_bytes, boundary_of_bytes, units_of-le, units_of-some}
+
+-- Parts of which something is known: that each char is one byte, or that no line ends in them.
 
 -- where a text has as many units by both of two encodings, and no char has more by the first, so has each stretch
 pub units_alike : (e f : Encoding) (text : Text) → ((c : ℕ) → units_of e c ≤ units_of f c)
@@ -121,3 +125,47 @@ some_is P None is holds same = cc
 pub part_counts_are : (cs : Text) (l : LineType) (e : Encoding) (part : Part) (own : PartCounts) → IsPart cs l e part → part.counts ≡ Some own
     → HasPartCounts l e (chars part.text.now) own
 part_counts_are cs l e part own is told = some_is (HasPartCounts l e (chars part.text.now)) part.counts own is.counts told
+
+-- Units that are bytes or chars, where there are as many.
+
+-- the count of a text in a scheme is the units of its encoding
+pub units_are : (e : Encoding) (s : Scheme) (text : Text) → unit_scheme e ≡ Some s → count s text ≡ sum_by (units_of e) text
+units_are Utf8 s text some = cc
+units_are Utf16 s text some = let same : s ≡ schemes.Utf16 = cc in rw same (count-units text)
+units_are Utf32 s text some = let same : s ≡ schemes.Chars = cc in rw same (count_characters text)
+
+-- and bytes have no scheme
+pub bytes_are : (e : Encoding) (text : Text) → unit_scheme e ≡ None → size text ≡ sum_by (units_of e) text
+bytes_are Utf8 text none = refl
+bytes_are Utf16 text none = cc
+bytes_are Utf32 text none = cc
+
+-- they are bytes, or chars, where there are as many
+pub as_bytes : (e : Encoding) (text : Text) → sum_by (units_of e) text ≡ size text → HasSameUnits e Utf8 text
+as_bytes e text same = units_alike e Utf8 text (units_of-le e) same
+
+pub as_chars : (e : Encoding) (text : Text) → sum_by (units_of e) text ≡ count schemes.Chars text → HasSameUnits e Utf32 text
+as_chars e text same =
+    let alike = units_alike Utf32 e text (units_of-some e) (sym (count_characters text) ∙ sym same) in
+    λ front own back split. sym (alike front own back split)
+
+-- where each char is one byte, the units before a byte are the bytes, and k units end at byte k
+module _ (e : Encoding) (cs : Text) (ascii : count schemes.Chars cs ≡ size cs) where
+  ascii_units : HasSameUnits e Utf8 cs
+  ascii_units =
+      let least = sum_by-le-sum_by (λ _. 1) (units_of e) cs (units_of-some e) in
+      let most = sum_by-le-sum_by (units_of e) (units_of Utf8) cs (units_of-le e) in
+      as_bytes e cs (omega (arith, least, most, count_characters cs, ascii))
+
+  ascii_start : (byte : ℕ) → IsGreatestBoundary cs byte (min byte (size cs))
+  ascii_start byte = record {
+    boundary = each_byte_is_boundary cs ascii (min byte (size cs)) (omega arith);
+    at_or_before = omega arith;
+    greatest = λ q there le. omega (arith, le, boundary_within cs q there);
+  }
+
+  pub ascii_weighed : (byte : ℕ) → min byte (size cs) ≡ weighed (units_of e) cs byte
+  ascii_weighed byte = weighed_bytes cs byte (min byte (size cs)) (ascii_start byte) ∙ sym (weighed_same e Utf8 cs ascii_units byte)
+
+  pub ascii_placed : (k : ℕ) → min k (size cs) ≡ boundary_weighed (units_of e) cs k
+  ascii_placed k = boundary_of_bytes cs k (min k (size cs)) (ascii_start k) ∙ sym (placed_same e Utf8 cs ascii_units k)

@@ -1,9 +1,215 @@
+-- The lines of a text: its kinds of line break, a text split at one of its lines, and where a byte is on its line.
+use Rattle.str_indices.specs.declared.Scheme.TheVariants as schemes
+use Rattle.positions.proofs.lemmas.Common.{◌≡◌, ℕ, ◌≤◌, length, drop, ◌∙◌, ap, arith, drop-append_seam, Text, size, size-append, cut_front, IsBoundary, text_after, ◌≢◌, ◌<◌, ◌⊎◌, inl, inr, cases_lt, from_byte_idx-le, true, refl, count, from_byte_idx, to_byte_idx, to_byte_idx-zero, from-to, end_at-past, IsEnd, IsBreakEnd, break_characters, Utf16, line_feed, scheme_of, is_break, LineType, [], ◌∷◌, ◌++◌, sym, carriage_return, joins_crlf, ends_in_return, starts_with_feed, ends_in_return-one, ends_in_return-append, IsCrlfMiddle, Bool, false, not, cond, List, count_by, before_first, cases_Bool, take_while-cons, sum_by-cons, ◌+◌, ◌-◌, min, append_assoc, append-nil, len_utf8, append_cancel_left, sum_by-append, len_utf8_bounds, is_crlf_middle, weighed, IsEndOf, size-cons, boundary_beside, cut_goes_on, is_crlf_middle_iff, weighed_at, IsBoundary-to_byte_idx, to-from_is_greatest, from_byte_idx-le-count, is_joined, seam_loss, to_byte_idx-le, to_byte_idx-le-size, line_content, line_end, cut_is_longest, cut, weighed-le-weighed}
+use Rattle.text_summary.proofs.lemmas.Callers.{crlf_by_lf, lines_by_lf, same_cut}
+use Rattle.positions.specs.Lines.{HasSameBreaks}
+use Rattle.positions.specs.declared.line_type.LineType.TheVariants.{Lf, Crlf, Lines}
+use Rattle.std.proofs.lemmas.Bool.{and_from, and_parts, eqb-true}
+use Rattle.str_indices.proofs.lemmas.Callers.{ends_in_return-cons, starts_with_feed_is}
+
+-- A text, cut at a boundary.
+
+-- after a boundary is the rest of the text
+pub behind_boundary : (cs : Text) (p : ℕ) (at : IsBoundary cs p) → text_after cs p ≡ at.back
+behind_boundary cs p at = ap (λ f. drop (length f) cs) (cut_front cs p at)
+    ∙ ap (drop (length at.front)) at.split ∙ drop-append_seam at.front at.back
+
+-- a boundary is at or before the end of the text
+pub boundary_within : (cs : Text) (p : ℕ) → IsBoundary cs p → p ≤ size cs
+boundary_within cs p at = omega (arith, ap size at.split, size-append at.front at.back, at.place)
+
+-- Lemmas about each kind of line break.
+
+-- its scheme does not count units
+pub not_utf16 : (l : LineType) → scheme_of l ≢ Utf16
+not_utf16 Lf = λ same. cc
+not_utf16 Crlf = λ same. cc
+not_utf16 Lines = λ same. cc
+
+-- an end of its scheme is that of a break, and the other way round
+pub break_of_end : (l : LineType) (cs : Text) (p : ℕ) → IsEnd (scheme_of l) cs p
+    → IsBreakEnd (break_characters (scheme_of l)) cs p
+break_of_end Lf cs p end = end
+break_of_end Crlf cs p end = end
+break_of_end Lines cs p end = end
+
+pub end_of_break : (l : LineType) (cs : Text) (p : ℕ) → IsBreakEnd (break_characters (scheme_of l)) cs p
+    → IsEnd (scheme_of l) cs p
+end_of_break Lf cs p end = end
+end_of_break Crlf cs p end = end
+end_of_break Lines cs p end = end
+
+-- LF is one of each
+pub feed_breaks : (l : LineType) → is_break l line_feed ≡ true
+feed_breaks Lf = refl
+feed_breaks Crlf = refl
+feed_breaks Lines = refl
+
+-- past its last end is the end of the text
+pub past_last : (l : LineType) (cs : Text) (k : ℕ) → count (scheme_of l) cs < k → to_byte_idx (scheme_of l) cs k ≡ size cs
+past_last Lf cs k past = end_at-past schemes.Lf cs k past
+past_last Crlf cs k past = end_at-past schemes.Crlf cs k past
+past_last Lines cs k past = end_at-past schemes.Lines cs k past
+
+-- before the beginning of a text no break ends
+pub none_before : (l : LineType) (cs : Text) → from_byte_idx (scheme_of l) cs 0 ≡ 0
+none_before l cs = omega (
+  arith,
+  from-to (scheme_of l) (not_utf16 l) cs 0,
+  ap (from_byte_idx (scheme_of l) cs) (to_byte_idx-zero (scheme_of l) cs),
+)
+
+-- line k begins up to where it begins at most, or the text ends there
+pub reached_by : (l : LineType) (cs : Text) (k end : ℕ) → to_byte_idx (scheme_of l) cs k ≤ end → end ≤ size cs
+    → (k ≤ from_byte_idx (scheme_of l) cs end) ⊎ (end ≡ size cs)
+reached_by l cs k end begins within = elim (cases_lt (count (scheme_of l) cs) k) [
+  | inl past ↦ inr (omega (arith, past_last l cs k past, begins, within))
+  | inr has ↦
+      let s = scheme_of l in
+      inl (omega (arith, from-to s (not_utf16 l) cs k, has, from_byte_idx-le s cs (to_byte_idx s cs k) end begins))
+]
+
+-- the breaks of a kind are LFs, where as many are
+pub as_feeds : (l : LineType) (text : Text) → count (scheme_of l) text ≡ count schemes.Lf text → HasSameBreaks l Lf text
+as_feeds Lf text same = record { from = λ b. refl; to = λ n. refl }
+as_feeds Crlf text same = let found = crlf_by_lf text same in record { from = found.from; to = found.to }
+as_feeds Lines text same = let found = lines_by_lf text same in record { from = found.from; to = found.to }
+
+-- Places between CR and LF, by what joins there.
+
+-- a text that ends in CR, and what is before that
+return_last : (a : Text) → ends_in_return a ≡ true → (f : Text) × (a ≡ f ++ carriage_return ∷ [])
+return_last [] ends = cc
+return_last (c ∷ []) ends =
+    let is = eqb-true c carriage_return (sym (ends_in_return-one c) ∙ ends) in
+    ([], ap (λ d. d ∷ []) is)
+return_last (c ∷ d ∷ cs) ends =
+    let (f, is) = return_last (d ∷ cs) (sym (ends_in_return-cons c d cs) ∙ ends) in
+    (c ∷ f, ap (λ r. c ∷ r) is)
+
+-- a text that starts with LF, and what is after that
+feed_first : (b : Text) → starts_with_feed b ≡ true → (r : Text) × (b ≡ line_feed ∷ r)
+feed_first [] starts = cc
+feed_first (c ∷ cs) starts =
+    let is = eqb-true c line_feed (sym (starts_with_feed_is (c ∷ cs)) ∙ starts) in
+    (cs, ap (λ d. d ∷ cs) is)
+
+-- a seam that makes a CRLF is a middle of one
+pub middle_of_join : (cs a b : Text) (at : ℕ) → cs ≡ a ++ b → size a ≡ at → joins_crlf a b ≡ true → IsCrlfMiddle cs at
+middle_of_join cs a b at split place joins =
+    let both = and_parts (ends_in_return a) (starts_with_feed b) joins in
+    let (f, ends) = return_last a both.0 in
+    let (r, starts) = feed_first b both.1 in
+    record {
+      front = f;
+      back = r;
+      split = split ∙ ap (λ x. x ++ b) ends ∙ ap (λ x. (f ++ carriage_return ∷ []) ++ x) starts;
+      place = sym (ap size ends) ∙ place;
+    }
+
+-- and the other way round
+pub join_of_middle : (cs a b : Text) (at : ℕ) → cs ≡ a ++ b → size a ≡ at → IsCrlfMiddle cs at → joins_crlf a b ≡ true
+join_of_middle cs a b at split place middle =
+    let front = middle.front ++ carriage_return ∷ [] in
+    let same = same_cut a b front (line_feed ∷ middle.back) (sym split ∙ middle.split) (place ∙ sym middle.place) in
+    let ends : ends_in_return front ≡ true =
+    ends_in_return-append middle.front (carriage_return ∷ []) (λ none. cc) ∙ ends_in_return-one carriage_return in
+    let starts : starts_with_feed (line_feed ∷ middle.back) ≡ true = starts_with_feed_is (line_feed ∷ middle.back) in
+    and_from _ _ (ap ends_in_return same.front ∙ ends) (ap starts_with_feed same.back ∙ starts)
+
+-- The beginning of a text before its first char that passes a test.
+
+module _ (p : ℕ → Bool) where
+  -- a first char that passes, and one that doesn't
+  pub before_first-passes : (c : ℕ) (cs : List ℕ) → p c ≡ true → before_first p (c ∷ cs) ≡ []
+  before_first-passes c cs passes = take_while-cons (λ d. not (p d)) c cs ∙ rw passes refl
+
+  pub before_first-fails : (c : ℕ) (cs : List ℕ) → p c ≡ false → before_first p (c ∷ cs) ≡ c ∷ before_first p cs
+  before_first-fails c cs fails = take_while-cons (λ d. not (p d)) c cs ∙ rw fails refl
+
+  -- a text, split where the first char passes, or at its end
+  pub record SplitAtFirst (cs : List ℕ) : Type 0 where
+    pub after : List ℕ
+    pub split : cs ≡ before_first p cs ++ after
+    pub none : count_by p (before_first p cs) ≡ 0
+    pub next : (c : ℕ) (rest : List ℕ) → after ≡ c ∷ rest → p c ≡ true
+
+  -- each text is split so
+  pub split_at_first : (cs : List ℕ) → SplitAtFirst cs
+  split_at_first [] = record { after = []; split = refl; none = refl; next = λ c rest is. cc }
+  split_at_first (c ∷ cs) =
+      elim (cases_Bool (p c)) [
+        | inl passes ↦ let none = before_first-passes c cs passes in record {
+          after = c ∷ cs;
+          split = ap (λ r. r ++ c ∷ cs) (sym none);
+          none = ap (count_by p) none;
+          next = λ d rest is. let same : c ≡ d = cc in rw same at passes;
+        }
+        | inr fails ↦
+            let content = before_first-fails c cs fails in
+            let rest = split_at_first cs in
+            let zero : ◌≡◌ {A = ℕ} (cond (p c) 1 0) 0 = rw fails refl in
+            record {
+              after = rest.after;
+              split = ap (λ r. c ∷ r) rest.split ∙ ap (λ r. r ++ rest.after) (sym content);
+              none = ap (count_by p) content
+                  ∙ omega (arith, sum_by-cons (λ d. cond (p d) 1 0) c (before_first p cs), rest.none);
+              next = rest.next;
+            }
+      ]
+
+-- before the first that passes: nothing of the first list passes, and the second goes on, or it is in the first
+pub first_of : (p : ℕ → Bool) (xs ys : List ℕ)
+    → ((before_first p xs ≡ xs) × (before_first p (xs ++ ys) ≡ xs ++ before_first p ys))
+    ⊎ (before_first p (xs ++ ys) ≡ before_first p xs)
+first_of p [] ys = inl (refl, refl)
+first_of p (x ∷ xs) ys = elim (cases_Bool (p x)) [
+  | inl passes ↦
+      let own : before_first p (x ∷ xs) ≡ [] = take_while-cons (λ d. not (p d)) x xs ∙ rw passes refl in
+      let all : before_first p (x ∷ xs ++ ys) ≡ [] =
+      take_while-cons (λ d. not (p d)) x (xs ++ ys) ∙ rw passes refl in
+      inr (all ∙ sym own)
+  | inr fails ↦
+      let own : before_first p (x ∷ xs) ≡ x ∷ before_first p xs = take_while-cons (λ d. not (p d)) x xs ∙ rw fails refl in
+      let all : before_first p (x ∷ xs ++ ys) ≡ x ∷ before_first p (xs ++ ys) =
+      take_while-cons (λ d. not (p d)) x (xs ++ ys) ∙ rw fails refl in
+      elim (first_of p xs ys) [
+        | inl (none, more) ↦ inl (own ∙ ap (λ r. x ∷ r) none, all ∙ ap (λ r. x ∷ r) more)
+        | inr same ↦ inr (all ∙ ap (λ r. x ∷ r) same ∙ sym own)
+      ]
+]
+
+-- if no element of xs passes, and ys is empty or begins with one that does, the beginning of both together is xs
+pub before_first-seam : (p : ℕ → Bool) (xs ys : List ℕ) → count_by p xs ≡ 0
+    → ((c : ℕ) (rest : List ℕ) → ys ≡ c ∷ rest → p c ≡ true) → before_first p (xs ++ ys) ≡ xs
+before_first-seam p [] [] none next = refl
+before_first-seam p [] (c ∷ rest) none next =
+    take_while-cons (λ d. not (p d)) c rest ∙ rw (next c rest refl) refl
+before_first-seam p (x ∷ xs) ys none next = elim (cases_Bool (p x)) [
+  | inl passes ↦
+      let one : ◌≡◌ {A = ℕ} (cond (p x) 1 0) 1 = rw passes refl in
+      absurd (omega (arith, none, sum_by-cons (λ d. cond (p d) 1 0) x xs, one))
+  | inr fails ↦
+      let zero : ◌≡◌ {A = ℕ} (cond (p x) 1 0) 0 = rw fails refl in
+      take_while-cons (λ d. not (p d)) x (xs ++ ys) ∙ rw fails (ap (λ r. x ∷ r)
+      (before_first-seam p xs ys (omega (arith, none, sum_by-cons (λ d. cond (p d) 1 0) x xs, zero)) next))
+]
+
+-- if no element of xs passes, the beginning goes on into ys
+pub before_first-goes_on : (p : ℕ → Bool) (xs ys : List ℕ) → count_by p xs ≡ 0
+    → before_first p (xs ++ ys) ≡ xs ++ before_first p ys
+before_first-goes_on p [] ys none = refl
+before_first-goes_on p (x ∷ xs) ys none = elim (cases_Bool (p x)) [
+  | inl passes ↦
+      let one : ◌≡◌ {A = ℕ} (cond (p x) 1 0) 1 = rw passes refl in
+      absurd (omega (arith, none, sum_by-cons (λ d. cond (p d) 1 0) x xs, one))
+  | inr fails ↦
+      let zero : ◌≡◌ {A = ℕ} (cond (p x) 1 0) 0 = rw fails refl in
+      before_first-fails p x (xs ++ ys) fails ∙ ap (λ r. x ∷ r)
+      (before_first-goes_on p xs ys (omega (arith, none, sum_by-cons (λ d. cond (p d) 1 0) x xs, zero)))
+]
+
 -- A text, split at one of its lines: what stands before it, its content, and what is after that.
-use Rattle.positions.proofs.lemmas.Firsts.{split_at_first}
-use Rattle.positions.proofs.lemmas.Cuts.{behind_boundary, boundary_within}
-use Rattle.std.proofs.lemmas.Bool.{and_parts, eqb-true}
-use Rattle.positions.proofs.lemmas.Common.{◌≡◌, ℕ, ◌+◌, ◌-◌, ◌<◌, ◌≤◌, true, [], ◌∷◌, ◌++◌, ◌⊎◌, inl, inr, sym, ◌∙◌, ap, arith, cond, refl, min, append_assoc, append-nil, count_by, len_utf8, cases_Bool, cases_lt, append_cancel_left, sum_by-append, len_utf8_bounds, Text, size, line_feed, carriage_return, is_crlf_middle, from_byte_idx, to_byte_idx, count, weighed, IsBoundary, IsEnd, IsEndOf, IsCrlfMiddle, size-append, size-cons, boundary_beside, cut_front, cut_goes_on, is_crlf_middle_iff, weighed_at, IsBoundary-to_byte_idx, from-to, to-from_is_greatest, from_byte_idx-le, from_byte_idx-le-count, is_joined, seam_loss, to_byte_idx-le, to_byte_idx-zero, to_byte_idx-le-size, text_after, scheme_of, is_break, line_content, line_end, LineType}
-use Rattle.positions.proofs.lemmas.Kinds.{not_utf16, break_of_end, end_of_break, feed_breaks, past_last, none_before}
 
 -- no end stands between CR and LF, and neither does the text's beginning
 pub not_middle_at_end : (l : LineType) (cs : Text) (p : ℕ) → IsEnd (scheme_of l) cs p ⊎ (p ≡ 0) → ¬ (IsCrlfMiddle cs p)
@@ -330,3 +536,117 @@ begins_behind l [] b from byte breaks long before are (inl none) =
     omega (arith, ap (to_byte_idx (scheme_of l) b) (are ∙ ap (from_byte_idx (scheme_of l) b) whole))
 begins_behind l (c ∷ a) b from byte breaks long before are (inl none) =
     absurd (omega (arith, size-cons c a, len_utf8_bounds c))
+
+-- Where a byte is on its line: at or before the line's end, or in the break that is after it.
+
+-- a middle is above 0
+pub middle_above : (cs : Text) (byte : ℕ) → IsCrlfMiddle cs byte → 1 ≤ byte
+middle_above cs byte middle = omega (
+  arith,
+  middle.place,
+  size-append middle.front (carriage_return ∷ []),
+  size-cons carriage_return [],
+  len_utf8_bounds carriage_return,
+)
+
+-- before its CR is none
+return_not_middle : (cs : Text) (byte q : ℕ) (middle : IsCrlfMiddle cs byte) → size middle.front ≡ q
+    → ¬ (IsCrlfMiddle cs q)
+return_not_middle cs byte q middle place = λ other.
+    let here : IsBoundary cs q = record {
+      front = middle.front;
+      back = carriage_return ∷ line_feed ∷ middle.back;
+      split = middle.split ∙ append_assoc middle.front (carriage_return ∷ []) (line_feed ∷ middle.back);
+      place = place;
+    } in
+    let there : IsBoundary cs q = record {
+      front = other.front ++ carriage_return ∷ [];
+      back = line_feed ∷ other.back;
+      split = other.split;
+      place = other.place;
+    } in
+    let same : middle.front ≡ other.front ++ carriage_return ∷ [] = sym (cut_front cs q here) ∙ cut_front cs q there in
+    let rests : carriage_return ∷ line_feed ∷ middle.back ≡ line_feed ∷ other.back =
+    append_cancel_left middle.front (carriage_return ∷ line_feed ∷ middle.back) (line_feed ∷ other.back)
+    (sym here.split ∙ other.split ∙ ap (λ f. f ++ line_feed ∷ other.back) (sym same)) in
+    cc
+
+module _ (l : LineType) (cs : Text) (byte : ℕ) where
+  abbrev line : ℕ
+  line = from_byte_idx (scheme_of l) cs byte
+
+  abbrev line_start : ℕ
+  line_start = to_byte_idx (scheme_of l) cs line
+
+  -- no break ends on its line up to the byte
+  none_on_line : (e : ℕ) → line_start < e → e ≤ byte → ¬ (IsEnd (scheme_of l) cs e)
+  none_on_line e above at_or_before = λ is.
+      omega (arith, (to-from_is_greatest (scheme_of l) (not_utf16 l) cs byte).greatest e is at_or_before, above)
+
+  -- a byte that is no middle has as many units before it as it has up to the end of its line
+  pub weighed_on_line : (w : ℕ → ℕ) → (is_break l carriage_return ≡ true → ¬ (IsCrlfMiddle cs byte))
+      → weighed w cs byte ≡ weighed w cs (min byte (line_end l cs line))
+  weighed_on_line w other = elim (cases_lt (line_end l cs line) byte) [
+    | inr within ↦ let is : min byte (line_end l cs line) ≡ byte = omega (arith, within) in ap (weighed w cs) (sym is)
+    | inl past ↦
+        let longest = cut_is_longest cs byte in
+        let p = size (cut cs byte) in
+        let at : IsBoundary cs p = record { front = cut cs byte; back = longest.back; split = longest.split; place = refl } in
+        let is : min byte (line_end l cs line) ≡ line_end l cs line = omega (arith, past) in
+        elim (cases_lt (line_end l cs line) p) [
+          | inr early ↦ omega (
+            arith,
+            ap (weighed w cs) is,
+            weighed_at w cs p at,
+            weighed-le-weighed w cs p (line_end l cs line) early,
+            weighed-le-weighed w cs (line_end l cs line) byte (omega (arith, past)),
+          )
+          | inl late ↦
+              let free : is_break l carriage_return ≡ true → IsCrlfMiddle cs p → ⊥ = λ breaks middle.
+              elim (cases_lt p byte) [
+                | inl before ↦
+                    none_on_line (p + 1) (omega (arith, late)) (omega (arith, before)) (feed_ends l cs p middle)
+                | inr le ↦
+                    let same : p ≡ byte = omega (arith, le, longest.fits) in
+                    other breaks (rw same at middle)
+              ] in
+              let (e, is_end, above, at_or_before) = end_before l cs line p at free late in
+              absurd (none_on_line e above (omega (arith, at_or_before, longest.fits)) is_end)
+        ]
+  ]
+
+  module _ (breaks : is_break l carriage_return ≡ true) (middle : IsCrlfMiddle cs byte) where
+    one_before : size middle.front + 1 ≡ byte
+    one_before = omega (arith, middle.place, size-append middle.front (carriage_return ∷ []))
+
+    start_before : line_start < byte
+    start_before =
+        let last = to-from_is_greatest (scheme_of l) (not_utf16 l) cs byte in
+        elim (cases_lt line_start byte) [
+          | inl is ↦ is
+          | inr le ↦
+              let same : byte ≡ line_start = omega (arith, le, last.at_or_before) in
+              absurd (not_middle_at_end l cs line_start last.end_or_zero (rw same at middle))
+        ]
+
+    -- and one that is a middle, where CR begins a break, is one after the end of its line
+    pub behind_line : line_end l cs line + 1 ≡ byte
+    behind_line =
+        let q = size middle.front in
+        let split = middle.split ∙ append_assoc middle.front (carriage_return ∷ []) (line_feed ∷ middle.back) in
+        let most = break_from_line_end l cs line middle.front carriage_return (line_feed ∷ middle.back) split breaks
+        (omega (arith, start_before, one_before)) in
+        elim (cases_lt (line_end l cs line) q) [
+          | inr le ↦ omega (arith, le, most, one_before)
+          | inl early ↦
+              let at : IsBoundary cs q =
+              record { front = middle.front; back = carriage_return ∷ line_feed ∷ middle.back; split = split; place = refl } in
+              let (e, is_end, above, at_or_before) =
+              end_before l cs line q at (λ _. return_not_middle cs byte q middle refl) early in
+              absurd (none_on_line e above (omega (arith, at_or_before, one_before)) is_end)
+        ]
+
+    pub weighed_behind_line : (w : ℕ → ℕ) → weighed w cs (byte - 1) ≡ weighed w cs (min byte (line_end l cs line))
+    weighed_behind_line w =
+        let is : min byte (line_end l cs line) ≡ byte - 1 = omega (arith, behind_line) in
+        sym (ap (weighed w cs) is)

@@ -1,6 +1,6 @@
 use Rattle.text_summary.proofs.lemmas.Callers.{count_of-summary}
 use Rattle.text_summary.specs.Summaries.{count_of}
-use Rattle.positions.proofs.lemmas.Alike.{bytes_are, units_are}
+use Rattle.positions.proofs.lemmas.Known.{bytes_are, units_are}
 use Rattle.positions.proofs.lemmas.{◌∙◌, sym, ap}
 use Rattle.positions.proofs.pieces.count_units.Goals as goal
 
