@@ -3,7 +3,7 @@ ghost use Rattle.std.specs.Prelude.{◌≡◌, ◌≢◌, ◌+◌, ◌-◌, ◌*
 ghost use Rattle.str_indices.specs.Relations.{IsBoundary};
 ghost use Rattle.str_indices.specs.Text.{size};
 ghost use Rattle.text_summary.specs.Pieces.{joined, joined_size};
-ghost use Rattle.text_rope.specs.Chunks.{ChunksState, EndsWithChunk, IsWithin, IsPartAt};
+ghost use Rattle.text_rope.specs.Chunks.{IsNext, ChunksState, EndsWithChunk, IsWithin, IsPartAt};
 ghost use Rattle.text_rope.specs.Rests.{IsRestFrom, IsRestAt};
 ghost use Rattle.text_rope.specs.ChunkSizes.{max_chunk, IsFilled};
 ghost use Rattle.text_rope.specs.Looks.{Asks};
@@ -78,15 +78,7 @@ impl<'a> Chunks<'a> {
     /// The next part of the text: the rest of its chunk, of at most `MAX_CHUNK` bytes, as far as the range goes; none at the end,
     /// and from then on.
     pub fn next_chunk(&mut self) -> Option<&'a str>
-        ensures none { IsNone result ↔ (self.old.at ≡ self.old.end) }
-        ensures part { IfSome result (λ chunk. IsPartAt (joined self.old.view.texts) (chars chunk.now) self.old.at self.new.at) }
-        ensures whole { IfSome result (λ _. EndsWithChunk self.old.view.texts self.old.at self.new.at self.old.end) }
-        ensures on { IfSome result (λ _. self.old.at < self.new.at) }
-        ensures within { self.new.at ≤ self.new.end }
-        ensures piece { IfSome result (λ chunk. size (chars chunk.now) ≤ max_chunk) }
-        ensures ended { IfNone result (self.new ≡ self.old) }
-        ensures end { self.new.end ≡ self.old.end }
-        ensures cost { Asks 2 self.old.view self.new.view }
+        ensures { IsNext self.old self.new result }
     {
         if self.at == self.end {
             return None;

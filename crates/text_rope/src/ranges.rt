@@ -4,6 +4,7 @@ ghost use Rattle.str_indices.specs.Relations.{IsBoundary};
 ghost use Rattle.str_indices.specs.Text.{size};
 ghost use Rattle.positions.specs.Positions.{exact_byte_at};
 ghost use Rattle.text_summary.specs.Changes.{IsReplaced};
+ghost use Rattle.text_rope.specs.Refusals.{IsChangeRefused};
 ghost use Rattle.text_rope.specs.Ranges.{exact_part_at, is_ordered, part_at};
 ghost use Rattle.text_rope.specs.declared.refusals.Refusal.TheVariants.{NotOrdered, NotBoundary, TooLong, NoMemory};
 
@@ -31,13 +32,8 @@ impl Rope {
             IsReplaced self.old self.new part.start part.end (chars change.entry.text.now))) }
         ensures whole { OnOk result (IfNone change.entry.range (self.new ≡ chars change.entry.text.now)) }
         ensures err { OnErr result (self.new ≡ self.old) }
-        ensures not_ordered { IsErrOf result NotOrdered ↔ IsNone (part_at encoding self.old change.entry.range) }
-        ensures too_long { IsErrOf result TooLong ↔ IsSomeAnd (part_at encoding self.old change.entry.range) (λ part.
-            2 ^ 63 + (part.end - part.start) ≤ size self.old + length change.entry.text.now) }
-        ensures no_memory { IsErrOf result NoMemory → IsSomeAnd (part_at encoding self.old change.entry.range) (λ part.
-            (chars change.entry.text.now ≢ [])
-            ⊎ ((part.start < part.end) × (part.end - part.start < size self.old))) }
-        ensures not_boundary { result ≢ Err NotBoundary }
+        ensures refusals { let part = part_at encoding self.old change.entry.range in
+            IsChangeRefused (IsErrOf result) part part self.old change.entry.text.now }
     {
         let Some(part) = byte_range_of(self, encoding, change.range) else {
             return Err(Refusal::NotOrdered);
@@ -56,14 +52,8 @@ impl Rope {
             IsReplaced self.old self.new part.start part.end (chars change.entry.text.now))) }
         ensures whole { OnOk result (IfNone change.entry.range (self.new ≡ chars change.entry.text.now)) }
         ensures err { OnErr result (self.new ≡ self.old) }
-        ensures not_ordered { IsErrOf result NotOrdered ↔ IsNone (part_at encoding self.old change.entry.range) }
-        ensures not_boundary { IsErrOf result NotBoundary ↔ (IsSome (part_at encoding self.old change.entry.range)
-            × IsNone (exact_part_at encoding self.old change.entry.range)) }
-        ensures too_long { IsErrOf result TooLong ↔ IsSomeAnd (exact_part_at encoding self.old change.entry.range) (λ part.
-            2 ^ 63 + (part.end - part.start) ≤ size self.old + length change.entry.text.now) }
-        ensures no_memory { IsErrOf result NoMemory → IsSomeAnd (exact_part_at encoding self.old change.entry.range) (λ part.
-            (chars change.entry.text.now ≢ [])
-            ⊎ ((part.start < part.end) × (part.end - part.start < size self.old))) }
+        ensures refusals { IsChangeRefused (IsErrOf result) (part_at encoding self.old change.entry.range)
+            (exact_part_at encoding self.old change.entry.range) self.old change.entry.text.now }
     {
         if !is_ordered(change.range) {
             return Err(Refusal::NotOrdered);

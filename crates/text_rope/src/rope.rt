@@ -9,6 +9,7 @@ ghost use Rattle.text_summary.specs.Pieces.{joined};
 ghost use Rattle.text_rope.specs.Chunks.{IsChunkAt, ChunksState, IsCopied, IsRead};
 ghost use Rattle.text_rope.specs.Edits.{IsCutAt};
 ghost use Rattle.text_rope.specs.Looks.{Asks};
+ghost use Rattle.text_rope.specs.Refusals.{IsRefused};
 ghost use Rattle.text_rope.specs.ChunkSizes.{max_chunk, min_chunk, IsFilled, IsFull};
 ghost use Rattle.text_rope.specs.States.{RopeState, unasked};
 ghost use Rattle.text_rope.specs.Work.{WorkState, TakesLog};
@@ -216,11 +217,7 @@ impl Rope {
         ensures end { IfOk result (λ chunks. chunks.end ≡ range.end) }
         ensures filled { IfOk result (λ chunks. IsFilled chunks.view.texts) }
         ensures cost { IfOk result (λ chunks. chunks.view ≡ unasked chunks.view.texts) }
-        ensures not_ordered { IsErrOf result NotOrdered ↔ (range.end < range.start) }
-        ensures not_boundary { IsErrOf result NotBoundary
-            ↔ ((range.start ≤ range.end) × ¬ (IsBoundary self.now range.start × IsBoundary self.now range.end)) }
-        ensures too_long { result ≢ Err TooLong }
-        ensures no_memory { result ≢ Err NoMemory }
+        ensures refusals { IsRefused (IsErrOf result) self.now range.start range.end ⊥ ⊥ }
     {
         if range.end < range.start {
             return Err(Refusal::NotOrdered);
@@ -240,13 +237,8 @@ impl Rope {
     pub fn copy_to(&self, range: Range<usize>, room: &mut [u8]) -> Result<usize, Refusal>
         ensures ok { IfOk result (λ n. IsCopied self.now range.start range.end n room.old room.new) }
         ensures err { OnErr result (room.new ≡ room.old) }
-        ensures not_ordered { IsErrOf result NotOrdered ↔ (range.end < range.start) }
-        ensures not_boundary { IsErrOf result NotBoundary
-            ↔ ((range.start ≤ range.end) × ¬ (IsBoundary self.now range.start × IsBoundary self.now range.end)) }
-        ensures too_long { IsErrOf result TooLong
-            ↔ ((range.start ≤ range.end) × (IsBoundary self.now range.start × IsBoundary self.now range.end)
-            × (range.start + length room.old < range.end)) }
-        ensures no_memory { result ≢ Err NoMemory }
+        ensures refusals { IsRefused (IsErrOf result) self.now range.start range.end
+            (range.start + length room.old < range.end) ⊥ }
     {
         if range.end < range.start {
             return Err(Refusal::NotOrdered);
@@ -280,14 +272,9 @@ impl Rope {
     pub fn replace(&mut self, range: Range<usize>, text: &str) -> Result<(), Refusal>
         ensures ok { OnOk result (IsReplaced self.old self.new range.start range.end (chars text.now)) }
         ensures err { OnErr result (self.new ≡ self.old) }
-        ensures not_ordered { IsErrOf result NotOrdered ↔ (range.end < range.start) }
-        ensures not_boundary { IsErrOf result NotBoundary
-            ↔ ((range.start ≤ range.end) × ¬ (IsBoundary self.old range.start × IsBoundary self.old range.end)) }
-        ensures too_long { IsErrOf result TooLong
-            ↔ ((range.start ≤ range.end) × (IsBoundary self.old range.start × IsBoundary self.old range.end)
-            × (2 ^ 63 + (range.end - range.start) ≤ size self.old + length text.now)) }
-        ensures no_memory { IsErrOf result NoMemory → (chars text.now ≢ [])
-            ⊎ ((range.start < range.end) × (range.end - range.start < size self.old)) }
+        ensures refusals { IsRefused (IsErrOf result) self.old range.start range.end
+            (2 ^ 63 + (range.end - range.start) ≤ size self.old + length text.now)
+            ((chars text.now ≢ []) ⊎ ((range.start < range.end) × (range.end - range.start < size self.old))) }
     {
         if range.end < range.start {
             return Err(Refusal::NotOrdered);
@@ -303,11 +290,8 @@ impl Rope {
     pub fn insert(&mut self, at: usize, text: &str) -> Result<(), Refusal>
         ensures ok { OnOk result (IsReplaced self.old self.new at at (chars text.now)) }
         ensures err { OnErr result (self.new ≡ self.old) }
-        ensures not_boundary { IsErrOf result NotBoundary ↔ (¬ (IsBoundary self.old at)) }
-        ensures too_long { IsErrOf result TooLong
-            ↔ (IsBoundary self.old at × (2 ^ 63 ≤ size self.old + length text.now)) }
-        ensures no_memory { IsErrOf result NoMemory → chars text.now ≢ [] }
-        ensures not_ordered { result ≢ Err NotOrdered }
+        ensures refusals { IsRefused (IsErrOf result) self.old at at (2 ^ 63 ≤ size self.old + length text.now)
+            (chars text.now ≢ []) }
     {
         self.replace_range(&mut Work::none(), at, at, text)
     }
@@ -320,12 +304,8 @@ impl Rope {
     pub fn remove(&mut self, range: Range<usize>) -> Result<(), Refusal>
         ensures ok { OnOk result (IsReplaced self.old self.new range.start range.end []) }
         ensures err { OnErr result (self.new ≡ self.old) }
-        ensures not_ordered { IsErrOf result NotOrdered ↔ (range.end < range.start) }
-        ensures not_boundary { IsErrOf result NotBoundary
-            ↔ ((range.start ≤ range.end) × ¬ (IsBoundary self.old range.start × IsBoundary self.old range.end)) }
-        ensures no_memory { IsErrOf result NoMemory
-            → (range.start < range.end) × (range.end - range.start < size self.old) }
-        ensures too_long { result ≢ Err TooLong }
+        ensures refusals { IsRefused (IsErrOf result) self.old range.start range.end ⊥
+            ((range.start < range.end) × (range.end - range.start < size self.old)) }
     {
         if range.end < range.start {
             return Err(Refusal::NotOrdered);
@@ -395,10 +375,7 @@ impl Rope {
     pub fn split_off(&mut self, at: usize) -> Result<Rope, Refusal>
         ensures ok { IfOk result (λ back. IsCutAt self.old self.new back at) }
         ensures err { OnErr result (self.new ≡ self.old) }
-        ensures not_boundary { IsErrOf result NotBoundary ↔ (¬ (IsBoundary self.old at)) }
-        ensures no_memory { IsErrOf result NoMemory → (0 < at) × (at < size self.old) }
-        ensures not_ordered { result ≢ Err NotOrdered }
-        ensures too_long { result ≢ Err TooLong }
+        ensures refusals { IsRefused (IsErrOf result) self.old at at ⊥ ((0 < at) × (at < size self.old)) }
     {
         if !self.is_char_boundary(at) {
             return Err(Refusal::NotBoundary);

@@ -1,6 +1,7 @@
 -- The statuses of changes.
 --     status_of r      the status of an answer, one of the numbers named below
-use Rattle.std.specs.Prelude.{ℕ}
+--     IsStatus n x     n is the status of a refusal
+use Rattle.std.specs.Prelude.{ℕ, ◌≡◌}
 use Rattle.std.specs.declared.result.Result.{Result}
 use Rattle.std.specs.declared.result.Result.TheVariants.{Ok, Err}
 use Rattle.text_rope.specs.declared.refusals.Refusal.{Refusal}
@@ -31,3 +32,7 @@ status_of (Err NotOrdered) = not_ordered
 status_of (Err NotBoundary) = not_boundary
 status_of (Err TooLong) = too_long
 status_of (Err NoMemory) = no_memory
+
+-- the status is that of the refusal
+abbrev pub IsStatus : ℕ → Refusal → Type 0
+IsStatus n x = n ≡ status_of (Err x)

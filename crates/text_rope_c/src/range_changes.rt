@@ -5,9 +5,10 @@ ghost use Rattle.positions.specs.Positions.{byte_range_at};
 ghost use Rattle.positions.specs.declared.line_type.LineType.TheVariants.{Crlf};
 ghost use Rattle.text_summary.specs.Changes.{IsReplaced};
 ghost use Rattle.text_rope.specs.Ranges.{exact_part_at};
+ghost use Rattle.text_rope.specs.Refusals.{IsChangeRefused};
 ghost use Rattle.text_rope.specs.declared.refusals.Refusal.TheVariants.{NotOrdered, NotBoundary, TooLong, NoMemory};
 ghost use Rattle.c_values.specs.Numbers.{encoding_at};
-ghost use Rattle.text_rope_c.specs.Statuses.{done, no_memory, not_boundary, not_ordered, not_utf8, too_long};
+ghost use Rattle.text_rope_c.specs.Statuses.{IsStatus, done, no_memory, not_boundary, not_ordered, not_utf8, too_long};
 
 use crate::handles::store;
 use crate::slot::Slot;
@@ -35,14 +36,10 @@ pub extern "C" fn rope_change(
         (λ part. IsReplaced rope.old.text rope.new.text part.start part.end (chars text.now)) }
     ensures refused { result ≢ done → rope.new.text ≡ rope.old.text }
     ensures not_utf8 { (result ≡ not_utf8) ↔ (¬ (IsUtf8 text.now)) }
-    ensures not_ordered { (result ≡ not_ordered)
-        ↔ (IsUtf8 text.now × IsNone (byte_range_at Crlf (encoding_at encoding) rope.old.text range)) }
-    ensures too_long { (result ≡ too_long) ↔ (IsUtf8 text.now
-        × IsSomeAnd (byte_range_at Crlf (encoding_at encoding) rope.old.text range) (λ part.
-        2 ^ 63 + (part.end - part.start) ≤ size rope.old.text + length text.now)) }
-    ensures no_memory { result ≡ no_memory → IsSomeAnd (byte_range_at Crlf (encoding_at encoding) rope.old.text range) (λ part.
-        (chars text.now ≢ []) ⊎ ((part.start < part.end) × (part.end - part.start < size rope.old.text))) }
-    ensures known { (result ≤ not_utf8) × (result ≢ not_boundary) }
+    ensures refusals { result ≢ not_utf8 → IsUtf8 text.now
+        × IsChangeRefused (IsStatus result) (byte_range_at Crlf (encoding_at encoding) rope.old.text range)
+        (byte_range_at Crlf (encoding_at encoding) rope.old.text range) rope.old.text text.now }
+    ensures known { result ≤ not_utf8 }
 {
     if !is_utf8(text) {
         return NOT_UTF8;
@@ -63,14 +60,9 @@ pub extern "C" fn rope_change_utf8(
     ensures done { result ≡ done → IfSome (byte_range_at Crlf (encoding_at encoding) rope.old.text range)
         (λ part. IsReplaced rope.old.text rope.new.text part.start part.end (chars text.now)) }
     ensures refused { result ≢ done → rope.new.text ≡ rope.old.text }
-    ensures not_ordered { (result ≡ not_ordered)
-        ↔ IsNone (byte_range_at Crlf (encoding_at encoding) rope.old.text range) }
-    ensures too_long { (result ≡ too_long)
-        ↔ IsSomeAnd (byte_range_at Crlf (encoding_at encoding) rope.old.text range) (λ part.
-        2 ^ 63 + (part.end - part.start) ≤ size rope.old.text + length text.now) }
-    ensures no_memory { result ≡ no_memory → IsSomeAnd (byte_range_at Crlf (encoding_at encoding) rope.old.text range) (λ part.
-        (chars text.now ≢ []) ⊎ ((part.start < part.end) × (part.end - part.start < size rope.old.text))) }
-    ensures known { (result ≤ no_memory) × (result ≢ not_boundary) }
+    ensures refusals { IsChangeRefused (IsStatus result) (byte_range_at Crlf (encoding_at encoding) rope.old.text range)
+        (byte_range_at Crlf (encoding_at encoding) rope.old.text range) rope.old.text text.now }
+    ensures known { result ≤ no_memory }
 {
     status_at(apply_change(alloc, rope, encoding_at(encoding), range, utf8_of(text)))
 }
@@ -85,12 +77,8 @@ fn apply_change(
     ensures ok { OnOk result (IfSome (byte_range_at Crlf encoding rope.old.text range) (λ part.
         IsReplaced rope.old.text rope.new.text part.start part.end (chars text.now))) }
     ensures err { OnErr result (rope.new.text ≡ rope.old.text) }
-    ensures not_ordered { IsErrOf result NotOrdered ↔ IsNone (byte_range_at Crlf encoding rope.old.text range) }
-    ensures too_long { IsErrOf result TooLong ↔ IsSomeAnd (byte_range_at Crlf encoding rope.old.text range) (λ part.
-        2 ^ 63 + (part.end - part.start) ≤ size rope.old.text + length text.now) }
-    ensures no_memory { IsErrOf result NoMemory → IsSomeAnd (byte_range_at Crlf encoding rope.old.text range) (λ part.
-        (chars text.now ≢ []) ⊎ ((part.start < part.end) × (part.end - part.start < size rope.old.text))) }
-    ensures not_boundary { result ≢ Err NotBoundary }
+    ensures refusals { IsChangeRefused (IsErrOf result) (byte_range_at Crlf encoding rope.old.text range)
+        (byte_range_at Crlf encoding rope.old.text range) rope.old.text text.now }
 {
     let change = Change {
         range: Some(range),
@@ -121,16 +109,9 @@ pub extern "C" fn rope_change_exact(
         (λ part. IsReplaced rope.old.text rope.new.text part.start part.end (chars text.now)) }
     ensures refused { result ≢ done → rope.new.text ≡ rope.old.text }
     ensures not_utf8 { (result ≡ not_utf8) ↔ (¬ (IsUtf8 text.now)) }
-    ensures not_ordered { (result ≡ not_ordered)
-        ↔ (IsUtf8 text.now × IsNone (byte_range_at Crlf (encoding_at encoding) rope.old.text range)) }
-    ensures not_boundary { (result ≡ not_boundary)
-        ↔ (IsUtf8 text.now × (IsSome (byte_range_at Crlf (encoding_at encoding) rope.old.text range)
-        × IsNone (exact_part_at (encoding_at encoding) rope.old.text (Some range)))) }
-    ensures too_long { (result ≡ too_long) ↔ (IsUtf8 text.now
-        × IsSomeAnd (exact_part_at (encoding_at encoding) rope.old.text (Some range)) (λ part.
-        2 ^ 63 + (part.end - part.start) ≤ size rope.old.text + length text.now)) }
-    ensures no_memory { result ≡ no_memory → IsSomeAnd (exact_part_at (encoding_at encoding) rope.old.text (Some range)) (λ part.
-        (chars text.now ≢ []) ⊎ ((part.start < part.end) × (part.end - part.start < size rope.old.text))) }
+    ensures refusals { result ≢ not_utf8 → IsUtf8 text.now
+        × IsChangeRefused (IsStatus result) (byte_range_at Crlf (encoding_at encoding) rope.old.text range)
+        (exact_part_at (encoding_at encoding) rope.old.text (Some range)) rope.old.text text.now }
     ensures known { result ≤ not_utf8 }
 {
     match from_utf8(text) {
@@ -155,13 +136,8 @@ fn apply_exact_change(
     ensures ok { OnOk result (IfSome (exact_part_at encoding rope.old.text (Some range)) (λ part.
         IsReplaced rope.old.text rope.new.text part.start part.end (chars text.now))) }
     ensures err { OnErr result (rope.new.text ≡ rope.old.text) }
-    ensures not_ordered { IsErrOf result NotOrdered ↔ IsNone (byte_range_at Crlf encoding rope.old.text range) }
-    ensures not_boundary { IsErrOf result NotBoundary ↔ (IsSome (byte_range_at Crlf encoding rope.old.text range)
-        × IsNone (exact_part_at encoding rope.old.text (Some range))) }
-    ensures too_long { IsErrOf result TooLong ↔ IsSomeAnd (exact_part_at encoding rope.old.text (Some range)) (λ part.
-        2 ^ 63 + (part.end - part.start) ≤ size rope.old.text + length text.now) }
-    ensures no_memory { IsErrOf result NoMemory → IsSomeAnd (exact_part_at encoding rope.old.text (Some range)) (λ part.
-        (chars text.now ≢ []) ⊎ ((part.start < part.end) × (part.end - part.start < size rope.old.text))) }
+    ensures refusals { IsChangeRefused (IsErrOf result) (byte_range_at Crlf encoding rope.old.text range)
+        (exact_part_at encoding rope.old.text (Some range)) rope.old.text text.now }
 {
     let change = Change {
         range: Some(range),

@@ -1,33 +1,33 @@
-use Rattle.std.specs.Prelude.{Some, IfSome, IsErrOf, IsNone, IsSome, IsSomeAnd, OnOk}
-use Rattle.std.proofs.Common.{ap, ◌≢◌, ◌+◌, ◌-◌, ◌^◌, ◌<◌, ◌≤◌, ◌↔◌, ◌⊎◌, ◌∙◌, [], sym, subst, chars, length}
-use Rattle.str_indices.specs.Text.{Text, size}
+use Rattle.std.specs.Prelude.{Some, IfSome, IsErrOf, OnOk}
+use Rattle.std.proofs.Common.{ap, ◌∙◌, sym, subst, chars}
+use Rattle.str_indices.specs.Text.{Text}
 use Rattle.positions.specs.Positions.{byte_range_at}
-use Rattle.text_rope.specs.Ranges.{exact_part_at}
-use Rattle.text_summary.specs.Changes.{IsReplaced}
-use Rattle.text_rope.specs.declared.refusals.Refusal.TheVariants.{NoMemory, NotBoundary, TooLong}
-use Rattle.text_rope_c.proofs.Refused.{never_too_long, refused_by}
-use Rattle.text_rope_c.proofs.range_changes.apply_exact_change.Goals as goal
 use Rattle.positions.specs.declared.line_type.LineType.TheVariants.{Crlf}
+use Rattle.text_rope.specs.Ranges.{exact_part_at}
+use Rattle.text_rope.specs.Refusals.{IsChangeRefused}
+use Rattle.text_summary.specs.Changes.{IsReplaced}
+use Rattle.text_rope_c.proofs.Refused.{change_refused_after, refused_by}
+use Rattle.text_rope_c.proofs.range_changes.apply_exact_change.Goals as goal
 
-pub returns-in_err-apply_exact-clause-too_long : goal.returns-in_err-apply_exact-clause-too_long
-returns-in_err-apply_exact-clause-too_long c =
-    let len = length c.args.text.now in
-    let part = λ (whole : Text). IsSomeAnd (exact_part_at c.args.encoding whole (Some c.args.range)) (λ part.
-    2 ^ 63 + (part.end - part.start) ≤ size whole + len) in
-    subst (λ r. IsErrOf r TooLong ↔ part c.args.rope.now.text) (c.in_err-apply_exact.was
-    ∙ refused_by c.from_residual.result c.in_err-apply_exact.field-0.0 c.from_residual.ensures.1)
-    (subst (λ whole. IsErrOf c.apply_exact.result TooLong ↔ part whole) (c.new-whole.ensures ∙ sym (rw c.if-is_null.true at c.is_null.ensures.told.0).1)
-    c.apply_exact.ensures.too_long)
+pub returns-in_err-apply_exact-clause-refusals : goal.returns-in_err-apply_exact-clause-refusals
+returns-in_err-apply_exact-clause-refusals c =
+    let same = c.new-whole.ensures ∙ sym (rw c.if-is_null.true at c.is_null.ensures.told.0).1 in
+    subst (λ r. IsChangeRefused (IsErrOf r) (byte_range_at Crlf c.args.encoding c.args.rope.now.text c.args.range)
+    (exact_part_at c.args.encoding c.args.rope.now.text (Some c.args.range)) c.args.rope.now.text c.args.text.now)
+    (c.in_err-apply_exact.was ∙ refused_by c.from_residual.result c.in_err-apply_exact.field-0.0 c.from_residual.ensures.1)
+    (subst (λ (old : Text). IsChangeRefused (IsErrOf c.apply_exact.result) (byte_range_at Crlf c.args.encoding old c.args.range)
+    (exact_part_at c.args.encoding old (Some c.args.range)) old c.args.text.now) same c.apply_exact.ensures.refusals)
 
-pub returns-then-is_null-clause-too_long : goal.returns-then-is_null-clause-too_long
-returns-then-is_null-clause-too_long c =
-    let len = length c.args.text.now in
-    let part = λ (whole : Text). IsSomeAnd (exact_part_at c.args.encoding whole (Some c.args.range)) (λ part.
-    2 ^ 63 + (part.end - part.start) ≤ size whole + len) in
-    never_too_long c.apply_exact.result c.store.result c.in_ok-apply_exact.field-0 c.in_ok-apply_exact.was
-    (subst (λ whole. IsErrOf c.apply_exact.result TooLong ↔ part whole) (c.new-whole.ensures ∙ sym (rw c.if-is_null.true at c.is_null.ensures.told.0).1)
-    c.apply_exact.ensures.too_long)
-    c.store.ensures.no_other
+pub returns-then-is_null-clause-refusals : goal.returns-then-is_null-clause-refusals
+returns-then-is_null-clause-refusals c =
+    let same = c.new-whole.ensures ∙ sym (rw c.if-is_null.true at c.is_null.ensures.told.0).1 in
+    let replaced = λ (old : Text). IfSome (exact_part_at c.args.encoding old (Some c.args.range)) (λ part. IsReplaced old c.apply_exact.new.self part.start part.end
+    (chars c.args.text.now)) in
+    change_refused_after c.apply_exact.result c.store.result c.in_ok-apply_exact.field-0 c.apply_exact.new.self c.in_ok-apply_exact.was c.store.ensures.no_other
+    (rw c.if-is_null.true at c.is_null.ensures.told.0).1 c.store.ensures.some
+    (subst replaced same c.in_ok-apply_exact.ensures.ok)
+    (subst (λ (old : Text). IsChangeRefused (IsErrOf c.apply_exact.result) (byte_range_at Crlf c.args.encoding old c.args.range)
+    (exact_part_at c.args.encoding old (Some c.args.range)) old c.args.text.now) same c.apply_exact.ensures.refusals)
 
 pub returns-clause-ok : goal.returns-clause-ok
 returns-clause-ok c =
@@ -37,33 +37,7 @@ returns-clause-ok c =
     subst (λ old. replaced old c.apply_exact-2.new.self) (c.as_mut.ensures.value ∙ ap (λ s. s.text) c.is_null.ensures.told.1)
     c.apply_exact-2.ensures.ok
 
-pub returns-clause-not_boundary : goal.returns-clause-not_boundary
-returns-clause-not_boundary c =
-    subst (λ whole. IsErrOf c.apply_exact-2.result NotBoundary
-    ↔ (IsSome (byte_range_at Crlf c.args.encoding whole c.args.range)
-    × IsNone (exact_part_at c.args.encoding whole (Some c.args.range)))) (c.as_mut.ensures.value ∙ ap (λ s. s.text) c.is_null.ensures.told.1)
-    c.apply_exact-2.ensures.not_boundary
-
-pub returns-clause-too_long : goal.returns-clause-too_long
-returns-clause-too_long c =
-    let len = length c.args.text.now in
-    subst (λ whole. IsErrOf c.apply_exact-2.result TooLong ↔ IsSomeAnd (exact_part_at c.args.encoding whole (Some c.args.range))
-    (λ part. 2 ^ 63 + (part.end - part.start) ≤ size whole + len)) (c.as_mut.ensures.value ∙ ap (λ s. s.text) c.is_null.ensures.told.1)
-    c.apply_exact-2.ensures.too_long
-
-pub returns-clause-no_memory : goal.returns-clause-no_memory
-returns-clause-no_memory c =
-    let text = chars c.args.text.now in
-    subst (λ whole. IsErrOf c.apply_exact-2.result NoMemory → IsSomeAnd (exact_part_at c.args.encoding whole (Some c.args.range))
-    (λ part. (text ≢ []) ⊎ ((part.start < part.end) × (part.end - part.start < size whole)))) (c.as_mut.ensures.value ∙ ap (λ s. s.text) c.is_null.ensures.told.1)
-    c.apply_exact-2.ensures.no_memory
-
-pub returns-in_err-apply_exact-clause-no_memory : goal.returns-in_err-apply_exact-clause-no_memory
-returns-in_err-apply_exact-clause-no_memory c =
-    let text = chars c.args.text.now in
-    let part = λ (whole : Text). IsSomeAnd (exact_part_at c.args.encoding whole (Some c.args.range)) (λ part.
-    (text ≢ []) ⊎ ((part.start < part.end) × (part.end - part.start < size whole))) in
-    subst (λ r. IsErrOf r NoMemory → part c.args.rope.now.text) (c.in_err-apply_exact.was
-    ∙ refused_by c.from_residual.result c.in_err-apply_exact.field-0.0 c.from_residual.ensures.1)
-    (subst (λ whole. IsErrOf c.apply_exact.result NoMemory → part whole) (c.new-whole.ensures ∙ sym (rw c.if-is_null.true at c.is_null.ensures.told.0).1)
-    c.apply_exact.ensures.no_memory)
+pub returns-clause-refusals : goal.returns-clause-refusals
+returns-clause-refusals c =
+    subst (λ (old : Text). IsChangeRefused (IsErrOf c.apply_exact-2.result) (byte_range_at Crlf c.args.encoding old c.args.range)
+    (exact_part_at c.args.encoding old (Some c.args.range)) old c.args.text.now) (c.as_mut.ensures.value ∙ ap (λ s. s.text) c.is_null.ensures.told.1) c.apply_exact-2.ensures.refusals

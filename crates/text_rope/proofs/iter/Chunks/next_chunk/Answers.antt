@@ -1,4 +1,4 @@
-use Rattle.text_rope.proofs.lemmas.{◌≡◌, subst, ◌+◌, ◌-◌, ◌∷◌, ◌∙◌, ap, sym, arith, refl, chars, inl, inr, cases_lt, size, joined, boundary_end, boundary_in_chunk, part_of_chunk, boundary_of_part, chunk_of_rest, in_text, rest_after, asked_after, asked_within, none_asked, one_asked}
+use Rattle.text_rope.proofs.lemmas.{rules, ◌≡◌, subst, ◌+◌, ◌-◌, ◌∷◌, ◌∙◌, ap, sym, arith, refl, chars, inl, inr, cases_lt, size, joined, boundary_end, boundary_in_chunk, part_of_chunk, boundary_of_part, chunk_of_rest, in_text, rest_after, asked_after, asked_within, none_asked, one_asked}
 use Rattle.text_rope.specs.Chunks.{EndsWithChunk, HasChunkAt, IsPartAt}
 use Rattle.text_rope.specs.Rests.{IsOnWay}
 use Rattle.text_rope.proofs.iter.Chunks.next_chunk.Goals as goal
@@ -49,36 +49,48 @@ invariant_of-self c =
     } in
     subst (λ t. IsOnWay t left.result.now to c.self.inside.end) (sym same) here
 
-pub returns-clause-part : goal.returns-clause-part
-returns-clause-part c =
+pub returns : goal.returns
+returns c =
     let at = c.self.inside.at in
-    let to = c.rest_of-rest.result.start + c.min-to.result in
-    let chunk = in_text (chunk_of_rest c.rest_of-rest.ensures.rest c.in-Some.ensures.cases.0 c.read-text.ensures.text) in
-    let part : IsPartAt (joined c.self.inside.view.texts) (chars c.text_between-part.result.now) at to =
-    part_of_chunk at to chunk c.text_between-part.ensures (omega (arith, chunk.after)) refl in
-    rw (ap (λ s. s.view.texts) c.self.view_is, ap (λ s. s.at) c.self.view_is) at part
-
-pub returns-clause-whole : goal.returns-clause-whole
-returns-clause-whole c =
     let texts = c.self.inside.view.texts in
     let start = c.rest_of-rest.result.start in
+    let to = start + c.min-to.result in
+    let rest = c.rest_of-rest.ensures in
     let is = c.read-text.ensures in
-    let has : HasChunkAt texts (chars c.read-text.result.now) start c.self.inside.at =
-    chunk_of_rest c.rest_of-rest.ensures.rest c.in-Some.ensures.cases.0 is.text in
-    let here : EndsWithChunk texts c.self.inside.at (start + c.min-to.result) c.self.inside.end = record {
+    let len = ap size is.text in
+    let has : HasChunkAt texts (chars c.read-text.result.now) start at = chunk_of_rest rest.rest c.in-Some.ensures.cases.0 is.text in
+    let part : IsPartAt (joined texts) (chars c.text_between-part.result.now) at to =
+    part_of_chunk at to (in_text has) c.text_between-part.ensures (omega (arith, has.after)) refl in
+    let whole : EndsWithChunk texts at to c.self.inside.end = record {
       chunk = chars c.read-text.result.now;
       start = start;
       has = has;
-      stop = omega (arith, has.after, c.self.invariant.within.order, is.len, ap size is.text, c.min-to.ensures);
+      stop = omega (arith, has.after, c.self.invariant.within.order, is.len, len, c.min-to.ensures);
     } in
-    rw (ap (λ s. s.view.texts) c.self.view_is, ap (λ s. s.at) c.self.view_is, ap (λ s. s.end) c.self.view_is) at here
+    let texts_are = ap (λ s. s.view.texts) c.self.view_is in
+    let at_is = ap (λ s. s.at) c.self.view_is in
+    record {
+      none = search rules;
+      part = rw (texts_are, at_is) at part;
+      whole = rw (texts_are, at_is, ap (λ s. s.end) c.self.view_is) at whole;
+      on = search rules;
+      within = search rules;
+      piece = search rules;
+      ended = search rules;
+      cost = rw (ap (λ s. s.view) c.self.view_is) at (asked_after
+          (one_asked rest.texts rest.looks rest.looks_kept rest.reads is.state) c.prefetch_first-self-inside.ensures.cost);
+      end = search rules;
+    }
 
-pub returns-then-self-clause-cost : goal.returns-then-self-clause-cost
-returns-then-self-clause-cost c = asked_within (omega arith) (none_asked _)
-
-pub returns-clause-cost : goal.returns-clause-cost
-returns-clause-cost c =
-    let rest = c.rest_of-rest.ensures in
-    rw (ap (λ s. s.view) c.self.view_is) at (asked_after
-    (one_asked rest.texts rest.looks rest.looks_kept rest.reads c.read-text.ensures.state)
-    c.prefetch_first-self-inside.ensures.cost)
+pub returns-then-self : goal.returns-then-self
+returns-then-self c = record {
+  none = search rules;
+  part = search rules;
+  whole = search rules;
+  on = search rules;
+  within = search rules;
+  piece = search rules;
+  ended = search rules;
+  cost = asked_within (omega arith) (none_asked _);
+  end = search rules;
+}
