@@ -1,15 +1,12 @@
 -- Worked examples: what the definitions give for texts whose answers are known.
 use Rattle.std.specs.Prelude.{ℕ, ◌≡◌, refl, List, [], ◌∷◌, ◌++◌, map, replicate, codes}
 use Rattle.str_indices.specs.Text.{Text, line_feed, carriage_return, cut}
-use Rattle.str_indices.specs.Schemes.{Scheme, Chars, Utf16, Lf, Crlf, Lines, vertical_tab, form_feed, next_line, line_separator, paragraph_separator, count, from_byte_idx, to_byte_idx, surrogates}
+use Rattle.str_indices.specs.Schemes.{Scheme, Chars, Utf16, Lf, Crlf, Lines, every_scheme, vertical_tab, form_feed, next_line, line_separator, paragraph_separator, count, from_byte_idx, to_byte_idx, surrogates}
 
 -- Schemes, numbers and texts
 
 abbrev line_schemes : List Scheme
 line_schemes = Lf ∷ Crlf ∷ Lines ∷ []
-
-abbrev every_scheme : List Scheme
-every_scheme = Chars ∷ Utf16 ∷ line_schemes
 
 -- the greatest index of 64 bits
 abbrev greatest_index : ℕ

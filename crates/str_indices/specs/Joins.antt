@@ -6,7 +6,7 @@
 use Rattle.std.specs.Prelude.{ℕ, Bool, [], ◌∷◌, ◌&&◌, if◌then◌else◌, nat_eq}
 use Rattle.std.specs.List.{starts_with, ends_with}
 use Rattle.str_indices.specs.Text.{Text, line_feed, carriage_return}
-use Rattle.str_indices.specs.Schemes.{Scheme, Chars, Utf16, Lf, Crlf, Lines}
+use Rattle.str_indices.specs.Schemes.{Scheme, Crlf, Lines}
 
 -- whether the last char is CR
 abbrev pub ends_in_return : Text → Bool
@@ -23,8 +23,6 @@ joins_crlf a b = ends_in_return a && starts_with_feed b
 -- how many ends fewer the joined text has: one where the seam makes a CRLF, in the two schemes in which CR alone is a
 -- break too
 abbrev pub seam_loss : Scheme → Text → Text → ℕ
-seam_loss Chars a b = 0
-seam_loss Utf16 a b = 0
-seam_loss Lf a b = 0
 seam_loss Crlf a b = if joins_crlf a b then 1 else 0
 seam_loss Lines a b = if joins_crlf a b then 1 else 0
+seam_loss s a b = 0

@@ -10,7 +10,7 @@
 use Rattle.std.specs.Prelude.{ℕ, ◌≡◌, ◌<◌, ◌≤◌, List, [], ◌∷◌, ◌++◌, IsTrue, sum_by, length}
 use Rattle.std.specs.Char.{char_set_contains}
 use Rattle.str_indices.specs.Text.{Text, size, weight, line_feed, carriage_return}
-use Rattle.str_indices.specs.Schemes.{Scheme, Chars, Utf16, Lf, Crlf, Lines, break_characters}
+use Rattle.str_indices.specs.Schemes.{Scheme, Chars, Utf16, break_characters}
 
 -- the text is front and then back, and front takes p bytes
 pub record IsBoundary (text : Text) (p : ℕ) : Type 0 where
@@ -49,9 +49,7 @@ pub record IsCharacterEnd (text : Text) (p : ℕ) : Type 0 where
 abbrev pub IsEnd : Scheme → Text → ℕ → Type 0
 IsEnd Chars text p = IsCharacterEnd text p
 IsEnd Utf16 text p = IsCharacterEnd text p
-IsEnd Lf text p = IsBreakEnd (break_characters Lf) text p
-IsEnd Crlf text p = IsBreakEnd (break_characters Crlf) text p
-IsEnd Lines text p = IsBreakEnd (break_characters Lines) text p
+IsEnd s text p = IsBreakEnd (break_characters s) text p
 
 -- p is a boundary before which the chars weigh at most k, each by w, and no greater boundary is one
 pub record IsGreatestWeighed (w : ℕ → ℕ) (text : Text) (k p : ℕ) : Type 0 where

@@ -5,12 +5,25 @@
 --     to_byte_idx s text index     0, then each end in turn, and past the last end the text's size
 --     weighed w text byte          the weight of the chars up to a byte index, each by w
 --     boundary_weighed w text k    the greatest boundary before which they weigh at most k
--- In `Utf16` the three go by the weights of chars. `surrogates text` counts the surrogate pairs.
+-- In `Utf16` the three go by the weights of chars. `surrogates text` counts the surrogate pairs. `every_scheme` has the
+-- schemes in the order of their declaration, and `place_of s` is the place of one.
 use Rattle.std.specs.Prelude.{ℕ, zero, suc, Bool, true, not, List, [], ◌∷◌, ◌&&◌, ◌==◌, nat_le, filter, map, fold, max, length, sum_by, count_by, slice_index_or}
 use Rattle.std.specs.Char.{char_set_contains}
 pub use Rattle.str_indices.specs.declared.schemes.Scheme.{Scheme}
 pub use Rattle.str_indices.specs.declared.schemes.Scheme.TheVariants.{Chars, Utf16, Lf, Crlf, Lines}
 use Rattle.str_indices.specs.Text.{Text, size, Placed, placed, line_feed, carriage_return, is_crlf_middle, cut, weight}
+
+-- the schemes in the order of their declaration
+abbrev pub every_scheme : List Scheme
+every_scheme = Chars ∷ Utf16 ∷ Lf ∷ Crlf ∷ Lines ∷ []
+
+-- the place of a scheme in that order
+abbrev pub place_of : Scheme → ℕ
+place_of Chars = 0
+place_of Utf16 = 1
+place_of Lf = 2
+place_of Crlf = 3
+place_of Lines = 4
 
 abbrev pub vertical_tab : ℕ
 vertical_tab = 0x0B
@@ -44,9 +57,7 @@ is_break_end set p = char_set_contains set p.character && not (is_crlf_middle p)
 abbrev pub is_end : Scheme → Placed → Bool
 is_end Chars p = true
 is_end Utf16 p = true
-is_end Lf p = is_break_end (break_characters Lf) p
-is_end Crlf p = is_break_end (break_characters Crlf) p
-is_end Lines p = is_break_end (break_characters Lines) p
+is_end s p = is_break_end (break_characters s) p
 
 -- the ends of the text, in increasing order
 abbrev pub ends : Scheme → Text → List ℕ
@@ -87,24 +98,15 @@ boundary_at_units text k = boundary_weighed weight text k
 
 abbrev pub count : Scheme → Text → ℕ
 count Utf16 text = units text (size text)
-count Chars text = end_count Chars text
-count Lf text = end_count Lf text
-count Crlf text = end_count Crlf text
-count Lines text = end_count Lines text
+count s text = end_count s text
 
 abbrev pub from_byte_idx : Scheme → Text → ℕ → ℕ
 from_byte_idx Utf16 text byte = units text byte
-from_byte_idx Chars text byte = ends_up_to Chars text byte
-from_byte_idx Lf text byte = ends_up_to Lf text byte
-from_byte_idx Crlf text byte = ends_up_to Crlf text byte
-from_byte_idx Lines text byte = ends_up_to Lines text byte
+from_byte_idx s text byte = ends_up_to s text byte
 
 abbrev pub to_byte_idx : Scheme → Text → ℕ → ℕ
 to_byte_idx Utf16 text index = boundary_at_units text index
-to_byte_idx Chars text index = end_at Chars text index
-to_byte_idx Lf text index = end_at Lf text index
-to_byte_idx Crlf text index = end_at Crlf text index
-to_byte_idx Lines text index = end_at Lines text index
+to_byte_idx s text index = end_at s text index
 
 -- how many chars take a surrogate pair
 abbrev pub surrogates : Text → ℕ

@@ -1,7 +1,7 @@
 //! A number for each scheme, such as the counts of a text.
-ghost use Rattle.std.specs.Prelude.{◌≡◌, ◌+◌, ◌^◌, ◌<◌, ◌≤◌};
+ghost use Rattle.std.specs.Prelude.{◌≡◌, ◌+◌, ◌^◌, ◌<◌, ◌≤◌, slice_index_or};
 ghost use Rattle.str_indices.specs.ByScheme.{number_of};
-ghost use Rattle.str_indices.specs.Prelude.{Scheme};
+ghost use Rattle.str_indices.specs.Prelude.{Scheme, place_of};
 
 use crate::schemes::Scheme;
 
@@ -16,6 +16,14 @@ pub struct Counts {
 impl Counts {
     /// The counts of the empty text.
     pub const NONE: Counts = Counts { numbers: [0; 5] };
+
+    /// The counts of these numbers, in the order of [`Scheme::ALL`].
+    #[inline(always)]
+    pub fn from_numbers(numbers: [usize; 5]) -> Counts
+        ensures { (s : Scheme) → number_of result s ≡ slice_index_or numbers (place_of s) 0 }
+    {
+        Counts { numbers }
+    }
 
     /// Returns the count of scheme `s`.
     #[inline(always)]
@@ -33,11 +41,11 @@ impl Counts {
     {
         Counts {
             numbers: [
-                self.get(Scheme::Chars) + other.get(Scheme::Chars),
-                self.get(Scheme::Utf16) + other.get(Scheme::Utf16),
-                self.get(Scheme::Lf) + other.get(Scheme::Lf),
-                self.get(Scheme::Crlf) + other.get(Scheme::Crlf),
-                self.get(Scheme::Lines) + other.get(Scheme::Lines),
+                self.numbers[0] + other.numbers[0],
+                self.numbers[1] + other.numbers[1],
+                self.numbers[2] + other.numbers[2],
+                self.numbers[3] + other.numbers[3],
+                self.numbers[4] + other.numbers[4],
             ],
         }
     }
@@ -50,11 +58,11 @@ impl Counts {
     {
         Counts {
             numbers: [
-                self.get(Scheme::Chars) - other.get(Scheme::Chars),
-                self.get(Scheme::Utf16) - other.get(Scheme::Utf16),
-                self.get(Scheme::Lf) - other.get(Scheme::Lf),
-                self.get(Scheme::Crlf) - other.get(Scheme::Crlf),
-                self.get(Scheme::Lines) - other.get(Scheme::Lines),
+                self.numbers[0] - other.numbers[0],
+                self.numbers[1] - other.numbers[1],
+                self.numbers[2] - other.numbers[2],
+                self.numbers[3] - other.numbers[3],
+                self.numbers[4] - other.numbers[4],
             ],
         }
     }
