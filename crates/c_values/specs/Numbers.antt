@@ -2,20 +2,17 @@
 --     scheme_at n       the scheme of a number: 0 to 4 in the order of `Scheme`, and each greater number `Lines` too
 --     encoding_at n     the encoding of a number: 1 UTF-16, 5 UTF-8, and each other one UTF-32, which counts chars
 --     line_type_at n        the kind of line break of a number: 2 LF alone, 3 that of the protocol, and each other one all breaks
-use Rattle.std.specs.Prelude.{ℕ, zero, suc}
+use Rattle.std.specs.Prelude.{ℕ, zero, suc, slice_index_or}
+use Rattle.str_indices.specs.Schemes.{every_scheme}
 use Rattle.str_indices.specs.declared.Scheme.{Scheme}
-use Rattle.str_indices.specs.declared.Scheme.TheVariants.{Chars, Utf16, Lf, Crlf, Lines}
+use Rattle.str_indices.specs.declared.Scheme.TheVariants.{Lines}
 use Rattle.positions.specs.declared.encodings.Encoding.{Encoding}
 use Rattle.positions.specs.declared.encodings.Encoding.TheVariants as encodings
 use Rattle.positions.specs.declared.line_type.LineType.{LineType}
 use Rattle.positions.specs.declared.line_type.LineType.TheVariants as kinds
 
 abbrev pub scheme_at : ℕ → Scheme
-scheme_at zero = Chars
-scheme_at (suc zero) = Utf16
-scheme_at (suc (suc zero)) = Lf
-scheme_at (suc (suc (suc zero))) = Crlf
-scheme_at (suc (suc (suc (suc n)))) = Lines
+scheme_at n = slice_index_or every_scheme n Lines
 
 abbrev pub encoding_at : ℕ → Encoding
 encoding_at zero = encodings.Utf32

@@ -9,13 +9,10 @@ use str_indices::Scheme;
 pub fn scheme_at(number: u32) -> Scheme
     ensures { result ≡ scheme_at number }
 {
-    match number {
-        0 => Scheme::Chars,
-        1 => Scheme::Utf16,
-        2 => Scheme::Lf,
-        3 => Scheme::Crlf,
-        _ => Scheme::Lines,
-    }
+    Scheme::ALL
+        .get(number as usize)
+        .copied()
+        .unwrap_or(Scheme::Lines)
 }
 
 /// The encoding of a number.

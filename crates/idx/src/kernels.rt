@@ -8,7 +8,7 @@ use crate::calls::Call;
 use crate::wide::Wide;
 use byte_chunk::{ByteChunk, Plain, Probe};
 use std::simd::u8x16;
-use str_indices::{Scheme, chars, lines, lines_crlf, lines_lf, utf16};
+use str_indices::utf16;
 
 /// A chunk type that a kernel can be asked to run over.
 #[derive(Clone, Copy)]
@@ -70,22 +70,10 @@ fn answer_by_chunks<T: ByteChunk>(call: Call, text: &str, lead: usize) -> usize
     let probe = &mut Probe::<T>::of(text);
     let end = text_end(probe);
     match call {
-        Call::Count(Scheme::Chars) => chars::count_impl(probe, end, lead),
-        Call::Count(Scheme::Utf16) => utf16::count_impl(probe, end, lead),
-        Call::Count(Scheme::Lf) => lines_lf::count_breaks_impl(probe, end, lead),
-        Call::Count(Scheme::Crlf) => lines_crlf::count_breaks_impl(probe, end, lead),
-        Call::Count(Scheme::Lines) => lines::count_breaks_impl(probe, end, lead),
+        Call::Count(scheme) => scheme.count_impl(probe, end, lead),
         Call::Surrogates => utf16::count_surrogates_impl(probe, end, lead),
-        Call::From(Scheme::Chars, byte) => chars::from_byte_idx_impl(probe, byte, lead),
-        Call::From(Scheme::Utf16, byte) => utf16::from_byte_idx_impl(probe, byte, lead),
-        Call::From(Scheme::Lf, byte) => lines_lf::from_byte_idx_impl(probe, byte, lead),
-        Call::From(Scheme::Crlf, byte) => lines_crlf::from_byte_idx_impl(probe, byte, lead),
-        Call::From(Scheme::Lines, byte) => lines::from_byte_idx_impl(probe, byte, lead),
-        Call::To(Scheme::Chars, index) => chars::to_byte_idx_impl(probe, index, lead),
-        Call::To(Scheme::Utf16, index) => utf16::to_byte_idx_impl(probe, index, lead),
-        Call::To(Scheme::Lf, index) => lines_lf::to_byte_idx_impl(probe, index, lead),
-        Call::To(Scheme::Crlf, index) => lines_crlf::to_byte_idx_impl(probe, index, lead),
-        Call::To(Scheme::Lines, index) => lines::to_byte_idx_impl(probe, index, lead),
+        Call::From(scheme, byte) => scheme.from_byte_idx_impl(probe, byte, lead),
+        Call::To(scheme, index) => scheme.to_byte_idx_impl(probe, index, lead),
     }
 }
 

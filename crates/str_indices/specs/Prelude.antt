@@ -7,7 +7,7 @@ pub use Rattle.str_indices.specs.Lanes.{HasLanes, IsChunk, FitsIn, IsSteady, Add
 pub use Rattle.str_indices.specs.Reads.{IsCountingPass, IsFindingPass, Reads, leading_bytes, pass_turns}
 pub use Rattle.str_indices.specs.Relations.{IsBoundary, IsEnd, IsGreatestWithin, IsLongestCut}
 pub use Rattle.str_indices.specs.SchemeGroups.{IsLineScheme, IsCharacterScheme}
-pub use Rattle.str_indices.specs.Schemes.{count, from_byte_idx, to_byte_idx, place_of, Chars, Scheme, Utf16, Lf, Crlf, Lines, ends, surrogates}
+pub use Rattle.str_indices.specs.Schemes.{count, from_byte_idx, to_byte_idx, Chars, Scheme, Utf16, Lf, Crlf, Lines, ends, surrogates}
 pub use Rattle.str_indices.specs.Starts.{IsGreatestBoundary, IsGreatestEnd, IsSecondUnit}
 pub use Rattle.str_indices.specs.Text.{cut, size}
 pub use Rattle.str_indices.specs.TraitLaws.{break_at-le, break_start-le, mark-le, units_begun-le}

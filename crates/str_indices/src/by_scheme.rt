@@ -1,7 +1,7 @@
 //! A number for each scheme, such as the counts of a text.
-ghost use Rattle.std.specs.Prelude.{◌≡◌, ◌+◌, ◌^◌, ◌<◌, ◌≤◌, slice_index_or};
+ghost use Rattle.std.specs.Prelude.{◌≡◌, ◌+◌, ◌^◌, ◌<◌, ◌≤◌};
 ghost use Rattle.str_indices.specs.ByScheme.{number_of};
-ghost use Rattle.str_indices.specs.Prelude.{Scheme, place_of};
+ghost use Rattle.str_indices.specs.Prelude.{Scheme};
 
 use crate::schemes::Scheme;
 
@@ -17,12 +17,21 @@ impl Counts {
     /// The counts of the empty text.
     pub const NONE: Counts = Counts { numbers: [0; 5] };
 
-    /// The counts of these numbers, in the order of [`Scheme::ALL`].
+    /// Makes counts, each by a function of its scheme.
     #[inline(always)]
-    pub fn from_numbers(numbers: [usize; 5]) -> Counts
-        ensures { (s : Scheme) → number_of result s ≡ slice_index_or numbers (place_of s) 0 }
+    pub fn of_each<F: Fn(Scheme) -> usize>(count_of: F) -> Counts
+        requires { (s : Scheme) → F.pre count_of s }
+        ensures { (s : Scheme) → F.post count_of s (number_of result s) }
     {
-        Counts { numbers }
+        Counts {
+            numbers: [
+                count_of(Scheme::Chars),
+                count_of(Scheme::Utf16),
+                count_of(Scheme::Lf),
+                count_of(Scheme::Crlf),
+                count_of(Scheme::Lines),
+            ],
+        }
     }
 
     /// Returns the count of scheme `s`.
@@ -39,15 +48,7 @@ impl Counts {
         requires { (s : Scheme) → number_of self s + number_of other s < 2 ^ 64 }
         ensures { (s : Scheme) → number_of result s ≡ number_of self s + number_of other s }
     {
-        Counts {
-            numbers: [
-                self.numbers[0] + other.numbers[0],
-                self.numbers[1] + other.numbers[1],
-                self.numbers[2] + other.numbers[2],
-                self.numbers[3] + other.numbers[3],
-                self.numbers[4] + other.numbers[4],
-            ],
-        }
+        Counts::of_each(|s| self.get(s) + other.get(s))
     }
 
     /// Subtracts the counts of `other`, scheme by scheme.
@@ -56,14 +57,6 @@ impl Counts {
         requires { (s : Scheme) → number_of other s ≤ number_of self s }
         ensures { (s : Scheme) → number_of result s + number_of other s ≡ number_of self s }
     {
-        Counts {
-            numbers: [
-                self.numbers[0] - other.numbers[0],
-                self.numbers[1] - other.numbers[1],
-                self.numbers[2] - other.numbers[2],
-                self.numbers[3] - other.numbers[3],
-                self.numbers[4] - other.numbers[4],
-            ],
-        }
+        Counts::of_each(|s| self.get(s) - other.get(s))
     }
 }

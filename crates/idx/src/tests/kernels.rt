@@ -7,7 +7,7 @@ use byte_chunk::Probe;
 use std::alloc::Global;
 use std::process::Abort;
 use std::test::Fail;
-use str_indices::{Scheme, chars, laws, lines, lines_crlf, lines_lf, utf16};
+use str_indices::{Scheme, laws, lines_crlf, lines_lf, utf16};
 
 /// Numbers of leading bytes, up to more than a chunk and the longest char have.
 const LEADS: [usize; 41] = [
@@ -85,10 +85,8 @@ fn count_at_boundary(call: Call, text: &str, end: usize, lead: usize) -> Option<
     laws::boundaries(text, end);
     let probe = &mut Probe::<Wide>::of(text);
     match call {
-        Call::Count(Scheme::Chars) => Some(chars::count_impl(probe, end, lead)),
-        Call::Count(Scheme::Utf16) => Some(utf16::count_impl(probe, end, lead)),
+        Call::Count(scheme) => Some(scheme.count_impl(probe, end, lead)),
         Call::Surrogates => Some(utf16::count_surrogates_impl(probe, end, lead)),
-        Call::Count(Scheme::Lines) => Some(lines::count_breaks_impl(probe, end, lead)),
         _ => None,
     }
 }

@@ -3,7 +3,7 @@ use Rattle.piece_text.proofs.lemmas.Common.{◌≡◌, ◌≢◌, ℕ, ◌+◌, 
 use Rattle.std.specs.Prelude.{◌⊎◌, nat_eq}
 use Rattle.std.proofs.lemmas.Bool.Decides.{nat_tests}
 use Rattle.str_indices.specs.declared.Scheme.{Scheme}
-use Rattle.str_indices.specs.declared.Scheme.TheVariants.{Chars, Crlf, Lf, Lines, Utf16}
+use Rattle.str_indices.specs.declared.Scheme.TheVariants.{Crlf, Lines}
 use Rattle.str_indices.specs.Joins.{ends_in_return, starts_with_feed, seam_loss}
 use Rattle.piece_text.proofs.lemmas.Joining.{joined-split, joined-take}
 
@@ -34,11 +34,9 @@ none_taken s a b starts = refl
 
 -- two seams take no more of one char between them than it counts
 of_feed : (s : Scheme) (a d : Text) → seam_loss s a (10 ∷ []) + seam_loss s (10 ∷ []) d ≤ count s (10 ∷ [])
-of_feed Chars a d = omega arith
-of_feed Utf16 a d = omega arith
-of_feed Lf a d = omega arith
 of_feed Crlf a d = omega (arith, crlf_at_most_one a (10 ∷ []))
 of_feed Lines a d = omega (arith, crlf_at_most_one a (10 ∷ []))
+of_feed s a d = omega arith
 
 feed_one : (x : ℕ) → starts_with_feed (x ∷ []) ≡ nat_eq x 10
 feed_one x = grind (arith, nat_tests)

@@ -1,6 +1,6 @@
 //! The kernels of a scheme, over chunks of one type.
 use byte_chunk::{ByteChunk, Probe};
-use str_indices::{Scheme, chars, laws, lines, lines_crlf, lines_lf, utf16};
+use str_indices::{Scheme, laws, lines_crlf, lines_lf, utf16};
 
 /// The scheme's count before `end`, or `None` where its kernel does not take that end.
 pub fn count<T: ByteChunk>(scheme: Scheme, text: &str, end: usize, lead: usize) -> Option<usize> {
@@ -40,12 +40,7 @@ fn count_at_boundary<T: ByteChunk>(
     }
     laws::boundaries(text, end);
     let probe = &mut Probe::<T>::of(text);
-    let count = match scheme {
-        Scheme::Chars => chars::count_impl(probe, end, lead),
-        Scheme::Utf16 => utf16::count_impl(probe, end, lead),
-        _ => lines::count_breaks_impl(probe, end, lead),
-    };
-    Some(count)
+    Some(scheme.count_impl(probe, end, lead))
 }
 
 /// The surrogate pairs before `end`, or `None` where the kernel does not take that end.
@@ -65,22 +60,10 @@ pub fn from_byte_idx<T: ByteChunk>(
     lead: usize,
 ) -> usize {
     let probe = &mut Probe::<T>::of(text);
-    match scheme {
-        Scheme::Chars => chars::from_byte_idx_impl(probe, byte_idx, lead),
-        Scheme::Utf16 => utf16::from_byte_idx_impl(probe, byte_idx, lead),
-        Scheme::Lf => lines_lf::from_byte_idx_impl(probe, byte_idx, lead),
-        Scheme::Crlf => lines_crlf::from_byte_idx_impl(probe, byte_idx, lead),
-        Scheme::Lines => lines::from_byte_idx_impl(probe, byte_idx, lead),
-    }
+    scheme.from_byte_idx_impl(probe, byte_idx, lead)
 }
 
 pub fn to_byte_idx<T: ByteChunk>(scheme: Scheme, text: &str, idx: usize, lead: usize) -> usize {
     let probe = &mut Probe::<T>::of(text);
-    match scheme {
-        Scheme::Chars => chars::to_byte_idx_impl(probe, idx, lead),
-        Scheme::Utf16 => utf16::to_byte_idx_impl(probe, idx, lead),
-        Scheme::Lf => lines_lf::to_byte_idx_impl(probe, idx, lead),
-        Scheme::Crlf => lines_crlf::to_byte_idx_impl(probe, idx, lead),
-        Scheme::Lines => lines::to_byte_idx_impl(probe, idx, lead),
-    }
+    scheme.to_byte_idx_impl(probe, idx, lead)
 }

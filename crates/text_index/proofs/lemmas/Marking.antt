@@ -1,13 +1,11 @@
 -- Marks of a text, and what stands between two of them.
-use Rattle.text_index.proofs.lemmas.Common.{◌≡◌, ℕ, ◌+◌, ◌≤◌, false, [], ◌∷◌, ◌++◌, sym, refl, ap, ◌∙◌, append_assoc, append-nil, arith, cases_Bool, inl, inr, Text, size, size-append, Scheme, Chars, Utf16, Lf, Crlf, Lines, count, seam_loss, joins_crlf, ends_in_return, starts_with_feed-append, IsBoundary, same_cut, none_of, is_joined, count-nil, IsMark, IsMarkPlace, IsPart, Mark, count_at}
+use Rattle.text_index.proofs.lemmas.Common.{◌≡◌, ℕ, ◌+◌, ◌≤◌, false, [], ◌∷◌, ◌++◌, sym, refl, ap, ◌∙◌, append_assoc, append-nil, arith, cases_Bool, inl, inr, Text, size, size-append, Scheme, Crlf, Lines, count, seam_loss, joins_crlf, ends_in_return, starts_with_feed-append, IsBoundary, same_cut, none_of, is_joined, count-nil, IsMark, IsMarkPlace, IsPart, Mark, count_at}
 
 -- a seam that makes no CRLF takes nothing off
 pub no_loss : (s : Scheme) (a b : Text) → joins_crlf a b ≡ false → seam_loss s a b ≡ 0
-no_loss Chars a b whole = refl
-no_loss Utf16 a b whole = refl
-no_loss Lf a b whole = refl
 no_loss Crlf a b whole = rw whole refl
 no_loss Lines a b whole = rw whole refl
+no_loss s a b whole = refl
 
 -- nor does it where less of the text stands after it
 pub whole_before : (a b c : Text) → joins_crlf a (b ++ c) ≡ false → joins_crlf a b ≡ false
