@@ -1,9 +1,9 @@
 //! The summary of a text after a part of it is replaced, from the summaries of the old part and the new one.
 ghost use Rattle.std.specs.Prelude.{◌≡◌, ◌≤◌, ◌<◌, ◌+◌, ◌-◌, ◌^◌, ◌++◌, chars, length};
+ghost use Rattle.str_indices.specs.Schemes.{count};
 ghost use Rattle.str_indices.specs.Text.{Text};
 ghost use Rattle.str_indices.specs.Joins.{starts_with_feed, ends_in_return, seam_loss};
 ghost use Rattle.str_indices.specs.Relations.{IsBoundary};
-ghost use Rattle.str_indices.specs.declared.Scheme.TheVariants.{Crlf};
 ghost use Rattle.text_summary.specs.Summaries.{summary_of};
 ghost use Rattle.text_summary.specs.Changes.{IsReplaced, IsUpdate, FitsIn};
 
@@ -65,32 +65,34 @@ pub fn apply_update(whole: Summary, update: Update, starts_lf: bool, ends_cr: bo
         starts_lf ≡ starts_with_feed (a ++ (t ++ b)) → ends_cr ≡ ends_in_return (a ++ (t ++ b)) →
         result ≡ summary_of (a ++ (t ++ b)) }
 {
-    let Update {
-        removed,
-        inserted,
-        ..
-    } = update;
-    let gained = lost_round(update.ends_cr, removed, update.starts_lf);
-    let lost = lost_round(update.ends_cr, inserted, update.starts_lf);
-    Summary {
-        len: whole.len - removed.len + inserted.len,
-        chars: whole.chars - removed.chars + inserted.chars,
-        utf16: whole.utf16 - removed.utf16 + inserted.utf16,
-        lf: whole.lf - removed.lf + inserted.lf,
-        crlf: whole.crlf + gained - removed.crlf + inserted.crlf - lost,
-        lines: whole.lines + gained - removed.lines + inserted.lines - lost,
+    Summary::of_each(
+        whole.len - update.removed.len + update.inserted.len,
+        |s| count_after(&whole, &update, s),
         starts_lf,
         ends_cr,
-    }
+    )
 }
 
-/// Returns how many breaks the two seams of `part` take off, in a scheme in which CR is a break.
-fn lost_round(ends_cr: bool, part: Summary, starts_lf: bool) -> usize
-    ensures { (a m b : Text) → ends_cr ≡ ends_in_return a → part ≡ summary_of m → starts_lf ≡ starts_with_feed b →
-        result ≡ seam_loss Crlf a (m ++ b) + seam_loss Crlf m b }
+/// Counts a text after a change, in scheme `s`.
+#[inline(always)]
+fn count_after(whole: &Summary, update: &Update, s: Scheme) -> usize
+    requires { FitsIn whole.now update.now }
+    ensures { (a m b t : Text) → whole.now ≡ summary_of (a ++ (m ++ b)) → IsUpdate a m b t update.now →
+        result ≡ count s (a ++ (t ++ b)) }
+{
+    let gained = lost_round(s, update.ends_cr, &update.removed, update.starts_lf);
+    let lost = lost_round(s, update.ends_cr, &update.inserted, update.starts_lf);
+    whole.count(s) + gained - update.removed.count(s) + update.inserted.count(s) - lost
+}
+
+/// Returns how many breaks the two seams of `part` take off in scheme `s`.
+#[inline(always)]
+fn lost_round(s: Scheme, ends_cr: bool, part: &Summary, starts_lf: bool) -> usize
+    ensures { (a m b : Text) → ends_cr ≡ ends_in_return a → part.now ≡ summary_of m → starts_lf ≡ starts_with_feed b →
+        result ≡ seam_loss s a (m ++ b) + seam_loss s m b }
 {
     let part_starts = joined_starts_lf(part.len, part.starts_lf, starts_lf);
-    let before = lost_at_seam(Scheme::Crlf, ends_cr, part_starts);
-    let after = lost_at_seam(Scheme::Crlf, part.ends_cr, starts_lf);
+    let before = lost_at_seam(s, ends_cr, part_starts);
+    let after = lost_at_seam(s, part.ends_cr, starts_lf);
     before + after
 }

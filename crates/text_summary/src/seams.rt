@@ -1,5 +1,6 @@
 //! Two joined texts: a CR before the seam and an LF after it make one break of two.
 ghost use Rattle.std.specs.Prelude.{◌≡◌, ◌≢◌, ◌≤◌, [], ◌++◌};
+ghost use Rattle.str_indices.specs.Schemes.{count};
 ghost use Rattle.str_indices.specs.Text.{Text, size};
 ghost use Rattle.str_indices.specs.Joins.{starts_with_feed, ends_in_return, seam_loss};
 ghost use Rattle.text_summary.specs.Summaries.{summary_of, AreSummaries};
@@ -8,6 +9,7 @@ use crate::{Scheme, Summary};
 
 /// Returns how many breaks a seam takes off in scheme `s`. `ends_cr` says whether the text before it ends in CR, and
 /// `starts_lf` whether the text after it starts with LF.
+#[inline(always)]
 pub fn lost_at_seam(s: Scheme, ends_cr: bool, starts_lf: bool) -> usize
     ensures loss { (a b : Text) → ends_cr ≡ ends_in_return a → starts_lf ≡ starts_with_feed b →
         result ≡ seam_loss s a b }
@@ -15,7 +17,7 @@ pub fn lost_at_seam(s: Scheme, ends_cr: bool, starts_lf: bool) -> usize
 {
     match s {
         Scheme::Crlf | Scheme::Lines => usize::from(ends_cr && starts_lf),
-        Scheme::Chars | Scheme::Utf16 | Scheme::Lf => 0,
+        _ => 0,
     }
 }
 
@@ -24,17 +26,22 @@ pub fn join_summaries(front: Summary, after: Summary) -> Summary
     requires { AreSummaries front after }
     ensures { (a b : Text) → front ≡ summary_of a → after ≡ summary_of b → result ≡ summary_of (a ++ b) }
 {
-    let lost = lost_at_seam(Scheme::Crlf, front.ends_cr, after.starts_lf);
-    Summary {
-        len: front.len + after.len,
-        chars: front.chars + after.chars,
-        utf16: front.utf16 + after.utf16,
-        lf: front.lf + after.lf,
-        crlf: front.crlf - lost + after.crlf,
-        lines: front.lines - lost + after.lines,
-        starts_lf: joined_starts_lf(front.len, front.starts_lf, after.starts_lf),
-        ends_cr: joined_ends_cr(front.ends_cr, after.len, after.ends_cr),
-    }
+    Summary::of_each(
+        front.len + after.len,
+        |s| joined_count(&front, &after, s),
+        joined_starts_lf(front.len, front.starts_lf, after.starts_lf),
+        joined_ends_cr(front.ends_cr, after.len, after.ends_cr),
+    )
+}
+
+/// Counts two texts, one after the other, in scheme `s`.
+#[inline(always)]
+fn joined_count(front: &Summary, after: &Summary, s: Scheme) -> usize
+    requires { AreSummaries front.now after.now }
+    ensures { (a b : Text) → front.now ≡ summary_of a → after.now ≡ summary_of b → result ≡ count s (a ++ b) }
+{
+    let lost = lost_at_seam(s, front.ends_cr, after.starts_lf);
+    front.count(s) - lost + after.count(s)
 }
 
 /// Whether two texts, one after the other, start with LF: as the first if it has bytes, otherwise as the second.

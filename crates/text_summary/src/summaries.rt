@@ -80,15 +80,37 @@ impl Summary {
         requires { (s : Scheme) → number_of counts.now s ≡ count s (chars text.now) }
         ensures { result ≡ summary_of (chars text.now) }
     {
+        Summary::of_each(
+            text.len(),
+            |s| counts.get(s),
+            starts_lf(text),
+            ends_cr(text),
+        )
+    }
+
+    /// Makes a summary, each count by a function of its scheme.
+    #[inline(always)]
+    pub(crate) fn of_each<F: Fn(Scheme) -> usize>(
+        len: usize,
+        number: F,
+        starts_lf: bool,
+        ends_cr: bool,
+    ) -> Summary
+        requires { (s : Scheme) → F.pre number s }
+        ensures len { result.len ≡ len }
+        ensures counts { (s : Scheme) → F.post number s (count_of result s) }
+        ensures starts { result.starts_lf ≡ starts_lf }
+        ensures ends { result.ends_cr ≡ ends_cr }
+    {
         Summary {
-            len: text.len(),
-            chars: counts.get(Scheme::Chars),
-            utf16: counts.get(Scheme::Utf16),
-            lf: counts.get(Scheme::Lf),
-            crlf: counts.get(Scheme::Crlf),
-            lines: counts.get(Scheme::Lines),
-            starts_lf: starts_lf(text),
-            ends_cr: ends_cr(text),
+            len,
+            chars: number(Scheme::Chars),
+            utf16: number(Scheme::Utf16),
+            lf: number(Scheme::Lf),
+            crlf: number(Scheme::Crlf),
+            lines: number(Scheme::Lines),
+            starts_lf,
+            ends_cr,
         }
     }
 
@@ -109,6 +131,7 @@ impl Summary {
     }
 
     /// Returns the count of scheme `s`.
+    #[inline(always)]
     pub fn count(&self, s: Scheme) -> usize
         ensures { result ≡ count_of self.now s }
     {
