@@ -1,17 +1,7 @@
 pub mod Common
-pub mod Placing
 pub mod Marking
-pub mod Stretching
 pub mod Answering
-pub mod Lending
-pub mod Halving
-pub mod Lining
 pub mod Callers
 pub use Common.*
-pub use Placing.*
 pub use Marking.*
-pub use Stretching.*
 pub use Answering.*
-pub use Lending.*
-pub use Halving.*
-pub use Lining.*

@@ -1,17 +1,9 @@
 pub mod Common
-pub mod Joining
 pub mod Summing
-pub mod Fronts
 pub mod Boundaries
-pub mod Changing
 pub mod Narrowing
-pub mod Edges
 pub mod Callers
 pub use Common.*
-pub use Joining.*
 pub use Summing.*
-pub use Fronts.*
 pub use Boundaries.*
-pub use Changing.*
 pub use Narrowing.*
-pub use Edges.*

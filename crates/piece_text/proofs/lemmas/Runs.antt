@@ -1,4 +1,4 @@
--- Runs of pieces: the one at a place, and those of a list that has changed there.
+-- Runs of pieces: the one at a place, those of a list that has changed there, and the summary of the first ones.
 use Rattle.piece_text.proofs.lemmas.Common.{◌≡◌, ℕ, zero, suc, ◌+◌, ◌-◌, ◌<◌, ◌≤◌, List, [], ◌∷◌, ◌++◌, length, take, drop, remove, refl, arith, sym, ◌∙◌, ap, append_assoc, append-nil, add-one, take-append-drop, length-take-le, length-drop, take_all, Text, size, size-append, joined, joined_size, piece_at, set, insert, take_at, summary_of, IsSwap, IsRunSwapped, Swapped, Swap}
 use Rattle.std.proofs.Common.{subst, get_or, false, ◌^◌, zero-add, add-zero}
 use Rattle.std.proofs.Math.Seq.{drop-append-add, take-append-add, drop-append_seam, take-append_seam, drop-cons}
@@ -8,11 +8,11 @@ use Rattle.str_indices.specs.declared.Scheme.{Scheme}
 use Rattle.text_summary.specs.Fronts.{IsFront, IsFollowed}
 use Rattle.text_summary.specs.declared.fronts.Front.{Front}
 use Rattle.text_summary.specs.declared.summaries.Summary.{Summary}
-use Rattle.piece_text.proofs.lemmas.Joining.{joined-append, joined-split, joined_size-take, drop-piece}
-use Rattle.piece_text.proofs.lemmas.Splitting.{cut_list}
+use Rattle.piece_text.proofs.lemmas.Joining.{joined-append, joined-split, joined_size-take, drop-piece, cut_list, joined-take}
 use Rattle.piece_text.specs.Runs.{IsRun, AreRuns, pieces_in}
 use Rattle.piece_text.specs.PieceRanges.{IsRunAt}
 use Rattle.piece_text.specs.declared.view.runs.Run.{Run}
+use Rattle.text_summary.specs.Summaries.{AreSummaries}
 
 -- a list past its first texts, and up to some of the others
 drop_own : (texts own rest : List Text) (p m : ℕ) → texts ≡ own ++ rest → length own ≡ p → drop (p + m) texts ≡ drop m rest
@@ -590,3 +590,31 @@ swap_cut old new i left right swap inside is halves gone come out own = record {
   out = out ∙ ap summary_of (sym (append-nil (piece_at old i)));
   own = own ∙ ap summary_of (halves ∙ ap (λ x. left ++ x) (sym (append-nil right)));
 }
+
+-- The summary of some first pieces, and of one more or of a run more.
+
+-- one more
+pub piece_summed : (texts : List Text) (i : ℕ) (whole own : Summary) → i < length texts → whole ≡ summary_of (joined (take i texts))
+    → own ≡ summary_of (piece_at texts i) → joined_size texts < 2 ^ 63 → AreSummaries whole own
+piece_summed texts i whole own inside whole_is own_is short =
+    let more = ap size (joined-take texts i inside) ∙ size-append (joined (take i texts)) (piece_at texts i) in
+    record {
+      a = joined (take i texts);
+      b = piece_at texts i;
+      front_is = whole_is;
+      after_is = own_is;
+      short = omega (arith, more, joined_size-take texts (i + 1), short);
+    }
+
+-- a run more
+pub run_summed : (texts : List Text) (first : ℕ) (run : Run) (whole own : Summary) (at : IsRunAt texts first run)
+    → whole ≡ summary_of (joined (take first texts)) → own ≡ run.whole → joined_size texts < 2 ^ 63 → AreSummaries whole own
+run_summed texts first run whole own at whole_is own_is short =
+    let more = ap size (run_joined texts first run at) ∙ size-append (joined at.before) (joined at.own) in
+    record {
+      a = joined at.before;
+      b = joined at.own;
+      front_is = whole_is ∙ ap (λ t. summary_of (joined t)) (run_before texts first run at);
+      after_is = own_is ∙ at.is.whole;
+      short = omega (arith, more, joined_size-take texts (first + run.pieces), short);
+    }

@@ -8,7 +8,6 @@ pub use Rattle.str_indices.specs.Relations.{IsBoundary, IsCrlfMiddle}
 pub use Rattle.str_indices.specs.Schemes.{count, from_byte_idx, to_byte_idx}
 pub use Rattle.str_indices.specs.Text.{Text, size, line_feed, carriage_return}
 pub use Rattle.str_indices.specs.declared.Scheme.{Scheme}
-pub use Rattle.str_indices.specs.declared.Scheme.TheVariants.{Chars, Crlf, Lf, Lines, Utf16}
 pub use Rattle.text_summary.proofs.lemmas.Callers.{same_cut, none_of, boundary_upto, same_fields}
 pub use Rattle.text_index.specs.Marks.{stretch_size, stretches_of, count_at, IsMark, IsMarkAt, AreMarks, MarksState, begins_at, parts_of}
 pub use Rattle.text_index.specs.Places.{IsMarkPlace}

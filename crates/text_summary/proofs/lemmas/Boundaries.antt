@@ -1,5 +1,47 @@
+-- How a text starts and ends, the boundaries of two texts, one after the other, and a text with a part of it exchanged.
+use Rattle.text_summary.proofs.lemmas.Common.{◌≡◌, ℕ, ◌-◌, ◌<◌, List, [], ◌∷◌, length, chars, IsUtf8, sym, refl, ap, ◌∙◌, arith, line_feed, carriage_return, ends_in_return, starts_with_feed, starts_with_feed-bytes, ends_in_return-bytes, chars-none, ◌+◌, ◌≤◌, inl, inr, ◌++◌, append-nil, cases_lt, len_utf8, len_utf8_bounds, Text, size, size-append, size-cons, IsBoundary, IsBoundary-before, IsBoundary-behind, IsBoundary-either, take, drop, append_assoc, length-take-le, IsUtf8-take, size-chars, chars-append, IsCharBoundary-from_boundary, take-append-drop, IsReplaced}
+use Rattle.std.proofs.Common.{suc, false, true, get_or, nat_lt, ◌==◌}
+use Rattle.std.proofs.lemmas.Bool.{ltb-true, ltb-false}
+use Rattle.std.proofs.lemmas.List.{get_or_default}
+use Rattle.str_indices.proofs.lemmas.Callers.{ends_in_return-one, ends_in_return-cons, starts_with_feed_is}
+
+-- a list ends in CR where its last number is CR
+last_return : (bs : List ℕ) → 0 < length bs → (get_or bs (length bs - 1) 0 == carriage_return) ≡ ends_in_return bs
+last_return [] some = absurd (omega arith)
+last_return (c ∷ []) some = sym (ends_in_return-one c)
+last_return (c ∷ d ∷ cs) some =
+    let back : length (c ∷ d ∷ cs) - 1 ≡ suc (length (d ∷ cs) - 1) = omega arith in
+    ap (λ k. get_or (c ∷ d ∷ cs) k 0 == carriage_return) back ∙ last_return (d ∷ cs) (omega arith)
+    ∙ sym (ends_in_return-cons c d cs)
+
+module _ (text bytes : List ℕ) (utf8 : IsUtf8 text) (same : bytes ≡ text) (byte : ℕ)
+    (some : true ≡ nat_lt 0 (length bytes)) where
+  -- so does a text
+  pub ends_by_last : byte ≡ get_or bytes (length bytes - 1) byte
+      → (byte == carriage_return) ≡ ends_in_return (chars text)
+  ends_by_last last =
+      let filled = ltb-true 0 (length bytes) (sym some) in
+      let is : byte ≡ get_or bytes (length bytes - 1) 0 =
+      last ∙ get_or_default bytes (length bytes - 1) byte 0 (omega arith) in
+      ap (λ b. b == carriage_return) is ∙ last_return bytes filled ∙ ap ends_in_return same
+      ∙ ends_in_return-bytes text utf8
+
+  -- and it starts with LF where its first byte is LF
+  pub starts_by_first : byte ≡ get_or bytes 0 byte → (byte == line_feed) ≡ starts_with_feed (chars text)
+  starts_by_first first =
+      let filled = ltb-true 0 (length bytes) (sym some) in
+      let is : byte ≡ get_or bytes 0 0 = first ∙ get_or_default bytes 0 byte 0 filled in
+      ap (λ b. b == line_feed) is ∙ sym (starts_with_feed_is bytes) ∙ ap starts_with_feed same
+      ∙ starts_with_feed-bytes text utf8
+
+-- an empty text does neither
+pub edges_of_none : (text bytes : List ℕ) → bytes ≡ text → false ≡ nat_lt 0 (length bytes)
+    → (false ≡ starts_with_feed (chars text)) × (false ≡ ends_in_return (chars text))
+edges_of_none text bytes same none =
+    let empty = chars-none text (omega (arith, ltb-false 0 (length bytes) (sym none), ap length same)) in
+    rw empty (refl, refl)
+
 -- The boundaries of two texts, one after the other, and what stands between two of them.
-use Rattle.text_summary.proofs.lemmas.Common.{◌≡◌, ℕ, ◌+◌, ◌-◌, ◌<◌, ◌≤◌, inl, inr, [], ◌∷◌, ◌++◌, refl, arith, sym, ◌∙◌, ap, append-nil, cases_lt, len_utf8, len_utf8_bounds, Text, size, size-append, size-cons, IsBoundary, IsBoundary-before, IsBoundary-behind, IsBoundary-either}
 
 -- a boundary is within its text
 pub boundary-le : (cs : Text) (p : ℕ) → IsBoundary cs p → p ≤ size cs
@@ -99,3 +141,80 @@ same_parts a m b c n d whole sizes inner =
     let outer = same_cut a (m ++ b) c (n ++ d) whole sizes in
     let rest = same_cut m b n d outer.back inner in
     record { front = outer.front; middle = rest.front; back = rest.back }
+
+-- A text with a part of it exchanged for another text.
+
+-- the bytes of a text with those between two boundaries exchanged
+pub replaced_bytes : (bytes more whole : List ℕ) → IsUtf8 bytes → IsUtf8 more → (from to : ℕ) → from ≤ to
+    → IsBoundary (chars bytes) from → IsBoundary (chars bytes) to → whole ≡ take from bytes ++ (more ++ drop to bytes)
+    → IsReplaced (chars bytes) (chars whole) from to (chars more)
+replaced_bytes bytes more whole utf8 utf8_more from to order start end is =
+    let parts = parts_of (chars bytes) from to order start end in
+    let first = IsCharBoundary-from_boundary bytes utf8 from start in
+    let second = IsCharBoundary-from_boundary bytes utf8 to end in
+    let left = IsUtf8-take bytes from utf8 first in
+    let right = IsUtf8-take bytes to utf8 second in
+    let before : chars bytes ≡ chars (take from bytes) ++ chars (drop from bytes) =
+    ap chars (sym (take-append-drop from bytes)) ∙ chars-append (take from bytes) (drop from bytes) left in
+    let after : chars bytes ≡ chars (take to bytes) ++ chars (drop to bytes) =
+    ap chars (sym (take-append-drop to bytes)) ∙ chars-append (take to bytes) (drop to bytes) right in
+    let size_left = size-chars (take from bytes) left ∙ length-take-le from bytes first.0 in
+    let size_right = size-chars (take to bytes) right ∙ length-take-le to bytes second.0 in
+    let front = same_cut (chars (take from bytes)) (chars (drop from bytes)) parts.front (parts.middle ++ parts.back)
+    (sym before ∙ parts.parts) (size_left ∙ sym parts.start) in
+    let back = same_cut (chars (take to bytes)) (chars (drop to bytes)) (parts.front ++ parts.middle) parts.back
+    (sym after ∙ parts.parts ∙ sym (append_assoc parts.front parts.middle parts.back))
+    (size_right ∙ sym (size-append parts.front parts.middle ∙ parts.end)) in
+    record {
+      front = parts.front;
+      middle = parts.middle;
+      back = parts.back;
+      was = parts.parts;
+      start = parts.start;
+      end = parts.end;
+      is = ap chars is ∙ chars-append (take from bytes) (more ++ drop to bytes) left
+          ∙ ap (λ r. chars (take from bytes) ++ r) (chars-append more (drop to bytes) utf8_more)
+          ∙ ap (λ r. r ++ (chars more ++ chars (drop to bytes))) front.front
+          ∙ ap (λ r. parts.front ++ (chars more ++ r)) back.back;
+    }
+
+-- there is only one text in which the same part is replaced by the same text
+pub same_replaced : (old new other : Text) (from to : ℕ) (text : Text) → IsReplaced old new from to text
+    → IsReplaced old other from to text → new ≡ other
+same_replaced old new other from to text r o =
+    let same = same_parts r.front r.middle r.back o.front o.middle o.back (sym r.was ∙ o.was) (r.start ∙ sym o.start)
+    (omega (arith, r.start, r.end, o.start, o.end)) in
+    r.is ∙ ap (λ x. x ++ (text ++ r.back)) same.front ∙ ap (λ x. o.front ++ (text ++ x)) same.back ∙ sym o.is
+
+-- it has the bytes of what is left and of what came in
+pub size-replaced : (old new : Text) (from to : ℕ) (text : Text) → IsReplaced old new from to text
+    → size new + (to - from) ≡ size old + size text
+size-replaced old new from to text r = omega (
+  arith,
+  ap size r.was,
+  ap size r.is,
+  r.start,
+  r.end,
+  size-append r.front (r.middle ++ r.back),
+  size-append r.middle r.back,
+  size-append r.front (text ++ r.back),
+  size-append text r.back,
+)
+
+-- a text put in where a part was taken out before
+pub taken_then_put : (old mid new : Text) (from to : ℕ) (text : Text) → IsReplaced old mid from to []
+    → IsReplaced mid new from from text → IsReplaced old new from to text
+taken_then_put old mid new from to text out put =
+    let none : size put.middle ≡ 0 = omega (arith, put.start, put.end) in
+    let whole : out.front ++ out.back ≡ put.front ++ (put.middle ++ put.back) = sym out.is ∙ put.was in
+    let outer = same_cut out.front out.back put.front (put.middle ++ put.back) whole (out.start ∙ sym put.start) in
+    let inner = same_cut [] out.back put.middle put.back outer.back (sym none) in
+    record {
+      front = out.front;
+      middle = out.middle;
+      back = out.back;
+      was = out.was;
+      start = out.start;
+      end = out.end;
+      is = put.is ∙ ap (λ r. r ++ (text ++ put.back)) (sym outer.front) ∙ ap (λ r. out.front ++ (text ++ r)) (sym inner.back);
+    }

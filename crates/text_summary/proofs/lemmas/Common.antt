@@ -11,7 +11,6 @@ pub use Rattle.str_indices.specs.Relations.{IsBoundary}
 pub use Rattle.str_indices.specs.Schemes.{count, from_byte_idx, to_byte_idx}
 pub use Rattle.str_indices.specs.Text.{Text, size, line_feed, carriage_return}
 pub use Rattle.str_indices.specs.declared.Scheme.{Scheme}
-pub use Rattle.str_indices.specs.declared.Scheme.TheVariants.{Chars, Crlf, Lf, Lines, Utf16}
 pub use Rattle.text_summary.specs.Changes.{IsReplaced, IsUpdate, FitsIn}
 pub use Rattle.text_summary.specs.Fronts.{IsFront, IsStep, IsBefore, IsFollowed}
 pub use Rattle.text_summary.specs.Pieces.{joined, joined_size, piece_at}

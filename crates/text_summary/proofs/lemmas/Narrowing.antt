@@ -1,5 +1,5 @@
 -- Where the counts of a text tell that two schemes answer the same for it.
-use Rattle.text_summary.proofs.lemmas.Common.{◌≡◌, ℕ, zero, suc, ◌≤◌, inl, inr, Bool, List, [], ◌∷◌, ◌++◌, length, refl, arith, sym, ◌∙◌, ap, len_utf8, len_utf8_bounds, Text, size, size-append, count, IsBoundary, Scheme, Chars, Utf16, Lf, Crlf, Lines}
+use Rattle.text_summary.proofs.lemmas.Common.{◌≡◌, ℕ, zero, suc, ◌≤◌, inl, inr, Bool, List, [], ◌∷◌, ◌++◌, length, refl, arith, sym, ◌∙◌, ap, len_utf8, len_utf8_bounds, Text, size, size-append, count, IsBoundary, Scheme}
 use Rattle.std.proofs.Common.{true, min, map, filter, sum_by, count_by, nat_le, slice_index_or}
 use Rattle.std.proofs.lemmas.Bool.{cases_Bool, and_parts, and_from}
 use Rattle.std.proofs.lemmas.Bool.Decides.{nat_tests}
@@ -8,6 +8,7 @@ use Rattle.std.proofs.lemmas.List.Sums.{sum_by-append, sum_by-cons, sum_by-le-su
 use Rattle.std.specs.Char.{char_set_contains}
 use Rattle.str_indices.proofs.lemmas.Callers.{IsCutAt, cut_is, count_characters, boundary_weighed_is_greatest, count-units, weight-some, weight-le, characters_weighed, boundary_of_characters}
 use Rattle.str_indices.specs.Schemes.{break_characters, is_break_end, ends, ends_up_to, end_at, weighed, boundary_weighed}
+use Rattle.str_indices.specs.declared.Scheme.TheVariants.{Chars, Utf16, Lf, Crlf, Lines}
 use Rattle.str_indices.specs.Text.{Placed, placed, cut, weight}
 use Rattle.text_summary.specs.Queries.{AnswersAs, CountsBytes}
 

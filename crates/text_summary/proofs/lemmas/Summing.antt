@@ -1,5 +1,48 @@
+-- The numbers of texts, one after the other: of pieces, of two texts and of a text that changes, and the answers by a front.
+use Rattle.text_summary.proofs.lemmas.Common.{◌≡◌, ℕ, zero, suc, ◌+◌, ◌<◌, ◌≤◌, List, [], ◌∷◌, ◌++◌, length, take, drop, insert, refl, arith, sym, ◌∙◌, ap, append_assoc, add-one, take_more, append-nil, take-append-drop, Text, size, size-append, joined, joined_size, piece_at, ◌≢◌, ◌-◌, Bool, len_utf8_bounds, Scheme, count, seam_loss, starts_with_feed, ends_in_return, size-cons, is_joined, count-le-size, summary_of, count_of, IsUpdate, Update, Summary, from_byte_idx, to_byte_idx, starts_with_feed-append, seam_loss-same, IsFront, IsStep, Front, Step}
+use Rattle.str_indices.specs.declared.Scheme.TheVariants.{Chars, Utf16, Lf, Crlf, Lines}
+
+-- the pieces of two lists, one after the other
+pub joined-append : (xs ys : List Text) → joined (xs ++ ys) ≡ joined xs ++ joined ys
+joined-append [] ys = refl
+joined-append (x ∷ xs) ys = ap (λ r. x ++ r) (joined-append xs ys) ∙ sym (append_assoc x (joined xs) (joined ys))
+
+-- those before a place, and those from it on
+pub joined-split : (xs : List Text) (i : ℕ) → joined xs ≡ joined (take i xs) ++ joined (drop i xs)
+joined-split xs i = ap joined (sym (take-append-drop i xs)) ∙ joined-append (take i xs) (drop i xs)
+
+-- one piece more
+pub joined-take : (xs : List Text) (i : ℕ) → i < length xs
+    → joined (take (i + 1) xs) ≡ joined (take i xs) ++ piece_at xs i
+joined-take xs i inside = ap joined (take_more xs i [] inside) ∙ joined-append (take i xs) (piece_at xs i ∷ [])
+    ∙ ap (λ r. joined (take i xs) ++ r) (append-nil (piece_at xs i))
+
+-- a piece, and then those after it
+pub drop-piece : (xs : List Text) (i : ℕ) → i < length xs → drop i xs ≡ piece_at xs i ∷ drop (suc i) xs
+drop-piece [] i inside = absurd (omega arith)
+drop-piece (x ∷ xs) zero inside = refl
+drop-piece (x ∷ xs) (suc i) inside = drop-piece xs i (omega arith)
+
+-- so is their joined text
+pub joined-drop : (xs : List Text) (i : ℕ) → i < length xs
+    → joined (drop i xs) ≡ piece_at xs i ++ joined (drop (i + 1) xs)
+joined-drop xs i inside = rw add-one (ap joined (drop-piece xs i inside))
+
+-- the bytes of the pieces, and of one that is put in
+pub joined_size-insert : (xs : List Text) (at : ℕ) (text : Text)
+    → joined_size (insert xs at text) ≡ joined_size xs + size text
+joined_size-insert xs at text =
+    let front = joined (take at xs) in
+    let back = joined (drop at xs) in
+    let parts = ap size (joined-append (take at xs) (text ∷ drop at xs)) ∙ size-append front (text ++ back) in
+    omega (arith, ap size (joined-split xs at), size-append front back, size-append text back)
+
+-- the first pieces take no more bytes than all
+pub joined_size-take : (xs : List Text) (i : ℕ) → joined_size (take i xs) ≤ joined_size xs
+joined_size-take xs i =
+    omega (arith, ap size (joined-split xs i), size-append (joined (take i xs)) (joined (drop i xs)))
+
 -- The numbers of texts, one after the other, by those of each.
-use Rattle.text_summary.proofs.lemmas.Common.{◌≡◌, ◌≢◌, ℕ, ◌+◌, ◌-◌, ◌<◌, ◌≤◌, Bool, [], ◌∷◌, ◌++◌, refl, arith, sym, ◌∙◌, ap, len_utf8_bounds, Text, size, Scheme, Chars, Utf16, Lf, Crlf, Lines, count, seam_loss, starts_with_feed, ends_in_return, size-append, size-cons, is_joined, count-le-size, summary_of, count_of, AreSummaries, IsUpdate, FitsIn, Update, Summary}
 
 -- a text of no bytes is empty
 pub none_of : (a : Text) → size a ≡ 0 → a ≡ []
@@ -119,3 +162,56 @@ added s front after a b front_is after_is =
     let first = ap (λ w. count_of w s) front_is ∙ count_of-summary s a in
     let second = ap (λ w. count_of w s) after_is ∙ count_of-summary s b in
     rw (first, second) (sum_of s a b)
+
+-- The front of a piece, and the answers of a text by it.
+
+-- a step over b after a, and the answers of a, b and any text after them
+pub record Tells (s : Scheme) (a b c : Text) (step : Step) : Type 0 where
+  pub from_here : (i : ℕ) → size a ≤ i → i < step.after.len
+      → from_byte_idx s (a ++ (b ++ c)) i ≡ step.reached + from_byte_idx s b (i - size a)
+  pub to_reached : (k : ℕ) → k ≤ step.reached → to_byte_idx s (a ++ (b ++ c)) k ≡ to_byte_idx s a k
+  pub to_here : (k : ℕ) → step.reached < k → to_byte_idx s (a ++ b) k ≡ size a + to_byte_idx s b (k - step.reached)
+
+pub tells : (s : Scheme) (a b c : Text) (step : Step) → b ≢ [] → IsStep s a b step → Tells s a b c step
+tells s a b c step some is =
+    let seam = is_joined s a b in
+    let reached = is.reached in
+    let within = seam.loss_within in
+    let same = seam_loss-same s a (b ++ c) a b refl (starts_with_feed-append b c some) in
+    let sizes = size-append a b in
+    record {
+      from_here = λ i past inside.
+          let place : size a + (i - size a) ≡ i = omega arith in
+          let own = rw place at (seam.from_behind (i - size a)) in
+          let whole = (is_joined s (a ++ b) c).from_before i (omega (arith, is.after.len)) in
+          rw (← append_assoc a b c) (omega (arith, own, whole));
+      to_reached = λ k within. (is_joined s a (b ++ c)).to_before k (omega (arith, same));
+      to_here = λ k past. seam.to_behind k (k - step.reached) (omega arith) (omega arith);
+    }
+
+-- a step over piece i of a list of pieces, and the answers of their joined text
+pub record TellsAt (s : Scheme) (texts : List Text) (i : ℕ) (front : Front) (step : Step) : Type 0 where
+  pub after : IsFront s (joined (take (i + 1) texts)) step.after
+  pub from_here : (b : ℕ) → front.len ≤ b → b < step.after.len
+      → from_byte_idx s (joined texts) b ≡ step.reached + from_byte_idx s (piece_at texts i) (b - front.len)
+  pub to_reached : (k : ℕ) → k ≤ step.reached → to_byte_idx s (joined texts) k ≡ to_byte_idx s (joined (take i texts)) k
+  pub to_here : (k : ℕ) → step.reached < k → to_byte_idx s (joined (take (i + 1) texts)) k
+      ≡ front.len + to_byte_idx s (piece_at texts i) (k - step.reached)
+
+pub tells_at : (s : Scheme) (texts : List Text) (i : ℕ) (front : Front) (step : Step) → i < length texts
+    → piece_at texts i ≢ [] → IsFront s (joined (take i texts)) front
+    → IsStep s (joined (take i texts)) (piece_at texts i) step → TellsAt s texts i front step
+tells_at s texts i front step inside some front_is is =
+    let before = joined (take i texts) in
+    let piece = piece_at texts i in
+    let behind = joined (drop (i + 1) texts) in
+    let more = joined-take texts i inside in
+    let whole : joined texts ≡ before ++ (piece ++ behind) =
+    joined-split texts i ∙ ap (λ r. before ++ r) (joined-drop texts i inside) in
+    let own = tells s before piece behind step some is in
+    record {
+      after = rw more is.after;
+      from_here = λ b past inside. rw (whole, front_is.len) (own.from_here b (omega (arith, front_is.len)) inside);
+      to_reached = λ k within. rw whole (own.to_reached k within);
+      to_here = λ k past. rw (more, front_is.len) (own.to_here k past);
+    }

@@ -1,5 +1,4 @@
 use Rattle.text_summary.proofs.lemmas.{◌++◌, ◌∙◌, ap, arith, size-append, summary_is}
-use Rattle.std.proofs.Common.{rules}
 use Rattle.text_summary.proofs.changes.apply_update.Goals as goal
 
 pub returns : goal.returns
