@@ -4,7 +4,7 @@
 use crate::digest::Digest;
 use crate::faults::Fault;
 use crate::library::{
-    Encoding, Position, Range, Scheme, TextIndex, index_byte_range, index_exact_byte_of,
+    Encoding, Position, Range, SCHEMES, Scheme, TextIndex, index_byte_range, index_exact_byte_of,
     index_line, index_position_of,
 };
 use crate::random::Random;
@@ -24,14 +24,6 @@ const LARGE: usize = 100_000_000;
 const LARGE_SPANS: usize = 50;
 
 const ENCODINGS: [Encoding; 3] = [Encoding::Utf8, Encoding::Utf16, Encoding::Utf32];
-
-const SCHEMES: [Scheme; 5] = [
-    Scheme::Chars,
-    Scheme::Utf16,
-    Scheme::Lf,
-    Scheme::Crlf,
-    Scheme::Lines,
-];
 
 /// Works on `rounds` texts, one after the other, in each shape and size.
 pub(crate) fn run(

@@ -15,6 +15,9 @@ pub(crate) use str_indices::{
 pub(crate) use text_index::TextIndex;
 pub(crate) use text_rope::{Change, Refusal as RopeRefusal, Rope};
 
+/// The schemes that are asked in turn.
+pub(crate) const SCHEMES: [Scheme; 5] = Scheme::ALL;
+
 /// A second rope with the same text.
 pub(crate) fn copy_of(_: Global, rope: &Rope) -> Result<Rope, Fault> {
     Ok(rope.snapshot()?)

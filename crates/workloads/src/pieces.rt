@@ -2,7 +2,7 @@
 
 use crate::digest::Digest;
 use crate::faults::Fault;
-use crate::library::{PieceText, Scheme};
+use crate::library::{PieceText, SCHEMES, Scheme};
 use crate::random::Random;
 use crate::texts::{Shape, back, front, letter, text_of};
 use std::alloc::Global;
@@ -83,19 +83,9 @@ fn change(text: &mut PieceText, source: &str, i: usize, random: &mut Random) -> 
     Ok(())
 }
 
-fn scheme_of(random: &mut Random) -> Scheme {
-    match random.below(5) {
-        0 => Scheme::Chars,
-        1 => Scheme::Utf16,
-        2 => Scheme::Lf,
-        3 => Scheme::Crlf,
-        _ => Scheme::Lines,
-    }
-}
-
 /// Questions in a random scheme, at random places.
 fn ask(text: &PieceText, random: &mut Random, digest: &mut Digest) {
-    let s = scheme_of(random);
+    let s = SCHEMES[random.below(5) % 5];
     let indices = text.count(s).saturating_add(1);
     for _ in 0..ASKED {
         digest.take(text.to_byte_idx(s, random.below(indices)));

@@ -3,21 +3,13 @@
 
 use crate::digest::Digest;
 use crate::faults::Fault;
-use crate::library::{PieceText, Scheme};
+use crate::library::{PieceText, SCHEMES, Scheme};
 use crate::random::Random;
 use crate::texts::{Shape, back, front, text_of};
 use std::alloc::Global;
 
 /// How many pieces the buffers have.
 const SIZES: [usize; 12] = [2, 30, 100, 128, 200, 10, 64, 150, 5, 20, 50, 130];
-
-const SCHEMES: [Scheme; 5] = [
-    Scheme::Chars,
-    Scheme::Utf16,
-    Scheme::Lf,
-    Scheme::Crlf,
-    Scheme::Lines,
-];
 
 /// How often a buffer is asked, read and changed.
 const TURNS: usize = 100;

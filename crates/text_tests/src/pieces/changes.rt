@@ -1,7 +1,7 @@
 //! Changes as tables: what each says, and what the text answers then.
 use super::Change::{self, Insert, Push, Remove, Split};
 use super::{answers, make};
-use piece_text::Scheme::{self, Chars, Crlf, Lf, Lines, Utf16};
+use piece_text::Scheme::{self, Crlf, Lf, Lines, Utf16};
 use piece_text::{PieceText, Refusal};
 use std::alloc::Global;
 use std::process::Abort;
@@ -58,11 +58,16 @@ fn assert_step(rt: &impl Abort, text: &mut PieceText, step: &Step) {
 }
 
 /// Makes the changes of a table, from the text without pieces on.
-fn assert_steps(rt: &impl Abort, alloc: Global, steps: &[Step]) {
+fn make_steps(rt: &impl Abort, alloc: Global, steps: &[Step]) -> PieceText {
     let mut text = PieceText::new(alloc);
     for step in steps {
         assert_step(rt, &mut text, step);
     }
+    text
+}
+
+fn assert_steps(rt: &impl Abort, alloc: Global, steps: &[Step]) {
+    make_steps(rt, alloc, steps);
 }
 
 const TWO_BREAKS_AT_SEAMS: &[(Question, usize)] = &[
@@ -173,23 +178,17 @@ fn units_of_a_text_in_two_pieces(rt: HostRuntime) {
     assert_steps(&rt, rt.alloc(), STEPS);
 }
 
-const NOTHING: &[(Question, usize)] = &[
-    (Question::Count(Chars), 0),
-    (Question::Count(Utf16), 0),
-    (Question::Count(Lf), 0),
-    (Question::Count(Crlf), 0),
-    (Question::Count(Lines), 0),
-    (Question::FromByteIdx(Chars, 1), 0),
-    (Question::FromByteIdx(Utf16, 1), 0),
-    (Question::FromByteIdx(Lf, 1), 0),
-    (Question::FromByteIdx(Crlf, 1), 0),
-    (Question::FromByteIdx(Lines, 1), 0),
-    (Question::ToByteIdx(Chars, 1), 0),
-    (Question::ToByteIdx(Utf16, 1), 0),
-    (Question::ToByteIdx(Lf, 1), 0),
-    (Question::ToByteIdx(Crlf, 1), 0),
-    (Question::ToByteIdx(Lines, 1), 0),
-];
+/// Compares what a text of no bytes answers in each scheme, before its end and past it.
+fn assert_nothing(rt: &impl Abort, text: &PieceText) {
+    for s in Scheme::ALL {
+        let nothing = [
+            (Question::Count(s), 0),
+            (Question::FromByteIdx(s, 1), 0),
+            (Question::ToByteIdx(s, 1), 0),
+        ];
+        assert_answers(rt, text, &nothing);
+    }
+}
 
 #[test]
 fn empty_texts_are_no_pieces(rt: HostRuntime) {
@@ -198,7 +197,8 @@ fn empty_texts_are_no_pieces(rt: HostRuntime) {
         (Insert(1, ""), Err(Refusal::NoPiece), 0, &[]),
         (Insert(0, ""), Ok(()), 0, &[]),
         (Push(""), Ok(()), 0, &[]),
-        (Split(0), Ok(()), 0, NOTHING),
+        (Split(0), Ok(()), 0, &[]),
     ];
-    assert_steps(&rt, rt.alloc(), STEPS);
+    let text = make_steps(&rt, rt.alloc(), STEPS);
+    assert_nothing(&rt, &text);
 }
