@@ -123,10 +123,7 @@ run_some run (x ∷ xs) is = omega (arith, is.count)
 
 -- no run, which stands for one past the end of a list
 abbrev pub no_run : Run
-no_run = record {
-  pieces = 0;
-  whole = record { len = 0; chars = 0; utf16 = 0; lf = 0; crlf = 0; lines = 0; starts_lf = false; ends_cr = false };
-}
+no_run = record { pieces = 0; whole = summary_of [] }
 
 -- the pieces of the first runs, and of one more
 pub pieces_in-at : (runs : List Run) (r : ℕ) (d : Run) → r < length runs
