@@ -3,12 +3,11 @@ ghost use Rattle.std.specs.Prelude.{◌≡◌, ◌≢◌, ◌+◌, ◌-◌, ◌*
 ghost use Rattle.text_summary.specs.Pieces.{joined_size};
 ghost use Rattle.text_rope.specs.Leaves.{leaf_capacity};
 ghost use Rattle.text_rope.specs.ChunkEnds.{AreExchanged, IsChunkEnd};
-ghost use Rattle.text_rope.specs.Shapes.{IsJoinedHeight};
-ghost use Rattle.text_rope.specs.States.{texts_of, texts_under};
-ghost use Rattle.text_rope.specs.Work.{WorkState, Costs, TakesLog, IsHeightOf, height_of, height_or, height_under};
+ghost use Rattle.text_rope.specs.States.{texts_of};
+ghost use Rattle.text_rope.specs.Work.{WorkState, Costs, TakesLog, height_or};
 
 use crate::chunk::Chunk;
-use crate::joins::join;
+use crate::joins::{height_of, join_options};
 use crate::leaf::{LEAF_CAPACITY, chunk_up_to, push_shared};
 use crate::loads::{few_of, tree_of};
 use crate::rope::costs::Work;
@@ -128,44 +127,6 @@ fn splice_chunks(
     all.append(&mut chunks)?;
     push_shared(work, &mut all, back)?;
     Ok(few_of(work, alloc, all)?)
-}
-
-/// One tree of two that may have no chunks.
-#[inline(never)]
-pub(crate) fn join_options(
-    work: &mut Work,
-    alloc: Global,
-    front: Option<&Subtree>,
-    back: Option<&Subtree>,
-) -> Result<Option<Subtree>, AllocError>
-    requires short { joined_size (texts_under front) + joined_size (texts_under back) < 2 ^ 63 }
-    ensures chunks { IfOk result (λ whole. texts_of whole ≡ texts_under front.entry ++ texts_under back.entry) }
-    ensures height { IfOk result (λ whole. IsJoinedHeight (height_under front.entry) (height_under back.entry) (height_of whole)) }
-    ensures work { Costs work.old work.new
-        (6 * ((height_under front.entry - height_under back.entry) + (height_under back.entry - height_under front.entry)) + 3)
-        (16 * (1 - min (height_under front.entry) (height_under back.entry))) }
-{
-    match (front, back) {
-        (Some(left), Some(right)) => Ok(Some(join(work, alloc, left, right)?)),
-        (Some(subtree), None) => Ok(Some(work.share(subtree)?)),
-        (None, Some(subtree)) => Ok(Some(work.share(subtree)?)),
-        (None, None) => Ok(None),
-    }
-}
-
-/// The height of a tree that may have no chunks.
-pub(crate) fn height_of(root: Option<&Subtree>) -> usize
-    ensures height { result ≡ height_under root.entry }
-    ensures low { IsHeightOf (height_under root.entry) (joined_size (texts_under root.entry)) }
-    ensures most { height_under root.entry ≤ 126 }
-{
-    match root {
-        None => 0,
-        Some(subtree) => {
-            let _short = subtree.summary();
-            subtree.height()
-        }
-    }
 }
 
 /// All of two trees in one, beside both. Neither is one chunk.

@@ -3,7 +3,8 @@ ghost use Rattle.std.specs.Prelude.{◌≡◌, ◌+◌, ◌-◌, ◌*◌, ◌^�
 ghost use Rattle.text_summary.specs.Pieces.{joined_size};
 ghost use Rattle.text_rope.specs.Leaves.{leaf_capacity};
 ghost use Rattle.text_rope.specs.Shapes.{DifferByAtMost, IsBranchOf, IsJoined, IsJoinedHeight};
-ghost use Rattle.text_rope.specs.Work.{WorkState, Costs};
+ghost use Rattle.text_rope.specs.States.{texts_of, texts_under};
+ghost use Rattle.text_rope.specs.Work.{WorkState, Costs, IsHeightOf, height_of, height_under};
 
 use crate::chunk::Chunk;
 use crate::leaf::{LEAF_CAPACITY, push_shared};
@@ -168,4 +169,42 @@ fn merge_leaves(
     push_shared(work, &mut chunks, front)?;
     push_shared(work, &mut chunks, back)?;
     Ok(Some(chunks))
+}
+
+/// One tree of two that may have no chunks.
+#[inline(never)]
+pub(crate) fn join_options(
+    work: &mut Work,
+    alloc: Global,
+    front: Option<&Subtree>,
+    back: Option<&Subtree>,
+) -> Result<Option<Subtree>, AllocError>
+    requires short { joined_size (texts_under front) + joined_size (texts_under back) < 2 ^ 63 }
+    ensures chunks { IfOk result (λ whole. texts_of whole ≡ texts_under front.entry ++ texts_under back.entry) }
+    ensures height { IfOk result (λ whole. IsJoinedHeight (height_under front.entry) (height_under back.entry) (height_of whole)) }
+    ensures work { Costs work.old work.new
+        (6 * ((height_under front.entry - height_under back.entry) + (height_under back.entry - height_under front.entry)) + 3)
+        (16 * (1 - min (height_under front.entry) (height_under back.entry))) }
+{
+    match (front, back) {
+        (Some(left), Some(right)) => Ok(Some(join(work, alloc, left, right)?)),
+        (Some(subtree), None) => Ok(Some(work.share(subtree)?)),
+        (None, Some(subtree)) => Ok(Some(work.share(subtree)?)),
+        (None, None) => Ok(None),
+    }
+}
+
+/// The height of a tree that may have no chunks.
+pub(crate) fn height_of(root: Option<&Subtree>) -> usize
+    ensures height { result ≡ height_under root.entry }
+    ensures low { IsHeightOf (height_under root.entry) (joined_size (texts_under root.entry)) }
+    ensures most { height_under root.entry ≤ 126 }
+{
+    match root {
+        None => 0,
+        Some(subtree) => {
+            let _short = subtree.summary();
+            subtree.height()
+        }
+    }
 }

@@ -7,9 +7,8 @@ ghost use Rattle.text_rope.specs.ChunkSizes.{max_chunk, min_chunk, AreLongEnough
 ghost use Rattle.text_rope.specs.States.{texts_of};
 ghost use Rattle.text_rope.specs.Work.{WorkState, Costs, height_of, height_or};
 
-use crate::changes::{height_of, join_options};
 use crate::chunk::{Chunk, MAX_CHUNK};
-use crate::joins::join;
+use crate::joins::{height_of, join, join_options};
 use crate::leaf::LEAF_CAPACITY;
 use crate::rope::costs::Work;
 use crate::tree::{Subtree, Tree, leaf_of};

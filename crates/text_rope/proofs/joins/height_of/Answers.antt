@@ -1,5 +1,5 @@
 use Rattle.text_rope.proofs.lemmas.{arith, length, joined_size, height-most, height_of_bytes}
-use Rattle.text_rope.proofs.changes.height_of.Goals as goal
+use Rattle.text_rope.proofs.joins.height_of.Goals as goal
 
 pub returns-in-Some-clause-low : goal.returns-in-Some-clause-low
 returns-in-Some-clause-low c =
