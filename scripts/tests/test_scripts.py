@@ -212,7 +212,7 @@ def test_each_edit_can_be_made(path):
     ("str_indices", "chars::to_byte_idx", True, ["answer", "boundary"]),
     ("str_indices", "passes::sure_chunks", False, ["within", "sure"]),
     ("text_rope", "rope::Rope::cut", False, ["parts", "err", "inside", "work"]),
-    ("text_rope", "rope::costs::View::len", True, ["len", "short"]),
+    ("text_rope", "rope::views::View::len", True, ["len", "short"]),
     ("text_index", "index::TextIndex::len", True, ["len", "short"]),
     ("positions", "parts::Parts::len", True, ["len", "short", "searched"]),
     ("text_rope_c", "reads::rope_chunk_at", True, ["stays", "chunk", "sized", "some", "none"]),

@@ -1,5 +1,6 @@
 -- A tree as a question sees it.
 --     RopeState            the chunks' texts, and how many nodes were looked at and chunks read
+--     AskedState           how many nodes were looked at and chunks read
 --     unasked texts        a view of them when it is new
 --     texts_of root        the chunks' texts of a tree that may have none
 --     texts_under root     the same where it is lent
@@ -12,6 +13,11 @@ use Rattle.text_rope.specs.Shapes.{Seen}
 -- what contracts see of `View`
 pub record RopeState : Type 0 where
   pub texts : List Text
+  pub looks : ℕ
+  pub reads : ℕ
+
+-- what contracts see of the two counters of a view
+pub record AskedState : Type 0 where
   pub looks : ℕ
   pub reads : ℕ
 

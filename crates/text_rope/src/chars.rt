@@ -8,7 +8,7 @@ ghost use Rattle.text_rope.specs.Looks.{Asks};
 ghost use Rattle.text_rope.specs.States.{RopeState};
 
 use crate::chunks::chunk_in;
-use crate::rope::costs::View;
+use crate::rope::views::View;
 
 /// The char that begins at a byte index; none inside a char, and from the end of the text on. One question, as `chunk_in`.
 pub fn char_at_in(v: &mut View, byte_idx: usize) -> Option<char>

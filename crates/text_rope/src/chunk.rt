@@ -7,10 +7,11 @@ ghost use Rattle.text_summary.specs.Changes.{IsReplaced};
 ghost use Rattle.text_summary.specs.Summaries.{summary_of};
 ghost use Rattle.text_rope.specs.ChunkSizes.{max_chunk};
 ghost use Rattle.text_rope.specs.Shifts.{IsShift};
+ghost use Rattle.text_rope.specs.Work.{WorkState};
 ghost use Rattle.text_rope.specs.declared.chunk.Unplaced.TheVariants.{NotBoundary};
 
 use crate::counts::ChunkCounts;
-use crate::rope::costs::Permit;
+use crate::rope::costs::{ChangePermit, ReadPermit, Work};
 use crate::shifts::Shift;
 use std::alloc::{AllocError, Global};
 use std::marker::Model;
@@ -81,16 +82,6 @@ impl Chunk {
         Ok(Chunk { text, counts })
     }
 
-    /// Shares the chunk: copies no text.
-    pub(crate) fn share(&self, _permit: Permit) -> Result<Chunk, AllocError>
-        ensures { IfOk result (λ chunk. chunk ≡ self.now) }
-    {
-        Ok(Chunk {
-            text: Arc::try_clone(&self.text)?,
-            counts: self.counts,
-        })
-    }
-
     /// The summary of its text.
     pub(crate) fn summary(&self) -> Summary
         ensures summary { result ≡ summary_of self.now }
@@ -101,7 +92,7 @@ impl Chunk {
     }
 
     /// Its text.
-    pub(crate) fn text(&self, _permit: Permit) -> &str
+    pub(crate) fn text(&self, _permit: ReadPermit) -> &str
         ensures text { chars result.now ≡ self.now }
         ensures len { length result.now ≡ size self.now }
         ensures some { self.now ≢ [] }
@@ -110,7 +101,7 @@ impl Chunk {
         self.own_text()
     }
 
-    /// Its text, for itself.
+    /// Its text, for itself and for a change.
     fn own_text(&self) -> &str
         ensures text { chars result.now ≡ self.now }
         ensures len { length result.now ≡ size self.now }
@@ -133,7 +124,7 @@ impl Chunk {
     /// its own, or shares it.
     pub(crate) fn replace_in_place(
         &mut self,
-        _permit: Permit,
+        _permit: ChangePermit,
         from: usize,
         to: usize,
         more: &str,
@@ -210,6 +201,31 @@ impl Chunk {
         let len = self.summary().len;
         let kept = len - out;
         more <= MAX_CHUNK - kept && least <= kept + more
+    }
+}
+
+impl Work {
+    /// A chunk for another node, for one chunk. Copies no text.
+    pub(crate) fn copy(&mut self, chunk: &Chunk) -> Result<Chunk, AllocError>
+        ensures ok { IfOk result (λ copy. copy ≡ chunk.now) }
+        ensures nodes { self.new.nodes ≡ self.old.nodes }
+        ensures chunks { self.new.chunks ≡ self.old.chunks + 1 }
+    {
+        self.change();
+        Ok(Chunk {
+            text: Arc::try_clone(&chunk.text)?,
+            counts: chunk.counts,
+        })
+    }
+
+    /// A chunk's text. Counts nothing.
+    pub(crate) fn read<'a>(&self, chunk: &'a Chunk) -> &'a str
+        ensures text { chars result.now ≡ chunk.now }
+        ensures len { length result.now ≡ size chunk.now }
+        ensures some { chunk.now ≢ [] }
+        ensures short { size chunk.now ≤ max_chunk }
+    {
+        chunk.own_text()
     }
 }
 

@@ -10,7 +10,7 @@ ghost use Rattle.text_rope.specs.States.{RopeState};
 
 use crate::chunk::Chunk;
 use crate::queries::place_at;
-use crate::rope::costs::View;
+use crate::rope::views::View;
 use text_summary::{Front, Scheme, Summary};
 
 /// A chunk's text, and the byte index where it starts.

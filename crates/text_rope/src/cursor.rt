@@ -11,7 +11,7 @@ ghost use Rattle.text_rope.specs.States.{RopeState, unasked};
 use crate::chunk::Chunk;
 use crate::chunks::ChunkAt;
 use crate::leaf::chunk_up_to;
-use crate::rope::costs::View;
+use crate::rope::views::View;
 use crate::tree::{Below, Subtree, Tree};
 use std::marker::Model;
 

@@ -11,7 +11,7 @@ ghost use Rattle.text_rope.specs.States.{RopeState, unasked};
 
 use crate::chunk::Chunk;
 use crate::cursor::leaf_at;
-use crate::rope::costs::View;
+use crate::rope::views::View;
 use crate::tree::Tree;
 use std::marker::Model;
 use text_summary::halves;

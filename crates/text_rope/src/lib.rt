@@ -30,5 +30,5 @@ pub use queries::{count_in, from_in, is_boundary_in, to_in};
 pub use ranges::Change;
 pub use refusals::Refusal;
 pub use rope::Rope;
-pub use rope::costs::View;
+pub use rope::views::View;
 pub use text_summary::{Front, Scheme, Summary};

@@ -13,7 +13,7 @@ ghost use Rattle.text_rope.specs.States.{RopeState};
 
 use crate::chunks::chunk_in;
 use crate::queries::{Placed, from_in, place_at, place_of, to_in};
-use crate::rope::costs::View;
+use crate::rope::views::View;
 use byte_chunk::Chunk;
 use positions::{Encoding, LineType, Part, Parts, char_start, unit_scheme};
 

@@ -10,7 +10,7 @@ ghost use Rattle.text_rope.specs.Looks.{Asks};
 ghost use Rattle.text_rope.specs.States.{RopeState};
 
 use crate::chunk::Chunk;
-use crate::rope::costs::View;
+use crate::rope::views::View;
 use crate::tree::{Below, Subtree};
 use text_summary::{Front, Scheme};
 

@@ -16,6 +16,7 @@ ghost use Rattle.text_rope.specs.Work.{WorkState, TakesLog};
 ghost use Rattle.text_rope.specs.declared.refusals.Refusal.TheVariants.{NotOrdered, NotBoundary, TooLong, NoMemory};
 
 pub(crate) mod costs;
+pub(crate) mod views;
 
 use crate::changes::append_trees;
 use crate::chunk::{MAX_CHUNK, Unplaced};

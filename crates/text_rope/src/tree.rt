@@ -17,7 +17,7 @@ ghost use Rattle.text_rope.specs.declared.chunk.Unplaced.TheVariants.{NotBoundar
 
 use crate::chunk::{Chunk, MIN_CHUNK, Unplaced};
 use crate::leaf::{Leaf, summary_of_chunks};
-use crate::rope::costs::{Permit, Work};
+use crate::rope::costs::{LookPermit, Work};
 use crate::shifts::{Shift, shift_by};
 use std::alloc::{AllocError, Global};
 use std::marker::Model;
@@ -104,7 +104,7 @@ impl Subtree {
 
     /// Its parts.
     #[tactic(auto, using(crate::proofs::lemmas::Branches::branch_size))]
-    pub(crate) fn look(&self, _permit: Permit) -> Below<'_>
+    pub(crate) fn look(&self, _permit: LookPermit) -> Below<'_>
         ensures { IsLookAt self.now result }
     {
         match &self.node {
@@ -114,20 +114,6 @@ impl Subtree {
                 Below::Subtrees(&branch.left, &branch.right)
             }
         }
-    }
-
-    /// Shares the tree: copies no node.
-    pub(crate) fn share(&self, _permit: Permit) -> Result<Subtree, AllocError>
-        ensures { IfOk result (λ subtree. subtree ≡ self.now) }
-    {
-        let node = match &self.node {
-            Node::Leaf(leaf) => Node::Leaf(Arc::try_clone(leaf)?),
-            Node::Branch(branch) => Node::Branch(Arc::try_clone(branch)?),
-        };
-        Ok(Subtree {
-            node,
-            summary: self.summary,
-        })
     }
 
     /// Replaces what is between two byte indices by a text, in the one chunk that both are in, where no node on the way has
@@ -171,6 +157,31 @@ impl Subtree {
         }
         update_summary(&mut self.summary, &self.node, shift);
         Ok(())
+    }
+}
+
+impl Work {
+    /// A tree's parts, for one node.
+    pub(crate) fn look<'a>(&mut self, subtree: &'a Subtree) -> Below<'a>
+        ensures look { IsLookAt subtree.now result }
+        ensures nodes { self.new.nodes ≡ self.old.nodes + 1 }
+        ensures chunks { self.new.chunks ≡ self.old.chunks }
+    {
+        subtree.look(self.make())
+    }
+
+    /// A second owner of a tree's root. Counts nothing, and copies no node.
+    pub(crate) fn share(&self, subtree: &Subtree) -> Result<Subtree, AllocError>
+        ensures { IfOk result (λ tree. tree ≡ subtree.now) }
+    {
+        let node = match &subtree.node {
+            Node::Leaf(leaf) => Node::Leaf(Arc::try_clone(leaf)?),
+            Node::Branch(branch) => Node::Branch(Arc::try_clone(branch)?),
+        };
+        Ok(Subtree {
+            node,
+            summary: subtree.summary,
+        })
     }
 }
 

@@ -8,7 +8,8 @@ use Rattle.text_rope.specs.contracts.leaf.Leaf as leaf
 use Rattle.text_rope.specs.contracts.tree.Subtree as subtree
 use Rattle.text_rope.specs.contracts.tree.Tree as tree
 use Rattle.text_rope.specs.contracts.rope.Rope as rope
-use Rattle.text_rope.specs.contracts.rope.costs.View as view
+use Rattle.text_rope.specs.contracts.rope.costs.Asked as asked
+use Rattle.text_rope.specs.contracts.rope.views.View as view
 use Rattle.text_rope.specs.contracts.iter.Chunks as chunks
 use Rattle.text_rope.proofs.tree.Subtree.TheLaws.TheKnot as knot
 
@@ -40,11 +41,17 @@ subtree_sync = search (sendable, crosses, leaf_send, leaf_sync, knot.crosses) de
 counter_sync : IsSync counter.the_row
 counter_sync = record { shared = λ d b o l x. (λ q. whole-keyless _ _ (λ y vs. (λ none. (tt, tt), tt)) q x.0 b o, tt) }
 
+asked_send : IsSend asked.the_row
+asked_send = search (sendable, crosses) depth 40
+
+asked_sync : IsSync asked.the_row
+asked_sync = search (sendable, crosses, counter_sync) depth 40
+
 view_send : (κ : NamedLft) → IsSend (view.the_row κ)
-view_send κ = search (sendable, crosses, subtree_sync) depth 40
+view_send κ = search (sendable, crosses, asked_send, subtree_sync) depth 40
 
 view_sync : (κ : NamedLft) → IsSync (view.the_row κ)
-view_sync κ = search (sendable, crosses, counter_sync, subtree_sync) depth 40
+view_sync κ = search (sendable, crosses, asked_sync, subtree_sync) depth 40
 
 -- so may an iterator over a rope's chunks, and several may ask it at once
 pub chunks_send : (κ : NamedLft) → IsSend (chunks.the_row κ)

@@ -1,92 +1,66 @@
-//! A node's parts, a chunk's text and a share of either, which this module alone lends to others. The call that lends one counts
-//! it; only a change's shares of nodes and its reads of texts are not counted.
-ghost use Rattle.std.specs.Prelude.{◌≡◌, ◌≢◌, ◌+◌, ◌^◌, ◌<◌, ◌≤◌, [], chars, length, IfOk};
-ghost use Rattle.str_indices.specs.Text.{size};
-ghost use Rattle.text_summary.specs.Pieces.{joined_size};
-ghost use Rattle.text_rope.specs.ChunkSizes.{max_chunk, IsFilled};
-ghost use Rattle.text_rope.specs.Looks.{IsLookAt};
-ghost use Rattle.text_rope.specs.States.{RopeState, texts_under};
+//! What counts the looks and reads of a question, and the work of a change. A permit to take a node's parts, to read a chunk's
+//! text or to change a chunk comes only from a call that counts it.
+ghost use Rattle.std.specs.Prelude.{◌≡◌, ◌+◌};
+ghost use Rattle.text_rope.specs.States.{AskedState};
 ghost use Rattle.text_rope.specs.Work.{WorkState};
 
-use crate::chunk::Chunk;
-use crate::tree::{Below, Subtree, Tree};
 use byte_chunk::Counter;
-use std::alloc::AllocError;
 use std::marker::Model;
 
-/// The permission to take a node's parts or to read a chunk's text. Only this module makes one. It takes no memory.
+/// The permission to take one node's parts. Only this module makes one. It takes no memory.
 #[derive(Drop)]
-pub(crate) struct Permit(());
+pub(crate) struct LookPermit(());
 
-/// A tree as a question sees it: contracts see its chunks, how many nodes were looked at, and how often a chunk was read.
-///
-/// It has the size of a reference: only contracts see its counters. It is neither `Copy` nor `Clone`, and a `Tree` alone
-/// lends it.
+/// The permission to read one chunk's text. Only this module makes one. It takes no memory.
 #[derive(Drop)]
-pub struct View<'a> {
-    root: Option<&'a Subtree>,
+pub(crate) struct ReadPermit(());
+
+/// The permission to change one chunk in place. Only this module makes one. It takes no memory.
+#[derive(Drop)]
+pub(crate) struct ChangePermit(());
+
+/// How many nodes a view has looked at, and how often it has read a chunk. It takes no memory.
+#[derive(Drop)]
+pub(in crate::rope) struct Asked {
     looks: Counter,
     reads: Counter,
 }
 
-impl<'a> Model for View<'a> {
-    ghost use Rattle.text_rope.specs.States.{RopeState, texts_under};
+impl Model for Asked {
+    ghost use Rattle.text_rope.specs.States.{AskedState};
 
-    ghost Value = { RopeState };
+    ghost Value = { AskedState };
 
-    ghost view = { λ v. record { texts = texts_under v.root; looks = v.looks; reads = v.reads } };
+    ghost view = { λ a. record { looks = a.looks; reads = a.reads } };
 }
 
-impl<'a> View<'a> {
-    /// A tree, with nothing counted.
-    pub(crate) fn of(tree: &'a Tree) -> View<'a>
-        ensures view { result ≡ record { texts = tree.now; looks = 0; reads = 0 } }
-        ensures filled { IsFilled tree.now }
+impl Asked {
+    /// Nothing was asked yet. A new view alone begins so.
+    pub(in crate::rope) fn none() -> Asked
+        ensures { result ≡ record { looks = 0; reads = 0 } }
     {
-        View {
-            root: tree.root(),
+        Asked {
             looks: Counter::zero(),
             reads: Counter::zero(),
         }
     }
 
-    /// Its root; none where there are no chunks. Counts nothing.
-    pub(crate) fn root(&self) -> Option<&'a Subtree>
-        ensures { texts_under result ≡ self.now.texts }
-    {
-        self.root
-    }
-
-    /// How many bytes the text has. Counts nothing.
-    pub fn len(&self) -> usize
-        ensures len { result ≡ joined_size self.now.texts }
-        ensures short { joined_size self.now.texts < 2 ^ 63 }
-    {
-        match self.root {
-            None => 0,
-            Some(subtree) => subtree.summary().len,
-        }
-    }
-
-    /// A tree's parts, for one look.
-    pub(crate) fn look<'b>(&mut self, subtree: &'b Subtree) -> Below<'b>
-        ensures look { IsLookAt subtree.now result }
-        ensures state { self.new ≡ record self.old { looks = self.old.looks + 1 } }
+    /// The permit to take a node's parts, for one look.
+    pub(in crate::rope) fn look(&mut self) -> LookPermit
+        ensures looks { self.new.looks ≡ self.old.looks + 1 }
+        ensures reads { self.new.reads ≡ self.old.reads }
     {
         self.looks.tick();
-        subtree.look(Permit(()))
+        LookPermit(())
     }
 
-    /// A chunk's text, for one read.
-    pub(crate) fn read<'b>(&mut self, chunk: &'b Chunk) -> &'b str
-        ensures text { chars result.now ≡ chunk.now }
-        ensures len { length result.now ≡ size chunk.now }
-        ensures some { chunk.now ≢ [] }
-        ensures short { size chunk.now ≤ max_chunk }
-        ensures state { self.new ≡ record self.old { reads = self.old.reads + 1 } }
+    /// The permit to read a chunk's text, for one read.
+    pub(in crate::rope) fn read(&mut self) -> ReadPermit
+        ensures looks { self.new.looks ≡ self.old.looks }
+        ensures reads { self.new.reads ≡ self.old.reads + 1 }
     {
         self.reads.tick();
-        chunk.text(Permit(()))
+        ReadPermit(())
     }
 }
 
@@ -117,57 +91,21 @@ impl Work {
         }
     }
 
-    /// A tree's parts, for one node.
-    pub(crate) fn look<'a>(&mut self, subtree: &'a Subtree) -> Below<'a>
-        ensures look { IsLookAt subtree.now result }
-        ensures nodes { self.new.nodes ≡ self.old.nodes + 1 }
-        ensures chunks { self.new.chunks ≡ self.old.chunks }
-    {
-        self.make();
-        subtree.look(Permit(()))
-    }
-
-    /// A node is made, or changed in place.
-    pub(crate) fn make(&mut self)
+    /// A node is looked at, made, or changed in place: the permit to take its parts, for one node.
+    pub(crate) fn make(&mut self) -> LookPermit
         ensures nodes { self.new.nodes ≡ self.old.nodes + 1 }
         ensures chunks { self.new.chunks ≡ self.old.chunks }
     {
         self.nodes.tick();
+        LookPermit(())
     }
 
-    /// A second owner of a tree's root. Counts nothing, and copies no node.
-    pub(crate) fn share(&self, subtree: &Subtree) -> Result<Subtree, AllocError>
-        ensures { IfOk result (λ tree. tree ≡ subtree.now) }
-    {
-        subtree.share(Permit(()))
-    }
-
-    /// A chunk for another node, for one chunk. Copies no text.
-    pub(crate) fn copy(&mut self, chunk: &Chunk) -> Result<Chunk, AllocError>
-        ensures ok { IfOk result (λ copy. copy ≡ chunk.now) }
+    /// A chunk is put into another node, or changed in place: the permit to change it, for one chunk.
+    pub(crate) fn change(&mut self) -> ChangePermit
         ensures nodes { self.new.nodes ≡ self.old.nodes }
         ensures chunks { self.new.chunks ≡ self.old.chunks + 1 }
     {
         self.chunks.tick();
-        chunk.share(Permit(()))
-    }
-
-    /// The permit to change a chunk in place, for one chunk.
-    pub(crate) fn change(&mut self) -> Permit
-        ensures nodes { self.new.nodes ≡ self.old.nodes }
-        ensures chunks { self.new.chunks ≡ self.old.chunks + 1 }
-    {
-        self.chunks.tick();
-        Permit(())
-    }
-
-    /// A chunk's text. Counts nothing.
-    pub(crate) fn read<'a>(&self, chunk: &'a Chunk) -> &'a str
-        ensures text { chars result.now ≡ chunk.now }
-        ensures len { length result.now ≡ size chunk.now }
-        ensures some { chunk.now ≢ [] }
-        ensures short { size chunk.now ≤ max_chunk }
-    {
-        chunk.text(Permit(()))
+        ChangePermit(())
     }
 }
