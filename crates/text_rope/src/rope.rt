@@ -156,6 +156,13 @@ impl Rope {
         is_boundary_in(&mut self.view(), byte_idx)
     }
 
+    /// Whether two byte indices are between chars, or at the text's beginning or end. Asks once where they are the same.
+    fn are_boundaries(&self, from: usize, to: usize) -> bool
+        ensures { IsTrue result ↔ (IsBoundary self.now from × IsBoundary self.now to) }
+    {
+        self.is_char_boundary(from) && (from == to || self.is_char_boundary(to))
+    }
+
     /// The chunk that a byte is in, and where it starts; none from the end of the text on. It has at most `MAX_CHUNK` bytes,
     /// and at least `MIN_CHUNK` or all of the text.
     pub fn chunk_at(&self, byte_idx: usize) -> Option<ChunkAt<'_>>
@@ -223,7 +230,7 @@ impl Rope {
         if range.end < range.start {
             return Err(Refusal::NotOrdered);
         }
-        if !(self.is_char_boundary(range.start) && self.is_char_boundary(range.end)) {
+        if !self.are_boundaries(range.start, range.end) {
             return Err(Refusal::NotBoundary);
         }
         Ok(Chunks::of(&self.tree, range.start, range.end))
@@ -244,7 +251,7 @@ impl Rope {
         if range.end < range.start {
             return Err(Refusal::NotOrdered);
         }
-        if !(self.is_char_boundary(range.start) && self.is_char_boundary(range.end)) {
+        if !self.are_boundaries(range.start, range.end) {
             return Err(Refusal::NotBoundary);
         }
         if room.len() < range.end - range.start {
@@ -482,7 +489,7 @@ impl Rope {
         ensures not_ordered { result ≢ Err NotOrdered }
         ensures work { TakesLog 53 240 (size self.old) (length text.now) work.old work.new }
     {
-        if !(self.is_char_boundary(from) && self.is_char_boundary(to)) {
+        if !self.are_boundaries(from, to) {
             return Err(Refusal::NotBoundary);
         }
         let kept = self.len() - (to - from);
