@@ -47,7 +47,7 @@ pub fn chunk_in<'a>(v: &mut View<'a>, at: usize) -> Option<ChunkAt<'a>>
 
 /// The chunk that a byte is in, of at most `MAX_CHUNK` bytes, its summary, where it starts, and what is counted in a
 /// scheme before it; none from the end of the text on. One question, as `chunk_in`.
-#[tactic(auto, using(crate::proofs::lemmas::Asking::power_one))]
+#[tactic(auto, using(crate::proofs::lemmas::Costs::power_one))]
 pub fn chunk_at_byte_in<'a>(v: &mut View<'a>, s: Scheme, at: usize) -> Option<ChunkAtByte<'a>>
     ensures located { IfSome result (λ l.
         IsChunkAtByte s v.old.texts (chars l.chunk.text.now) l.chunk.start l.before at) }

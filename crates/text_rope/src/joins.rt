@@ -16,7 +16,7 @@ use std::alloc::{AllocError, Global};
 const HALF_LEAF: usize = LEAF_CAPACITY / 2;
 
 /// One tree of all chunks of two.
-#[tactic(auto, using(crate::proofs::lemmas::Branches::branch_size))]
+#[tactic(auto, using(crate::proofs::lemmas::Trees::branch_size))]
 pub(crate) fn join(
     work: &mut Work,
     alloc: Global,
@@ -127,7 +127,7 @@ fn lean_left(
 
 /// One tree of two that differ in height by one at most: of two small leaves, one leaf.
 #[inline(never)]
-#[tactic(auto, using(crate::proofs::lemmas::Branches::branch_size))]
+#[tactic(auto, using(crate::proofs::lemmas::Trees::branch_size))]
 fn merge_or_branch(
     work: &mut Work,
     alloc: Global,

@@ -34,7 +34,7 @@ pub fn count_in(v: &mut View, s: Scheme) -> usize
 
 /// How many of them the text has up to a byte index, in a number of looks that is logarithmic in the number of chunks,
 /// and one read at most.
-#[tactic(auto, using(crate::proofs::lemmas::Asking::power_one))]
+#[tactic(auto, using(crate::proofs::lemmas::Costs::power_one))]
 pub fn from_in(v: &mut View, s: Scheme, b: usize) -> usize
     ensures answer { result ≡ from_byte_idx s (joined v.old.texts) b }
     ensures cost { Asks 1 v.old v.new }
@@ -56,7 +56,7 @@ pub fn from_in(v: &mut View, s: Scheme, b: usize) -> usize
 
 /// The byte index where char `k`, the char of code unit `k` or line `k` begins, the text's length where it has fewer. As many
 /// looks and reads at most as `from_in`.
-#[tactic(auto, using(crate::proofs::lemmas::Asking::power_one))]
+#[tactic(auto, using(crate::proofs::lemmas::Costs::power_one))]
 pub fn to_in(v: &mut View, s: Scheme, k: usize) -> usize
     ensures answer { result ≡ to_byte_idx s (joined v.old.texts) k }
     ensures cost { Asks 1 v.old v.new }
@@ -78,7 +78,7 @@ pub fn to_in(v: &mut View, s: Scheme, k: usize) -> usize
 
 /// Whether a byte index is between chars, or at the beginning or end of the text; in as many looks and reads at most
 /// as `from_in`.
-#[tactic(auto, using(crate::proofs::lemmas::Asking::power_one))]
+#[tactic(auto, using(crate::proofs::lemmas::Costs::power_one))]
 pub fn is_boundary_in(v: &mut View, at: usize) -> bool
     ensures answer { IsTrue result ↔ IsBoundary (joined v.old.texts) at }
     ensures cost { Asks 1 v.old v.new }

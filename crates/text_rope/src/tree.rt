@@ -76,7 +76,7 @@ pub(crate) enum Below<'a> {
 
 impl Subtree {
     /// The summary of its text.
-    #[tactic(auto, using(crate::proofs::lemmas::ChunkSizes::few_some))]
+    #[tactic(auto, using(crate::proofs::lemmas::Trees::few_some))]
     pub(crate) fn summary(&self) -> &Summary
         ensures summary { result.now ≡ summary_of (joined self.now.texts) }
         ensures some { 0 < length self.now.texts }
@@ -89,7 +89,7 @@ impl Subtree {
     }
 
     /// How many levels of branches it has.
-    #[tactic(auto, using(crate::proofs::lemmas::ChunkSizes::few_some))]
+    #[tactic(auto, using(crate::proofs::lemmas::Trees::few_some))]
     pub(crate) fn height(&self) -> usize
         ensures height { result ≡ self.now.height }
         ensures low { self.now.height < length self.now.texts }
@@ -103,7 +103,7 @@ impl Subtree {
     }
 
     /// Its parts.
-    #[tactic(auto, using(crate::proofs::lemmas::Branches::branch_size))]
+    #[tactic(auto, using(crate::proofs::lemmas::Trees::branch_size))]
     pub(crate) fn look(&self, _permit: LookPermit) -> Below<'_>
         ensures { IsLookAt self.now result }
     {
@@ -119,7 +119,7 @@ impl Subtree {
     /// Replaces what is between two byte indices by a text, in the one chunk that both are in, where no node on the way has
     /// another owner and the chunk has room for it; else nothing changes. Copies no node.
     #[cycle(replace_in_place)]
-    #[tactic(auto, using(crate::proofs::lemmas::Branches::branch_size))]
+    #[tactic(auto, using(crate::proofs::lemmas::Trees::branch_size))]
     fn replace_in_place(
         &mut self,
         work: &mut Work,
@@ -277,7 +277,7 @@ pub(crate) fn leaf_of(
 }
 
 /// A branch over two trees.
-#[tactic(auto, using(crate::proofs::lemmas::Branches::branch_size))]
+#[tactic(auto, using(crate::proofs::lemmas::Trees::branch_size))]
 pub(crate) fn branch_of(
     work: &mut Work,
     alloc: Global,

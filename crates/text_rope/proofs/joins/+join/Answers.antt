@@ -1,4 +1,4 @@
-use Rattle.text_rope.proofs.lemmas.Branches.{joined_on_left, joined_on_right}
+use Rattle.text_rope.proofs.lemmas.Trees.{joined_on_left, joined_on_right}
 use Rattle.text_rope.proofs.joins.+join.Goals as goal
 
 pub returns-in_ok-share-clause-joined : goal.returns-in_ok-share-clause-joined

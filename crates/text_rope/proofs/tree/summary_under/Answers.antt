@@ -1,5 +1,5 @@
 use Rattle.text_rope.proofs.lemmas.{◌++◌, ◌^◌, ◌<◌, joined_size, ap, sym, ◌∙◌, arith, joined, joined-append, summary_of}
-use Rattle.text_rope.proofs.lemmas.Branches.{joined_size-append}
+use Rattle.text_rope.proofs.lemmas.Trees.{joined_size-append}
 use Rattle.text_rope.proofs.tree.summary_under.Goals as goal
 
 pub join_summaries-requires : goal.join_summaries-requires
