@@ -4,7 +4,7 @@
 //! `cargo run --example diagnostics [FILE...]`. It checks a text of its own if no file is given.
 use std::error::Error;
 use std::{env, fs, ops};
-use str_indices_index::{Encoding, LineType, NoMemory, OwnedIndex};
+use str_index::{Encoding, LineType, NoMemory, OwnedIndex};
 
 /// A line ends in LF, CR or CR LF, as in most editors.
 const LINES: LineType = LineType::Crlf;

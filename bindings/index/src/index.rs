@@ -12,9 +12,9 @@ use core::ptr::{self, NonNull};
 /// while there is an index of it:
 ///
 /// ```compile_fail,E0505
-/// use str_indices_index::{LineType, TextIndex};
+/// use str_index::{LineType, TextIndex};
 ///
-/// # fn main() -> Result<(), str_indices_index::NoMemory> {
+/// # fn main() -> Result<(), str_index::NoMemory> {
 /// let text = String::from("one\ntwo");
 /// let index = TextIndex::new(&text)?;
 /// drop(text);
@@ -27,9 +27,9 @@ use core::ptr::{self, NonNull};
 /// may ask one index at once:
 ///
 /// ```
-/// use str_indices_index::{LineType, TextIndex};
+/// use str_index::{LineType, TextIndex};
 ///
-/// # fn main() -> Result<(), str_indices_index::NoMemory> {
+/// # fn main() -> Result<(), str_index::NoMemory> {
 /// let text = String::from("one\ntwo");
 /// let line = TextIndex::new(&text)?.line(1, LineType::Crlf);
 /// assert_eq!(line, Some("two"));
@@ -77,8 +77,8 @@ impl<'a> TextIndex<'a> {
     /// ends the program if memory for it is refused.
     ///
     /// ```
-    /// # fn main() -> Result<(), str_indices_index::NoMemory> {
-    /// let index = str_indices_index::TextIndex::new("one\ntwo")?;
+    /// # fn main() -> Result<(), str_index::NoMemory> {
+    /// let index = str_index::TextIndex::new("one\ntwo")?;
     /// assert_eq!(index.text(), "one\ntwo");
     /// # Ok(())
     /// # }
@@ -116,9 +116,9 @@ impl<'a> TextIndex<'a> {
 /// Protocol 3.17 has `Crlf`. The text may be sliced at each byte index that is answered.
 ///
 /// ```
-/// use str_indices_index::{Encoding, LineType, Position, Range, Scheme, TextIndex};
+/// use str_index::{Encoding, LineType, Position, Range, Scheme, TextIndex};
 ///
-/// # fn main() -> Result<(), str_indices_index::NoMemory> {
+/// # fn main() -> Result<(), str_index::NoMemory> {
 /// let index = TextIndex::new("a\r\n🐸\u{2028}b")?;
 /// let schemes = [Scheme::Chars, Scheme::Utf16, Scheme::Lf, Scheme::Crlf, Scheme::Lines];
 /// assert_eq!(schemes.map(|scheme| index.count(scheme)), [6, 7, 1, 1, 2]);
@@ -160,9 +160,9 @@ impl TextIndex<'_> {
 /// Counts, conversions and char boundaries, by ropey's names.
 ///
 /// ```
-/// use str_indices_index::{LineType, TextIndex};
+/// use str_index::{LineType, TextIndex};
 ///
-/// # fn main() -> Result<(), str_indices_index::NoMemory> {
+/// # fn main() -> Result<(), str_index::NoMemory> {
 /// let index = TextIndex::new("é🐸b")?;
 /// assert_eq!((index.len(), index.len_chars(), index.len_utf16()), (7, 3, 4));
 /// assert_eq!([0, 1, 2, 5, 6, 99].map(|byte| index.byte_to_char_idx(byte)), [0, 0, 1, 1, 2, 3]);

@@ -19,7 +19,7 @@
 //! A tool knows places by bytes, and tells them to people and to editors:
 //!
 //! ```
-//! use str_indices_index::{Encoding, LineType, NoMemory, Position, TextIndex};
+//! use str_index::{Encoding, LineType, NoMemory, Position, TextIndex};
 //!
 //! # fn main() -> Result<(), NoMemory> {
 //! let text = "let x = 1;\r\n🐸.push(\"世界\");\r\n";

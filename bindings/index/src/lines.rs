@@ -7,9 +7,9 @@ use core::ops::Range;
 /// The lines of a text, each lent with its break. They may outlive the index, and so may the iterator, as far as the text does:
 ///
 /// ```
-/// use str_indices_index::{LineType, TextIndex};
+/// use str_index::{LineType, TextIndex};
 ///
-/// # fn main() -> Result<(), str_indices_index::NoMemory> {
+/// # fn main() -> Result<(), str_index::NoMemory> {
 /// let text = String::from("one\ntwo");
 /// let mut lines = TextIndex::new(&text)?.lines(LineType::Lf);
 /// assert_eq!((lines.next_back(), lines.next(), lines.next()), (Some("two"), Some("one\n"), None));

@@ -34,7 +34,7 @@ macro_rules! index_methods {
         /// Returns the greatest char boundary at a byte index or before it; past the end, `len()`. Takes O(1).
         ///
         /// ```
-        /// let index = str_indices_index::TextIndex::new("é🐸b").unwrap();
+        /// let index = str_index::TextIndex::new("é🐸b").unwrap();
         /// assert_eq!([1, 2, 5, 6, 99].map(|byte| index.floor_char_boundary(byte)), [0, 2, 2, 6, 7]);
         /// ```
         pub fn floor_char_boundary(&self, byte_idx: usize) -> usize {
@@ -49,7 +49,7 @@ macro_rules! index_methods {
         /// Returns the least char boundary at a byte index or after it; past the end, `len()`. Takes O(1).
         ///
         /// ```
-        /// let index = str_indices_index::TextIndex::new("é🐸b").unwrap();
+        /// let index = str_index::TextIndex::new("é🐸b").unwrap();
         /// assert_eq!([0, 1, 2, 3, 99].map(|byte| index.ceil_char_boundary(byte)), [0, 2, 2, 6, 7]);
         /// ```
         pub fn ceil_char_boundary(&self, byte_idx: usize) -> usize {
@@ -67,7 +67,7 @@ macro_rules! line_methods {
         /// Lends a line with its break; past the last line, returns `None`. Takes O(log n) and two reads.
         ///
         /// ```
-        /// use str_indices_index::{LineType, TextIndex};
+        /// use str_index::{LineType, TextIndex};
         ///
         /// let index = TextIndex::new("a\r\nb\n").unwrap();
         /// let line = |line| index.line(line, LineType::Crlf);
@@ -85,7 +85,7 @@ macro_rules! line_methods {
         /// break. Each line takes O(log n) and one read.
         ///
         /// ```
-        /// use str_indices_index::{LineType, TextIndex};
+        /// use str_index::{LineType, TextIndex};
         ///
         /// let index = TextIndex::new("one\ntwo\n").unwrap();
         /// assert!(index.lines(LineType::Lf).eq(["one\n", "two\n", ""]));
@@ -99,7 +99,7 @@ macro_rules! line_methods {
         /// Goes over the lines from a line index on; past the last line, over none. Each line takes O(log n) and one read.
         ///
         /// ```
-        /// use str_indices_index::{LineType, TextIndex};
+        /// use str_index::{LineType, TextIndex};
         ///
         /// let index = TextIndex::new("one\ntwo\nthree").unwrap();
         /// assert!(index.lines_at(1, LineType::Lf).eq(["two\n", "three"]));

@@ -9,7 +9,7 @@ use core::fmt;
 /// A clone shares the text and the marks, and takes one step.
 ///
 /// ```
-/// use str_indices_index::{LineType, NoMemory, OwnedIndex};
+/// use str_index::{LineType, NoMemory, OwnedIndex};
 ///
 /// # fn main() -> Result<(), NoMemory> {
 /// let index = OwnedIndex::new("one\ntwo")?;
@@ -23,7 +23,7 @@ use core::fmt;
 /// A line that it lends lives no longer than it does. So it has no `Deref` to a `TextIndex`, whose lines may:
 ///
 /// ```compile_fail,E0597
-/// # use str_indices_index::{LineType, NoMemory, OwnedIndex};
+/// # use str_index::{LineType, NoMemory, OwnedIndex};
 /// # fn main() -> Result<(), NoMemory> {
 /// let line;
 /// {
@@ -49,9 +49,9 @@ impl OwnedIndex {
     ///
     /// ```
     /// use std::sync::Arc;
-    /// use str_indices_index::OwnedIndex;
+    /// use str_index::OwnedIndex;
     ///
-    /// # fn main() -> Result<(), str_indices_index::NoMemory> {
+    /// # fn main() -> Result<(), str_index::NoMemory> {
     /// let text: Arc<str> = Arc::from("one\ntwo");
     /// let index = OwnedIndex::new(Arc::clone(&text))?;
     /// assert!(Arc::ptr_eq(index.text(), &text));
@@ -71,13 +71,13 @@ impl OwnedIndex {
     /// Returns the index alone, for a function that takes a `&TextIndex`. Takes O(1).
     ///
     /// ```
-    /// use str_indices_index::{OwnedIndex, TextIndex};
+    /// use str_index::{OwnedIndex, TextIndex};
     ///
     /// fn units(index: &TextIndex<'_>) -> usize {
     ///     index.len_utf16()
     /// }
     ///
-    /// # fn main() -> Result<(), str_indices_index::NoMemory> {
+    /// # fn main() -> Result<(), str_index::NoMemory> {
     /// assert_eq!(units(OwnedIndex::new("🐸b")?.as_index()), 3);
     /// # Ok(())
     /// # }

@@ -8,7 +8,7 @@ use std::error::Error as _;
 use std::fmt::Debug;
 use std::sync::Arc;
 use std::thread;
-use str_indices_index::{Encoding, LineType, Lines, NoMemory, OwnedIndex, Position, Range, Scheme, TextIndex};
+use str_index::{Encoding, LineType, Lines, NoMemory, OwnedIndex, Position, Range, Scheme, TextIndex};
 
 /// Fourteen bytes: `a` at 0, CR LF at 1, a char of four at 3, of two at 7, a line separator at 9, `b` at 12, LF at 13.
 const TEXT: &str = "a\r\n🐸é\u{2028}b\n";

@@ -4,8 +4,8 @@ mod plain;
 
 use plain::{Numbers, ENCODINGS, SCHEMES};
 use std::thread;
+use str_index::{Encoding, LineType, Position, Range, Scheme, TextIndex};
 use str_indices::{chars, lines, lines_crlf, lines_lf, utf16};
-use str_indices_index::{Encoding, LineType, Position, Range, Scheme, TextIndex};
 use str_indices_positions as whole;
 
 /// 17 bytes: CR LF, a surrogate pair, CR, a char of three bytes, LF and LS.

@@ -5,7 +5,7 @@ mod refused_memory;
 
 use refused_memory::{living, refusing};
 use std::sync::Arc;
-use str_indices_index::{Encoding, LineType, NoMemory, OwnedIndex, Scheme, TextIndex};
+use str_index::{Encoding, LineType, NoMemory, OwnedIndex, Scheme, TextIndex};
 
 const LINE: &str = "line of text 🐸b\r\n";
 
