@@ -126,29 +126,21 @@ __attribute__((constructor)) static void choose_half(void)
 #define COUNT(name) HAND_ON(size_t, 1, name, (const char *text, size_t len), (text, len))
 #define CONVERT(name) HAND_ON(size_t, 1, name, (const char *text, size_t len, size_t index), (text, len, index))
 
+/* The functions of a scheme, of which the first counts. */
+#define SCHEME(scheme, counting) \
+    COUNT(scheme##_##counting) \
+    CONVERT(scheme##_from_byte_idx) \
+    CONVERT(scheme##_to_byte_idx)
+
 TELL(is_utf8)
 COUNT(valid_up_to)
 
-COUNT(chars_count)
-CONVERT(chars_from_byte_idx)
-CONVERT(chars_to_byte_idx)
-
-COUNT(utf16_count)
+SCHEME(chars, count)
+SCHEME(utf16, count)
 COUNT(utf16_count_surrogates)
-CONVERT(utf16_from_byte_idx)
-CONVERT(utf16_to_byte_idx)
-
-COUNT(lines_lf_count_breaks)
-CONVERT(lines_lf_from_byte_idx)
-CONVERT(lines_lf_to_byte_idx)
-
-COUNT(lines_crlf_count_breaks)
-CONVERT(lines_crlf_from_byte_idx)
-CONVERT(lines_crlf_to_byte_idx)
-
-COUNT(lines_count_breaks)
-CONVERT(lines_from_byte_idx)
-CONVERT(lines_to_byte_idx)
+SCHEME(lines_lf, count_breaks)
+SCHEME(lines_crlf, count_breaks)
+SCHEME(lines, count_breaks)
 
 /* Each of these looks for a place besides, where a line begins or ends, and
  * reads a line or two, which is most often a few vectors. The wide half takes

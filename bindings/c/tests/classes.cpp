@@ -13,6 +13,7 @@
 #include <str_index.hpp>
 #include <str_rope.hpp>
 
+#include "plain_text.hpp"
 #include "worked_rows.h"
 
 namespace {
@@ -26,6 +27,7 @@ using pauskern::range;
 using pauskern::rope;
 using pauskern::scheme;
 using pauskern::text_index;
+using plain::schemes;
 
 std::size_t passed, failed;
 
@@ -37,11 +39,11 @@ void same(bool right, const char *call, std::size_t number = 0)
         std::printf("%s, %zu\n", call, number);
 }
 
-// The encodings and the kinds of line in the order of the rows, and the schemes that count the breaks of these.
+// The encodings and the kinds of line in the order of the rows.
 const encoding units[ENCODINGS] = {encoding::utf16, encoding::utf8, encoding::utf32};
 const line_type types[KINDS] = {line_type::crlf, line_type::lf, line_type::lines};
 constexpr line_type crlf = line_type::crlf;
-const scheme schemes[SCHEMES] = {scheme::chars, scheme::utf16, scheme::lf, scheme::crlf, scheme::lines};
+static_assert(std::size(schemes) == SCHEMES, "rows for each scheme");
 
 const std::string_view of_breaks(breaks, sizeof breaks - 1);
 const std::string_view of_lines(lines, sizeof lines - 1);

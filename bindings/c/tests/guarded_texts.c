@@ -160,29 +160,19 @@ static void same(const char *call, size_t len, size_t index, size_t answer, size
 typedef size_t (*counting)(const char *, size_t);
 typedef size_t (*converting)(const char *, size_t, size_t);
 
-static const struct {
-    const char *name;
-    int kind;
-    counting call;
-} counts[] = {
-    {"chars_count", CHARS, str_indices_chars_count},
-    {"utf16_count", UTF16, str_indices_utf16_count},
-    {"utf16_count_surrogates", PAIRS, str_indices_utf16_count_surrogates},
-    {"lines_lf_count_breaks", LF, str_indices_lines_lf_count_breaks},
-    {"lines_crlf_count_breaks", CRLF, str_indices_lines_crlf_count_breaks},
-    {"lines_count_breaks", LINES, str_indices_lines_count_breaks},
-};
+/* The schemes, each with its functions and its name. */
+#define FUNCTIONS(scheme, counting) \
+    str_indices_##scheme##_##counting, str_indices_##scheme##_from_byte_idx, str_indices_##scheme##_to_byte_idx, #scheme
 
 static const struct {
-    const char *name;
     int kind;
+    counting count;
     converting from, to;
-} conversions[] = {
-    {"chars", CHARS, str_indices_chars_from_byte_idx, str_indices_chars_to_byte_idx},
-    {"utf16", UTF16, str_indices_utf16_from_byte_idx, str_indices_utf16_to_byte_idx},
-    {"lines_lf", LF, str_indices_lines_lf_from_byte_idx, str_indices_lines_lf_to_byte_idx},
-    {"lines_crlf", CRLF, str_indices_lines_crlf_from_byte_idx, str_indices_lines_crlf_to_byte_idx},
-    {"lines", LINES, str_indices_lines_from_byte_idx, str_indices_lines_to_byte_idx},
+    const char *name;
+} schemes[] = {
+    {CHARS, FUNCTIONS(chars, count)},        {UTF16, FUNCTIONS(utf16, count)},
+    {LF, FUNCTIONS(lines_lf, count_breaks)}, {CRLF, FUNCTIONS(lines_crlf, count_breaks)},
+    {LINES, FUNCTIONS(lines, count_breaks)},
 };
 
 /* The kinds of line, and the breaks of each. */
@@ -245,9 +235,9 @@ static void places(const char *text, size_t len, size_t byte)
 
 static void convert(size_t row, const char *text, size_t len, size_t byte, size_t index)
 {
-    int kind = conversions[row].kind;
-    same(conversions[row].name, len, byte, conversions[row].from(text, len, byte), from_byte(kind, byte));
-    same(conversions[row].name, len, index, conversions[row].to(text, len, index), to_byte(kind, len, index));
+    int kind = schemes[row].kind;
+    same(schemes[row].name, len, byte, schemes[row].from(text, len, byte), from_byte(kind, byte));
+    same(schemes[row].name, len, index, schemes[row].to(text, len, index), to_byte(kind, len, index));
 }
 
 /* Each function over the text, at every index or at some. */
@@ -255,10 +245,10 @@ static void compare(const char *text, size_t len)
 {
     same("is_utf8", len, 0, str_indices_is_utf8(text, len), 1);
     same("valid_up_to", len, 0, str_indices_valid_up_to(text, len), len);
-    for (size_t row = 0; row < sizeof counts / sizeof counts[0]; row++)
-        same(counts[row].name, len, 0, counts[row].call(text, len), total(counts[row].kind));
-    for (size_t row = 0; row < sizeof conversions / sizeof conversions[0]; row++) {
-        size_t most = total(conversions[row].kind);
+    same("surrogates", len, 0, str_indices_utf16_count_surrogates(text, len), total(PAIRS));
+    for (size_t row = 0; row < sizeof schemes / sizeof schemes[0]; row++) {
+        size_t most = total(schemes[row].kind);
+        same(schemes[row].name, len, 0, schemes[row].count(text, len), most);
         convert(row, text, len, len, most);
         convert(row, text, len, len + 1, most + 1);
         convert(row, text, len, SIZE_MAX, SIZE_MAX);

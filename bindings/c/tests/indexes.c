@@ -128,12 +128,10 @@ static int model_is_boundary(size_t byte)
     return byte == model_len || (byte < model_len && (model_text[byte] & 0xC0) != 0x80);
 }
 
-/* The scheme that counts the breaks of a kind of line. */
+/* The scheme that counts the breaks of a kind of line, which has its number. */
 static size_t line_scheme(str_indices_line_type type)
 {
-    return type == STR_INDICES_LINE_TYPE_LF     ? STR_INDICES_LF
-           : type == STR_INDICES_LINE_TYPE_CRLF ? STR_INDICES_CRLF
-                                                : STR_INDICES_LINES;
+    return scheme_of(type);
 }
 
 /* How many breaks of a kind the model has. */
@@ -446,7 +444,9 @@ static void no_text_and_a_long_one(void)
 {
     str_index *index = NULL;
     same(str_index_make(&index, NULL, 0) == STR_INDEX_OK && index != NULL, "make of no text", 0, 0);
-    same(index != NULL && str_index_len(index) == 0 && str_index_count(index, STR_INDICES_LINES) == 0, "no text", 0, 0);
+    same(index != NULL && str_index_len(index) == 0, "no text", 0, 0);
+    for (size_t scheme = 0; index != NULL && scheme <= SCHEMES; scheme++)
+        same(str_index_count(index, (str_indices_scheme)scheme) == 0, "no text, by scheme", scheme, 0);
     same(index != NULL &&
              str_index_position_of(index, STR_INDICES_LINE_TYPE_CRLF, STR_INDICES_ENCODING_UTF16, 1).line == 0,
          "position of no text", 0, 0);

@@ -5,6 +5,7 @@
 
 #include <algorithm>
 #include <cstddef>
+#include <iterator>
 #include <optional>
 #include <string_view>
 #include <utility>
@@ -20,6 +21,9 @@ using pauskern::line_type;
 using pauskern::position;
 using pauskern::range;
 using pauskern::scheme;
+
+// The schemes in the order of their numbers.
+constexpr scheme schemes[] = {scheme::chars, scheme::utf16, scheme::lf, scheme::crlf, scheme::lines};
 
 inline bool starts_with(std::string_view text, std::string_view part)
 {
@@ -74,7 +78,7 @@ class text {
 public:
     explicit text(std::string_view all) : all_(all)
     {
-        for (scheme what : {scheme::chars, scheme::utf16, scheme::lf, scheme::crlf, scheme::lines})
+        for (scheme what : schemes)
             walk(what);
     }
 
@@ -173,7 +177,7 @@ private:
     }
 
     std::string_view all_;
-    std::vector<std::size_t> ended_[5];
+    std::vector<std::size_t> ended_[std::size(schemes)];
 };
 
 } // namespace plain

@@ -33,9 +33,9 @@ using pauskern::range;
 using pauskern::rope;
 using pauskern::scheme;
 using pauskern::text_index;
+using plain::schemes;
 
 constexpr std::size_t most = std::numeric_limits<std::size_t>::max();
-constexpr scheme schemes[] = {scheme::chars, scheme::utf16, scheme::lf, scheme::crlf, scheme::lines};
 constexpr encoding encodings[] = {encoding::utf16, encoding::utf8, encoding::utf32};
 constexpr line_type types[] = {line_type::crlf, line_type::lf, line_type::lines};
 
@@ -61,7 +61,7 @@ constexpr std::size_t edges[] = {STR_ROPE_MAX_CHUNK / 2, STR_ROPE_MAX_CHUNK, 2 *
                                  chunks_of_leaf *STR_ROPE_MAX_CHUNK};
 // How long a text becomes in some programs, and from where on one is asked seldom.
 constexpr std::size_t longest = 400000, seldom_asked = 100000;
-// What texts are made of: chars of each size, breaks of each kind, bytes that are like theirs, and NUL.
+// What texts are made of: a char of each size, breaks of each kind, bytes that are like theirs, and NUL.
 constexpr std::string_view pieces[] = {
     "a",     "\303\251", "\346\274\242", "\360\237\220\270", "\r",
     "\n",    "\r\n",     "\302\205",     "\342\200\250",     "\342\200\251",
@@ -164,7 +164,7 @@ template <class Text> void ask_indices(const Text &text, const plain::text &mode
         same(text.to_byte_idx(what, number) == model.to_byte_idx(what, number), "to_byte_idx");
     }
     const std::size_t number = draw.below(8);
-    const auto what = static_cast<scheme>(std::min<std::size_t>(number, STR_INDICES_LINES));
+    const auto what = schemes[std::min(number, std::size(schemes) - 1)];
     same(text.from_byte_idx(static_cast<scheme>(number), at) == model.from_byte_idx(what, at),
          "a scheme by its number");
     same(text.is_char_boundary(at) == model.is_char_boundary(at), "is_char_boundary");

@@ -256,6 +256,7 @@ static void a_break_over_two_chunks(void)
 {
     enum { HALF = STR_ROPE_MAX_CHUNK };
     static char front[HALF], back[HALF], whole[2 * HALF];
+    static const size_t wanted[SCHEMES] = {2 * HALF, 2 * HALF, 1, 1, 1};
     str_rope rope, rest;
     memset(front, 'a', HALF);
     memset(back, 'b', HALF);
@@ -267,9 +268,8 @@ static void a_break_over_two_chunks(void)
     rest = with(back, HALF);
     same(str_rope_append(&rope, &rest) == STR_ROPE_OK, "append", HALF, HALF);
     has(&rope, whole, 2 * HALF, "append");
-    same(str_rope_count(&rope, STR_INDICES_CRLF) == 1 && str_rope_count(&rope, STR_INDICES_LF) == 1, "count", 1, 1);
-    same(str_rope_count(&rope, STR_INDICES_LINES) == 1 && str_rope_count(&rope, STR_INDICES_CHARS) == 2 * HALF, "count",
-         1, 0);
+    for (size_t i = 0; i < SCHEMES; i++)
+        same(str_rope_count(&rope, (str_indices_scheme)i) == wanted[i], "count", i, wanted[i]);
     same(str_rope_from_byte_idx(&rope, STR_INDICES_CRLF, HALF) == 0, "from_byte_idx", HALF, 0);
     same(str_rope_from_byte_idx(&rope, STR_INDICES_CRLF, HALF + 1) == 1, "from_byte_idx", HALF + 1, 1);
     same(str_rope_to_byte_idx(&rope, STR_INDICES_CRLF, 1) == HALF + 1, "to_byte_idx", 1, HALF + 1);
@@ -296,8 +296,9 @@ static void positions(void)
 }
 
 /* Each line begins where the search by its scheme says. */
-static void lines_in_order(const str_rope *rope, size_t kind, str_indices_scheme scheme)
+static void lines_in_order(const str_rope *rope, size_t kind)
 {
+    str_indices_scheme scheme = (str_indices_scheme)line_types[kind];
     size_t line = 0, start = 0;
     while (start < str_rope_len(rope)) {
         same(start == line_rows_by_kind[line][kind].start, "lines in order", scheme, line);
@@ -308,12 +309,10 @@ static void lines_in_order(const str_rope *rope, size_t kind, str_indices_scheme
 
 static void lines_by_kind(void)
 {
-    static const str_indices_scheme schemes[KINDS + 1] = {STR_INDICES_CRLF, STR_INDICES_LF, STR_INDICES_LINES,
-                                                          STR_INDICES_LINES};
     str_rope rope = WITH(kinds);
     ask_by_kind(&rope);
     for (size_t kind = 0; kind <= KINDS; kind++)
-        lines_in_order(&rope, kind, schemes[kind]);
+        lines_in_order(&rope, kind);
     str_rope_free(&rope);
 }
 

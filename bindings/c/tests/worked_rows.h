@@ -30,9 +30,9 @@ static const char kinds[] = "a\342\200\250b\fc\rd\r\ne\nf";
 #define MOST SIZE_MAX
 #define NONE SIZE_MAX
 
-/* The schemes from STR_INDICES_CHARS to STR_INDICES_LINES, and in the order of the rows the encodings and the kinds of line
- * break, each with a number past them. */
-enum { SCHEMES = 5, ENCODINGS = 3, KINDS = 3 };
+/* The number of schemes, which the header counts from 0 to this one. In the order of the rows the encodings and the kinds of
+ * line break, each with a number past them. */
+enum { SCHEMES = STR_INDICES_LINES + 1, ENCODINGS = 3, KINDS = 3 };
 static const str_indices_encoding encodings[ENCODINGS + 1] = {STR_INDICES_ENCODING_UTF16, STR_INDICES_ENCODING_UTF8,
                                                               STR_INDICES_ENCODING_UTF32, (str_indices_encoding)6};
 static const str_indices_line_type line_types[KINDS + 1] = {STR_INDICES_LINE_TYPE_CRLF, STR_INDICES_LINE_TYPE_LF,
