@@ -120,8 +120,7 @@ impl<'a> TextIndex<'a> {
 ///
 /// # fn main() -> Result<(), str_index::NoMemory> {
 /// let index = TextIndex::new("a\r\n🐸\u{2028}b")?;
-/// let schemes = [Scheme::Chars, Scheme::Utf16, Scheme::Lf, Scheme::Crlf, Scheme::Lines];
-/// assert_eq!(schemes.map(|scheme| index.count(scheme)), [6, 7, 1, 1, 2]);
+/// assert_eq!(Scheme::ALL.map(|scheme| index.count(scheme)), [6, 7, 1, 1, 2]);
 /// assert_eq!([2, 3, 99].map(|byte| index.from_byte_idx(Scheme::Crlf, byte)), [0, 1, 1]);
 /// assert_eq!([6, 7, 99].map(|byte| index.from_byte_idx(Scheme::Utf16, byte)), [3, 5, 7]);
 /// assert_eq!([4, 5, 99].map(|unit| index.to_byte_idx(Scheme::Utf16, unit)), [3, 7, 11]);

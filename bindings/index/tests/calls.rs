@@ -3,7 +3,7 @@
 #[path = "../../positions/tests/plain/mod.rs"]
 mod plain;
 
-use plain::{Numbers, ENCODINGS, LINE_TYPES, SCHEMES};
+use plain::{Numbers, ENCODINGS, LINE_TYPES};
 use std::error::Error as _;
 use std::fmt::Debug;
 use std::sync::Arc;
@@ -156,7 +156,7 @@ macro_rules! assert_number {
         assert_eq!(index.char_to_byte_idx(number), char.map_or(text.len(), |(at, _)| at));
         let unit = plain::to_byte_idx(Scheme::Utf16, text, number);
         assert_eq!(index.utf16_to_byte_idx(number), unit);
-        for scheme in SCHEMES {
+        for scheme in Scheme::ALL {
             assert_eq!(
                 index.from_byte_idx(scheme, number),
                 plain::from_byte_idx(scheme, text, number)

@@ -1,11 +1,10 @@
-//! Worked answers, and every index and position of texts beside the plain functions and a walk by `std`.
+//! Worked answers, and every index of texts beside a walk by `std`, and their positions beside the plain functions.
 #[path = "../../positions/tests/plain/mod.rs"]
 mod plain;
 
-use plain::{Numbers, ENCODINGS, SCHEMES};
+use plain::{Numbers, ENCODINGS};
 use std::thread;
 use str_index::{Encoding, LineType, Position, Range, Scheme, TextIndex};
-use str_indices::{chars, lines, lines_crlf, lines_lf, utf16};
 use str_indices_positions as whole;
 
 /// 17 bytes: CR LF, a surrogate pair, CR, a char of three bytes, LF and LS.
@@ -28,7 +27,7 @@ fn index(text: &str) -> TextIndex<'_> {
 fn worked_counts_and_conversions() {
     let index = index(BREAKS);
     assert_eq!((index.len(), index.is_empty(), index.text()), (17, false, BREAKS));
-    assert_eq!(SCHEMES.map(|scheme| index.count(scheme)), [10, 11, 2, 3, 4]);
+    assert_eq!(Scheme::ALL.map(|scheme| index.count(scheme)), [10, 11, 2, 3, 4]);
     for (byte, numbers) in [
         (0, [0, 0, 0, 0, 0]),
         (2, [2, 2, 0, 0, 0]),
@@ -41,7 +40,7 @@ fn worked_counts_and_conversions() {
         (MOST, [10, 11, 2, 3, 4]),
     ] {
         assert_eq!(
-            SCHEMES.map(|scheme| index.from_byte_idx(scheme, byte)),
+            Scheme::ALL.map(|scheme| index.from_byte_idx(scheme, byte)),
             numbers,
             "{byte}"
         );
@@ -57,7 +56,7 @@ fn worked_counts_and_conversions() {
         (MOST, [17, 17, 17, 17, 17]),
     ] {
         assert_eq!(
-            SCHEMES.map(|scheme| index.to_byte_idx(scheme, number)),
+            Scheme::ALL.map(|scheme| index.to_byte_idx(scheme, number)),
             bytes,
             "{number}"
         );
@@ -179,43 +178,15 @@ fn worked_kinds_of_lines() {
     }
 }
 
-/// The answers of the plain functions for a scheme: a count, an index of a byte, and a byte of an index.
-fn plain_answers(scheme: Scheme, text: &str, at: usize) -> (usize, usize, usize) {
-    match scheme {
-        Scheme::Chars => (
-            chars::count(text),
-            chars::from_byte_idx(text, at),
-            chars::to_byte_idx(text, at),
-        ),
-        Scheme::Utf16 => (
-            utf16::count(text),
-            utf16::from_byte_idx(text, at),
-            utf16::to_byte_idx(text, at),
-        ),
-        Scheme::Lf => (
-            lines_lf::count_breaks(text),
-            lines_lf::from_byte_idx(text, at),
-            lines_lf::to_byte_idx(text, at),
-        ),
-        Scheme::Crlf => (
-            lines_crlf::count_breaks(text),
-            lines_crlf::from_byte_idx(text, at),
-            lines_crlf::to_byte_idx(text, at),
-        ),
-        Scheme::Lines => (
-            lines::count_breaks(text),
-            lines::from_byte_idx(text, at),
-            lines::to_byte_idx(text, at),
-        ),
-    }
-}
-
 /// All questions at a number: that byte, that index, that line and offsets on it.
 fn try_number(index: &TextIndex, at: usize) {
     let text = index.text();
-    for scheme in SCHEMES {
-        let (count, from, to) = plain_answers(scheme, text, at);
-        assert_eq!(index.count(scheme), count, "{scheme:?}");
+    for scheme in Scheme::ALL {
+        let (from, to) = (
+            plain::from_byte_idx(scheme, text, at),
+            plain::to_byte_idx(scheme, text, at),
+        );
+        assert_eq!(index.count(scheme), plain::count(scheme, text), "{scheme:?}");
         assert_eq!(index.from_byte_idx(scheme, at), from, "{scheme:?} {at}");
         assert_eq!(index.to_byte_idx(scheme, at), to, "{scheme:?} {at}");
     }
@@ -306,7 +277,7 @@ fn random_texts_beside_a_walk() {
                 line: numbers.below(300),
                 character: numbers.below(20),
             };
-            for scheme in SCHEMES {
+            for scheme in Scheme::ALL {
                 assert_eq!(index.count(scheme), plain::count(scheme, &text));
                 assert_eq!(index.from_byte_idx(scheme, at), plain::from_byte_idx(scheme, &text, at));
                 assert_eq!(index.to_byte_idx(scheme, at), plain::to_byte_idx(scheme, &text, at));

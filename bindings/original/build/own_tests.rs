@@ -8,7 +8,7 @@ use std::fs;
 use std::path::{Path, PathBuf};
 
 /// The modules of the original that have tests of public functions. `lib` is the crate itself.
-const MODULES: [&str; 6] = ["chars", "utf16", "lines_lf", "lines_crlf", "lines", "lib"];
+pub const MODULES: [&str; 6] = ["chars", "utf16", "lines_lf", "lines_crlf", "lines", "lib"];
 
 /// The tests of one module of the original.
 pub struct OwnTests {

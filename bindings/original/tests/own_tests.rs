@@ -3,7 +3,7 @@
 #[path = "../build/own_tests.rs"]
 mod own_tests;
 
-use own_tests::{as_macro, from_folder, part_headed, tests_in, OwnTests};
+use own_tests::{as_macro, from_folder, part_headed, tests_in, OwnTests, MODULES};
 use std::fs;
 use std::path::Path;
 
@@ -42,7 +42,7 @@ fn tests_are_taken_from_beside_the_source_or_from_the_folder_of_tests() {
     let folder = Path::new(env!("CARGO_TARGET_TMPDIR")).join("made_up");
     fs::create_dir_all(folder.join("src")).unwrap();
     fs::create_dir_all(folder.join("tests")).unwrap();
-    for module in ["chars", "utf16", "lines_lf", "lines_crlf", "lines", "lib"] {
+    for module in MODULES {
         let source = if module == "chars" { SOURCE } else { "" };
         fs::write(folder.join(format!("src/{module}.rs")), source).unwrap();
     }

@@ -104,6 +104,11 @@ pub enum Scheme {
     Lines = 4,
 }
 
+impl Scheme {
+    /// Every scheme, in the order of their numbers.
+    pub const ALL: [Scheme; 5] = [Scheme::Chars, Scheme::Utf16, Scheme::Lf, Scheme::Crlf, Scheme::Lines];
+}
+
 /// What ends a line. Each kind has the number that the headers for C give it.
 #[derive(Clone, Copy, Debug, Default, PartialEq, Eq, Hash)]
 #[repr(u32)]

@@ -258,6 +258,13 @@ fn each_kind_of_line_has_its_own_breaks() {
 }
 
 #[test]
+fn all_schemes_are_in_the_order_of_their_numbers() {
+    for (number, scheme) in Scheme::ALL.into_iter().enumerate() {
+        assert_eq!(scheme as usize, number);
+    }
+}
+
+#[test]
 fn a_kind_of_line_has_the_scheme_of_its_breaks() {
     assert_eq!(LINE_TYPES.map(Scheme::from), [Scheme::Lf, Scheme::Crlf, Scheme::Lines]);
     assert_eq!(LineType::default(), Crlf);

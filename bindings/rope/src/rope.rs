@@ -314,8 +314,7 @@ impl Rope {
 ///
 /// # fn main() -> Result<(), str_rope::Error> {
 /// let rope: Rope = "a\r\n🐸\u{2028}b".parse()?;
-/// let schemes = [Scheme::Chars, Scheme::Utf16, Scheme::Lf, Scheme::Crlf, Scheme::Lines];
-/// assert_eq!(schemes.map(|scheme| rope.count(scheme)), [6, 7, 1, 1, 2]);
+/// assert_eq!(Scheme::ALL.map(|scheme| rope.count(scheme)), [6, 7, 1, 1, 2]);
 /// assert_eq!([2, 3, 99].map(|byte| rope.from_byte_idx(Scheme::Crlf, byte)), [0, 1, 1]);
 /// assert_eq!([6, 7, 99].map(|byte| rope.from_byte_idx(Scheme::Utf16, byte)), [3, 5, 7]);
 /// assert_eq!([4, 5, 99].map(|unit| rope.to_byte_idx(Scheme::Utf16, unit)), [3, 7, 11]);
@@ -388,7 +387,7 @@ impl Rope {
     conversions! { count: "O(1)", from_byte_idx: "one search, O(log n)", to_byte_idx: "one search, O(log n)" }
 }
 
-/// Chars and bytes at an index.
+/// Bytes and chars at an index.
 impl Rope {
     index_methods!();
 }

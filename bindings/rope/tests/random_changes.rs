@@ -194,7 +194,7 @@ impl Pair {
         assert_eq!(self.rope.len(), self.text.len());
         assert_eq!(joined(&self.rope), self.text);
         assert_eq!(self.rope, self.text);
-        for scheme in SCHEMES {
+        for scheme in Scheme::ALL {
             assert_eq!(self.rope.count(scheme), count(scheme, &self.text), "{scheme:?}");
         }
     }

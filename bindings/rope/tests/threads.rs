@@ -3,7 +3,7 @@
 use std::sync::mpsc::sync_channel;
 use std::sync::Arc;
 use std::thread;
-use str_rope::{Encoding, Error, LineType, Position, Rope, Scheme};
+use str_rope::{Encoding, Error, LineType, Position, Rope};
 
 /// A line by its bytes; 17 chars, 18 UTF-16 code units, and the frog from byte 13 on.
 const LINE: &str = "line of text 🐸b\r\n";
@@ -25,8 +25,8 @@ fn ask(rope: &Rope, line: usize) {
     let start = line * LINE.len();
     assert_eq!(rope.line_content(LineType::Crlf, line), start..start + 18);
     assert!(rope.line(line, LineType::Lines).unwrap() == *LINE);
-    assert_eq!(rope.to_byte_idx(Scheme::Chars, 17 * line), start);
-    assert_eq!(rope.from_byte_idx(Scheme::Utf16, start + 17), 18 * line + 15);
+    assert_eq!(rope.char_to_byte_idx(17 * line), start);
+    assert_eq!(rope.byte_to_utf16_idx(start + 17), 18 * line + 15);
     assert_eq!(
         rope.position_of(LineType::Crlf, Encoding::Utf16, start + 17),
         at(line, 15)

@@ -2,6 +2,12 @@
 
 use crate::library;
 
+extern "C" {
+    fn str_indices_chars_count(text: *const u8, len: usize) -> usize;
+    fn str_indices_chars_from_byte_idx(text: *const u8, len: usize, byte_idx: usize) -> usize;
+    fn str_indices_chars_to_byte_idx(text: *const u8, len: usize, char_idx: usize) -> usize;
+}
+
 /// How many chars the text has; an empty text has none.
 ///
 /// ```
@@ -11,7 +17,7 @@ use crate::library;
 /// ```
 #[inline]
 pub fn count(text: &str) -> usize {
-    library::count(library::str_indices_chars_count, text)
+    library::count(str_indices_chars_count, text)
 }
 
 /// Converts a byte index to a char index: the number of chars that end at or before the byte.
@@ -27,7 +33,7 @@ pub fn count(text: &str) -> usize {
 /// ```
 #[inline]
 pub fn from_byte_idx(text: &str, byte_idx: usize) -> usize {
-    library::convert(library::str_indices_chars_from_byte_idx, text, byte_idx)
+    library::convert(str_indices_chars_from_byte_idx, text, byte_idx)
 }
 
 /// Converts a char index to the byte index where that char begins.
@@ -43,5 +49,5 @@ pub fn from_byte_idx(text: &str, byte_idx: usize) -> usize {
 /// ```
 #[inline]
 pub fn to_byte_idx(text: &str, char_idx: usize) -> usize {
-    library::convert(library::str_indices_chars_to_byte_idx, text, char_idx)
+    library::convert(str_indices_chars_to_byte_idx, text, char_idx)
 }

@@ -3,6 +3,12 @@
 
 use crate::library;
 
+extern "C" {
+    fn str_indices_lines_count_breaks(text: *const u8, len: usize) -> usize;
+    fn str_indices_lines_from_byte_idx(text: *const u8, len: usize, byte_idx: usize) -> usize;
+    fn str_indices_lines_to_byte_idx(text: *const u8, len: usize, line_idx: usize) -> usize;
+}
+
 /// How many line breaks the text has, of all those of Unicode.
 ///
 /// That is one less than its lines: after a break at the end of the text an empty line begins.
@@ -14,7 +20,7 @@ use crate::library;
 /// ```
 #[inline]
 pub fn count_breaks(text: &str) -> usize {
-    library::count(library::str_indices_lines_count_breaks, text)
+    library::count(str_indices_lines_count_breaks, text)
 }
 
 /// Converts a byte index to a line index: the number of line breaks that end at or before the byte.
@@ -31,7 +37,7 @@ pub fn count_breaks(text: &str) -> usize {
 /// ```
 #[inline]
 pub fn from_byte_idx(text: &str, byte_idx: usize) -> usize {
-    library::convert(library::str_indices_lines_from_byte_idx, text, byte_idx)
+    library::convert(str_indices_lines_from_byte_idx, text, byte_idx)
 }
 
 /// Converts a line index to the byte index where that line begins: 0, or right after a line break.
@@ -47,5 +53,5 @@ pub fn from_byte_idx(text: &str, byte_idx: usize) -> usize {
 /// ```
 #[inline]
 pub fn to_byte_idx(text: &str, line_idx: usize) -> usize {
-    library::convert(library::str_indices_lines_to_byte_idx, text, line_idx)
+    library::convert(str_indices_lines_to_byte_idx, text, line_idx)
 }

@@ -2,6 +2,12 @@
 
 use crate::library;
 
+extern "C" {
+    fn str_indices_lines_crlf_count_breaks(text: *const u8, len: usize) -> usize;
+    fn str_indices_lines_crlf_from_byte_idx(text: *const u8, len: usize, byte_idx: usize) -> usize;
+    fn str_indices_lines_crlf_to_byte_idx(text: *const u8, len: usize, line_idx: usize) -> usize;
+}
+
 /// How many line breaks the text has: LF, CR and CR LF, which is one.
 ///
 /// That is one less than its lines: after a break at the end of the text an empty line begins.
@@ -13,7 +19,7 @@ use crate::library;
 /// ```
 #[inline]
 pub fn count_breaks(text: &str) -> usize {
-    library::count(library::str_indices_lines_crlf_count_breaks, text)
+    library::count(str_indices_lines_crlf_count_breaks, text)
 }
 
 /// Converts a byte index to a line index: the number of line breaks that end at or before the byte.
@@ -30,7 +36,7 @@ pub fn count_breaks(text: &str) -> usize {
 /// ```
 #[inline]
 pub fn from_byte_idx(text: &str, byte_idx: usize) -> usize {
-    library::convert(library::str_indices_lines_crlf_from_byte_idx, text, byte_idx)
+    library::convert(str_indices_lines_crlf_from_byte_idx, text, byte_idx)
 }
 
 /// Converts a line index to the byte index where that line begins: 0, or right after a line break.
@@ -46,5 +52,5 @@ pub fn from_byte_idx(text: &str, byte_idx: usize) -> usize {
 /// ```
 #[inline]
 pub fn to_byte_idx(text: &str, line_idx: usize) -> usize {
-    library::convert(library::str_indices_lines_crlf_to_byte_idx, text, line_idx)
+    library::convert(str_indices_lines_crlf_to_byte_idx, text, line_idx)
 }

@@ -3,6 +3,13 @@
 
 use crate::library;
 
+extern "C" {
+    fn str_indices_utf16_count(text: *const u8, len: usize) -> usize;
+    fn str_indices_utf16_count_surrogates(text: *const u8, len: usize) -> usize;
+    fn str_indices_utf16_from_byte_idx(text: *const u8, len: usize, byte_idx: usize) -> usize;
+    fn str_indices_utf16_to_byte_idx(text: *const u8, len: usize, utf16_idx: usize) -> usize;
+}
+
 /// How many UTF-16 code units the text would take.
 ///
 /// ```
@@ -12,7 +19,7 @@ use crate::library;
 /// ```
 #[inline]
 pub fn count(text: &str) -> usize {
-    library::count(library::str_indices_utf16_count, text)
+    library::count(str_indices_utf16_count, text)
 }
 
 /// How many surrogate pairs the text would have in UTF-16: one for each char of four bytes.
@@ -24,7 +31,7 @@ pub fn count(text: &str) -> usize {
 /// ```
 #[inline]
 pub fn count_surrogates(text: &str) -> usize {
-    library::count(library::str_indices_utf16_count_surrogates, text)
+    library::count(str_indices_utf16_count_surrogates, text)
 }
 
 /// Converts a byte index to a UTF-16 code unit index: the number of units of the chars that end at or before the byte.
@@ -41,7 +48,7 @@ pub fn count_surrogates(text: &str) -> usize {
 /// ```
 #[inline]
 pub fn from_byte_idx(text: &str, byte_idx: usize) -> usize {
-    library::convert(library::str_indices_utf16_from_byte_idx, text, byte_idx)
+    library::convert(str_indices_utf16_from_byte_idx, text, byte_idx)
 }
 
 /// Converts a UTF-16 code unit index to the byte index where the char of that unit begins.
@@ -58,5 +65,5 @@ pub fn from_byte_idx(text: &str, byte_idx: usize) -> usize {
 /// ```
 #[inline]
 pub fn to_byte_idx(text: &str, utf16_idx: usize) -> usize {
-    library::convert(library::str_indices_utf16_to_byte_idx, text, utf16_idx)
+    library::convert(str_indices_utf16_to_byte_idx, text, utf16_idx)
 }

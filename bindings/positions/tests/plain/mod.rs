@@ -5,8 +5,6 @@
 use core::ops;
 use str_indices_positions::{Encoding, LineType, Position, Range, Scheme};
 
-pub const SCHEMES: [Scheme; 5] = [Scheme::Chars, Scheme::Utf16, Scheme::Lf, Scheme::Crlf, Scheme::Lines];
-
 pub const ENCODINGS: [Encoding; 3] = [Encoding::Utf8, Encoding::Utf16, Encoding::Utf32];
 
 pub const LINE_TYPES: [LineType; 3] = [LineType::Lf, LineType::Crlf, LineType::Lines];

@@ -32,7 +32,7 @@ macro_rules! answers {
                 assert_eq!((lent.len(), lent.is_empty()), (text.len(), text.is_empty()));
                 assert_eq!(lent.len_chars(), text.chars().count());
                 assert_eq!(lent.len_utf16(), text.encode_utf16().count());
-                for scheme in SCHEMES {
+                for scheme in Scheme::ALL {
                     assert_eq!(lent.count(scheme), count(scheme, text), "{scheme:?} of {text:?}");
                 }
                 for line_type in LINE_TYPES {
@@ -54,7 +54,7 @@ macro_rules! answers {
                     lent.utf16_to_byte_idx(index),
                     to_byte_idx(Scheme::Utf16, text, index)
                 );
-                for scheme in SCHEMES {
+                for scheme in Scheme::ALL {
                     let answers = (lent.from_byte_idx(scheme, index), lent.to_byte_idx(scheme, index));
                     let wanted = (
                         from_byte_idx(scheme, text, index),
