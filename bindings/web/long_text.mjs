@@ -2,18 +2,12 @@
 // whole answers by the sums of the blocks before a place and by the functions over the block that it is in.
 //
 // No block begins between CR and LF or inside a char, so a count of the whole is the sum of the blocks' counts.
+import { SCHEMES } from "./str_indices.mjs";
 
 const BLOCK_UNITS = 8192;
 
-// the counts of each block, by the module and its function
-const COUNTS = [
-  ["chars", "count"],
-  ["utf16", "count"],
-  ["linesLf", "countBreaks"],
-  ["linesCrlf", "countBreaks"],
-  ["lines", "countBreaks"],
-];
-const NOTHING = { bytes: 0, pairs: 0, ...Object.fromEntries(COUNTS.map(([module]) => [module, 0])) };
+// what is counted of each block
+const NOTHING = { bytes: 0, pairs: 0, ...Object.fromEntries(SCHEMES.map(({ module }) => [module, 0])) };
 
 const CR = 0x0d;
 const LF = 0x0a;
@@ -164,7 +158,7 @@ export class LongText {
 
   #block(string) {
     const text = this.#indices.text(string);
-    const counts = COUNTS.map(([module, count]) => [module, text[module][count]()]);
+    const counts = SCHEMES.map(({ module, count }) => [module, text[module][count]()]);
     return { text, own: { bytes: text.length, pairs: text.utf16.countSurrogates(), ...Object.fromEntries(counts) } };
   }
 

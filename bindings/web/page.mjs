@@ -15,13 +15,11 @@ const EXAMPLES = [
 ];
 const OWN = "your own text";
 
-// the modules, with what is shown of each: its heading, what its indices are of, and that it counts pairs
-const SCHEMES = [
+// the modules, with what is shown of each: its heading, and what its indices are of
+const CONVERTED = [
   ["chars", "chars", "char"],
   ["utf16", "UTF-16 units", "unit"],
-  ["linesLf", "lines by LF", "line"],
-  ["linesCrlf", "lines by LF, CR, CR LF", "line"],
-  ["lines", "lines by every break", "line"],
+  ...LINE_SETS.map(([set, heading]) => [set, `lines by ${heading}`, "line"]),
 ];
 
 const ENCODINGS = [
@@ -122,7 +120,7 @@ function indexIn(input) {
 
 function makeConversions() {
   const body = document.querySelector("#conversions tbody");
-  for (const [module, heading, unit] of SCHEMES) {
+  for (const [module, heading, unit] of CONVERTED) {
     const row = body.insertRow();
     row.role = "row";
     row.dataset.module = module;
@@ -147,7 +145,7 @@ function makeConversions() {
 }
 
 function showConversions() {
-  for (const [module] of SCHEMES) {
+  for (const [module] of CONVERTED) {
     const row = rowOf(module);
     const pairs = module === "utf16" ? `, pairs: ${text.count("pairs")}` : "";
     row.querySelector(".count").textContent = `${text.count(module)}${pairs}`;
@@ -239,7 +237,7 @@ function choose(example, start, end) {
   field.replaceAll(EXAMPLES[example][1]);
   field.select(start, end);
   const byte = text.toByteIdx("utf16", start);
-  for (const [module] of SCHEMES) {
+  for (const [module] of CONVERTED) {
     const [from, to] = rowOf(module).querySelectorAll("input");
     from.value = byte;
     to.value = module === "utf16" ? start : text.fromByteIdx(module, byte);

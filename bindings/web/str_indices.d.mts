@@ -103,6 +103,16 @@ export interface Functions<Text extends First> extends Questions<Text> {
   readonly lines: Lines<Text>;
 }
 
+/** A scheme: the name of its functions, that of the one among them which counts, and the kind of line whose breaks these are. */
+export interface Scheme {
+  readonly module: Exclude<keyof Functions<[]>, keyof Questions<[]>>;
+  readonly count: "count" | "countBreaks";
+  readonly lineType?: LineType;
+}
+
+/** Every scheme. */
+export const SCHEMES: readonly Scheme[];
+
 /** A text with its index, for many questions, none of which goes over the text. */
 export interface KnownText extends Functions<[]> {
   /** How many bytes the text takes in UTF-8. */

@@ -30,52 +30,54 @@ const FILLED = 0;
 // a module that has one page of memory with 64-bit addresses
 const WIDE_MEMORY = new Uint8Array([0, 0x61, 0x73, 0x6d, 1, 0, 0, 0, 5, 3, 1, 4, 1]);
 
+/**
+ * Every scheme, in the order of the numbers by which the exports know it: the name of its functions, that of the one among
+ * them which counts, and the kind of line whose breaks these are.
+ */
+export const SCHEMES = frozen([
+  { module: "chars", count: "count" },
+  { module: "utf16", count: "count" },
+  { module: "linesLf", count: "countBreaks", lineType: "lf" },
+  { module: "linesCrlf", count: "countBreaks", lineType: "crlf" },
+  { module: "lines", count: "countBreaks", lineType: "lines" },
+]);
+
 // the numbers by which the exports know what is counted, what ends a line, and what an offset on a line counts
-const SCHEME_NUMBERS = { chars: 0, utf16: 1, linesLf: 2, linesCrlf: 3, lines: 4 };
-const LINE_TYPE_NUMBERS = new Map([["lf", 2], ["crlf", 3], ["lines", 4]]);
+const SCHEME_NUMBERS = new Map(SCHEMES.map(({ module }, number) => [module, number]));
+const LINE_TYPE_NUMBERS = new Map(SCHEMES.flatMap(({ lineType }, number) => (lineType ? [[lineType, number]] : [])));
 const ENCODING_NUMBERS = new Map([["utf8", 5], ["utf16", 1], ["utf32", 0]]);
 
-// each question about lines and positions by its name here, its name in the exports, and what it takes beside the text
+// each question about lines and positions by its name, and what it takes beside the text
 const QUESTIONS = [
-  ["line", "line", askLine],
-  ["lineEnd", "line_end", askLineEnd],
-  ["positionOf", "position_of", askPositionOf],
-  ["exactPositionOf", "exact_position_of", askExactPositionOf],
-  ["rangeOf", "range_of", askRangeOf],
-  ["byteOf", "byte_of", askByteOf],
-  ["exactByteOf", "exact_byte_of", askExactByteOf],
-  ["byteRange", "byte_range", askByteRange],
+  ["line", askLine],
+  ["lineEnd", askLineEnd],
+  ["positionOf", askPositionOf],
+  ["exactPositionOf", askExactPositionOf],
+  ["rangeOf", askRangeOf],
+  ["byteOf", askByteOf],
+  ["exactByteOf", askExactByteOf],
+  ["byteRange", askByteRange],
 ];
 
 // each function over a text, in the same way
 const FUNCTIONS = [
-  ["chars.count", "chars_count", askCount],
-  ["chars.fromByteIdx", "chars_from_byte_idx", askIndex],
-  ["chars.toByteIdx", "chars_to_byte_idx", askIndex],
-  ["utf16.count", "utf16_count", askCount],
-  ["utf16.countSurrogates", "utf16_count_surrogates", askCount],
-  ["utf16.fromByteIdx", "utf16_from_byte_idx", askIndex],
-  ["utf16.toByteIdx", "utf16_to_byte_idx", askIndex],
-  ["linesLf.countBreaks", "lines_lf_count_breaks", askCount],
-  ["linesLf.fromByteIdx", "lines_lf_from_byte_idx", askIndex],
-  ["linesLf.toByteIdx", "lines_lf_to_byte_idx", askIndex],
-  ["linesCrlf.countBreaks", "lines_crlf_count_breaks", askCount],
-  ["linesCrlf.fromByteIdx", "lines_crlf_from_byte_idx", askIndex],
-  ["linesCrlf.toByteIdx", "lines_crlf_to_byte_idx", askIndex],
-  ["lines.countBreaks", "lines_count_breaks", askCount],
-  ["lines.fromByteIdx", "lines_from_byte_idx", askIndex],
-  ["lines.toByteIdx", "lines_to_byte_idx", askIndex],
+  ...SCHEMES.flatMap(({ module, count }) => [
+    [`${module}.${count}`, askCount],
+    [`${module}.fromByteIdx`, askIndex],
+    [`${module}.toByteIdx`, askIndex],
+  ]),
+  ["utf16.countSurrogates", askCount],
   ...QUESTIONS,
 ];
 
-// each function over a text that is known: the same, with the number that its export over an index takes after that
+// each function over a text that is known: the same, with its export over an index, and the number that this takes after that
 const KNOWN_FUNCTIONS = [
-  ...Object.entries(SCHEME_NUMBERS).flatMap(([module, scheme]) => [
-    [`${module}.${module.startsWith("lines") ? "countBreaks" : "count"}`, "count", askKnownCount, scheme],
-    [`${module}.fromByteIdx`, "from_byte_idx", askIndex, scheme],
-    [`${module}.toByteIdx`, "to_byte_idx", askIndex, scheme],
+  ...SCHEMES.flatMap(({ module, count }, scheme) => [
+    [`${module}.${count}`, askKnownCount, "count", scheme],
+    [`${module}.fromByteIdx`, askIndex, "from_byte_idx", scheme],
+    [`${module}.toByteIdx`, askIndex, "to_byte_idx", scheme],
   ]),
-  ["utf16.countSurrogates", "count", askKnownSurrogates],
+  ["utf16.countSurrogates", askKnownSurrogates, "count"],
   ...QUESTIONS,
 ];
 
@@ -341,7 +343,7 @@ function askKnownCount(machine, asked, text, argument) {
 
 function askKnownSurrogates(machine, asked, text, argument) {
   const countOf = (scheme) => askKnownCount(machine, { ...asked, numbers: [scheme] }, text, argument);
-  return countOf(SCHEME_NUMBERS.utf16) - countOf(SCHEME_NUMBERS.chars);
+  return countOf(SCHEME_NUMBERS.get("utf16")) - countOf(SCHEME_NUMBERS.get("chars"));
 }
 
 function askIndex(machine, asked, text, index) {
@@ -445,10 +447,13 @@ function indicesOver(machine) {
   return Object.freeze({ text, ...functionsBy(FUNCTIONS, "str_indices", machine) });
 }
 
+/** The name in the exports of what has this name here: of `linesLf.toByteIdx` it is `lines_lf_to_byte_idx`. */
+const exportedName = (path) => path.replace(".", "_").replace(/[A-Z]/g, (letter) => `_${letter.toLowerCase()}`);
+
 /** The functions of a table by their names, each over a text that is its first argument. */
 function functionsBy(table, library, machine) {
   const all = {};
-  for (const [path, exported, ask, ...numbers] of table) {
+  for (const [path, ask, exported = exportedName(path), ...numbers] of table) {
     const names = path.split(".");
     const last = names.pop();
     const place = names.reduce((place, name) => (place[name] ??= {}), all);
@@ -458,11 +463,12 @@ function functionsBy(table, library, machine) {
   return frozen(all);
 }
 
-function frozen(functions) {
-  for (const inner of Object.values(functions)) {
+/** The same, and all objects in it, from now on as they are. */
+function frozen(all) {
+  for (const inner of Object.values(all)) {
     if (typeof inner === "object") frozen(inner);
   }
-  return Object.freeze(functions);
+  return Object.freeze(all);
 }
 
 /** The same functions over this text, without that argument. */

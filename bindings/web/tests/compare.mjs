@@ -1,6 +1,6 @@
 // Compares every function with worked answers and with the engine's own strings. `compareAll` answers what passed, what
 // failed, and what is to be told of that; a browser runs it, and Node.
-import { load } from "./str_indices.mjs";
+import { load, SCHEMES } from "./str_indices.mjs";
 import { LongText } from "./long_text.mjs";
 import { inField, ofField } from "./field.mjs";
 
@@ -142,7 +142,7 @@ const BREAKS = {
   linesCrlf: /\r\n|\n|\r/g,
   lines: /\r\n|[\n\v\f\r\u0085\u2028\u2029]/g,
 };
-const MODULES = ["chars", "utf16", ...Object.keys(BREAKS)];
+const MODULES = SCHEMES.map(({ module }) => module);
 // what ends a line, by the names of the questions about lines and positions
 const LINE_TYPES = { lf: BREAKS.linesLf, crlf: BREAKS.linesCrlf, lines: BREAKS.lines };
 const ENCODINGS = { utf8: (char) => sizeOf(char), utf16: (char) => char.length, utf32: () => 1 };
@@ -187,8 +187,8 @@ function randomText(next, most) {
 /** At each byte of the text and one past it, what is there: chars, units and breaks, from one walk over its chars. */
 function walk(string) {
   const chars = Array.from(string);
-  const at = { chars: [], utf16: [], linesLf: [], linesCrlf: [], lines: [] };
-  const now = { chars: 0, utf16: 0, linesLf: 0, linesCrlf: 0, lines: 0 };
+  const at = Object.fromEntries(MODULES.map((module) => [module, []]));
+  const now = Object.fromEntries(MODULES.map((module) => [module, 0]));
   const begins = [];
   chars.forEach((char, i) => {
     begins.push(at.chars.length);

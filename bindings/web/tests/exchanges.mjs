@@ -3,13 +3,13 @@
 // functions of the module have one in common, by a number, one number is taken for another too.
 import { readFile } from "node:fs/promises";
 import { failuresOfWorked } from "./compare.mjs";
-import { load } from "./str_indices.mjs";
+import { load, SCHEMES } from "./str_indices.mjs";
 
-const ROW = /^ {2}\["[\w.]+", "(\w+)", (ask\w+)\],$/gm;
+// the functions over a text that are asked alike, by how their names in the exports end
+const ALIKE = [/_count(_\w+)?$/, /_(from|to)_byte_idx$/];
 
 // the functions over an index that take the number of what is counted, behind one argument: those that are asked alike
 const COUNTED = [["from_byte_idx", "to_byte_idx"], ["count"]];
-const SCHEMES = [0, 1, 2, 3, 4];
 
 // the questions about lines and positions: those that are asked alike, and whether their answer has an address, which comes
 // before the text; behind that they take the number of a kind of line, and some of an encoding
@@ -31,15 +31,6 @@ const beside = (name) => readFile(new URL(name, import.meta.url));
 /** Each two of them, in both orders. */
 const pairs = (all) => all.flatMap((one) => all.filter((other) => other !== one).map((other) => [one, other]));
 
-/** Each exchange of two functions over a text, as the exports that it changes, by its name. */
-async function ofTexts(exports) {
-  const rows = [...String(await beside("str_indices.mjs")).matchAll(ROW)];
-  const asked = new Map(rows.map(([, name, ask]) => [`str_indices_${name}`, ask]));
-  return pairs([...asked.keys()])
-    .filter(([one, other]) => asked.get(one) === asked.get(other))
-    .map(([one, other]) => [`${one} by ${other}`, { [one]: exports[other] }]);
-}
-
 /** Exchanges of a number that these functions take behind so many arguments. */
 function ofNumbers(exports, names, numbers, behind) {
   const byNumber = (name, from, to) => (...args) => exports[name](...args.with(behind, args[behind] === from ? to : args[behind]));
@@ -50,10 +41,16 @@ function ofNumbers(exports, names, numbers, behind) {
 /** Exchanges of these functions for each other. */
 const ofNames = (exports, names) => pairs(names).map(([one, other]) => [`${one} by ${other}`, { [one]: exports[other] }]);
 
+/** Each exchange of two functions over a text, as the exports that it changes, by its name. */
+function ofTexts(exports) {
+  const names = Object.keys(exports).filter((name) => name.startsWith("str_indices_"));
+  return ALIKE.flatMap((end) => ofNames(exports, names.filter((name) => end.test(name))));
+}
+
 /** Exchanges of the functions over an index that count, and of what they count. */
 function ofCounts(exports) {
   return COUNTED.map((names) => names.map((name) => `str_index_${name}`))
-    .flatMap((names) => [...ofNames(exports, names), ...ofNumbers(exports, names, SCHEMES, 1)]);
+    .flatMap((names) => [...ofNames(exports, names), ...ofNumbers(exports, names, [...SCHEMES.keys()], 1)]);
 }
 
 /** Exchanges of the questions about lines and positions, of a text and of an index, and of their numbers. */
@@ -76,7 +73,7 @@ export async function tryExchanges() {
   WebAssembly.instantiate = async () => ({ instance: { exports: { ...instance.exports, ...exchanged } } });
   const right = failuresOfWorked(await load(new Uint8Array())) === 0;
   const unseen = [];
-  const tried = [...await ofTexts(instance.exports), ...ofCounts(instance.exports), ...ofQuestions(instance.exports)];
+  const tried = [...ofTexts(instance.exports), ...ofCounts(instance.exports), ...ofQuestions(instance.exports)];
   for (const [name, changed] of tried) {
     exchanged = changed;
     if (failuresOfWorked(await load(new Uint8Array())) === 0) {

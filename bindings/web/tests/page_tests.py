@@ -1,6 +1,5 @@
 """What the page shows and takes, tried in a browser that is driven by its own protocol."""
 import json
-import re
 import time
 
 # where the page is opened: an example and the units that are selected, and what the rows of its table then say
@@ -64,11 +63,6 @@ COUNTED = """
     return done;
   };
 """
-
-
-def functions_of(module):
-    """The functions of the module by their paths, from its own table."""
-    return re.findall(r'^  \["([\w.]+)", "\w+", ask\w+\],$', module, re.MULTILINE)
 
 
 def opened(browser, address, width=1280, height=900):

@@ -1,7 +1,7 @@
 // What the types of the module say of each call: the compiler must take this file, and must refuse each line that is
 // marked. It is not run.
-import { load, isSupported } from "./str_indices.mjs";
-import type { Bytes, Encoding, Functions, Index, Indices, KnownText, LineType, Position, Range, Source } from "./str_indices.mjs";
+import { load, isSupported, SCHEMES } from "./str_indices.mjs";
+import type { Bytes, Encoding, Functions, Index, Indices, KnownText, LineType, Position, Range, Scheme, Source } from "./str_indices.mjs";
 import { load as loadInline } from "./str_indices_inline.mjs";
 
 const supported: boolean = isSupported();
@@ -9,10 +9,14 @@ const indices: Indices = supported ? await load("str_indices_web.wasm") : await 
 const sources: Source[] = ["a", new Uint8Array(1)];
 const places: Index[] = [0, 1n, Infinity];
 
-const counts: number[] = sources.map((source) => indices.chars.count(source) + indices.utf16.countSurrogates(source));
-const lines: number = indices.linesCrlf.toByteIdx(sources[0], places[0]) + indices.lines.countBreaks("a");
+const counts: number[] = sources.map((source) => indices.utf16.count(source) + indices.utf16.countSurrogates(source));
+const breaks: number = indices.linesCrlf.countBreaks("a") + indices.linesCrlf.toByteIdx("a", 1);
+const bySchemes: number[] = SCHEMES.map(({ module }) => indices[module].toByteIdx(sources[0], places[0]));
 const text: KnownText = indices.text("one\r\ntwo");
-const known: number = text.linesLf.fromByteIdx(6n) + text.chars.count() + text.length + text.bytes().length;
+const knownBySchemes: number[] = SCHEMES.map(({ module }) => text[module].fromByteIdx(6n));
+const known: number = text.utf16.count() + text.linesCrlf.countBreaks() + text.length + text.bytes().length;
+const first: Scheme = SCHEMES[0];
+const breaksOf: LineType | undefined = first.lineType;
 const kind: LineType = "crlf";
 const units: Encoding = "utf16";
 const position: Position = text.positionOf(kind, units, 6);
@@ -28,17 +32,21 @@ const ofKnown: Functions<[]> = text;
 const ofAny: Functions<[text: Source]> = indices;
 
 // @ts-expect-error a text comes first
-indices.chars.count();
+indices.utf16.count();
 // @ts-expect-error a text that is known takes none
-text.chars.count("a");
+text.utf16.count("a");
 // @ts-expect-error an index is a number
-indices.lines.toByteIdx("a", "1");
+indices.utf16.toByteIdx("a", "1");
+// @ts-expect-error no scheme is put in
+SCHEMES.push(first);
+// @ts-expect-error a kind of line is no scheme
+indices["crlf"].toByteIdx("a", 1);
 // @ts-expect-error there may be no such byte
 const surely: number = text.exactByteOf("crlf", "utf16", position);
 // @ts-expect-error a position has a line and a character
 text.byteOf("crlf", "utf16", { line: 1 });
 // @ts-expect-error a kind of line has one of three names
-indices.line("a", "linesLf", 0);
+indices.line("a", "linesCrlf", 0);
 // @ts-expect-error what ends a line comes before the encoding
 text.positionOf("utf16", "crlf", 0);
 // @ts-expect-error there may be no such position
@@ -50,4 +58,4 @@ position.line = 1;
 // @ts-expect-error the entry with the functions inside takes no place
 loadInline("str_indices_web.wasm");
 
-export { counts, lines, known, byte, exact, bytes, content, ofSource, range, there, again, ofKnown, ofAny, surely, place };
+export { counts, breaks, bySchemes, knownBySchemes, known, breaksOf, byte, exact, bytes, content, ofSource, range, there, again, ofKnown, ofAny, surely, place };
