@@ -22,10 +22,10 @@ ITEM = re.compile(r"^(-|\d\.) (`[\w./]+/`.*(?:\n .*)*)", re.MULTILINE)
 PATH = re.compile(r"`([\w./{},+-]*[./][\w./{},+-]*)`")
 BRACES = re.compile(r"\{([^}]*)\}")
 
-# the schemes, a word of a name in code, so that `lines_lf` and `linesLf` have those of one, and what is no code
+# where each scheme stands beside its module, a name in code, and what is no code
 SCHEMES = ROOT / "crates/str_indices/src/schemes.rt"
-VARIANT = re.compile(r"^    (\w+),$", re.MULTILINE)
-WORD = re.compile(r"[A-Z]?[a-z]+(?:16)?|(?<=_)[A-Z]+(?:16)?")
+SCHEME = re.compile(r"Scheme::(\w+) => (\w+)::count")
+NAME = re.compile(r"[A-Za-z]\w*")
 NO_CODE = {".md", ".svg", ".png", ".csv", ".edit", ".edits"}
 
 # links of the README, and whether each leads somewhere
@@ -80,13 +80,25 @@ def expanded(path):
     return [path.replace(braces[0], word) for word in braces[1].split(",")] if braces else [path]
 
 
+def names_every(schemes, text):
+    """Whether a text names each of the schemes in one way: as variants, fields, constants, or modules and their functions."""
+    names = {*NAME.findall(text)}
+    constants = "\n".join(name for name in names if name.isupper())
+    snakes = "\n".join(re.sub(r"(?<=[a-z])(?=[A-Z])", "_", name).lower() for name in names)
+    ways = (
+        lambda variant, module: variant in names,
+        lambda variant, module: variant.lower() in names,
+        lambda variant, module: re.search(rf"(?:^|_){variant.upper()}$", constants, re.MULTILINE),
+        lambda variant, module: re.search(rf"(?:^|_){module}(?:$|_count|_from|_to)", snakes, re.MULTILINE),
+    )
+    return any(all(way(*scheme) for scheme in schemes) for way in ways)
+
+
 def with_every_scheme():
     """The files of code that name every scheme."""
-    variants = VARIANT.findall(SCHEMES.read_text(encoding="utf-8").partition("pub enum Scheme {")[2].partition("}")[0])
-    schemes = {variant.lower() for variant in variants}
+    schemes = {*SCHEME.findall(SCHEMES.read_text(encoding="utf-8"))}
     code = [name for name in files() if pathlib.Path(name).suffix not in NO_CODE]
-    words = {name: WORD.findall((ROOT / name).read_text(encoding="utf-8", errors="replace")) for name in code}
-    return [name for name in code if schemes and schemes <= {word.lower() for word in words[name]}]
+    return [name for name in code if names_every(schemes, (ROOT / name).read_text(encoding="utf-8", errors="replace"))]
 
 
 def differing(found, names):
