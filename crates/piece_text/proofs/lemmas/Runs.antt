@@ -1,6 +1,6 @@
 -- Runs of pieces: the one at a place, those of a list that has changed there, and the summary of the first ones.
 use Rattle.piece_text.proofs.lemmas.Common.{◌≡◌, ℕ, zero, suc, ◌+◌, ◌-◌, ◌<◌, ◌≤◌, List, [], ◌∷◌, ◌++◌, length, take, drop, remove, refl, arith, sym, ◌∙◌, ap, append_assoc, append-nil, add-one, take-append-drop, length-take-le, length-drop, take_all, Text, size, size-append, joined, joined_size, piece_at, set, insert, take_at, summary_of, IsSwap, IsRunSwapped, Swapped, Swap}
-use Rattle.std.proofs.Common.{subst, get_or, false, ◌^◌, zero-add, add-zero}
+use Rattle.std.proofs.Common.{subst, get_or, ◌^◌, zero-add, add-zero}
 use Rattle.std.proofs.Math.Seq.{drop-append-add, take-append-add, drop-append_seam, take-append_seam, drop-cons}
 use Rattle.std.proofs.Math.ListN.{length-append}
 use Rattle.std.proofs.lemmas.List.{take-append-le, drop-append-le, drop-drop}

@@ -1,7 +1,7 @@
 -- What each scheme counts, by the bytes that its module looks for.
 use Rattle.str_indices.proofs.lemmas.Common.{◌≡◌, ℕ, ◌+◌, ◌<◌, ◌≤◌, List, length, get_or, refl, arith, sym, ◌∙◌, ap, add-one, chars, IsUtf8, size, cut, count, ends, ends_up_to, from_byte_idx, to_byte_idx, Chars, IsBoundary, passing_before, is_leading, encodes, mark-le, zero, suc, ◌-◌, inl, inr, true, false, ◌++◌, add-zero, add-suc, bit_and, ◌==◌, nat_le, sum_by, len_utf8, encode, scalar, cases_Bool, false_from_ne_true, agree_below_at, lt-leb, eqb-true, sum_by-le-sum_by, and_assoc, length-encode, nat_tests, weight, Utf16, surrogates, boundary_at_units, flag, mark, is_trailing, begins_four_bytes, units_begun, units_before, byte_before, IsSteady, ◌∷◌, min, scalars, and_from, is_line_feed, Lf, Bool, cond, ◌&&◌, ◌||◌, not, char_set_contains, Crlf, break_characters, sum_below, is_carriage_return, starts_break, break_start, breaks_before, is_middle, break_start-le, take, Lines, is_break, break_at, breaks_counted_before}
 use Rattle.str_indices.proofs.lemmas.Texts.{member_adjunction, select-rank-le, count_characters, cut-cut, end_count-cut, ends_increase_within, end_at_reached, zero_or_end, size-append, boundary_beside, weighed_at, boundary_weighed_is_greatest, count-units, count-characters-surrogates, weight-le, cut_at_least, end_weight-Lf, rank-le-rank, end_weight, cut_is, end_count_total}
-use Rattle.str_indices.proofs.lemmas.Bytes.{first_byte, is_trailing_later, bytes_to_boundary, size-chars, begins_boundary, sum_below-le-sum_below, sum_below-still, by_size, boundary_at_end, begins_at, ends_by_ascii_walk, next_line_feed, sum_below-first, by_width, AddsAtFirst, counted_at, still_behind_cut, adds_breaks, ends_by_walk, breaks_of_cut_text, feed_at_middle, sum_below-le, size-cut, walk_to_boundary, boundary_of_cut, cut_boundary, wide_behind_cut}
+use Rattle.str_indices.proofs.lemmas.Bytes.{first_byte, is_trailing_later, bytes_to_boundary, size-chars, begins_boundary, sum_below-le-sum_below, sum_below-still, by_size, boundary_at_end, begins_at, ends_by_ascii_walk, next_line_feed, sum_below-first, by_width, AddsAtFirst, counted_at, still_behind_cut, adds_breaks, ends_by_walk, breaks_of_cut_text, feed_at_middle, size-cut, walk_to_boundary, boundary_of_cut, cut_boundary, wide_behind_cut}
 use Rattle.str_indices.proofs.lemmas.Passes.{pass_after_peeks}
 use Rattle.str_indices.proofs.lemmas.Seams.{crlf_has_return, lines_has_return}
 
