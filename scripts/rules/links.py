@@ -1,8 +1,8 @@
 """Each link of a page leads to a file of the repository, and to a heading where it names one.
 
 The pages are all that git knows which end in .md, and the page for a browser, whose links go from the folder in which it
-is built. The files that the recipes of CONTRIBUTING.md name must be there, and the recipe for a scheme must list exactly
-those that name every scheme. Each search is tried on what it must find too.
+is built. The files that the recipes of CONTRIBUTING.md name must be there. The recipe for a scheme must list exactly those
+that name every scheme, and that for a question those that name one. Each search is tried on what it must find too.
 """
 import pathlib
 import re
@@ -22,10 +22,11 @@ ITEM = re.compile(r"^(-|\d\.) (`[\w./]+/`.*(?:\n .*)*)", re.MULTILINE)
 PATH = re.compile(r"`([\w./{},+-]*[./][\w./{},+-]*)`")
 BRACES = re.compile(r"\{([^}]*)\}")
 
-# where each scheme stands beside its module, a name in code, and what is no code
+# where each scheme stands beside its module, a name in code, and what is no code; and the question whose files a recipe lists
 SCHEMES = ROOT / "crates/str_indices/src/schemes.rt"
 SCHEME = re.compile(r"Scheme::(\w+) => (\w+)::count")
 NAME = re.compile(r"[A-Za-z]\w*")
+QUESTION = re.compile(r"^These files name `(\w+)`", re.MULTILINE)
 NO_CODE = {".md", ".svg", ".png", ".csv", ".edit", ".edits"}
 
 # links of the README, and whether each leads somewhere
@@ -80,11 +81,16 @@ def expanded(path):
     return [path.replace(braces[0], word) for word in braces[1].split(",")] if braces else [path]
 
 
+def snakes_of(names):
+    """The names, a line each, in the case of Rust's functions."""
+    return "\n".join(re.sub(r"(?<=[a-z])(?=[A-Z])", "_", name).lower() for name in names)
+
+
 def names_every(schemes, text):
     """Whether a text names each of the schemes in one way: as variants, fields, constants, or modules and their functions."""
     names = {*NAME.findall(text)}
     constants = "\n".join(name for name in names if name.isupper())
-    snakes = "\n".join(re.sub(r"(?<=[a-z])(?=[A-Z])", "_", name).lower() for name in names)
+    snakes = snakes_of(names)
     ways = (
         lambda variant, module: variant in names,
         lambda variant, module: variant.lower() in names,
@@ -94,11 +100,22 @@ def names_every(schemes, text):
     return any(all(way(*scheme) for scheme in schemes) for way in ways)
 
 
+def code():
+    """The files of code, each with its text."""
+    names = [name for name in files() if pathlib.Path(name).suffix not in NO_CODE]
+    return {name: (ROOT / name).read_text(encoding="utf-8", errors="replace") for name in names}
+
+
 def with_every_scheme():
     """The files of code that name every scheme."""
     schemes = {*SCHEME.findall(SCHEMES.read_text(encoding="utf-8"))}
-    code = [name for name in files() if pathlib.Path(name).suffix not in NO_CODE]
-    return [name for name in code if names_every(schemes, (ROOT / name).read_text(encoding="utf-8", errors="replace"))]
+    return [name for name, text in code().items() if names_every(schemes, text)]
+
+
+def with_question(name_of_it):
+    """The files of code that name a question, as each language names it."""
+    question = re.compile(rf"(?:^|_){name_of_it}$", re.MULTILINE)
+    return [name for name, text in code().items() if question.search(snakes_of({*NAME.findall(text)}))]
 
 
 def differing(found, names):
@@ -108,15 +125,21 @@ def differing(found, names):
 
 
 def try_recipes(tally, text):
-    """The recipes name files that are there, and that for a scheme those that name every scheme."""
+    """The recipes name files that are there, and two of them exactly those that name what they add to."""
     gone = [path for path in listed(text, "-.") if not (ROOT / path).exists()]
     tally.result(not gone, f"the recipes name {len(listed(text, '-.'))} files {' '.join(gone)}")
-    recipe = text.partition("\n## A scheme\n")[2].partition("\n## ")[0]
-    found, names = with_every_scheme(), [path for path in listed(recipe, "-") if not path.endswith(".md")]
+    try_list(tally, text, "A scheme", with_every_scheme())
+    try_list(tally, text, "A question about lines or positions", with_question(QUESTION.search(text)[1]))
+
+
+def try_list(tally, text, heading, found):
+    """The recipe of that heading lists exactly these files, but for pages."""
+    recipe = text.partition(f"\n## {heading}\n")[2].partition("\n## ")[0]
+    names = [path for path in listed(recipe, "-") if not path.endswith(".md")]
     wrong = differing(found, names)
-    tally.result(not wrong, f"the recipe for a scheme lists the {len(found)} files that name every scheme {' '.join(wrong)}")
+    tally.result(not wrong, f"{heading}: the recipe lists the {len(found)} files that name it {' '.join(wrong)}")
     right = differing(found, names[1:]) and differing(found, [*names, "VERSION"])
-    tally.result(bool(right), "the search finds a file that is not listed, and one that names no scheme")
+    tally.result(bool(right), f"{heading}: the search finds a file that is not listed, and one that does not name it")
 
 
 def check(tally):
