@@ -131,8 +131,8 @@ const CHARACTERS = ["a", "b", " ", "é", "せ", "🐸", "\n", "\r", "\r\n", "\v"
 // how far apart marks stand
 const STRETCH = 1024;
 // how many bytes a text may have, and one with an index
-const LONGEST = 300941088;
-const LONGEST_KNOWN = 287466064;
+const LONGEST = 300941072;
+const LONGEST_KNOWN = 287466048;
 const TEXTS = 250;
 const LONGEST_RANDOM = 60;
 const LONG_SIZES = [255, 1535, 1537, 5000, 65536, 1048576];

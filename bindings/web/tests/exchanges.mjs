@@ -5,8 +5,9 @@ import { readFile } from "node:fs/promises";
 import { failuresOfWorked } from "./compare.mjs";
 import { load, SCHEMES } from "./str_indices.mjs";
 
-// the functions over a text that are asked alike, by how their names in the exports end
+// the functions over a text that are asked alike, by how their names in the exports end, and the one that no other is asked like
 const ALIKE = [/_count(_\w+)?$/, /_(from|to)_byte_idx$/];
+const ALONE = "str_indices_is_utf8";
 
 // the functions over an index that take the number of what is counted, behind one argument: those that are asked alike
 const COUNTED = [["from_byte_idx", "to_byte_idx"], ["count"]];
@@ -41,10 +42,18 @@ function ofNumbers(exports, names, numbers, behind) {
 /** Exchanges of these functions for each other. */
 const ofNames = (exports, names) => pairs(names).map(([one, other]) => [`${one} by ${other}`, { [one]: exports[other] }]);
 
+/** The names of the functions over a text. */
+const namesOfTexts = (exports) => Object.keys(exports).filter((name) => name.startsWith("str_indices_"));
+
 /** Each exchange of two functions over a text, as the exports that it changes, by its name. */
 function ofTexts(exports) {
-  const names = Object.keys(exports).filter((name) => name.startsWith("str_indices_"));
-  return ALIKE.flatMap((end) => ofNames(exports, names.filter((name) => end.test(name))));
+  return ALIKE.flatMap((end) => ofNames(exports, namesOfTexts(exports).filter((name) => end.test(name))));
+}
+
+/** The functions over a text of which this file knows no other that is asked alike. */
+function unknown(exports) {
+  const questions = QUESTIONS.flatMap(({ names }) => names.map((name) => `str_indices_${name}`));
+  return namesOfTexts(exports).filter((name) => ![...questions, ALONE].includes(name) && !ALIKE.some((end) => end.test(name)));
 }
 
 /** Exchanges of the functions over an index that count, and of what they count. */
@@ -72,7 +81,7 @@ export async function tryExchanges() {
   let exchanged = {};
   WebAssembly.instantiate = async () => ({ instance: { exports: { ...instance.exports, ...exchanged } } });
   const right = failuresOfWorked(await load(new Uint8Array())) === 0;
-  const unseen = [];
+  const unseen = unknown(instance.exports);
   const tried = [...ofTexts(instance.exports), ...ofCounts(instance.exports), ...ofQuestions(instance.exports)];
   for (const [name, changed] of tried) {
     exchanged = changed;
